@@ -1,0 +1,8 @@
+//! What every crate of hminify speaks of: rules of refusal, plain types, and whitespace.
+#![tactic(auto)]
+
+mod plain;
+mod rules;
+
+pub use plain::{Memory, Points, SpellRules, TreeOptions, Word, is_space};
+pub use rules::{Refused, Rule};

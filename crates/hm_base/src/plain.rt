@@ -1,0 +1,73 @@
+//! Plain types that several crates share.
+ghost use Rattle.std.specs.Prelude.{◌≡◌};
+ghost use Rattle.hm_base.specs.Bytes as bytes;
+
+use std::alloc::{AllocError, AllocFailed};
+use std::marker::Model;
+
+/// Memory was refused: the error of each call whose only refusal is want of memory.
+#[derive(Clone, Copy, Debug, PartialEq, Eq)]
+pub struct Memory;
+
+impl From<AllocError> for Memory {
+    fn from(_error: AllocError) -> Self {
+        Memory
+    }
+}
+
+impl<T: Drop> From<AllocFailed<T>> for Memory {
+    fn from(_error: AllocFailed<T>) -> Self {
+        Memory
+    }
+}
+
+/// A text of its own. Contracts see it as the list of its bytes.
+#[derive(Debug, Drop)]
+pub struct Word {
+    pub text: String,
+}
+
+impl Model for Word {
+    ghost use Rattle.std.specs.Prelude.{ℕ, List, string_bytes};
+
+    ghost Value = { List ℕ };
+
+    ghost view = { λ word. string_bytes word.text };
+}
+
+/// The one or two code points that a name of a character reference stands for.
+#[derive(Clone, Copy, Debug, PartialEq, Eq)]
+pub struct Points {
+    pub first: char,
+    pub second: Option<char>,
+}
+
+/// Which rewrites of the tree are asked for.
+#[derive(Clone, Copy, Debug, PartialEq, Eq)]
+pub struct TreeOptions {
+    pub doctype: bool,
+    pub comments: bool,
+    pub booleans: bool,
+    pub empty: bool,
+    pub redundant: bool,
+    pub space: bool,
+    pub conservative: bool,
+}
+
+/// Which spellings are allowed.
+#[derive(Clone, Copy, Debug, PartialEq, Eq)]
+pub struct SpellRules {
+    pub omit: bool,
+    pub unquote: bool,
+    pub tight: bool,
+    pub ascii: bool,
+    pub frame: bool,
+}
+
+/// Whether `c` is ASCII whitespace: TAB, LF, FF, CR or SPACE.
+#[tactic(auto, unfolding(crate::specs::Bytes::is_space))]
+pub fn is_space(c: char) -> bool
+    ensures { result ≡ bytes.is_space c }
+{
+    c == '\t' || c == '\n' || c == '\u{c}' || c == '\r' || c == ' '
+}

@@ -1,0 +1,127 @@
+//! The rules by which a page is refused.
+ghost use Rattle.std.specs.Prelude.{◌≡◌};
+ghost use Rattle.hm_base.specs.Rules.{number_of, name_of};
+
+/// Why a page is refused.
+///
+/// The rules of tokens are of the HTML Standard, 13.2.5, those of nesting of 13.2.6.
+#[derive(Clone, Copy, Debug, PartialEq, Eq)]
+pub enum Rule {
+    /// A form of input that this stage of the program doesn't read.
+    NotYet,
+    /// The page has more bytes than its limit.
+    TooLong,
+    /// The bytes aren't UTF-8.
+    NotUtf8,
+    /// A zero byte.
+    Nul,
+    /// The page ends inside a construct.
+    Cut,
+    /// A tag or attribute name that isn't read.
+    BadName,
+    /// More attributes in one tag than the limit, repeats counted.
+    TooManyAttributes,
+    /// A doctype of another form.
+    BadDoctype,
+    /// Anything but whitespace and comments before the doctype, or the end.
+    NoDoctype,
+    /// A doctype later.
+    SecondDoctype,
+    /// An element that isn't read.
+    RefusedName,
+    /// An `html`, `head` or `body` start tag out of its turn.
+    SecondRoot,
+    /// An end tag with no open element of its name.
+    StrayEnd,
+    /// The element is open and isn't reached by implied ends.
+    NotCurrent,
+    /// A block start while a `p` that isn't current would have to close.
+    BlockInParagraph,
+    /// An element under its own kind.
+    Nested,
+    /// The element can't stand under the current one.
+    WrongParent,
+    /// Text where only whitespace stays in place.
+    TextHere,
+    /// Metadata between `</head>` and body.
+    AfterHead,
+    /// Content behind `</body>` or `</html>`.
+    AfterBody,
+    /// An element is open at the end whose end isn't implied.
+    Unclosed,
+    /// More open elements than the limit.
+    TooDeep,
+    /// In SVG, a name outside the SVG list.
+    ForeignName,
+}
+
+impl Rule {
+    /// The number of the rule, as tables of refusals list it.
+    pub fn number(&self) -> u8
+        ensures { result ≡ number_of self.now }
+    {
+        match self {
+            Rule::NotYet => 0,
+            Rule::TooLong => 1,
+            Rule::NotUtf8 => 2,
+            Rule::Nul => 3,
+            Rule::Cut => 4,
+            Rule::BadName => 5,
+            Rule::TooManyAttributes => 6,
+            Rule::BadDoctype => 7,
+            Rule::NoDoctype => 8,
+            Rule::SecondDoctype => 9,
+            Rule::RefusedName => 10,
+            Rule::SecondRoot => 11,
+            Rule::StrayEnd => 12,
+            Rule::NotCurrent => 13,
+            Rule::BlockInParagraph => 14,
+            Rule::Nested => 15,
+            Rule::WrongParent => 16,
+            Rule::TextHere => 17,
+            Rule::AfterHead => 18,
+            Rule::AfterBody => 19,
+            Rule::Unclosed => 20,
+            Rule::TooDeep => 21,
+            Rule::ForeignName => 22,
+        }
+    }
+
+    /// The name of the rule, as the program prints it.
+    pub fn name(&self) -> &'static str
+        ensures { result.now ≡ name_of self.now }
+    {
+        match self {
+            Rule::NotYet => "NotYet",
+            Rule::TooLong => "TooLong",
+            Rule::NotUtf8 => "NotUtf8",
+            Rule::Nul => "Nul",
+            Rule::Cut => "Cut",
+            Rule::BadName => "BadName",
+            Rule::TooManyAttributes => "TooManyAttributes",
+            Rule::BadDoctype => "BadDoctype",
+            Rule::NoDoctype => "NoDoctype",
+            Rule::SecondDoctype => "SecondDoctype",
+            Rule::RefusedName => "RefusedName",
+            Rule::SecondRoot => "SecondRoot",
+            Rule::StrayEnd => "StrayEnd",
+            Rule::NotCurrent => "NotCurrent",
+            Rule::BlockInParagraph => "BlockInParagraph",
+            Rule::Nested => "Nested",
+            Rule::WrongParent => "WrongParent",
+            Rule::TextHere => "TextHere",
+            Rule::AfterHead => "AfterHead",
+            Rule::AfterBody => "AfterBody",
+            Rule::Unclosed => "Unclosed",
+            Rule::TooDeep => "TooDeep",
+            Rule::ForeignName => "ForeignName",
+        }
+    }
+}
+
+/// A page is refused, with its rule and its place in bytes of the page, or memory for reading it is.
+#[derive(Clone, Copy, Debug, PartialEq, Eq)]
+pub enum Refused {
+    Page { rule: Rule, at: u32 },
+    Memory,
+}

@@ -82,3 +82,21 @@ with_text w [] raw = w
 with_text [] (c ∷ s) raw = text (c ∷ s) raw ∷ []
 with_text (text t last_raw ∷ []) (c ∷ s) raw = text (t ++ c ∷ s) last_raw ∷ []
 with_text (e ∷ w) (c ∷ s) raw = e ∷ with_text w (c ∷ s) raw
+
+-- a text put in front of what follows: it joins a text that stands first
+abbrev pub text_before : List ℕ → Bool → List Event → List Event
+text_before s raw (text t next_raw ∷ w) = text (s ++ t) raw ∷ w
+text_before s raw w = text s raw ∷ w
+
+-- an event put in front of what follows
+abbrev pub pushed : Event → List Event → List Event
+pushed (text s raw) w = text_before s raw w
+pushed (doctype legacy) w = doctype legacy ∷ w
+pushed (start n foreign attributes) w = start n foreign attributes ∷ w
+pushed (comment s) w = comment s ∷ w
+pushed (end n foreign) w = end n foreign ∷ w
+
+-- events put in front of what follows, texts that touch joined
+abbrev pub pushes : List Event → List Event → List Event
+pushes [] w = w
+pushes (e ∷ es) w = pushed e (pushes es w)

@@ -1,0 +1,6 @@
+pub mod Page
+pub mod Spellings
+pub mod Graph
+pub mod Certificate
+pub mod Laws
+pub mod Examples

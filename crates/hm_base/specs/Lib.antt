@@ -1,3 +1,4 @@
 pub mod Bytes
 pub mod Rules
+pub mod Source
 pub mod Walks

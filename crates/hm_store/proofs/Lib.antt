@@ -1,2 +1,4 @@
+pub mod CallLemmas
+pub mod EdgeLemmas
 pub mod FileLemmas
 pub mod ResultLemmas

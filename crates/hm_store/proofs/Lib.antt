@@ -1,4 +1,5 @@
 pub mod CallLemmas
 pub mod EdgeLemmas
 pub mod FileLemmas
+pub mod NamedFileLemmas
 pub mod ResultLemmas

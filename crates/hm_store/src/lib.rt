@@ -6,6 +6,7 @@
 #![tactic(auto)]
 
 mod calls;
+mod file_table;
 mod mem_sink;
 mod outside;
 mod traits;

@@ -1,4 +1,6 @@
 pub mod Bytes
+pub mod Faults
+pub mod Places
 pub mod Rules
 pub mod Source
 pub mod Walks

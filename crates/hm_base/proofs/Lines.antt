@@ -1,5 +1,5 @@
 -- Line ends: a text is made of lines, pieces without CR, each joined to the next by its line end.
-use Rattle.std.proofs.Common.{◌≡◌, ℕ, zero, suc, ◌+◌, ◌<◌, ◌≤◌, ◌≢◌, Bool, true, false, not, ◌&&◌, List, [], ◌∷◌, ◌++◌, length, get_or, refl, sym, ap, ◌∙◌, arith, add-zero, add-one, append_assoc, length-append, nat_eq}
+use Rattle.std.proofs.Common.{◌≡◌, ℕ, suc, ◌+◌, ◌<◌, ◌≢◌, true, false, List, [], ◌∷◌, ◌++◌, length, get_or, refl, sym, ap, ◌∙◌, arith, add-zero, append_assoc, length-append, nat_eq}
 use Rattle.std.proofs.lemmas.Bool.Decides.{nat_tests}
 use Rattle.std.proofs.lemmas.List.{append-nil}
 use Rattle.hm_base.specs.Bytes.{all_pass}
@@ -34,7 +34,7 @@ lines_line n [] s h = rw add-zero refl
 lines_line n (c ∷ line) s h =
     let next : n + 1 + length line ≡ n + suc (length line) = omega arith in
     kept c n (line ++ s) (not_return c (first_true (is_text_byte c) (all_pass is_text_byte line) h))
-      ∙ ap (λ r. placed_at c n ∷ r) (lines_line (n + 1) line s (second_true (is_text_byte c) (all_pass is_text_byte line) h) ∙ ap (λ m. numbered (n + 1) line ++ lines m s) next)
+    ∙ ap (λ r. placed_at c n ∷ r) (lines_line (n + 1) line s (second_true (is_text_byte c) (all_pass is_text_byte line) h) ∙ ap (λ m. numbered (n + 1) line ++ lines m s) next)
 
 lines_pair : (n : ℕ) (s : List ℕ) → lines n (13 ∷ 10 ∷ s) ≡ placed_at 10 n ∷ lines (n + 2) s
 lines_pair n s =
@@ -52,29 +52,29 @@ pub with_lines_pair : (source : Source) (line next : List ℕ) → all_pass is_t
 with_lines_pair source line next h =
     let n = source.end in
     same_source _ _ _ _
-      (simp append_assoc refl ∙ ap (λ r. source.placed ++ r) (sym (lines_line n line (13 ∷ 10 ∷ next) h ∙ ap (λ r. numbered n line ++ r) (lines_pair (n + length line) next))))
-      (omega (arith, length-append line (13 ∷ 10 ∷ next)))
+    (simp append_assoc refl ∙ ap (λ r. source.placed ++ r) (sym (lines_line n line (13 ∷ 10 ∷ next) h ∙ ap (λ r. numbered n line ++ r) (lines_pair (n + length line) next))))
+    (omega (arith, length-append line (13 ∷ 10 ∷ next)))
 
 -- a line and its CR
 pub with_lines_return : (source : Source) (line behind : List ℕ) → all_pass is_text_byte line ≡ true → ((rest : List ℕ) → behind ≢ 10 ∷ rest) → with_lines (with_bytes (with_bytes source line) (10 ∷ [])) behind ≡ with_lines source (line ++ 13 ∷ behind)
 with_lines_return source line behind h other =
     let n = source.end in
     same_source _ _ _ _
-      (simp append_assoc refl ∙ ap (λ r. source.placed ++ r) (sym (lines_line n line (13 ∷ behind) h ∙ ap (λ r. numbered n line ++ r) (lines_return (n + length line) behind other))))
-      (omega (arith, length-append line (13 ∷ behind)))
+    (simp append_assoc refl ∙ ap (λ r. source.placed ++ r) (sym (lines_line n line (13 ∷ behind) h ∙ ap (λ r. numbered n line ++ r) (lines_return (n + length line) behind other))))
+    (omega (arith, length-append line (13 ∷ behind)))
 
 -- the last line, which has no CR
 pub with_lines_last : (source : Source) (line : List ℕ) → all_pass is_text_byte line ≡ true → with_bytes source line ≡ with_lines source line
 with_lines_last source line h =
     let n = source.end in
     same_source _ _ _ _
-      (ap (λ r. source.placed ++ r) (sym (ap (lines n) (sym (append-nil line)) ∙ lines_line n line [] h ∙ append-nil (numbered n line))))
-      refl
+    (ap (λ r. source.placed ++ r) (sym (ap (lines n) (sym (append-nil line)) ∙ lines_line n line [] h ∙ append-nil (numbered n line))))
+    refl
 
 -- a piece of a page without zero bytes and without CR
 pub text_bytes : (line : List ℕ) → all_pass is_nonzero line ≡ true → ((i : ℕ) → i < length line → get_or line i 0 ≢ 13) → all_pass is_text_byte line ≡ true
 text_bytes [] h k = refl
 text_bytes (c ∷ line) h k =
     both_true (is_text_byte c) (all_pass is_text_byte line)
-      (text_byte c (first_true (is_nonzero c) (all_pass is_nonzero line) h) (k 0 (omega arith)))
-      (text_bytes line (second_true (is_nonzero c) (all_pass is_nonzero line) h) (λ i l. k (suc i) (omega arith)))
+    (text_byte c (first_true (is_nonzero c) (all_pass is_nonzero line) h) (k 0 (omega arith)))
+    (text_bytes line (second_true (is_nonzero c) (all_pass is_nonzero line) h) (λ i l. k (suc i) (omega arith)))

@@ -1,5 +1,5 @@
 -- The mark at the front of a page.
-use Rattle.std.proofs.Common.{◌≡◌, ℕ, ◌≢◌, Bool, true, false, cond, ◌&&◌, List, [], ◌∷◌, ◌++◌, drop, None, refl, sym, ap, ◌∙◌, nat_eq}
+use Rattle.std.proofs.Common.{◌≡◌, ℕ, ◌≢◌, Bool, true, false, cond, ◌&&◌, List, [], ◌∷◌, None, refl, ◌∙◌, nat_eq}
 use lib.Utf8.{encode}
 use Rattle.std.proofs.lemmas.Bool.{eqb-true}
 use Rattle.std.specs.Str.Pattern.{FindsCharPrefix, StripsPrefix}
@@ -31,8 +31,8 @@ mark_missing (a ∷ []) h = refl
 mark_missing (a ∷ b ∷ []) h = refl
 mark_missing (a ∷ b ∷ c ∷ s) h =
     other _ _ _ (λ e.
-      let others = second_true (nat_eq a 0xEF) (nat_eq b 0xBB && nat_eq c 0xBF) e in
-      let a_is : a ≡ 0xEF = eqb-true _ _ (first_true (nat_eq a 0xEF) (nat_eq b 0xBB && nat_eq c 0xBF) e) in
-      let b_is : b ≡ 0xBB = eqb-true _ _ (first_true (nat_eq b 0xBB) (nat_eq c 0xBF) others) in
-      let c_is : c ≡ 0xBF = eqb-true _ _ (second_true (nat_eq b 0xBB) (nat_eq c 0xBF) others) in
-      h s (rw (a_is, b_is, c_is) refl))
+    let others = second_true (nat_eq a 0xEF) (nat_eq b 0xBB && nat_eq c 0xBF) e in
+    let a_is : a ≡ 0xEF = eqb-true _ _ (first_true (nat_eq a 0xEF) (nat_eq b 0xBB && nat_eq c 0xBF) e) in
+    let b_is : b ≡ 0xBB = eqb-true _ _ (first_true (nat_eq b 0xBB) (nat_eq c 0xBF) others) in
+    let c_is : c ≡ 0xBF = eqb-true _ _ (second_true (nat_eq b 0xBB) (nat_eq c 0xBF) others) in
+    h s (rw (a_is, b_is, c_is) refl))

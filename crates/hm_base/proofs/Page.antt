@@ -1,7 +1,7 @@
 -- A whole page: its mark and its lines.
-use Rattle.std.proofs.Common.{◌≡◌, ℕ, ◌+◌, Bool, true, false, List, [], ◌∷◌, ◌++◌, length, refl, sym, ap, ◌∙◌, arith, length-append}
+use Rattle.std.proofs.Common.{◌≡◌, ℕ, ◌+◌, Bool, true, false, List, [], ◌++◌, length, refl, sym, ap, arith, length-append}
 use Rattle.hm_base.specs.Bytes.{all_pass}
-use Rattle.hm_base.specs.Source.{Placed, Source, numbered, pairs_joined, returns_replaced, source_of, without_mark}
+use Rattle.hm_base.specs.Source.{Placed, numbered, pairs_joined, returns_replaced, source_of, without_mark}
 use Rattle.hm_base.specs.Places.{is_nonzero, mark_of, source_from, start_of, with_lines}
 use Rattle.hm_base.proofs.Bytes.{all_pass_second}
 use Rattle.hm_base.proofs.Places.{same_source}

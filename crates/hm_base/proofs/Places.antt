@@ -1,6 +1,6 @@
 -- The places that a text keeps: a byte behind the others stands in the page behind theirs, and the pairs before an index give its place.
-use Rattle.std.proofs.Common.{◌≡◌, ℕ, zero, suc, ◌+◌, ◌<◌, ◌≤◌, Bool, true, false, cond, ltb, List, [], ◌∷◌, ◌++◌, length, map, refl, sym, ap, ◌∙◌, arith, add-zero, add-one, zero-add, length-append, ⊎_elim}
-use Rattle.std.specs.List.{All, AllPairs, AllWithin, count_by, sum_by}
+use Rattle.std.proofs.Common.{◌≡◌, ℕ, zero, suc, ◌+◌, ◌<◌, ◌≤◌, Bool, true, false, cond, List, [], ◌∷◌, ◌++◌, length, map, refl, sym, ap, ◌∙◌, arith, add-zero, zero-add, length-append, ⊎_elim}
+use Rattle.std.specs.List.{All, AllPairs, AllWithin, count_by}
 use Rattle.std.specs.List.Sorted.{IsPartitionedBy}
 use Rattle.std.proofs.lemmas.List.Sorted.{IsPartitionedBy-ltb}
 use Rattle.std.proofs.lemmas.Bool.{cases_lt}
@@ -63,16 +63,16 @@ unfolding source_from
 source_from-append start pairs text s inside =
     let place : start + (0 + length text) + length pairs ≡ start + length text + length pairs = omega arith in
     same_source _ _ _ _ (placed_from-append start 0 pairs text s ∙ ap (λ r. placed_from start pairs 0 text ++ r) (placed_from-behind start (length text) (0 + length text) pairs s inside (omega arith) ∙ ap (λ n. numbered n s) place))
-        (omega (arith, length-append text s))
+    (omega (arith, length-append text s))
 
 -- a pair behind a text
 pub source_from_pair : (start : ℕ) (pairs text : List ℕ) → All (λ j. j < length text) pairs → source_from start (pairs ++ length text ∷ []) (text ++ 10 ∷ []) ≡ with_pair (source_from start pairs text)
 unfolding source_from
 source_from_pair start pairs text inside =
     let place : place_at start (pairs ++ length text ∷ []) (0 + length text) ≡ start + length text + length pairs =
-        rw (count_push (0 + length text) (length text) pairs (omega arith), count_all (length text) (0 + length text) pairs inside (omega arith)) (omega arith) in
+    rw (count_push (0 + length text) (length text) pairs (omega arith), count_all (length text) (0 + length text) pairs inside (omega arith)) (omega arith) in
     same_source _ _ _ _ (placed_from-append start 0 (pairs ++ length text ∷ []) text (10 ∷ []) ∙ ap (λ r. r ++ placed_from start (pairs ++ length text ∷ []) (0 + length text) (10 ∷ [])) (placed_from_push start 0 (length text) pairs text (omega arith)) ∙ ap (λ n. placed_from start pairs 0 text ++ placed_at 10 n ∷ []) place)
-        (omega (arith, length-append text (10 ∷ []), length-append pairs (length text ∷ [])))
+    (omega (arith, length-append text (10 ∷ []), length-append pairs (length text ∷ [])))
 
 pub source_from-end : (start : ℕ) (pairs text : List ℕ) → (source_from start pairs text).end ≡ start + length text + length pairs
 unfolding source_from
@@ -128,12 +128,12 @@ pub source_from-place : (start i : ℕ) (pairs text : List ℕ) → All (λ j. j
 unfolding source_from
 source_from-place start i pairs text inside l =
     ⊎_elim (λ (h : i < length text). sym (place_in-placed_from start 0 i _ pairs text h ∙ ap (place_at start pairs) (zero-add i)))
-        (λ (h : length text ≤ i).
-          let here : i ≡ length text = omega arith in
-          let at_end : place_in (placed_from start pairs 0 text) (start + length text + length pairs) (length text) ≡ start + length text + length pairs =
-              ap (place_in (placed_from start pairs 0 text) (start + length text + length pairs)) (sym (length-placed_from start 0 pairs text)) ∙ place_in_end (placed_from start pairs 0 text) _ in
-          rw here (ap (λ n. start + length text + n) (count_all (length text) (length text) pairs inside (omega arith)) ∙ sym at_end))
-        (cases_lt i (length text))
+    (λ (h : length text ≤ i).
+    let here : i ≡ length text = omega arith in
+    let at_end : place_in (placed_from start pairs 0 text) (start + length text + length pairs) (length text) ≡ start + length text + length pairs =
+    ap (place_in (placed_from start pairs 0 text) (start + length text + length pairs)) (sym (length-placed_from start 0 pairs text)) ∙ place_in_end (placed_from start pairs 0 text) _ in
+    rw here (ap (λ n. start + length text + n) (count_all (length text) (length text) pairs inside (omega arith)) ∙ sym at_end))
+    (cases_lt i (length text))
 
 -- how many numbers are below i, from the place where a search in order finds that they stop
 pub count_by_partition : (p : ℕ → Bool) (xs : List ℕ) (n : ℕ) → n ≤ length xs → AllWithin (λ y. p y ≡ true) xs 0 n → AllWithin (λ y. p y ≡ false) xs n (length xs) → count_by p xs ≡ n

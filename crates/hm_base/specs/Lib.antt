@@ -1,4 +1,5 @@
 pub mod Bytes
+pub mod Examples
 pub mod Faults
 pub mod Places
 pub mod Rules

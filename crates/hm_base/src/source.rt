@@ -5,27 +5,30 @@ ghost use Rattle.hm_base.specs.Faults.{HasText, IsRefusedBy};
 ghost use Rattle.hm_base.specs.Places.{is_nonzero, mark_of, start_of, with_bytes, with_lines, with_pair};
 ghost use Rattle.hm_base.specs.Source.{byte_of, is_text_byte, numbered, place_in, source_of, text_fault, without_mark};
 
+use crate::plain::Memory;
+use memchr::memchr;
 use std::alloc::Global;
 use std::marker::Model;
 use std::str;
-
-use memchr::memchr;
-
-use crate::plain::Memory;
+use thiserror::Error;
 
 /// The bytes of the longest page that is read, whatever its limit.
 pub const LONGEST_PAGE: u32 = 67_108_864;
 
-/// Why the bytes of a page have no text.
-#[derive(Clone, Copy, Debug, PartialEq, Eq)]
+/// Why a page has no text. Places count bytes of the page.
+#[derive(Clone, Copy, Debug, PartialEq, Eq, Error)]
 pub enum TextFault {
     /// There are more bytes than the limit.
+    #[error("the page is too long")]
     TooLong,
-    /// The byte `at` is the first of a sequence that isn't UTF-8.
+    /// The byte `at` begins the first sequence that isn't UTF-8.
+    #[error("not UTF-8 at {at}")]
     NotUtf8 { at: u32 },
-    /// The byte `at` is zero.
+    /// The byte `at` is the first zero.
+    #[error("a zero byte at {at}")]
     Nul { at: u32 },
     /// Memory was refused.
+    #[error("out of memory")]
     Memory,
 }
 
@@ -197,5 +200,51 @@ fn checked(bytes: &[u8], limit: u32) -> Result<&str, TextFault>
                 Some(at) => Err(TextFault::Nul { at: at as u32 }),
             }
         }
+    }
+}
+
+#[cfg(test)]
+mod tests {
+    use super::*;
+
+    #[test]
+    fn limit(rt: HostRuntime) -> Result<(), TextFault> {
+        let page = vec![in rt.alloc(); b'a'; 4_194_305].expect(&rt, "memory");
+        let text = SourceText::read(rt.alloc(), &page[1..], 4_194_304)?;
+        assert_eq!(rt; text.text().len(), 4_194_304);
+        let fault = SourceText::read(rt.alloc(), &page, 4_194_304).err();
+        assert_eq!(rt; fault, Some(TextFault::TooLong));
+        Ok(())
+    }
+
+    #[test]
+    fn faults(rt: HostRuntime) {
+        let cases: [(&[u8], TextFault); 5] = [
+            (b"<!doctype html>\xFF", TextFault::NotUtf8 { at: 15 }),
+            (b"<!doctype html>\x00", TextFault::Nul { at: 15 }),
+            (b"a\x00\xFF", TextFault::Nul { at: 1 }),
+            (b"a\xC3(\x00", TextFault::NotUtf8 { at: 1 }),
+            (b"\xEF\xBB\xBF\xE2\x82", TextFault::NotUtf8 { at: 3 }),
+        ];
+        for (page, fault) in cases {
+            let read = SourceText::read(rt.alloc(), page, 100).err();
+            assert_eq!(rt; read, Some(fault));
+        }
+    }
+
+    #[test]
+    fn places(rt: HostRuntime) -> Result<(), TextFault> {
+        let page = b"\xEF\xBB\xBFa\r\nb\rc\r\r\n\xC3\xA9\n";
+        let text = SourceText::read(rt.alloc(), page, 100)?;
+        assert_eq!(rt; text.text(), "a\nb\nc\n\n\u{e9}\n");
+        let places = [3, 4, 6, 7, 8, 9, 10, 12, 13, 14, 15];
+        assert_eq!(rt; text.text().len(), 10);
+        for index in 0..11 {
+            assert_eq!(rt; text.place_of(index), places[index as usize], "at {index}");
+        }
+        let empty = SourceText::read(rt.alloc(), b"\xEF\xBB\xBF", 3)?;
+        assert_eq!(rt; empty.text(), "");
+        assert_eq!(rt; empty.place_of(0), 3);
+        Ok(())
     }
 }

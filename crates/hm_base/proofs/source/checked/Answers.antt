@@ -1,7 +1,6 @@
-use Rattle.std.proofs.Common.{◌≡◌, ◌≤◌, ℕ, List, None, Some, length, take, arith, sym, ◌∙◌, refl}
+use Rattle.std.proofs.Common.{◌≡◌, None, Some, arith, ◌∙◌}
 use Rattle.std.specs.Str.{IsValidUpTo}
 use Rattle.std.specs.Str.Lossy.{utf8_valid_len}
-use Rattle.memchr.specs.Find.{IsFirstByte, is_byte}
 use Rattle.hm_base.proofs.Faults.{fault_of_text, fault_of_bytes, zero_first}
 use Rattle.hm_base.proofs.source.checked.Goals as goal
 

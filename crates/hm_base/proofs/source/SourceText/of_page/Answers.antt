@@ -1,7 +1,7 @@
-use Rattle.std.proofs.Common.{◌≡◌, ◌+◌, ℕ, List, [], length, arith, sym, ◌∙◌, ap}
+use Rattle.std.proofs.Common.{arith, ◌∙◌, ap}
 use Rattle.std.specs.String.{string_bytes}
 use Rattle.hm_base.specs.Source.{Source}
-use Rattle.hm_base.specs.Places.{start_of, source_from, with_lines}
+use Rattle.hm_base.specs.Places.{start_of, with_lines}
 use Rattle.hm_base.proofs.Faults.{no_zero}
 use Rattle.hm_base.proofs.Page.{length_marked, marked_rest, source_from_start, source_of_lines}
 use Rattle.hm_base.proofs.source.SourceText.of_page.Goals as goal

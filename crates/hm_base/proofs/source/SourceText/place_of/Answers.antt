@@ -1,10 +1,10 @@
-use Rattle.std.proofs.Common.{◌≡◌, ◌+◌, ◌≤◌, Bool, List, ℕ, length, arith, rules, ap, ◌∙◌, sym}
+use Rattle.std.proofs.Common.{◌≡◌, ◌+◌, ◌≤◌, length, arith, rules, ap, ◌∙◌, sym}
 use Rattle.std.specs.String.{string_bytes}
 use Rattle.std.specs.List.{count_by}
 use Rattle.std.proofs.lemmas.List.Sorted.{IsPartitionPoint-from_clause}
 use Rattle.hm_base.specs.Source.{Source, place_in}
-use Rattle.hm_base.specs.Places.{start_of, is_below, place_at}
-use Rattle.hm_base.proofs.Places.{source_from-place, source_from-length, source_from-end, count_by_partition, rising_is_partitioned}
+use Rattle.hm_base.specs.Places.{start_of, is_below}
+use Rattle.hm_base.proofs.Places.{source_from-place, source_from-length, count_by_partition, rising_is_partitioned}
 use Rattle.hm_base.proofs.source.SourceText.place_of.Goals as goal
 
 -- the call counts the pairs below the index

@@ -1,8 +1,8 @@
-use Rattle.std.proofs.Common.{◌≡◌, ◌+◌, ◌<◌, ◌≤◌, ◌≢◌, ℕ, true, List, [], ◌∷◌, ◌++◌, Option, Some, None, length, get_or, arith, rules, sym, ◌∙◌, ap, length-append}
+use Rattle.std.proofs.Common.{◌≡◌, ◌<◌, ◌≢◌, ℕ, true, List, ◌∷◌, ◌++◌, Some, None, length, get_or, arith, rules, sym, ◌∙◌, ap, length-append}
 use Rattle.std.proofs.lemmas.Result.{on_ok_weaker}
 use Rattle.std.proofs.lemmas.Str.Pattern.{IsSplitOnceResult, split_parts, strip_prefix_char}
 use Rattle.hm_base.specs.Bytes.{all_pass}
-use Rattle.hm_base.specs.Source.{Source, is_text_byte}
+use Rattle.hm_base.specs.Source.{is_text_byte}
 use Rattle.hm_base.specs.Places.{is_nonzero, with_lines}
 use Rattle.hm_base.proofs.Bytes.{all_pass_first, all_pass_second}
 use Rattle.hm_base.proofs.Lines.{with_lines_pair, with_lines_return, with_lines_last, text_bytes}

@@ -12,7 +12,7 @@ invariant-loop-line l = record {
   same : with_lines l.self l.rest ≡ with_lines l.initial.self l.page;
   text : shadow (Utf8 l.rest);
   room : l.self.end + length l.rest ≤ LONGEST_PAGE;
-  no_zero : all_pass is_nonzero l.rest ≡ true
+  no_zero : all_pass is_nonzero l.rest ≡ true;
 }
 
 abbrev pub decreases-loop-line : goal.decreases-loop-line

@@ -1,4 +1,4 @@
-use Rattle.std.proofs.Common.{◌≡◌, ℕ, List, [], ◌∷◌, ◌++◌, length, arith, ◌∙◌, ap, refl}
+use Rattle.std.proofs.Common.{[], ◌∷◌, arith, ◌∙◌, ap, refl}
 use Rattle.std.specs.String.{string_bytes}
 use Rattle.hm_base.specs.Source.{Source}
 use Rattle.hm_base.specs.Places.{start_of, with_pair}

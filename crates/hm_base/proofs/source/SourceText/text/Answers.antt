@@ -1,4 +1,4 @@
-use Rattle.std.proofs.Common.{◌≡◌, ◌≤◌, length, map, sym, arith, ◌∙◌, ap}
+use Rattle.std.proofs.Common.{length, map, sym, arith, ◌∙◌, ap}
 use Rattle.std.specs.String.{string_bytes}
 use Rattle.hm_base.specs.Source.{Source, byte_of}
 use Rattle.hm_base.specs.Places.{start_of}

@@ -1,1 +1,4 @@
 pub mod Among
+pub mod TableTools
+pub mod TableFacts
+pub mod UpFacts

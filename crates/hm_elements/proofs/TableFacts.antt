@@ -1,17 +1,17 @@
 -- Facts about which element may stand where, what is made, and what closes.
-use Rattle.std.proofs.Common.{◌≡◌, ℕ, Bool, true, false, cond, ◌||◌, ◌&&◌, not, List, [], ◌∷◌, bytes_eq, refl, sym, codes, ◌⊎◌, inl, inr, Option, Some, None, if◌then◌else◌}
+use Rattle.std.proofs.Common.{◌≡◌, ℕ, Bool, true, false, cond, ◌||◌, ◌&&◌, not, List, [], ◌∷◌, ◌++◌, bytes_eq, refl, sym, codes, ◌⊎◌, inl, inr, Option, Some, None, if◌then◌else◌}
 use Rattle.std.specs.List.{list_all}
 use Rattle.std.specs.Option.{is_some}
 use Rattle.std.proofs.lemmas.Bool.{or_cases, and_parts, not-true, false_from_ne_true, both_ways}
 use Rattle.hm_base.specs.Bytes.{is_digit}
 use Rattle.hm_base.specs.Forms.{is_small, is_tag_byte, is_tag_name}
 use Rattle.hm_base.specs.Walks.{Element}
-use Rattle.hm_elements.specs.Names.{words, is_among, Row, find, is_pair, head, body, noscript, div, table, tbody, tr, td, th, col, colgroup, svg}
-use Rattle.hm_elements.specs.Tables.{roots, voids, rcdata_names, raw_names, refused_names, headings, sections, parts, blocks, paragraph_ends, unnested_names, is_root, is_void, is_refused, is_section, is_heading, is_unnested, closes_p}
+use Rattle.hm_elements.specs.Names.{words, is_among, Row, find, is_pair, head, body, noscript, div, table, tbody, tr, td, th, col, colgroup, script, svg}
+use Rattle.hm_elements.specs.Tables.{is_raw, is_rcdata, holds_text, roots, voids, rcdata_names, raw_names, refused_names, headings, sections, parts, blocks, paragraph_ends, unnested_names, is_root, is_void, is_refused, is_section, is_heading, is_unnested, closes_p}
 use Rattle.hm_elements.specs.Nesting.{children, noscript_children, own_parents, bound_names, may_stand, yield_rows, yields, end_rows, ends_with, made_under}
 use Rattle.hm_elements.specs.Omission.{start_rows, start_goes_before}
 use Rattle.hm_elements.specs.Paths.{current, current_name, stands_on, head_yields, is_block_in_p, is_nested}
-use Rattle.hm_elements.proofs.TableTools.{same_bytes, eq_self, entry_passes, each_pair, pair_passes, HoldsInTables, stands_passes, no_row, not_among, none_among, second_of}
+use Rattle.hm_elements.proofs.TableTools.{same_bytes, eq_self, entry_passes, each_pair, pair_passes, HoldsInTables, stands_passes, no_row, none_among, no_head, second_of}
 
 abbrev pub is_nil : List (List ℕ) → Bool
 is_nil [] = true
@@ -24,10 +24,7 @@ nil_is (m ∷ ms) e = cc
 -- a parent without children of its own is no section
 not_section : (t : List ℕ) → find t children ≡ None → is_section t ≡ false
 unfolding is_section sections is_among children rcdata_names raw_names voids
-not_section t alone = rw (differs (codes "thead") refl, differs (codes "tbody") refl, differs (codes "tfoot") refl) refl
-  where
-    differs : (m : List ℕ) → is_some (find m children) ≡ true → bytes_eq m t ≡ false
-    differs m some = false_from_ne_true (bytes_eq m t) (λ e. both_ways (bytes_eq t m) (no_row t m children alone some) (rw (same_bytes m t e) (eq_self t)))
+not_section t alone = no_head t sections children alone refl
 
 abbrev makes_nothing : List ℕ → List ℕ → Bool
 makes_nothing c t = is_nil (made_under t c)
@@ -230,3 +227,32 @@ svg_is_kept t g h = by_colgroup (bytes_eq t colgroup) refl
     by_colgroup : (b : Bool) → bytes_eq t colgroup ≡ b → cond b true (is_pair yield_rows t svg) ≡ false
     by_colgroup true e = absurd (never e)
     by_colgroup false e = false_from_ne_true (is_pair yield_rows t svg) (λ k. both_ways (bytes_eq svg svg) (not-true (bytes_eq svg svg) (pair_passes (λ c n. not (bytes_eq n svg)) t svg yield_rows no_svg_after k)) refl)
+
+-- an element that holds more than one text, and isn't void
+pub record HoldsMore (c : List ℕ) : Type 0 where
+  pub no_text : holds_text c ≡ false
+  pub not_void : is_void c ≡ false
+
+abbrev pub holds_more : List ℕ → Bool
+holds_more c = not (holds_text c) && not (is_void c)
+
+pub holds_more_means : (c : List ℕ) → holds_more c ≡ true → HoldsMore c
+holds_more_means c h = let two = and_parts (not (holds_text c)) (not (is_void c)) h in record { no_text = not-true (holds_text c) two.0; not_void = not-true (is_void c) two.1 }
+
+ordinary_holds : (t : List ℕ) → find t children ≡ None → holds_more t ≡ true
+unfolding children sections holds_text is_raw raw_names is_rcdata rcdata_names is_void voids is_among
+ordinary_holds t alone = rw (no_head t (raw_names ++ script ∷ []) children alone refl, no_head t rcdata_names children alone refl, no_head t voids children alone refl) refl
+
+parent_holds : HoldsInTables (λ c t. holds_more t)
+unfolding children noscript_children own_parents sections holds_text is_raw raw_names is_rcdata rcdata_names is_void voids is_among
+parent_holds = record {
+  children_pass = refl;
+  noscript_passes = refl;
+  own_parents_pass = refl;
+  div_passes = refl;
+  ordinary_passes = λ n t alone none not_in. ordinary_holds t alone;
+}
+
+-- an element in which another stands
+pub stands_parent_holds : (n t : List ℕ) (g : Option (List ℕ)) → may_stand n t g ≡ true → HoldsMore t
+stands_parent_holds n t g h = holds_more_means t (stands_passes (λ c t'. holds_more t') parent_holds n t g h)

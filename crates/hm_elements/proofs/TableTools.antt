@@ -100,6 +100,12 @@ not_among n m ms none some = false_from_ne_true (bytes_eq n m) (λ e. differ (sa
 pub none_among : (n : List ℕ) (ks ms : List (List ℕ)) → is_among n ms ≡ false → list_all (λ m. is_among m ms) ks ≡ true → is_among n ks ≡ false
 none_among n ks ms none all = false_from_ne_true (is_among n ks) (λ e. both_ways (is_among n ms) none (entry_passes (λ m. is_among m ms) n ks all e))
 
+-- a name without a row is in no list of names that have one
+pub no_head : (n : List ℕ) (ks : List (List ℕ)) (rows : List Row) → find n rows ≡ None → list_all (λ m. is_some (find m rows)) ks ≡ true → is_among n ks ≡ false
+no_head n ks rows none all =
+    let missing : is_some (find n rows) ≡ false = rw none refl in
+    false_from_ne_true (is_among n ks) (λ e. both_ways (is_some (find n rows)) missing (entry_passes (λ m. is_some (find m rows)) n ks all e))
+
 -- from a || b, where a is false
 pub second_of : (a b : Bool) → a || b ≡ true → a ≡ false → b ≡ true
 second_of true b h e = cc

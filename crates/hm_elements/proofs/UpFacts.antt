@@ -8,7 +8,7 @@ use Rattle.hm_elements.specs.Tables.{voids, rcdata_names, raw_names, headings, s
 use Rattle.hm_elements.specs.Nesting.{children, noscript_children, own_parents, bound_names, may_stand, yield_rows, yields, end_rows, ends_with}
 use Rattle.hm_elements.specs.Omission.{before_rows, goes_before, up_names, up_of_p, goes_up, start_goes_before, bars_start}
 use Rattle.hm_elements.proofs.TableTools.{same_bytes, entry_passes, each_pair, pair_passes, HoldsInTables, stands_passes, no_row, second_of}
-use Rattle.hm_elements.proofs.TableFacts.{stands_parent, stands_beside_colgroup, start_cases}
+use Rattle.hm_elements.proofs.TableFacts.{stands_parent, stands_beside_colgroup, start_cases, HoldsMore, holds_more, holds_more_means}
 
 abbrev all_found : (List ℕ → Bool) → Option (List (List ℕ)) → Bool
 all_found test None = true
@@ -164,14 +164,7 @@ goes_yields_inside c n k goes free before =
       | inr (d, e) ↦ rw e (yields_tr c (rw d at goes) (clauses.0 (rw d refl)))
     ]
 
--- An element whose end tag may be left out holds no text of its own, and isn't void.
-pub record HoldsMore (c : List ℕ) : Type 0 where
-  pub no_text : holds_text c ≡ false
-  pub not_void : is_void c ≡ false
-
-abbrev holds_more : List ℕ → Bool
-holds_more c = not (holds_text c) && not (is_void c)
-
+-- an element whose end tag may be left out holds no text of its own, and isn't void
 before_holds : each_pair (λ c k. holds_more c) before_rows ≡ true
 unfolding before_rows blocks headings sections holds_text is_raw raw_names is_rcdata rcdata_names is_void voids is_among
 before_holds = refl
@@ -183,9 +176,6 @@ up_holds = refl
 three_hold : (holds_more p ≡ true) × (holds_more option ≡ true) × (holds_more colgroup ≡ true)
 unfolding holds_text is_raw raw_names is_rcdata rcdata_names is_void voids is_among
 three_hold = (refl, refl, refl)
-
-holds_more_means : (c : List ℕ) → holds_more c ≡ true → HoldsMore c
-holds_more_means c h = let two = and_parts (not (holds_text c)) (not (is_void c)) h in record { no_text = not-true (holds_text c) two.0; not_void = not-true (is_void c) two.1 }
 
 before_holds_more : (c k : List ℕ) → goes_before c k ≡ true → holds_more c ≡ true
 unfolding goes_before

@@ -1,41 +1,28 @@
--- Pages and their texts, computed.
-use Rattle.std.specs.Prelude.{◌≡◌, ℕ, List, [], ◌∷◌, ◌++◌, Some, None, codes, refl}
-use Rattle.std.specs.Str.{chars, is_utf8}
-use Rattle.std.specs.Str.Lossy.{utf8_valid_len}
-use lib.Utf8.{encode}
-use Rattle.hm_base.specs.declared.rules.Rule.TheVariants.{NotUtf8, Nul}
-use Rattle.hm_base.specs.Source.{placed_text, place_in, refusal_at, text_fault, text_of}
+-- Worked examples of the definitions.
+use Rattle.std.specs.Prelude.{◌≡◌, List, Option, Some, None, codes, refl}
+use Rattle.hm_base.specs.Bytes.{is_space, lower}
+use Rattle.hm_base.specs.RawText.{is_name_end, begins_end_tag, mark_at, raw_end, script_end}
 
-doctype : List ℕ
-doctype = codes "<!doctype html>"
+raw_text_ends : raw_end (codes "style") (codes "a</styles></STYLE >b</style>") ≡ Some 10
+unfolding begins_end_tag is_name_end is_space lower
+raw_text_ends = refl
 
-page : List ℕ
-page = 0xEF ∷ 0xBB ∷ 0xBF ∷ 97 ∷ 13 ∷ 10 ∷ 98 ∷ 13 ∷ 99 ∷ 13 ∷ 13 ∷ 10 ∷ []
+raw_text_is_open : raw_end (codes "title") (codes "a</title") ≡ None
+unfolding begins_end_tag is_name_end is_space lower
+raw_text_is_open = refl
 
-text : text_of page ≡ 97 ∷ 10 ∷ 98 ∷ 10 ∷ 99 ∷ 10 ∷ 10 ∷ []
-unfolding page
-text = refl
+script_in_a_comment : script_end (codes "<!--<script></script>--></script>") ≡ Some 24
+unfolding mark_at is_name_end is_space lower
+script_in_a_comment = refl
 
-behind_a_pair : place_in (placed_text page) 12 2 ≡ 6
-unfolding page
-behind_a_pair = refl
+script_is_open : script_end (codes "<!--<script></script>-->") ≡ None
+unfolding mark_at is_name_end is_space lower
+script_is_open = refl
 
-at_the_end : place_in (placed_text page) 12 7 ≡ 12
-unfolding page
-at_the_end = refl
+comment_in_a_script : script_end (codes "<!--</script>") ≡ Some 4
+unfolding mark_at is_name_end is_space lower
+comment_in_a_script = refl
 
-whole : text_fault doctype ≡ None
-unfolding doctype utf8_valid_len is_utf8 chars encode
-whole = refl
-
-not_utf8 : text_fault (doctype ++ 0xFF ∷ 0 ∷ []) ≡ Some (refusal_at NotUtf8 15)
-unfolding doctype utf8_valid_len is_utf8 chars encode
-not_utf8 = refl
-
-nul : text_fault (doctype ++ 0 ∷ 0xFF ∷ []) ≡ Some (refusal_at Nul 15)
-unfolding doctype utf8_valid_len is_utf8 chars encode
-nul = refl
-
-surrogate : text_fault (0xED ∷ 0xA0 ∷ 0x80 ∷ []) ≡ Some (refusal_at NotUtf8 0)
-unfolding utf8_valid_len is_utf8 chars encode
-surrogate = refl
+shared_dashes : script_end (codes "<!--><script></script>") ≡ Some 13
+unfolding mark_at is_name_end is_space lower
+shared_dashes = refl

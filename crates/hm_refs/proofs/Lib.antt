@@ -1,4 +1,4 @@
 pub mod Bools
 pub mod Found
-pub mod Numbers
+pub mod NumberLaws
 pub mod References

@@ -3,5 +3,7 @@
 
 mod fault;
 pub mod laws;
+mod numbers;
 
 pub use fault::TableFault;
+pub use numbers::{best_number, number_value};

@@ -1,6 +1,8 @@
 -- The best number of a code point.
-use Rattle.std.proofs.Common.{◌≡◌, ℕ, ◌<◌, ◌≤◌, Bool, true, false, cond, ◌&&◌, ◌||◌, ◌==◌, nat_le, nat_lt, List, [], ◌∷◌, Option, Some, None, refl, sym, ap, ◌∙◌, subst, arith}
+use Rattle.std.proofs.Common.{◌≡◌, ℕ, ◌+◌, ◌<◌, ◌≤◌, ◌⊎◌, inl, inr, Bool, true, false, cond, ◌&&◌, ◌||◌, ◌==◌, nat_le, nat_lt, List, [], ◌∷◌, length, get_or, drop, Option, Some, None, refl, sym, ap, ◌∙◌, subst, arith}
+use Rattle.std.specs.Char.{InScalarRange, OutOfScalarRange}
 use Rattle.std.specs.List.{list_all}
+use Rattle.std.proofs.lemmas.List.{at_drop_more}
 use Rattle.hm_refs.specs.Numbers.{point_of, replaced, look_up, look_back, or_number, or_itself, best_number}
 use Rattle.hm_refs.specs.Laws.{IsBest}
 use Rattle.hm_refs.proofs.Bools.{and_left, and_right, eq_of, le_of}
@@ -174,3 +176,64 @@ best_is_least c n h = record { gives = (best_gives c n h).0; least = λ m e. by_
 
 pub none_is_best : (c : ℕ) → best_number c ≡ None → (m : ℕ) → point_of m ≡ c → ⊥
 none_is_best c h m e = let l = best_least m c e in let i : None ≡ Some l.best = sym h ∙ l.is in cc
+
+-- ---- the table read from a place on
+
+pub up_here : (n : ℕ) (ps : List (ℕ × ℕ)) (i : ℕ) (d : ℕ × ℕ) → i < length ps → (get_or ps i d).0 ≡ n → look_up n (drop i ps) ≡ Some (get_or ps i d).1
+up_here n ps i d l h = at_drop_more (look_up n) ps i d l ∙ rw h (by_test (n == n) (same_eq n))
+  where
+    by_test : (b : Bool) → b ≡ true → cond b (Some (get_or ps i d).1) (look_up n (drop (i + 1) ps)) ≡ Some (get_or ps i d).1
+    by_test true e = refl
+    by_test false e = absurd (cc)
+
+pub up_later : (n : ℕ) (ps : List (ℕ × ℕ)) (i : ℕ) (d : ℕ × ℕ) → i < length ps → ((get_or ps i d).0 ≡ n → ⊥) → look_up n (drop i ps) ≡ look_up n (drop (i + 1) ps)
+up_later n ps i d l h = at_drop_more (look_up n) ps i d l ∙ by_test ((get_or ps i d).0 == n) refl
+  where
+    by_test : (b : Bool) → ((get_or ps i d).0 == n) ≡ b → cond b (Some (get_or ps i d).1) (look_up n (drop (i + 1) ps)) ≡ look_up n (drop (i + 1) ps)
+    by_test true e = absurd (h (eq_of (get_or ps i d).0 n e))
+    by_test false e = refl
+
+pub back_here : (c : ℕ) (ps : List (ℕ × ℕ)) (i : ℕ) (d : ℕ × ℕ) → i < length ps → (get_or ps i d).1 ≡ c → look_back c (drop i ps) ≡ Some (get_or ps i d).0
+back_here c ps i d l h = at_drop_more (look_back c) ps i d l ∙ rw h (by_test (c == c) (same_eq c))
+  where
+    by_test : (b : Bool) → b ≡ true → cond b (Some (get_or ps i d).0) (look_back c (drop (i + 1) ps)) ≡ Some (get_or ps i d).0
+    by_test true e = refl
+    by_test false e = absurd (cc)
+
+pub back_later : (c : ℕ) (ps : List (ℕ × ℕ)) (i : ℕ) (d : ℕ × ℕ) → i < length ps → ((get_or ps i d).1 ≡ c → ⊥) → look_back c (drop i ps) ≡ look_back c (drop (i + 1) ps)
+back_later c ps i d l h = at_drop_more (look_back c) ps i d l ∙ by_test ((get_or ps i d).1 == c) refl
+  where
+    by_test : (b : Bool) → ((get_or ps i d).1 == c) ≡ b → cond b (Some (get_or ps i d).0) (look_back c (drop (i + 1) ps)) ≡ look_back c (drop (i + 1) ps)
+    by_test true e = absurd (h (eq_of (get_or ps i d).1 c e))
+    by_test false e = refl
+
+-- a scalar value other than zero gives its replacement, or itself
+pub point_replaced : (n : ℕ) → (n ≡ 0 → ⊥) → InScalarRange n → point_of n ≡ or_number (look_up n replaced) n
+unfolding point_of
+point_replaced n z r = by_tests (n == 0) (nat_le 0xD800 n && nat_le n 0xDFFF) (nat_lt 0x10FFFF n) (zero_no (n == 0) refl) (low_no r) (high_no r)
+  where
+    zero_no : (b : Bool) → (n == 0) ≡ b → b ≡ false
+    zero_no true e = absurd (z (eq_of n 0 e))
+    zero_no false e = refl
+
+    low_no : InScalarRange n → (nat_le 0xD800 n && nat_le n 0xDFFF) ≡ false
+    low_no (inl l) = grind arith
+    low_no (inr l) = grind arith
+
+    high_no : InScalarRange n → nat_lt 0x10FFFF n ≡ false
+    high_no (inl l) = grind arith
+    high_no (inr l) = grind arith
+
+    by_tests : (a b c : Bool) → a ≡ false → b ≡ false → c ≡ false → cond (a || b || c) 0xFFFD (or_number (look_up n replaced) n) ≡ or_number (look_up n replaced) n
+    by_tests a b c e f g = rw (e, f, g) refl
+
+-- zero, a surrogate and what is too large give U+FFFD
+pub point_missing : (n : ℕ) → (n ≡ 0) ⊎ OutOfScalarRange n → point_of n ≡ 0xFFFD
+unfolding point_of
+point_missing n (inl e) = rw e refl
+point_missing n (inr (inl l)) = by_tests (n == 0) (nat_le 0xD800 n && nat_le n 0xDFFF) (nat_lt 0x10FFFF n) (grind arith)
+  where
+    by_tests : (a b c : Bool) → b ≡ true → cond (a || b || c) 0xFFFD (or_number (look_up n replaced) n) ≡ 0xFFFD
+    by_tests true b c e = refl
+    by_tests false b c e = rw e refl
+point_missing n (inr (inr l)) = point_above n (omega arith)

@@ -5,4 +5,5 @@ pub mod Tables
 pub mod Json
 pub mod Examples
 pub mod JsonExamples
+pub mod Nodes
 pub mod Laws

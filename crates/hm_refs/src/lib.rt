@@ -2,8 +2,11 @@
 #![tactic(auto)]
 
 mod fault;
+mod ids;
 pub mod laws;
 mod numbers;
+mod trie;
 
 pub use fault::TableFault;
+pub use ids::{NameId, Node};
 pub use numbers::{best_number, number_value};

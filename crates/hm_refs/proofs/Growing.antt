@@ -1,15 +1,16 @@
 -- A trie that grows by a name.
-use Rattle.std.proofs.Common.{◌≡◌, ℕ, zero, suc, ◌+◌, ◌*◌, ◌<◌, ◌≤◌, ◌⊎◌, inl, inr, Bool, true, false, cond, ◌&&◌, nat_eq, List, [], ◌∷◌, ◌++◌, map, length, get_or, set, take, drop, Option, Some, None, refl, sym, ap, ◌∙◌, subst, arith, is_some, add-one}
+use Rattle.std.proofs.Common.{◌≡◌, ℕ, zero, suc, ◌+◌, ◌<◌, ◌≤◌, ◌⊎◌, inl, inr, Bool, true, false, cond, ◌&&◌, nat_eq, List, [], ◌∷◌, ◌++◌, length, get_or, set, take, drop, Some, None, refl, sym, ap, ◌∙◌, subst, arith, is_some, add-one, string_bytes}
 use Rattle.std.proofs.lemmas.Bool.{cases_eq, cases_lt}
-use Rattle.std.proofs.lemmas.List.{map-set, set-get_or, get_or-map, get_or-set_same, get_or-set_other, get_or_push, take_more, take_all, map_more, length-map, length-set, length_push, length-take-le, length-drop, take-map}
+use Rattle.std.proofs.lemmas.List.{map-set, set-get_or, get_or-map, get_or-set_same, get_or-set_other, get_or_append_left, get_or_push, take_more, take_all, map_more, length-map, length-set, length_push, length-take-le, length-drop, take-map}
 use Rattle.std.specs.Ordering.{nat_cmp}
 use Rattle.std.specs.BTreeMap.{BTreeMap, get}
 use Rattle.hm_base.specs.Bytes.{is_null}
 use Rattle.hm_refs.specs.Names.{Entry, begins, is_front}
 use Rattle.hm_refs.specs.Tables.{names_in, no_entry, entry_at}
-use Rattle.hm_refs.specs.Nodes.{front_in, fronts_of, place, AreApart, Finds, Makes, Steps, IsWeb, HasNames, IsGrown, KeepsPlaces, IsWalked, IsShort, AreNames, Adds, IsWhole}
-use Rattle.hm_refs.specs.declared.trie.TrieNode.{TrieNode}
-use Rattle.hm_refs.proofs.Places.{StandsAt, place_stands, place_some, place_stays, place_other, place_last, apart_same, apart_before}
+use Rattle.hm_refs.specs.Nodes.{front_in, fronts_of, place, AreApart, Steps, IsWeb, HasNames, IsGrown, IsWalked, IsShort, AreNames, Adds, IsPut, entry_of, entries_of}
+use Rattle.hm_refs.specs.declared.nodes.Name.{Name}
+use Rattle.hm_refs.specs.declared.nodes.TrieNode.{TrieNode}
+use Rattle.hm_refs.proofs.Places.{place_stands, place_some, place_stays, place_other, place_last, apart_same, apart_before}
 use Rattle.hm_refs.proofs.Webs.{front_at_place, length_fronts, Grows, fronts_grow, web_grows, names_grow}
 
 -- ---- fronts of the first names
@@ -282,3 +283,49 @@ walk_ends t k j at start nodes x w a l e is =
       keeps = λ q m h. rw f (w.keeps q m h);
       placed = rw f (subst (λ q. place q (fronts_of t nodes) ≡ Some at) (w.front ∙ whole) (w.web.apart at (omega (arith, length_fronts t nodes, w.inside))));
     }
+
+-- ---- names as the code keeps them
+
+pub entry_read : (ns : List Name) (i : ℕ) (x : Name) → i < length ns → x ≡ get_or ns i x → entry_at (entries_of ns) i ≡ entry_of x
+entry_read ns i x l e = get_or-map entry_of ns i x no_entry l ∙ ap entry_of (sym e)
+
+pub length_entries : (ns : List Name) → length (entries_of ns) ≡ length ns
+length_entries ns = length-map ns entry_of
+
+pub name_read : (ns : List Name) (i : ℕ) (x : Name) (b : List ℕ) → i < length ns → b ≡ string_bytes (get_or ns i x).text → b ≡ (entry_at (entries_of ns) i).name
+name_read ns i x b l e = e ∙ sym (ap (λ (y : Entry). y.name) (get_or-map entry_of ns i x no_entry l))
+
+-- the same step, as the code takes it
+pub walked_on : (t : List Entry) (k j at : ℕ) (start old : List TrieNode) (byte index : ℕ) (rest : List ℕ) (new : List TrieNode) (child : ℕ) → AreNames t → IsWalked t k j at start old → k < length t → rest ≡ drop 1 (entry_at t k).name → j < length rest
+    → byte ≡ get_or rest j 0 → index ≡ at → Steps old new index byte k (j + 1) child → IsWalked t k (j + 1) child start new
+walked_on t k j at start old byte index rest new child a w l r b e i s =
+    walked t k j at start old byte w l (a.short k l) (omega (arith, ap length r)) (e ∙ ap (λ xs. get_or xs j 0) r) new child (subst (λ n. Steps old new n byte k (j + 1) child) i s)
+
+pub walk_ended : (t : List Entry) (k j at : ℕ) (start nodes : List TrieNode) (x : TrieNode) (index number : ℕ) (rest : List ℕ) → IsWalked t k j at start nodes → AreNames t → k < length t → rest ≡ drop 1 (entry_at t k).name → j ≡ length rest
+    → x ≡ get_or nodes index x → index ≡ at → number ≡ k → Adds t k at start (set nodes index (record x { ends = Some number }))
+walk_ended t k j at start nodes x index number rest w a l r e is i n =
+    rw (i, n) (walk_ends t k j at start nodes x w a l (e ∙ ap length r) (sym (subst (λ m. x ≡ get_or nodes m x) i is)))
+
+-- ---- one name after another
+
+pub put_first : (t : List Entry) (x : TrieNode) → x.depth ≡ 0 → x.ends ≡ None → ((c : ℕ) → get nat_cmp x.children c ≡ None) → IsPut t 0 (x ∷ []) []
+put_first t x d e empty = record {
+  grown = root_grown t x d e empty;
+  as_long = refl;
+  placed = λ i l. absurd (omega arith);
+}
+
+pub put_more : (t : List Entry) (k at : ℕ) (old new : List TrieNode) (places : List ℕ) → IsPut t k old places → Adds t k at old new → IsPut t (k + 1) new (places ++ at ∷ [])
+put_more t k at old new places p a = record {
+  grown = subst (λ n. IsGrown t n new) (sym (add-one k)) a.grown;
+  as_long = omega (arith, length_push places at, p.as_long);
+  placed = λ i l. by_order i (cases_lt i k) l;
+}
+  where
+    by_order : (i : ℕ) → (i < k) ⊎ (k ≤ i) → i < k + 1 → place (entry_at t i).name (fronts_of t new) ≡ Some (get_or (places ++ at ∷ []) i 0)
+    by_order i (inl b) l =
+        let inside : i < length places = omega (arith, p.as_long) in
+        rw (get_or_append_left places (at ∷ []) 0 i inside) (a.keeps (entry_at t i).name (get_or places i 0) (p.placed i b))
+    by_order i (inr b) l =
+        let j : i ≡ k = omega arith in
+        rw (j, get_or_push places at 0 k p.as_long) a.placed

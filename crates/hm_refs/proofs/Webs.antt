@@ -1,17 +1,17 @@
 -- A trie that grows by a node.
-use Rattle.std.proofs.Common.{◌≡◌, ℕ, zero, suc, ◌+◌, ◌*◌, ◌<◌, ◌≤◌, ◌⊎◌, inl, inr, Bool, true, false, cond, nat_eq, ◌==◌, List, [], ◌∷◌, ◌++◌, map, length, get_or, set, take, drop, Option, Some, None, refl, sym, ap, ◌∙◌, subst, arith, bytes_eq, is_some, min}
+use Rattle.std.proofs.Common.{◌≡◌, ℕ, ◌+◌, ◌<◌, ◌≤◌, ◌⊎◌, inl, inr, Bool, true, false, cond, nat_eq, List, [], ◌∷◌, ◌++◌, length, get_or, set, take, Option, Some, None, refl, sym, ap, ◌∙◌, subst, arith, bytes_eq, is_some, min}
 use Rattle.std.proofs.lemmas.Bool.{cases_lt, cases_eq}
 use Rattle.std.proofs.lemmas.List.{map-set, set-get_or, map_push, get_or-map, get_or-set_same, get_or-set_other, get_or-take, length-take, get_or_append_left, get_or_push, length_push, length-map, length-set, same_from_push}
 use Rattle.std.proofs.lemmas.Slice.Eq.{bytes_eq-Decides}
 use Rattle.std.specs.Ordering.{nat_cmp}
-use Rattle.std.specs.BTreeMap.{BTreeMap, get}
+use Rattle.std.specs.BTreeMap.{get}
 use Rattle.hm_base.specs.Bytes.{is_null}
 use Rattle.hm_refs.specs.Names.{Entry, is_front}
 use Rattle.hm_refs.specs.Tables.{names_in, no_entry, entry_at}
-use Rattle.hm_refs.specs.Nodes.{front_in, fronts_of, place, AreApart, Makes, IsWeb, HasNames, IsGrown}
-use Rattle.hm_refs.specs.declared.trie.TrieNode.{TrieNode}
+use Rattle.hm_refs.specs.Nodes.{front_in, fronts_of, place, IsWeb, HasNames}
+use Rattle.hm_refs.specs.declared.nodes.TrieNode.{TrieNode}
 use Rattle.hm_refs.proofs.Bools.{eq_of}
-use Rattle.hm_refs.proofs.Places.{StandsAt, place_stands, place_some, place_push, place_stays, place_other, place_last, apart_push, apart_same, apart_before}
+use Rattle.hm_refs.proofs.Places.{place_stands, place_stays, place_other, place_last, apart_push, apart_same}
 
 -- the front of a node, by its place
 pub front_at_place : (t : List Entry) (nodes : List TrieNode) (n : ℕ) (x : TrieNode) → n < length nodes → get_or nodes n x ≡ x → get_or (fronts_of t nodes) n [] ≡ front_in t x

@@ -1,12 +1,12 @@
 -- The nodes of a trie, as the code keeps them.
-use Rattle.std.specs.Prelude.{◌≡◌, ℕ, suc, ◌+◌, ◌*◌, ◌<◌, ◌≤◌, ◌⊎◌, Bool, true, false, cond, nat_eq, is_some, List, [], ◌∷◌, ◌++◌, map, take, drop, length, Option, Some, None, option_map, if◌then◌else◌, slice_index_or, slice_set, bytes_eq, string_bytes}
+use Rattle.std.specs.Prelude.{◌≡◌, ℕ, suc, ◌+◌, ◌*◌, ◌<◌, ◌≤◌, ◌⊎◌, true, false, cond, nat_eq, is_some, List, [], ◌∷◌, ◌++◌, map, take, drop, length, Option, Some, None, option_map, if◌then◌else◌, slice_index_or, slice_set, bytes_eq, string_bytes}
 use Rattle.std.specs.Ordering.{nat_cmp}
 use Rattle.std.specs.BTreeMap.{BTreeMap, get}
 use Rattle.hm_base.specs.Bytes.{is_null}
 use Rattle.hm_refs.specs.Names.{Entry, is_front}
 use Rattle.hm_refs.specs.Tables.{names_in, entry_at, points_list}
-use Rattle.hm_refs.specs.declared.trie.Name.{Name}
-use Rattle.hm_refs.specs.declared.trie.TrieNode.{TrieNode}
+use Rattle.hm_refs.specs.declared.nodes.Name.{Name}
+use Rattle.hm_refs.specs.declared.nodes.TrieNode.{TrieNode}
 
 abbrev pub entry_of : Name → Entry
 entry_of n = record { name = string_bytes n.text; points = points_list n.points }
@@ -102,8 +102,13 @@ pub record Adds (t : List Entry) (k at : ℕ) (old new : List TrieNode) : Type 0
   pub keeps : KeepsPlaces (fronts_of t old) (fronts_of t new)
   pub placed : place (entry_at t k).name (fronts_of t new) ≡ Some at
 
+-- the trie of the first k names, and the node of each
+pub record IsPut (t : List Entry) (k : ℕ) (nodes : List TrieNode) (places : List ℕ) : Type 0 where
+  pub grown : IsGrown t k nodes
+  pub as_long : length places ≡ k
+  pub placed : (i : ℕ) → i < k → place (entry_at t i).name (fronts_of t nodes) ≡ Some (slice_index_or places i 0)
+
 -- the trie of all names, and the node of each
 pub record IsWhole (t : List Entry) (nodes : List TrieNode) (places : List ℕ) : Type 0 where
-  pub grown : IsGrown t (length t) nodes
-  pub as_long : length places ≡ length t
-  pub placed : (i : ℕ) → i < length t → place (entry_at t i).name (fronts_of t nodes) ≡ Some (slice_index_or places i 0)
+  pub names : AreNames t
+  pub put : IsPut t (length t) nodes places

@@ -5,7 +5,7 @@ mod fault;
 mod ids;
 pub mod laws;
 mod numbers;
-mod trie;
+mod nodes;
 
 pub use fault::TableFault;
 pub use ids::{NameId, Node};

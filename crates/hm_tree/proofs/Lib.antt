@@ -1,6 +1,7 @@
 pub mod AttributeLemmas
 pub mod EndLemmas
 pub mod LastLemmas
+pub mod MakingLemmas
 pub mod ListLemmas
 pub mod OpenLemmas
 pub mod PieceLemmas

@@ -1,7 +1,8 @@
 -- Two lists step by step, and texts that compare equal.
-use Rattle.std.proofs.Common.{◌≡◌, ℕ, zero, suc, ◌+◌, ◌<◌, length, arith, Bool, true, false, not, List, [], ◌∷◌, ◌++◌, take, slice_get, bytes_eq, Option, Some, sym, ap, ◌∙◌, refl, get_or}
+use Rattle.std.proofs.Common.{◌≡◌, ℕ, zero, suc, ◌+◌, ◌<◌, ◌≤◌, min, length, arith, inl, inr, Bool, true, false, not, List, [], ◌∷◌, ◌++◌, take, slice_get, bytes_eq, Option, Some, None, sym, ap, ◌∙◌, refl, get_or}
 use Rattle.std.proofs.lemmas.List.{take_more}
-use Rattle.std.proofs.lemmas.Option.{slice_get_within, get_or_from_slice_get}
+use Rattle.std.proofs.lemmas.Option.{slice_get_within, slice_get_past, slice_get-get_or, get_or_from_slice_get}
+use Rattle.std.proofs.lemmas.Bool.{cases_lt}
 use Rattle.std.proofs.lemmas.Slice.Eq.{bytes_eq-Decides}
 
 -- fronts that are the same stay so by one more element that both have
@@ -31,3 +32,17 @@ slice_get-append (x ∷ xs) ys (suc i) h = slice_get-append xs ys i (omega arith
 pub slice_get_at : {X : Type 0} (xs : List X) (x : X) → slice_get (xs ++ x ∷ []) (length xs) ≡ Some x
 slice_get_at [] x = refl
 slice_get_at (y ∷ xs) x = slice_get_at xs x
+
+ends_first : {X : Type 0} (xs ys : List X) (n : ℕ) → length xs ≤ n → n < length ys → slice_get xs n ≡ slice_get ys n → ⊥
+ends_first xs [] n past within e = absurd (omega arith)
+ends_first xs (y ∷ ys) n past within e =
+    let none = slice_get_past xs n past in
+    let some = slice_get-get_or (y ∷ ys) n y within in
+    let both : None ≡ Some (get_or (y ∷ ys) n y) = sym none ∙ e ∙ some in
+    cc
+
+-- where one list ends and the other doesn't, they differ
+pub differ_at_end : {X : Type 0} (xs ys : List X) (n : ℕ) → n ≡ min (length xs) (length ys) → (length xs ≡ length ys → ⊥) → slice_get xs n ≡ slice_get ys n → ⊥
+differ_at_end xs ys n at other e = elim (cases_lt (length xs) (length ys))
+    [ inl h ↦ ends_first xs ys n (omega arith) (omega arith) e
+    | inr h ↦ ends_first ys xs n (omega arith) (omega arith) (sym e) ]

@@ -1,5 +1,5 @@
 -- The open starts of a walk are the open elements: each index is that of the start, and the starts before it are those open there.
-use Rattle.std.proofs.Common.{◌≡◌, ℕ, ◌+◌, ◌<◌, ◌≤◌, Bool, true, List, [], ◌∷◌, ◌++◌, length, take, slice_get, Option, Some, None, sym, ap, subst, ◌∙◌, refl, arith, append_assoc}
+use Rattle.std.proofs.Common.{◌≡◌, ℕ, ◌+◌, ◌<◌, ◌≤◌, Bool, true, List, [], ◌∷◌, ◌++◌, length, take, slice_get, Option, Some, None, IsSome, sym, ap, subst, ◌∙◌, refl, arith, append_assoc}
 use Rattle.std.proofs.lemmas.List.{take-append-le, take_at, append-nil}
 use Rattle.std.proofs.lemmas.Option.{slice_get_within}
 use Rattle.hm_base.specs.Walks.{Event, doctype, start, text, comment, end, Attribute, Element, path_behind, path_after}
@@ -83,3 +83,15 @@ innermost_by w k (j ∷ ks) (p ∷ path) is along (s, before, rest) e =
 
 pub innermost-IsInnermost : (w : List Event) (k : ℕ) → Some k ≡ innermost w → IsInnermost w k
 innermost-IsInnermost w k e = innermost_by w k (open_after [] 0 w) (path_after [] w) refl refl (all_open w) e
+
+start_by : (w : List Event) (ks : List ℕ) (path : List Element) → AreOpen w ks path → 0 < length path → IsSome (slice_get ks 0)
+start_by w [] [] h some = absurd (omega arith)
+start_by w [] (e ∷ path) h some = absurd h
+start_by w (k ∷ ks) path h some = refl
+
+-- where an element is open, its start is
+pub IsSome-innermost : (w : List Event) → 0 < length (path_after [] w) → IsSome (innermost w)
+IsSome-innermost w some = start_by w (open_after [] 0 w) (path_after [] w) (all_open w) some
+
+pub innermost_within : (w : List Event) (k : ℕ) → Some k ≡ innermost w → k < length w
+innermost_within w k e = slice_get_within w k _ (innermost-IsInnermost w k e).start.at

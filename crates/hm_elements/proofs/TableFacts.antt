@@ -3,7 +3,7 @@ use Rattle.std.proofs.Common.{◌≡◌, ℕ, Bool, true, false, cond, ◌||◌,
 use Rattle.std.specs.List.{list_all}
 use Rattle.std.specs.Option.{is_some}
 use Rattle.std.proofs.lemmas.Bool.{or_cases, and_parts, not-true, false_from_ne_true, both_ways}
-use Rattle.hm_base.specs.Bytes.{is_digit}
+use Rattle.hm_base.specs.Bytes.{is_digit_of}
 use Rattle.hm_base.specs.Forms.{is_small, is_tag_byte, is_tag_name}
 use Rattle.hm_base.specs.Walks.{Element}
 use Rattle.hm_elements.specs.Names.{words, is_among, Row, find, is_pair, head, body, noscript, div, table, tbody, tr, td, th, col, colgroup, script, svg}
@@ -199,7 +199,7 @@ pub record SvgIsPlain (path : List Element) : Type 0 where
   pub not_root : is_root svg ≡ false
 
 pub svg_is_plain : (path : List Element) → SvgIsPlain path
-unfolding is_tag_name is_small is_tag_byte is_digit is_refused refused_names is_block_in_p is_nested closes_p paragraph_ends blocks headings is_unnested unnested_names is_heading is_void voids is_root roots is_among
+unfolding is_tag_name is_small is_tag_byte is_digit_of is_refused refused_names is_block_in_p is_nested closes_p paragraph_ends blocks headings is_unnested unnested_names is_heading is_void voids is_root roots is_among
 svg_is_plain path = record {
   name = refl;
   known = refl;

@@ -67,6 +67,9 @@ impl Model for SourceText {
 
 impl SourceText {
     /// The text of the bytes of a page. Places count bytes of the page as it is.
+    ///
+    /// The fault is `TooLong` where there are more bytes than `limit`, else that of the lesser
+    /// place. `Memory` comes only where the page has a text.
     pub fn read(alloc: Global, bytes: &[u8], limit: u32) -> Result<SourceText, TextFault>
         requires { limit ≤ LONGEST_PAGE }
         ensures read { IfOk result (λ text. text ≡ source_of bytes.now) }

@@ -1,6 +1,7 @@
 //! The trusted edge: files of the system, and a writer. They tell no content.
-ghost use Rattle.std.specs.Prelude.{◌≡◌, List, [], Bool, true, false, None, IsTrue, IfOk, is_ok};
+ghost use Rattle.std.specs.Prelude.{◌≡◌, List, [], Bool, true, false, None, IsTrue, IfOk, OnOk, is_ok};
 ghost use Rattle.std.specs.Io.{ReadsAtMost};
+ghost use Rattle.std.specs.Io.KnownBytes.{Appends};
 ghost use Rattle.hm_store.specs.Causes.{counted, HasCause};
 
 use crate::faults::count_failure;
@@ -25,7 +26,11 @@ impl<'r, R: Files> Model for FileStore<'r, R> {
 
     ghost Value = { Handles };
 
-    ghost view = { λ s. record { is_reading = is_some s.reading; is_writing = is_some s.writing; faults = s.faults } };
+    ghost view = { λ s. record {
+      is_reading = is_some s.reading;
+      is_writing = is_some s.writing;
+      faults = s.faults;
+    } };
 }
 
 impl<'r, R: Files> FileStore<'r, R> {
@@ -58,7 +63,10 @@ impl<'r, R: Files> Store for FileStore<'r, R> {
     ghost faults = { λ s. s.faults };
 
     fn open_in(&mut self, name: &str) -> Result<bool, Failed>
-        ensures after { self.new ≡ record { is_reading = is_ok result; is_writing = self.old.is_writing; faults = counted self.old.faults result } }
+        ensures after { self.new ≡ record self.old {
+          is_reading = is_ok result;
+          faults = counted self.old.faults result;
+        } }
         ensures found { IfOk result (λ found. IsTrue found) }
         ensures cause { HasCause self.old.faults self.new.faults result }
     {
@@ -88,7 +96,10 @@ impl<'r, R: Files> Store for FileStore<'r, R> {
     }
 
     fn open_out(&mut self, name: &str) -> Result<(), Failed>
-        ensures after { self.new ≡ record { is_reading = self.old.is_reading; is_writing = is_ok result; faults = counted self.old.faults result } }
+        ensures after { self.new ≡ record self.old {
+          is_writing = is_ok result;
+          faults = counted self.old.faults result;
+        } }
         ensures cause { HasCause self.old.faults self.new.faults result }
     {
         self.writing = None;
@@ -117,7 +128,10 @@ impl<'r, R: Files> Store for FileStore<'r, R> {
 
     fn close_out(&mut self) -> Result<(), Failed>
         requires { self.old.is_writing ≡ true }
-        ensures after { self.new ≡ record { is_reading = self.old.is_reading; is_writing = false; faults = counted self.old.faults result } }
+        ensures after { self.new ≡ record self.old {
+          is_writing = false;
+          faults = counted self.old.faults result;
+        } }
         ensures cause { HasCause self.old.faults self.new.faults result }
     {
         let flushed = match &mut self.writing {
@@ -157,7 +171,9 @@ impl<W: Write> WriteSink<W> {
 }
 
 /// Writes all the bytes, and flushes them.
-fn write_through<W: Write>(writer: &mut W, bytes: &[u8]) -> io::Result<()> {
+fn write_through<W: Write>(writer: &mut W, bytes: &[u8]) -> io::Result<()>
+    ensures { OnOk result (Appends (W.contents writer.old) (W.contents writer.new) bytes.now) }
+{
     writer.write_all(bytes)?;
     writer.flush()
 }

@@ -23,6 +23,7 @@ pull-tells = λ g c. record {
   named = refl;
   bound = c.ensures.bound;
   bytes = none_pulls c.result c.new.into.now;
+  place = on_err c.result refl;
   writes = ap (λ (h : Handles). h.is_writing) c.ensures.after;
   target = refl;
   cause = c.ensures.cause;

@@ -5,3 +5,8 @@ pub record Handles : Type 0 where
   pub is_reading : Bool
   pub is_writing : Bool
   pub faults : ℕ
+
+-- What contracts see of a writer as a sink.
+pub record SinkOver (W : Type 0) : Type 0 where
+  pub inner : W
+  pub faults : ℕ

@@ -146,7 +146,7 @@ impl<'r, R: Files> Store for FileStore<'r, R> {
     }
 }
 
-/// A writer as a sink. Contracts see it as the number of its failed calls.
+/// A writer as a sink.
 #[derive(Drop)]
 pub struct WriteSink<W: Write> {
     inner: W,
@@ -154,17 +154,20 @@ pub struct WriteSink<W: Write> {
 }
 
 impl<W: Write> Model for WriteSink<W> {
-    ghost use Rattle.std.specs.Prelude.{ℕ};
+    ghost use Rattle.hm_store.specs.Edge.{SinkOver};
 
-    ghost Value = { ℕ };
+    ghost Value = { SinkOver W };
 
-    ghost view = { λ s. s.faults };
+    ghost view = { λ s. record {
+      inner = s.inner;
+      faults = s.faults;
+    } };
 }
 
 impl<W: Write> WriteSink<W> {
     /// A sink whose bytes go to `inner`.
     pub fn new(inner: W) -> Self
-        ensures { result ≡ 0 }
+        ensures { result ≡ record { inner = inner; faults = 0 } }
     {
         WriteSink { inner, faults: 0 }
     }
@@ -181,11 +184,13 @@ fn write_through<W: Write>(writer: &mut W, bytes: &[u8]) -> io::Result<()>
 impl<W: Write> Sink for WriteSink<W> {
     ghost contents = { λ _. None };
 
-    ghost faults = { λ s. s };
+    ghost faults = { λ s. s.faults };
 
     fn put(&mut self, bytes: &[u8]) -> Result<(), Failed>
-        ensures counted { self.new ≡ counted self.old result }
-        ensures cause { HasCause self.old self.new result }
+        ensures written { OnOk result
+            (Appends (W.contents self.old.inner) (W.contents self.new.inner) bytes.now) }
+        ensures counted { self.new.faults ≡ counted self.old.faults result }
+        ensures cause { HasCause self.old.faults self.new.faults result }
     {
         match write_through(&mut self.inner, bytes) {
             Ok(()) => Ok(()),

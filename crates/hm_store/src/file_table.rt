@@ -23,10 +23,14 @@ impl Model for FileTable {
 
     ghost coded = { named_files_code };
 
-    ghost view = { λ t. record { names = names_of t.files.entries; files = files_of t.files.entries } };
+    ghost view = { λ t. record {
+      names = names_of t.files.entries;
+      files = files_of t.files.entries;
+    } };
 }
 
 impl FileTable {
+    /// No files.
     pub(crate) fn new(alloc: Global) -> Self
         ensures { result ≡ no_files }
     {

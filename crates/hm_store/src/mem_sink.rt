@@ -24,7 +24,10 @@ impl Model for MemSink {
 
     ghost coded = { sunk_bytes_code };
 
-    ghost view = { λ s. record { bytes = s.bytes.items; calls = s.calls } };
+    ghost view = { λ s. record {
+      bytes = s.bytes.items;
+      calls = s.calls;
+    } };
 }
 
 impl MemSink {

@@ -1,8 +1,9 @@
 //! The trusted edge: files of the system, and a writer. They tell no content.
-ghost use Rattle.std.specs.Prelude.{◌≡◌, List, [], Bool, true, false, None, IsTrue, IfOk, OnOk, is_ok};
+ghost use Rattle.std.specs.Prelude.{◌≡◌, List, [], Bool, true, None, IsTrue, IfOk, OnOk, is_ok, is_some};
 ghost use Rattle.std.specs.Io.{ReadsAtMost};
-ghost use Rattle.std.specs.Io.KnownBytes.{Appends};
+ghost use Rattle.std.specs.Io.KnownBytes.{Appends, ReadConsumes};
 ghost use Rattle.hm_store.specs.Causes.{counted, HasCause};
+ghost use Rattle.hm_store.specs.Edge.{ForBoth, no_open_files};
 
 use crate::faults::count_failure;
 use crate::{Failed, Sink, Store};
@@ -21,14 +22,13 @@ pub struct FileStore<'r, R: Files> {
 }
 
 impl<'r, R: Files> Model for FileStore<'r, R> {
-    ghost use Rattle.std.specs.Prelude.{is_some};
-    ghost use Rattle.hm_store.specs.Edge.{Handles};
+    ghost use Rattle.hm_store.specs.Edge.{OpenFiles};
 
-    ghost Value = { Handles };
+    ghost Value = { OpenFiles R.File };
 
     ghost view = { λ s. record {
-      is_reading = is_some s.reading;
-      is_writing = is_some s.writing;
+      reading = s.reading;
+      writing = s.writing;
       faults = s.faults;
     } };
 }
@@ -36,7 +36,7 @@ impl<'r, R: Files> Model for FileStore<'r, R> {
 impl<'r, R: Files> FileStore<'r, R> {
     /// A store with no open file.
     pub fn new(rt: &'r R) -> Self
-        ensures { result ≡ record { is_reading = false; is_writing = false; faults = 0 } }
+        ensures { result ≡ no_open_files }
     {
         FileStore {
             rt,
@@ -50,24 +50,23 @@ impl<'r, R: Files> FileStore<'r, R> {
 impl<'r, R: Files> Store for FileStore<'r, R> {
     ghost files = { λ _. None };
 
-    ghost is_reading = { λ s. s.is_reading };
+    ghost is_reading = { λ s. is_some s.reading };
 
     ghost source = { λ _. [] };
 
     ghost rest = { λ _. None };
 
-    ghost is_writing = { λ s. s.is_writing };
+    ghost is_writing = { λ s. is_some s.writing };
 
     ghost target = { λ _. [] };
 
     ghost faults = { λ s. s.faults };
 
     fn open_in(&mut self, name: &str) -> Result<bool, Failed>
-        ensures after { self.new ≡ record self.old {
-          is_reading = is_ok result;
-          faults = counted self.old.faults result;
-        } }
+        ensures reads { is_some self.new.reading ≡ is_ok result }
         ensures found { IfOk result (λ found. IsTrue found) }
+        ensures writes { self.new.writing ≡ self.old.writing }
+        ensures counted { self.new.faults ≡ counted self.old.faults result }
         ensures cause { HasCause self.old.faults self.new.faults result }
     {
         self.reading = None;
@@ -81,9 +80,13 @@ impl<'r, R: Files> Store for FileStore<'r, R> {
     }
 
     fn pull(&mut self, into: &mut [u8]) -> Result<usize, Failed>
-        requires { self.old.is_reading ≡ true }
-        ensures after { self.new ≡ record self.old { faults = counted self.old.faults result } }
+        requires { is_some self.old.reading ≡ true }
+        ensures reads { is_some self.new.reading ≡ true }
         ensures bound { ReadsAtMost result into.new }
+        ensures pulled { ForBoth self.old.reading self.new.reading
+            (λ old new. ReadConsumes (R.File.remaining old) (R.File.remaining new) result into.new) }
+        ensures writes { self.new.writing ≡ self.old.writing }
+        ensures counted { self.new.faults ≡ counted self.old.faults result }
         ensures cause { HasCause self.old.faults self.new.faults result }
     {
         match &mut self.reading {
@@ -96,10 +99,9 @@ impl<'r, R: Files> Store for FileStore<'r, R> {
     }
 
     fn open_out(&mut self, name: &str) -> Result<(), Failed>
-        ensures after { self.new ≡ record self.old {
-          is_writing = is_ok result;
-          faults = counted self.old.faults result;
-        } }
+        ensures writes { is_some self.new.writing ≡ is_ok result }
+        ensures reads { self.new.reading ≡ self.old.reading }
+        ensures counted { self.new.faults ≡ counted self.old.faults result }
         ensures cause { HasCause self.old.faults self.new.faults result }
     {
         self.writing = None;
@@ -113,8 +115,12 @@ impl<'r, R: Files> Store for FileStore<'r, R> {
     }
 
     fn put(&mut self, bytes: &[u8]) -> Result<(), Failed>
-        requires { self.old.is_writing ≡ true }
-        ensures after { self.new ≡ record self.old { faults = counted self.old.faults result } }
+        requires { is_some self.old.writing ≡ true }
+        ensures writes { is_some self.new.writing ≡ true }
+        ensures written { OnOk result (ForBoth self.old.writing self.new.writing
+            (λ old new. Appends (R.File.contents old) (R.File.contents new) bytes.now)) }
+        ensures reads { self.new.reading ≡ self.old.reading }
+        ensures counted { self.new.faults ≡ counted self.old.faults result }
         ensures cause { HasCause self.old.faults self.new.faults result }
     {
         match &mut self.writing {
@@ -127,11 +133,10 @@ impl<'r, R: Files> Store for FileStore<'r, R> {
     }
 
     fn close_out(&mut self) -> Result<(), Failed>
-        requires { self.old.is_writing ≡ true }
-        ensures after { self.new ≡ record self.old {
-          is_writing = false;
-          faults = counted self.old.faults result;
-        } }
+        requires { is_some self.old.writing ≡ true }
+        ensures idle { self.new.writing ≡ None }
+        ensures reads { self.new.reading ≡ self.old.reading }
+        ensures counted { self.new.faults ≡ counted self.old.faults result }
         ensures cause { HasCause self.old.faults self.new.faults result }
     {
         let flushed = match &mut self.writing {

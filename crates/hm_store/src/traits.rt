@@ -1,5 +1,5 @@
 //! What the program asks of the outside.
-ghost use Rattle.std.specs.Prelude.{◌≡◌, ◌≢◌, ◌↔◌, ◌⊎◌, ℕ, List, [], Bool, true, false, IsSome, IfOk, OnOk, OnErr};
+ghost use Rattle.std.specs.Prelude.{◌≡◌, ◌↔◌, ◌⊎◌, ℕ, List, [], Bool, true, false, IsSome, IfOk, OnOk, OnErr};
 ghost use Rattle.std.specs.declared.option.Option.{Option};
 ghost use Rattle.std.specs.Io.{ReadsAtMost};
 ghost use Rattle.std.specs.Io.KnownBytes.{append_known};
@@ -36,7 +36,7 @@ pub trait Store {
     /// Opens a file for reading, from its front. False says that the store has no such file.
     fn open_in(&mut self, name: &str) -> Result<bool, Failed>
         ensures same { files self.new ≡ files self.old }
-        ensures reads { is_reading self.new ≡ true ↔ result ≡ Ok true }
+        ensures reads { (is_reading self.new ≡ true) ↔ (result ≡ Ok true) }
         ensures named { result ≡ Ok true → IsSome (files self.old) → source self.new ≡ name.now }
         ensures opens { Opens (files self.old) name.now result (rest self.new) }
         ensures absent { result ≡ Ok false → IsMissing (files self.old) name.now }

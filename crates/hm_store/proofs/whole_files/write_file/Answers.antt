@@ -1,5 +1,5 @@
-use Rattle.std.proofs.Common.{ap, ◌∙◌, inr}
-use Rattle.hm_store.specs.Files.{with_more}
+use Rattle.std.proofs.Common.{rules, ap, ◌∙◌, inr}
+use Rattle.hm_store.specs.Files.{with_more, HasFront}
 use Rattle.hm_store.proofs.FileLemmas.{put_first, front_put, front_all}
 use Rattle.hm_store.proofs.ResultLemmas.{on_ok, on_err}
 use Rattle.hm_store.proofs.whole_files.write_file.Goals as goal
@@ -19,5 +19,7 @@ returns-in-Ok-clause-err g c =
 
 pub returns-in-Err-clause-err : goal.returns-in-Err-clause-err
 returns-in-Err-clause-err g c =
-    inr (front_put (g.S.Store.files c.args.store.now) (g.S.Store.files c.open_out.new.self) (g.S.Store.files c.put.new.self) c.args.name.now (g.S.Store.target c.open_out.new.self) c.args.bytes.now
-    c.in_ok-open_out.ensures.ok c.in_ok-open_out.ensures.named c.in-Err.ensures.err)
+    let front : HasFront (g.S.Store.files c.args.store.now) (g.S.Store.files c.put.new.self) c.args.name.now c.args.bytes.now =
+    front_put (g.S.Store.files c.args.store.now) (g.S.Store.files c.open_out.new.self) (g.S.Store.files c.put.new.self) c.args.name.now (g.S.Store.target c.open_out.new.self) c.args.bytes.now
+    c.in_ok-open_out.ensures.ok c.in_ok-open_out.ensures.named c.in-Err.ensures.err in
+    search rules

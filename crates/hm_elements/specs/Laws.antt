@@ -1,14 +1,16 @@
 -- What the tables say for every name, and what the laws of this crate state.
-use Rattle.std.specs.Prelude.{◌≡◌, ℕ, true, false, ◌⊎◌, List, [], ◌∷◌, Option, bytes_eq}
-use Rattle.hm_base.specs.Forms.{is_tag_name}
+use Rattle.std.specs.Prelude.{◌≡◌, ℕ, true, false, ◌⊎◌, List, [], ◌∷◌, ◌++◌, length, Option, Some, bytes_eq}
+use Rattle.std.specs.Str.{IsUtf8}
+use Rattle.hm_base.specs.Forms.{has_byte, is_tag_name}
+use Rattle.hm_base.specs.RawText.{begins_end_tag}
 use Rattle.hm_base.specs.Walks.{Event, Element}
 use Rattle.hm_elements.specs.Names.{words, is_among, head, body, p, table, tr, col, colgroup, svg}
-use Rattle.hm_elements.specs.Tables.{is_root, is_void, is_refused, is_section, holds_text}
+use Rattle.hm_elements.specs.Tables.{is_root, is_void, is_refused, is_section, holds_text, is_raw, is_svg_name}
 use Rattle.hm_elements.specs.Nesting.{may_stand, yields, ends_with, made_under}
 use Rattle.hm_elements.specs.Omission.{goes_before, goes_up, start_goes_before, bars_start}
 use Rattle.hm_elements.specs.Paths.{is_block_in_p, is_nested, is_deep}
 use Rattle.hm_elements.specs.Sample.{sample}
-use Rattle.hm_elements.specs.Settled.{Settled}
+use Rattle.hm_elements.specs.Settled.{Settled, raw_text_end, end_tag}
 use Rattle.hm_elements.specs.Places.{SettledPage}
 
 -- The parents of what stands in tables, in html and in head.
@@ -96,6 +98,17 @@ LeftOutIsMade = (n k t : List ℕ) (g : Option (List ℕ)) → may_stand n t g �
 -- A path that isn't too deep with one more element isn't too deep without it.
 abbrev pub OuterIsNotDeep : Type 0
 OuterIsNotDeep = (e : Element) (path : List Element) → is_deep (e ∷ path) ≡ false → is_deep path ≡ false
+
+-- A name of an element is UTF-8 without a zero byte.
+abbrev pub NamesAreUtf8 : Type 0
+NamesAreUtf8 = (n : List ℕ) → is_tag_name n ≡ true → IsUtf8 n × (has_byte 0 n ≡ false)
+
+abbrev pub SvgNamesAreNames : Type 0
+SvgNamesAreNames = (n : List ℕ) → is_svg_name n ≡ true → is_tag_name n ≡ true
+
+-- A raw text that ends where the shortest end tag of its element follows ends so before each end tag of it.
+abbrev pub RawTextsEnd : Type 0
+RawTextsEnd = (n s tail : List ℕ) → is_raw n ≡ true → raw_text_end n (s ++ end_tag n) ≡ Some (length s) → begins_end_tag n tail ≡ true → raw_text_end n (s ++ tail) ≡ Some (length s)
 
 -- A walk is settled exactly where it is settled part by part.
 abbrev pub SettledHasParts : Type 0

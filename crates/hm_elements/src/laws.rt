@@ -1,5 +1,5 @@
 //! Laws of the tables of names and of settled walks. No call does anything: each contract is the law.
-ghost use Rattle.hm_elements.specs.Laws.{ParentsHold, NothingIsMade, SvgIsPlain, SvgIsKept, EndsAreOthers, LeftOpenYields, LeftOpenYieldsInside, LeftOpenFollows, LeftOpenInBody, LeftOpenHolds, LeftOutIsMade, OuterIsNotDeep, SettledHasParts, PartsAreSettled, SomeWalkIsSettled};
+ghost use Rattle.hm_elements.specs.Laws.{ParentsHold, NothingIsMade, SvgIsPlain, SvgIsKept, EndsAreOthers, LeftOpenYields, LeftOpenYieldsInside, LeftOpenFollows, LeftOpenInBody, LeftOpenHolds, LeftOutIsMade, OuterIsNotDeep, NamesAreUtf8, SvgNamesAreNames, RawTextsEnd, SettledHasParts, PartsAreSettled, SomeWalkIsSettled};
 
 /// Where an element may stand.
 pub fn elements_in_place()
@@ -27,6 +27,17 @@ pub fn end_tags_left_out()
 /// Where a start tag may be left out (13.1.2.4), the next tag that is written makes the element.
 pub fn start_tags_left_out()
     ensures { LeftOutIsMade }
+{}
+
+/// The names of elements.
+pub fn element_names()
+    ensures utf8 { NamesAreUtf8 }
+    ensures svg { SvgNamesAreNames }
+{}
+
+/// The text of `style`, `iframe` and `script` before a written end tag (13.2.5.9 to 13.2.5.31).
+pub fn raw_texts_end()
+    ensures { RawTextsEnd }
 {}
 
 /// A walk is settled exactly where it is settled part by part, and some walk is.

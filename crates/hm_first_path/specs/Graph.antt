@@ -9,9 +9,8 @@ use Rattle.hm_first_path.specs.declared.graph.Tag.{Tag}
 use Rattle.hm_first_path.specs.declared.graph.Tag.TheVariants.{Html, Head, Body, P}
 use Rattle.hm_first_path.specs.declared.graph.Unit as units
 use Rattle.hm_first_path.specs.declared.graph.Unit.TheVariants.{Doctype, Start, Char, End}
-use Rattle.hm_first_path.specs.declared.graph.Pending.{Pending}
-use Rattle.hm_first_path.specs.declared.graph.Pending.TheVariants.{Nothing, Digits}
 use Rattle.hm_first_path.specs.declared.graph.State.{State}
+use Rattle.hm_first_path.specs.declared.graph.State.TheVariants.{Nothing, Digits}
 use Rattle.hm_first_path.specs.declared.graph.Piece.{Piece}
 use Rattle.hm_first_path.specs.declared.graph.Piece.TheVariants as pieces
 use Rattle.hm_first_path.specs.declared.graph.Edge.{Edge}
@@ -43,24 +42,16 @@ units_of path (end n foreign ∷ w) = End (tag_of n) (may_omit_end n (current (a
 
 -- States
 
-abbrev pub nothing : State
-nothing = record { pending = Nothing }
-
-abbrev pub digits_of : ℕ → State
-digits_of base = record { pending = Digits base }
-
-abbrev pub same_pending : Pending → Pending → Bool
-same_pending Nothing Nothing = true
-same_pending (Digits a) (Digits b) = nat_eq a b
-same_pending p q = false
-
 abbrev pub same_state : State → State → Bool
-same_state s t = same_pending s.pending t.pending
+same_state Nothing Nothing = true
+same_state Nothing Digits = false
+same_state Digits Nothing = false
+same_state Digits Digits = true
 
--- whether what is pending is broken by this byte
-abbrev pub is_broken : Pending → ℕ → Bool
+-- whether what was written last is continued by this byte
+abbrev pub is_broken : State → ℕ → Bool
 is_broken Nothing c = false
-is_broken (Digits base) c = continues_number c
+is_broken Digits c = continues_number c
 
 -- Pieces and edges
 
@@ -83,20 +74,20 @@ edge piece to = record { piece = piece; to = to }
 abbrev pub edge_len : Edge → ℕ
 edge_len e = length (piece_bytes e.piece)
 
--- a tag of its own, or nothing before it where it may be omitted
+-- nothing, where the tag may be omitted; the tag
 abbrev pub tag_edges : Bool → Piece → State → List Edge
-tag_edges true piece from = edge pieces.Empty from ∷ edge piece nothing ∷ []
-tag_edges false piece from = edge piece nothing ∷ []
+tag_edges true piece from = edge pieces.Empty from ∷ edge piece Nothing ∷ []
+tag_edges false piece from = edge piece Nothing ∷ []
 
 -- a character as itself, where it may be and breaks nothing; as its decimal reference; as that with a semicolon
 abbrev pub char_edges : ℕ → State → List Edge
 char_edges c from =
-    (if is_plain c && not (is_broken from.pending c) then edge (pieces.Literal c) nothing ∷ [] else [])
-    ++ edge (pieces.Decimal c false) (digits_of 10) ∷ edge (pieces.Decimal c true) nothing ∷ []
+    (if is_plain c && not (is_broken from c) then edge (pieces.Literal c) Nothing ∷ [] else [])
+    ++ edge (pieces.Decimal c false) Digits ∷ edge (pieces.Decimal c true) Nothing ∷ []
 
 -- the edges of a unit from a state, in their order
 abbrev pub edges_of : units.Unit → State → List Edge
-edges_of Doctype from = edge pieces.Doctype nothing ∷ []
+edges_of Doctype from = edge pieces.Doctype Nothing ∷ []
 edges_of (Start tag omits) from = tag_edges omits (pieces.StartTag tag) from
 edges_of (Char c) from = char_edges c from
 edges_of (End tag omits) from = tag_edges omits (pieces.EndTag tag) from
@@ -219,9 +210,9 @@ Feasible (unit ∷ units) states (row ∷ next ∷ rows) =
     KeepsLayer unit (price_at (states_behind unit states) next) states row
     × Feasible units (states_behind unit states) (next ∷ rows)
 
--- the first layer has one state: nothing is pending
+-- the first layer has one state: nothing was written
 abbrev pub first_layer : List State
-first_layer = nothing ∷ []
+first_layer = Nothing ∷ []
 
 -- the first price of all
 abbrev pub first_price : List (List (Option ℕ)) → Option ℕ
@@ -241,4 +232,4 @@ abbrev pub prices_of : List Event → List (List (Option ℕ))
 prices_of w = least_prices (tree_units w) first_layer
 
 abbrev pub shortest_text : List Event → List ℕ
-shortest_text w = first_way (tree_units w) nothing
+shortest_text w = first_way (tree_units w) Nothing

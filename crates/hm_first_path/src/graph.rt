@@ -24,17 +24,11 @@ pub enum Unit {
 
 /// What was written last and must not be continued by what follows.
 #[derive(Clone, Copy, Debug, PartialEq, Eq, Default)]
-pub enum Pending {
+pub enum State {
     #[default]
     Nothing,
-    /// A numeric reference without its semicolon, in digits of this base.
-    Digits { base: u32 },
-}
-
-/// Where a spelling stands between two units.
-#[derive(Clone, Copy, Debug, PartialEq, Eq, Default)]
-pub struct State {
-    pub pending: Pending,
+    /// The digits of a decimal reference without its semicolon.
+    Digits,
 }
 
 /// What an edge writes.

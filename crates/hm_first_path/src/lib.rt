@@ -2,5 +2,6 @@
 #![tactic(auto)]
 
 mod graph;
+pub mod laws;
 
-pub use graph::{Edge, Pending, Piece, State, Tag, Unit};
+pub use graph::{Edge, Piece, State, Tag, Unit};

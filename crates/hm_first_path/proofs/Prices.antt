@@ -1,17 +1,16 @@
 -- Least prices bound every way and are reached; prices that keep the rules bound every way.
-use Rattle.std.proofs.Common.{◌≡◌, ◌≤◌, ◌<◌, ◌+◌, ◌⊎◌, inl, inr, ℕ, Bool, not, ◌&&◌, List, [], ◌∷◌, ◌++◌, length, map, min, Option, Some, None, true, false, cond, refl, sym, ap, ◌∙◌, subst, arith, length-append}
+use Rattle.std.proofs.Common.{◌≡◌, ◌≤◌, ◌<◌, ◌+◌, ◌⊎◌, inl, inr, ℕ, Bool, List, [], ◌∷◌, ◌++◌, length, map, min, Option, Some, None, true, false, cond, refl, sym, ap, ◌∙◌, subst, arith, length-append}
 use Rattle.std.proofs.Math.Nat.{eq-or-lt_of_le, min-le_left}
 use Rattle.std.proofs.lemmas.Bool.{eq-eqb, eqb-true}
 use Rattle.hm_first_path.specs.declared.graph.Unit as units
 use Rattle.hm_first_path.specs.declared.graph.Unit.TheVariants.{Doctype, Start, Char, End}
 use Rattle.hm_first_path.specs.declared.graph.State.{State}
 use Rattle.hm_first_path.specs.declared.graph.State.TheVariants.{Nothing, Digits}
-use Rattle.hm_first_path.specs.declared.graph.Piece.{Piece}
 use Rattle.hm_first_path.specs.declared.graph.Piece.TheVariants as pieces
 use Rattle.hm_first_path.specs.declared.graph.Edge.{Edge}
-use Rattle.hm_first_path.specs.Page.{is_plain}
-use Rattle.hm_first_path.specs.Graph.{IsIn, first, later, same_state, edge, tag_edges, edges_of, is_broken, piece_bytes, edge_len, Way, lesser, over, best, least, same_price, first_edge, along, first_way, states_behind, price_at, least_prices, KeepsEdge, KeepsEdges, KeepsLayer, AreZero, Feasible, first_layer, first_price}
-use Rattle.hm_first_path.proofs.Layers.{same_is, in_behind, end_behind, not_first, price_at-map}
+use Rattle.hm_first_path.specs.Graph.{IsIn, first, later, same_state, edge, edges_of, piece_bytes, edge_len, Way, lesser, over, best, least, same_price, first_edge, along, first_way, states_behind, price_at, least_prices, KeepsEdge, KeepsEdges, KeepsLayer, AreZero, Feasible, first_layer, first_price}
+use Rattle.hm_first_path.proofs.Edges.{has_tag_edge, has_digits}
+use Rattle.hm_first_path.proofs.Layers.{same_is, end_behind, not_first, price_at-map}
 
 -- a price is a number of at most n
 abbrev pub AtMost : Option ℕ → ℕ → Type 0
@@ -46,11 +45,6 @@ least_bounds (unit ∷ units) s b (e, i, (rest, is, w)) =
     subst (AtMost (best (least units) (edges_of unit s))) (sym (along_length (piece_bytes e.piece) rest b is))
     (best_at_most e (least units) (edges_of unit s) (length rest) i (least_bounds units e.to rest w))
 
--- some edge is one of these
-last_tag_edge : (omits : Bool) (piece : Piece) (s : State) → IsIn (edge piece Nothing) (tag_edges omits piece s)
-last_tag_edge true piece s = later (edge pieces.Empty s) (edge piece Nothing ∷ []) (first [])
-last_tag_edge false piece s = first []
-
 -- the edge that is always there
 plain_edge : units.Unit → Edge
 plain_edge Doctype = edge pieces.Doctype Nothing
@@ -61,10 +55,9 @@ plain_edge (End tag omits) = edge (pieces.EndTag tag) Nothing
 has_plain_edge : (unit : units.Unit) (s : State) → IsIn (plain_edge unit) (edges_of unit s)
 unfolding plain_edge
 has_plain_edge Doctype s = first []
-has_plain_edge (Start tag omits) s = last_tag_edge omits (pieces.StartTag tag) s
-has_plain_edge (Char c) s =
-    in_behind (plain_edge (Char c)) (cond (is_plain c && not (is_broken s c)) (edge (pieces.Literal c) Nothing ∷ []) []) (plain_edge (Char c) ∷ edge (pieces.Decimal c true) Nothing ∷ []) (first (edge (pieces.Decimal c true) Nothing ∷ []))
-has_plain_edge (End tag omits) s = last_tag_edge omits (pieces.EndTag tag) s
+has_plain_edge (Start tag omits) s = has_tag_edge omits (pieces.StartTag tag) s
+has_plain_edge (Char c) s = has_digits c s
+has_plain_edge (End tag omits) s = has_tag_edge omits (pieces.EndTag tag) s
 
 -- a price that is a number
 abbrev IsNumber : Option ℕ → Type 0
@@ -124,7 +117,7 @@ same_price_is None (Some b) e = cc
 same_price_is (Some a) None e = cc
 same_price_is (Some a) (Some b) e = ap Some (eqb-true a b e)
 
-same_price_self : (p : Option ℕ) → same_price p p ≡ true
+pub same_price_self : (p : Option ℕ) → same_price p p ≡ true
 same_price_self None = refl
 same_price_self (Some a) = eq-eqb a a refl
 

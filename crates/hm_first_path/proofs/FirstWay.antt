@@ -10,8 +10,8 @@ use Rattle.hm_first_path.specs.declared.graph.Edge.{Edge}
 use Rattle.hm_first_path.specs.Page.{is_plain, all_plain}
 use Rattle.hm_first_path.specs.Spellings.{reference}
 use Rattle.hm_first_path.specs.Graph.{IsIn, edge, tag_edges, edges_of, piece_bytes, edge_len, chars, Way, lesser, over, best, least, first_edge, along, first_way}
-use Rattle.hm_first_path.proofs.Edges.{and_true, TagEdge, omitted, written, tag_edge, CharEdge, as_itself, as_digits, as_closed, char_edge, has_empty_edge, has_tag_edge, has_literal, has_digits, has_closed}
-use Rattle.hm_first_path.proofs.Prices.{AtMost, least_bounds, has_way, least_is_length, same_price_self}
+use Rattle.hm_first_path.proofs.EdgeCases.{and_true, TagEdge, omitted, written, tag_edge, CharEdge, as_itself, as_digits, as_closed, char_edge, has_empty_edge, has_tag_edge, has_literal, has_digits, has_closed}
+use Rattle.hm_first_path.proofs.LeastPrices.{AtMost, least_bounds, has_way, least_is_length, same_price_self}
 
 -- a way from any state is one from the state where nothing was written
 tag_from : (omits : Bool) (piece : Piece) (s : State) (more : List units.Unit) (b rest : List ℕ) (e : Edge) → TagEdge omits piece s e → b ≡ piece_bytes e.piece ++ rest → Way more e.to rest

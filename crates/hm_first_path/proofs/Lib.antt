@@ -1,8 +1,9 @@
-pub mod Layers
-pub mod Edges
-pub mod Prices
+pub mod LayerStates
+pub mod EdgeCases
+pub mod LeastPrices
 pub mod Writable
 pub mod Reading
 pub mod FirstWay
 pub mod Spelled
 pub mod Shortest
+pub mod Numbers

@@ -13,8 +13,8 @@ use Rattle.hm_first_path.specs.Page.{Outcome, built, refused, html, body, p, doc
 use Rattle.hm_first_path.specs.Spellings.{may_omit_start, may_omit_end, current, around, start_tag, end_tag, SpellsTree, Shortest}
 use Rattle.hm_first_path.specs.Graph.{units_of, tree_units, first_way, shortest_text, FeasibleFor, first_price, prices_of, first_layer, Way}
 use Rattle.hm_first_path.specs.Laws.{HasForm}
-use Rattle.hm_first_path.proofs.Edges.{and_true}
-use Rattle.hm_first_path.proofs.Prices.{has_way, first_bounds, least_feasible, first_price_is_length}
+use Rattle.hm_first_path.proofs.EdgeCases.{and_true}
+use Rattle.hm_first_path.proofs.LeastPrices.{has_way, first_bounds, least_feasible, first_price_is_length}
 use Rattle.hm_first_path.proofs.FirstWay.{first_tag, first_doctype, first_chars}
 use Rattle.hm_first_path.proofs.Writable.{tree_writable, way_spells, spelling_way, text_plain}
 use Rattle.hm_first_path.proofs.Spelled.{item_plain, spellings_are_read}

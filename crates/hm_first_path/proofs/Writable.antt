@@ -10,7 +10,7 @@ use Rattle.hm_first_path.specs.declared.graph.Edge.{Edge}
 use Rattle.hm_first_path.specs.Page.{all_plain, is_text, InBody, body_ends, p_starts, p_ends, has_text, IsFirstForm}
 use Rattle.hm_first_path.specs.Spellings.{may_omit_start, may_omit_end, current, around, start_tag, end_tag, reference, continues_number, SpellsPoint, SpellsText, Spells}
 use Rattle.hm_first_path.specs.Graph.{first, later, edge, is_broken, piece_bytes, tag_of, tag_name, chars, units_of, Way}
-use Rattle.hm_first_path.proofs.Edges.{TagEdge, omitted, written, tag_edge, CharEdge, as_itself, as_digits, as_closed, char_edge, Keeps, way_keeps, has_empty_edge, has_tag_edge, has_literal, has_digits, has_closed}
+use Rattle.hm_first_path.proofs.EdgeCases.{TagEdge, omitted, written, tag_edge, CharEdge, as_itself, as_digits, as_closed, char_edge, Keeps, way_keeps, has_empty_edge, has_tag_edge, has_literal, has_digits, has_closed}
 
 -- an element of the first form
 abbrev pub IsKnown : List ℕ → Type 0

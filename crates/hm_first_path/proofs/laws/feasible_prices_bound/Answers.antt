@@ -1,4 +1,4 @@
-use Rattle.hm_first_path.proofs.Prices.{first_bounds}
+use Rattle.hm_first_path.proofs.LeastPrices.{first_bounds}
 use Rattle.hm_first_path.specs.Graph.{tree_units}
 use Rattle.hm_first_path.proofs.laws.feasible_prices_bound.Goals as goal
 

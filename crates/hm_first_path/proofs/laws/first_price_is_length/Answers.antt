@@ -1,4 +1,4 @@
-use Rattle.hm_first_path.proofs.Prices.{first_price_is_length}
+use Rattle.hm_first_path.proofs.LeastPrices.{first_price_is_length}
 use Rattle.hm_first_path.specs.Graph.{tree_units}
 use Rattle.hm_first_path.proofs.laws.first_price_is_length.Goals as goal
 

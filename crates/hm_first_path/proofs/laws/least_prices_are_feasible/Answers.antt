@@ -1,4 +1,4 @@
-use Rattle.hm_first_path.proofs.Prices.{least_feasible}
+use Rattle.hm_first_path.proofs.LeastPrices.{least_feasible}
 use Rattle.hm_first_path.specs.Graph.{tree_units, first_layer}
 use Rattle.hm_first_path.proofs.laws.least_prices_are_feasible.Goals as goal
 

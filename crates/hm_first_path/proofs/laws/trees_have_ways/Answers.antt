@@ -1,4 +1,4 @@
-use Rattle.hm_first_path.proofs.Prices.{has_way}
+use Rattle.hm_first_path.proofs.LeastPrices.{has_way}
 use Rattle.hm_first_path.specs.declared.graph.State.TheVariants.{Nothing}
 use Rattle.hm_first_path.specs.Graph.{tree_units}
 use Rattle.hm_first_path.proofs.laws.trees_have_ways.Goals as goal

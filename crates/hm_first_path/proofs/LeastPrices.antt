@@ -9,8 +9,8 @@ use Rattle.hm_first_path.specs.declared.graph.State.TheVariants.{Nothing, Digits
 use Rattle.hm_first_path.specs.declared.graph.Piece.TheVariants as pieces
 use Rattle.hm_first_path.specs.declared.graph.Edge.{Edge}
 use Rattle.hm_first_path.specs.Graph.{IsIn, first, later, same_state, edge, edges_of, piece_bytes, edge_len, Way, lesser, over, best, least, same_price, first_edge, along, first_way, states_behind, price_at, least_prices, KeepsEdge, KeepsEdges, KeepsLayer, AreZero, Feasible, first_layer, first_price}
-use Rattle.hm_first_path.proofs.Edges.{has_tag_edge, has_digits}
-use Rattle.hm_first_path.proofs.Layers.{same_is, end_behind, not_first, price_at-map}
+use Rattle.hm_first_path.proofs.EdgeCases.{has_tag_edge, has_digits}
+use Rattle.hm_first_path.proofs.LayerStates.{same_is, end_behind, not_first, price_at-map}
 
 -- a price is a number of at most n
 abbrev pub AtMost : Option ℕ → ℕ → Type 0

@@ -11,7 +11,7 @@ use Rattle.hm_first_path.specs.declared.graph.Edge.{Edge}
 use Rattle.hm_first_path.specs.Page.{is_plain}
 use Rattle.hm_first_path.specs.Spellings.{continues_number}
 use Rattle.hm_first_path.specs.Graph.{IsIn, first, later, edge, tag_edges, char_edges, is_broken, piece_bytes, Way}
-use Rattle.hm_first_path.proofs.Layers.{in_behind}
+use Rattle.hm_first_path.proofs.LayerStates.{in_behind}
 
 -- an edge of a tag: nothing, or the tag
 pub data TagEdge (omits : Bool) (piece : Piece) (s : State) : Edge → Type 0 where

@@ -162,6 +162,11 @@ with_layer ends unit (s ∷ states) = with_layer (with_ends ends (edges_of unit 
 abbrev pub states_behind : units.Unit → List State → List State
 states_behind unit states = with_layer [] unit states
 
+-- the states of each layer, from one on whose states these are
+abbrev pub layers_of : List units.Unit → List State → List (List State)
+layers_of [] states = states ∷ []
+layers_of (unit ∷ units) states = states ∷ layers_of units (states_behind unit states)
+
 -- the price of a state by the prices of its layer
 abbrev pub price_at : List State → List (Option ℕ) → State → Option ℕ
 price_at [] prices s = None

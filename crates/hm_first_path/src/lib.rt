@@ -3,6 +3,7 @@
 
 mod edges;
 mod graph;
+mod layers;
 pub mod laws;
 
 pub use graph::{Edge, Piece, State, Tag, Unit};

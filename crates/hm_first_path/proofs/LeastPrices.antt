@@ -31,7 +31,7 @@ over_at_most : (p : Option ℕ) (len n : ℕ) → AtMost p n → AtMost (over le
 over_at_most None len n h = absurd h
 over_at_most (Some a) len n h = omega arith
 
-best_at_most : (e : Edge) (behind : State → Option ℕ) (es : List Edge) (n : ℕ) → IsIn e es → AtMost (behind e.to) n → AtMost (best behind es) (edge_len e + n)
+pub best_at_most : (e : Edge) (behind : State → Option ℕ) (es : List Edge) (n : ℕ) → IsIn e es → AtMost (behind e.to) n → AtMost (best behind es) (edge_len e + n)
 best_at_most e behind es n (first zs) h = lesser_left (over (edge_len e) (behind e.to)) (best behind zs) (edge_len e + n) (over_at_most (behind e.to) (edge_len e) n h)
 best_at_most e behind es n (later y zs i) h = lesser_right (over (edge_len y) (behind y.to)) (best behind zs) (edge_len e + n) (best_at_most e behind zs n i h)
 
@@ -46,14 +46,13 @@ least_bounds (unit ∷ units) s b (e, i, (rest, is, w)) =
     (best_at_most e (least units) (edges_of unit s) (length rest) i (least_bounds units e.to rest w))
 
 -- the edge that is always there
-plain_edge : units.Unit → Edge
+abbrev pub plain_edge : units.Unit → Edge
 plain_edge Doctype = edge pieces.Doctype Nothing
 plain_edge (Start tag omits) = edge (pieces.StartTag tag) Nothing
 plain_edge (Char c) = edge (pieces.Decimal c false) Digits
 plain_edge (End tag omits) = edge (pieces.EndTag tag) Nothing
 
-has_plain_edge : (unit : units.Unit) (s : State) → IsIn (plain_edge unit) (edges_of unit s)
-unfolding plain_edge
+pub has_plain_edge : (unit : units.Unit) (s : State) → IsIn (plain_edge unit) (edges_of unit s)
 has_plain_edge Doctype s = first []
 has_plain_edge (Start tag omits) s = has_tag_edge omits (pieces.StartTag tag) s
 has_plain_edge (Char c) s = has_digits c s

@@ -7,3 +7,4 @@ pub mod FirstWay
 pub mod Spelled
 pub mod Shortest
 pub mod Numbers
+pub mod Rows

@@ -1,5 +1,5 @@
 -- The layered graph of spellings: units of a tree, states between units, edges, ways, prices.
-use Rattle.std.specs.Prelude.{ℕ, ◌≡◌, ◌≤◌, ◌+◌, Bool, true, false, not, ◌&&◌, List, [], ◌∷◌, ◌++◌, length, map, min, Option, Some, None, if◌then◌else◌, bytes_eq, nat_eq}
+use Rattle.std.specs.Prelude.{ℕ, zero, suc, ◌≡◌, ◌≤◌, ◌<◌, ◌+◌, Bool, true, false, not, ◌&&◌, List, [], ◌∷◌, ◌++◌, length, map, drop, min, Option, Some, None, if◌then◌else◌, bytes_eq, nat_eq}
 use Rattle.std.specs.Option.{option_map}
 use Rattle.std.specs.List.{list_any}
 use Rattle.hm_base.specs.Walks.{Event, Element, doctype, start, text, comment, end}
@@ -137,10 +137,14 @@ abbrev pub along : Option Edge → (State → List ℕ) → List ℕ
 along None more = []
 along (Some e) more = piece_bytes e.piece ++ more e.to
 
+-- the first edge of a unit over which the least price comes
+abbrev pub cheapest : units.Unit → List units.Unit → State → Option Edge
+cheapest unit units from = first_edge (least units) (least (unit ∷ units) from) (edges_of unit from)
+
 -- the bytes of the way that takes the first edge of a least price at each state
 abbrev pub first_way : List units.Unit → State → List ℕ
 first_way [] from = []
-first_way (unit ∷ units) from = along (first_edge (least units) (least (unit ∷ units) from) (edges_of unit from)) (first_way units)
+first_way (unit ∷ units) from = along (cheapest unit units from) (first_way units)
 
 -- Layers
 
@@ -162,10 +166,20 @@ with_layer ends unit (s ∷ states) = with_layer (with_ends ends (edges_of unit 
 abbrev pub states_behind : units.Unit → List State → List State
 states_behind unit states = with_layer [] unit states
 
+-- the first layer has one state: nothing was written
+abbrev pub first_layer : List State
+first_layer = Nothing ∷ []
+
 -- the states of each layer, from one on whose states these are
 abbrev pub layers_of : List units.Unit → List State → List (List State)
 layers_of [] states = states ∷ []
 layers_of (unit ∷ units) states = states ∷ layers_of units (states_behind unit states)
+
+-- the states of layer k behind a layer with these states
+abbrev pub states_from : List State → List units.Unit → ℕ → List State
+states_from states units zero = states
+states_from states [] (suc k) = states
+states_from states (unit ∷ units) (suc k) = states_from (states_behind unit states) units k
 
 -- the price of a state by the prices of its layer
 abbrev pub price_at : List State → List (Option ℕ) → State → Option ℕ
@@ -173,10 +187,28 @@ price_at [] prices s = None
 price_at (t ∷ states) [] s = None
 price_at (t ∷ states) (q ∷ prices) s = if same_state t s then q else price_at states prices s
 
+-- the least prices of these states, before these units
+abbrev pub least_row : List units.Unit → List State → List (Option ℕ)
+least_row units states = map (least units) states
+
 -- the least prices of all layers from one on, that layer's states being these
 abbrev pub least_prices : List units.Unit → List State → List (List (Option ℕ))
-least_prices [] states = map (least []) states ∷ []
-least_prices (unit ∷ units) states = map (least (unit ∷ units)) states ∷ least_prices units (states_behind unit states)
+least_prices [] states = least_row [] states ∷ []
+least_prices (unit ∷ units) states = least_row (unit ∷ units) states ∷ least_prices units (states_behind unit states)
+
+-- the states of layer k
+abbrev pub states_at : List units.Unit → ℕ → List State
+states_at units k = states_from first_layer units k
+
+-- the least prices of the layers from k on
+abbrev pub prices_from : List units.Unit → ℕ → List (List (Option ℕ))
+prices_from units k = least_prices (drop k units) (states_at units k)
+
+-- each number among these prices is below a bound
+abbrev pub AreBelow : ℕ → List (Option ℕ) → Type 0
+AreBelow bound [] = Unit {0}
+AreBelow bound (None ∷ row) = AreBelow bound row
+AreBelow bound (Some n ∷ row) = (n < bound) × AreBelow bound row
 
 -- Prices that show a bound by themselves
 
@@ -214,10 +246,6 @@ Feasible (unit ∷ units) states (row ∷ []) = ⊥
 Feasible (unit ∷ units) states (row ∷ next ∷ rows) =
     KeepsLayer unit (price_at (states_behind unit states) next) states row
     × Feasible units (states_behind unit states) (next ∷ rows)
-
--- the first layer has one state: nothing was written
-abbrev pub first_layer : List State
-first_layer = Nothing ∷ []
 
 -- the first price of all
 abbrev pub first_price : List (List (Option ℕ)) → Option ℕ

@@ -3,7 +3,8 @@
 
 mod edges;
 mod graph;
-mod layers;
 pub mod laws;
+mod layers;
+pub mod prices;
 
 pub use graph::{Edge, Piece, State, Tag, Unit};

@@ -1,5 +1,5 @@
 -- Rows of prices in code are rows of least prices.
-use Rattle.std.proofs.Common.{◌≡◌, ◌<◌, ◌≤◌, ◌+◌, ◌*◌, ◌^◌, ℕ, true, false, suc, zero, List, [], ◌∷◌, length, map, drop, get_or, slice_get, Option, Some, None, cond, add-one, refl, sym, ap, ◌∙◌, subst, arith, length-drop, drop-cons}
+use Rattle.std.proofs.Common.{◌≡◌, ◌<◌, ◌≤◌, ◌+◌, ◌*◌, ◌^◌, ℕ, Bool, true, false, suc, zero, List, [], ◌∷◌, ◌++◌, length, map, drop, get_or, slice_get, Option, Some, None, cond, add-one, refl, sym, ap, ◌∙◌, subst, arith, length-drop, drop-cons}
 use Rattle.std.proofs.Math.Seq.{drop-length}
 use Rattle.std.specs.declared.result.Result.{Result}
 use Rattle.std.specs.declared.result.Result.TheVariants.{Ok, Err}
@@ -7,7 +7,8 @@ use Rattle.std.specs.Result.{IfOk}
 use Rattle.std.proofs.lemmas.List.{length-map}
 use Rattle.hm_first_path.specs.declared.graph.Unit as units
 use Rattle.hm_first_path.specs.declared.graph.State.{State}
-use Rattle.hm_first_path.specs.Graph.{same_state, edge_len, edges_of, tag_name, best, least, least_row, least_prices, price_at, AreBelow, first_layer, states_behind, layers_of, states_from, states_at, prices_from}
+use Rattle.hm_first_path.specs.declared.graph.Edge.{Edge}
+use Rattle.hm_first_path.specs.Graph.{same_state, edge_len, edges_of, tag_name, best, least, least_row, least_prices, price_at, AreBelow, first_layer, states_behind, layers_of, states_from, states_at, prices_from, IsIn, first, later, same_price, first_edge, cheapest, over, along, first_way, piece_bytes}
 use Rattle.hm_first_path.specs.declared.graph.Tag.{Tag}
 use Rattle.hm_first_path.specs.declared.graph.Tag.TheVariants.{Html, Head, Body, P}
 use Rattle.hm_first_path.specs.declared.graph.Unit.TheVariants.{Doctype, Start, Char, End}
@@ -179,3 +180,70 @@ last_prices units states row prices s r p =
 pub if_ok : {T E : Type 0} (r : Result T E) {P Q : T → Type 0} → ((x : T) → P x → Q x) → IfOk r P → IfOk r Q
 if_ok (Ok x) f p = f x p
 if_ok (Err e) f p = tt
+
+-- A step of the first way
+
+row_from : (units : List units.Unit) (states : List State) (row : List (Option ℕ)) (k : ℕ) → slice_get (least_prices units states) k ≡ Some row → row ≡ least_row (drop k units) (states_from states units k)
+row_from [] states row zero e = cc
+row_from [] states row (suc k) e = cc
+row_from (unit ∷ units) states row zero e = cc
+row_from (unit ∷ units) states row (suc k) e = row_from units (states_behind unit states) row k e
+
+-- what stands at a layer are its least prices
+pub row_is_at : (units : List units.Unit) (prices : List (List (Option ℕ))) (row : List (Option ℕ)) (k : ℕ) → prices ≡ least_prices units first_layer → slice_get prices k ≡ Some row → row ≡ least_row (drop k units) (states_at units k)
+row_is_at units prices row k is e = row_from units first_layer row k (ap (λ l. slice_get l k) (sym is) ∙ e)
+
+prices_length : (units : List units.Unit) (states : List State) → length (least_prices units states) ≡ length units + 1
+prices_length [] states = refl
+prices_length (unit ∷ units) states = let e : length (least_prices units (states_behind unit states)) ≡ length units + 1 = prices_length units (states_behind unit states) in omega arith
+
+pub prices_count : (units : List units.Unit) (prices : List (List (Option ℕ))) → prices ≡ least_prices units first_layer → length prices ≡ length units + 1
+prices_count units prices is = ap length is ∙ prices_length units first_layer
+
+first_edge_same : (f g : State → Option ℕ) (price : Option ℕ) (es : List Edge) → ((e : Edge) → IsIn e es → f e.to ≡ g e.to) → first_edge f price es ≡ first_edge g price es
+first_edge_same f g price [] h = refl
+first_edge_same f g price (e ∷ es) h = λ i. cond (same_price (over (edge_len e) (h e (first es) i)) price) (Some e) (first_edge_same f g price es (λ x j. h x (later e es j)) i)
+
+-- the first cheapest edge by the states and the row that the code finds
+pub cheapest_is : (unit : units.Unit) (rest units : List units.Unit) (k : ℕ) (s : State) (states : List State) (row : List (Option ℕ)) (found : Option Edge)
+    → drop k units ≡ unit ∷ rest
+    → IsIn s (states_at units k)
+    → states ≡ states_at units (k + 1)
+    → row ≡ least_row (drop (k + 1) units) (states_at units (k + 1))
+    → found ≡ first_edge (price_at states row) (best (price_at states row) (edges_of unit s)) (edges_of unit s)
+    → found ≡ cheapest unit rest s
+cheapest_is unit rest units k s states row found cut i st r f =
+    let more : states_at units (k + 1) ≡ states_behind unit (states_at units k) = states_more unit rest units k cut in
+    let here : List State = states_behind unit (states_at units k) in
+    let behind : State → Option ℕ = price_at here (least_row rest here) in
+    let same : (e : Edge) → IsIn e (edges_of unit s) → behind e.to ≡ least rest e.to = λ e j. price_at-map (least rest) here e.to (end_behind s e unit (states_at units k) i j) in
+    let is : row ≡ least_row rest here = r ∙ (λ j. least_row (tail unit rest units k cut j) (more j)) in
+    f ∙ (λ j. let b : State → Option ℕ = price_at ((st ∙ more) j) (is j) in first_edge b (best b (edges_of unit s)) (edges_of unit s))
+    ∙ ap (λ q. first_edge behind q (edges_of unit s)) (best_same behind (least rest) (edges_of unit s) same)
+    ∙ first_edge_same behind (least rest) (best (least rest) (edges_of unit s)) (edges_of unit s) same
+
+first_edge_in : (behind : State → Option ℕ) (price : Option ℕ) (es : List Edge) (e : Edge) → first_edge behind price es ≡ Some e → IsIn e es
+first_edge_in behind price [] e h = absurd (cc)
+first_edge_in behind price (x ∷ es) e h = by_test (same_price (over (edge_len x) (behind x.to)) price) (first_edge_in behind price es e) h
+  where
+    by_test : (b : Bool) → (first_edge behind price es ≡ Some e → IsIn e es) → cond b (Some x) (first_edge behind price es) ≡ Some e → IsIn e (x ∷ es)
+    by_test true f h = let is : x ≡ e = cc in subst (λ y. IsIn y (x ∷ es)) is (first es)
+    by_test false f h = later x es (f h)
+
+-- the end of the first cheapest edge is in the next layer
+pub cheapest_in : (unit : units.Unit) (rest units : List units.Unit) (k : ℕ) (s : State) (e : Edge) → drop k units ≡ unit ∷ rest → IsIn s (states_at units k) → Some e ≡ cheapest unit rest s → IsIn e.to (states_at units (k + 1))
+cheapest_in unit rest units k s e cut i h =
+    subst (IsIn e.to) (sym (states_more unit rest units k cut))
+    (end_behind s e unit (states_at units k) i (first_edge_in (least rest) (least (unit ∷ rest) s) (edges_of unit s) e (sym h)))
+
+-- the text goes on with the edge that is found
+pub way_more : (unit : units.Unit) (rest units : List units.Unit) (k : ℕ) (s : State) (e : Edge) → drop k units ≡ unit ∷ rest → Some e ≡ cheapest unit rest s → first_way (drop k units) s ≡ piece_bytes e.piece ++ first_way (drop (k + 1) units) e.to
+way_more unit rest units k s e cut h =
+    ap (λ us. first_way us s) cut ∙ ap (λ x. along x (first_way rest)) (sym h) ∙ ap (λ us. piece_bytes e.piece ++ first_way us e.to) (sym (tail unit rest units k cut))
+
+-- and ends where none is
+pub way_ends : (unit : units.Unit) (rest units : List units.Unit) (k : ℕ) (s : State) → drop k units ≡ unit ∷ rest → None ≡ cheapest unit rest s → first_way (drop k units) s ≡ []
+way_ends unit rest units k s cut h = ap (λ us. first_way us s) cut ∙ ap (λ x. along x (first_way rest)) (sym h)
+
+pub unit_at : (d unit : units.Unit) (rest units : List units.Unit) (k : ℕ) → k < length units → drop k units ≡ unit ∷ rest → get_or units k d ≡ unit
+unit_at d unit rest units k h cut = let e : drop k units ≡ get_or units k d ∷ drop (k + 1) units = cut_at d units k h in cc

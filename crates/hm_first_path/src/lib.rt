@@ -5,6 +5,7 @@ mod edges;
 mod graph;
 pub mod laws;
 mod layers;
-pub mod prices;
+mod paths;
+mod prices;
 
 pub use graph::{Edge, Piece, State, Tag, Unit};

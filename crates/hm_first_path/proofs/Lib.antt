@@ -8,3 +8,4 @@ pub mod Spelled
 pub mod Shortest
 pub mod Numbers
 pub mod Rows
+pub mod Lines

@@ -1,6 +1,7 @@
 //! The first path: pages of a doctype, paragraphs and plain characters, read and written shortest.
 #![tactic(auto)]
 
+mod certificates;
 mod edges;
 mod graph;
 pub mod laws;

@@ -1,0 +1,5 @@
+pub mod Attributes
+pub mod Dump
+pub mod Rows
+pub mod Trees
+pub mod Views

@@ -9,3 +9,9 @@ pub mod Shortest
 pub mod Numbers
 pub mod Rows
 pub mod Lines
+pub mod Joined
+pub mod PlainBytes
+pub mod Steps
+pub mod Answering
+pub mod Finish
+pub mod Starts

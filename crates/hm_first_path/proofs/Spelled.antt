@@ -36,15 +36,15 @@ item_plain c s h = rw (plain_is_no_angle c h, h) refl
 
 -- What is read at the front of some bytes
 
-read_start : (inside : Bool) (at : ℕ) (s : List ℕ) → read_items inside at 0 (start_tag p ++ s) ≡ behind_events (end_of_p inside ++ start p false [] ∷ []) (read_items true (at + 1 + 1 + 1) 0 s)
+pub read_start : (inside : Bool) (at : ℕ) (s : List ℕ) → read_items inside at 0 (start_tag p ++ s) ≡ behind_events (end_of_p inside ++ start p false [] ∷ []) (read_items true (at + 1 + 1 + 1) 0 s)
 unfolding item_at
 read_start inside at s = refl
 
-read_end : (at : ℕ) (s : List ℕ) → read_items true at 0 (end_tag p ++ s) ≡ behind_events (end p false ∷ []) (read_items false (at + 1 + 1 + 1 + 1) 0 s)
+pub read_end : (at : ℕ) (s : List ℕ) → read_items true at 0 (end_tag p ++ s) ≡ behind_events (end p false ∷ []) (read_items false (at + 1 + 1 + 1 + 1) 0 s)
 unfolding item_at
 read_end at s = refl
 
-read_plain : (inside : Bool) (at c : ℕ) (s : List ℕ) → is_plain c ≡ true → read_items inside at 0 (c ∷ s) ≡ behind_events (text (c ∷ []) false ∷ []) (read_items inside (at + 1) 0 s)
+pub read_plain : (inside : Bool) (at c : ℕ) (s : List ℕ) → is_plain c ≡ true → read_items inside at 0 (c ∷ s) ≡ behind_events (text (c ∷ []) false ∷ []) (read_items inside (at + 1) 0 s)
 read_plain inside at c s h = ap (λ x. stepped x inside at (λ next skip. read_items next (at + 1) skip s)) (item_plain c s h)
 
 read_reference : (inside : Bool) (at : ℕ) (s : List ℕ) → read_items inside at 0 (38 ∷ s) ≡ refused NotYet at

@@ -6,6 +6,7 @@ mod edges;
 mod graph;
 pub mod laws;
 mod layers;
+mod pages;
 mod paths;
 mod prices;
 

@@ -4,13 +4,13 @@ use Rattle.std.proofs.lemmas.Bool.{and_parts, and_from, eqb-true, leb-true, or_f
 use Rattle.std.proofs.lemmas.Str.{IsUtf8-from_ascii}
 use Rattle.std.specs.List.{list_all}
 use Rattle.std.specs.Str.{IsUtf8, IsAscii}
-use Rattle.hm_base.specs.Bytes.{is_digit, all_pass}
+use Rattle.hm_base.specs.Bytes.{is_digit_of, all_pass}
 use Rattle.hm_base.specs.Forms.{has_byte, is_small, is_tag_byte, is_tag_name}
 use Rattle.hm_elements.specs.Tables.{svg_names, is_svg_name}
 use Rattle.hm_elements.proofs.TableTools.{entry_passes}
 
 svg_names_are_tag_names : list_all is_tag_name svg_names ≡ true
-unfolding svg_names is_tag_name is_tag_byte is_small is_digit
+unfolding svg_names is_tag_name is_tag_byte is_small is_digit_of
 svg_names_are_tag_names = refl
 
 pub svg_name_is_tag_name : (n : List ℕ) → is_svg_name n ≡ true → is_tag_name n ≡ true
@@ -36,7 +36,7 @@ is_one d c l u h = let e : c ≡ d = eqb-true c d h in (omega arith, omega arith
 
 -- a byte of a name is ASCII, and not zero
 tag_byte_is_plain : (c : ℕ) → is_tag_byte c ≡ true → IsPlainByte c
-unfolding is_tag_byte is_small is_digit
+unfolding is_tag_byte is_small is_digit_of
 tag_byte_is_plain c h =
     or_then _ (eqb c 45) (IsPlainByte c)
     (or_then _ (eqb c 58) (IsPlainByte c)

@@ -6,8 +6,10 @@ mod edges;
 mod graph;
 pub mod laws;
 mod layers;
+mod minify;
 mod pages;
 mod paths;
 mod prices;
+mod units;
 
 pub use graph::{Edge, Piece, State, Tag, Unit};

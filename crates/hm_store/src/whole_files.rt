@@ -1,0 +1,125 @@
+//! Reading and writing a whole file.
+ghost use Rattle.std.specs.Prelude.{◌≡◌, ◌+◌, ◌≤◌, ◌<◌, ◌⊎◌, ◌^◌, IfOk, OnOk, OnErr, IsOk, IsSome, Err, true, false, length};
+ghost use Rattle.hm_store.specs.Causes.{Rose, HasCause};
+ghost use Rattle.hm_store.specs.Files.{file_of, with_file, Takes, IsMissing, HasFront};
+ghost use Rattle.hm_store.specs.Loading.{Follows};
+
+use crate::{Failed, Store};
+use std::alloc::{AllocError, Global};
+
+/// Why a file isn't loaded.
+#[derive(Clone, Copy, Debug, PartialEq, Eq)]
+pub enum LoadFault {
+    /// A call on the store has failed, or the store has no such file.
+    Store,
+    /// Memory for the bytes was refused.
+    Memory,
+}
+
+impl From<AllocError> for LoadFault {
+    ghost use Rattle.hm_store.specs.declared.whole_files.LoadFault.{LoadFault};
+    ghost use Rattle.hm_store.specs.declared.whole_files.LoadFault.TheVariants.{Memory};
+
+    ghost from_gives = { λ _ fault. fault ≡ Memory };
+
+    fn from(_error: AllocError) -> Self {
+        LoadFault::Memory
+    }
+}
+
+/// The most bytes that one pull takes.
+const PIECE: usize = 4096;
+
+/// Puts the next bytes of the file that is being read behind `bytes`: whether there were any.
+fn pull_more<S: Store>(store: &mut S, bytes: &mut Vec<u8>, limit: usize) -> Result<bool, LoadFault>
+    requires reading { S.is_reading store.old ≡ true }
+    requires limit { limit < 2 ^ 32 }
+    requires room { length bytes.old.items ≤ limit }
+    ensures same { S.files store.new ≡ S.files store.old }
+    ensures reading { S.is_reading store.new ≡ true }
+    ensures writing { S.is_writing store.new ≡ S.is_writing store.old }
+    ensures target { S.target store.new ≡ S.target store.old }
+    ensures follows { IfOk result
+        (λ more. Follows bytes.old.items (S.rest store.old) bytes.new.items (S.rest store.new) more) }
+    ensures within { length bytes.new.items ≤ limit + 1 }
+    ensures later { S.faults store.old ≤ S.faults store.new }
+    ensures failed { result ≡ Err LoadFault.Store → Rose (S.faults store.old) (S.faults store.new) }
+{
+    let mut piece = [0u8; PIECE];
+    let most = (limit + 1 - bytes.len()).min(PIECE);
+    match store.pull(&mut piece[..most]) {
+        Ok(count) => {
+            bytes.extend_from_slice(&piece[..count])?;
+            Ok(count != 0)
+        }
+        Err(Failed) => Err(LoadFault::Store),
+    }
+}
+
+/// The bytes of the file that is being read, at most one more than `limit`.
+fn pull_all<S: Store>(alloc: Global, store: &mut S, limit: usize) -> Result<Vec<u8>, LoadFault>
+    requires reading { S.is_reading store.old ≡ true }
+    requires limit { limit < 2 ^ 32 }
+    ensures same { S.files store.new ≡ S.files store.old }
+    ensures writing { S.is_writing store.new ≡ S.is_writing store.old }
+    ensures target { S.target store.new ≡ S.target store.old }
+    ensures loaded { IfOk result (λ bytes. Takes (S.rest store.old) (limit + 1) bytes.items) }
+    ensures within { IfOk result (λ bytes. length bytes.items ≤ limit + 1) }
+    ensures later { S.faults store.old ≤ S.faults store.new }
+    ensures failed { result ≡ Err LoadFault.Store → Rose (S.faults store.old) (S.faults store.new) }
+{
+    let mut bytes = Vec::new(alloc);
+    while bytes.len() <= limit {
+        if !pull_more(store, &mut bytes, limit)? {
+            break;
+        }
+    }
+    Ok(bytes)
+}
+
+/// The bytes of a file, at most one more than `limit`, so that a longer file shows.
+pub fn load<S: Store>(
+    alloc: Global,
+    store: &mut S,
+    name: &str,
+    limit: u32,
+) -> Result<Vec<u8>, LoadFault>
+    ensures loaded { IfOk result
+        (λ bytes. Takes (file_of (S.files store.old) name.now) (limit + 1) bytes.items) }
+    ensures within { IfOk result (λ bytes. length bytes.items ≤ limit + 1) }
+    ensures there { IsOk result → IsSome (S.files store.old)
+        → IsSome (file_of (S.files store.old) name.now) }
+
+    // It changes nothing but what is being read.
+    ensures same { S.files store.new ≡ S.files store.old }
+    ensures writing { S.is_writing store.new ≡ S.is_writing store.old }
+    ensures target { S.target store.new ≡ S.target store.old }
+
+    // A call has failed, or the file isn't there.
+    ensures later { S.faults store.old ≤ S.faults store.new }
+    ensures failed { result ≡ Err LoadFault.Store
+        → Rose (S.faults store.old) (S.faults store.new) ⊎ IsMissing (S.files store.old) name.now }
+    ensures missing { IsMissing (S.files store.old) name.now → result ≡ Err LoadFault.Store }
+{
+    match store.open_in(name) {
+        Ok(true) => pull_all(alloc, store, limit as usize),
+        Ok(false) | Err(Failed) => Err(LoadFault::Store),
+    }
+}
+
+/// Writes a whole file: opens it, puts the bytes at once, and closes it. The first call that fails ends it.
+pub fn write_file<S: Store>(store: &mut S, name: &str, bytes: &[u8]) -> Result<(), Failed>
+    ensures ok { OnOk result (S.files store.new ≡ with_file (S.files store.old) name.now bytes.now) }
+    ensures err { OnErr result ((S.files store.new ≡ S.files store.old)
+        ⊎ HasFront (S.files store.old) (S.files store.new) name.now bytes.now) }
+    ensures idle { OnOk result (S.is_writing store.new ≡ false) }
+    ensures reading { S.is_reading store.new ≡ S.is_reading store.old }
+    ensures source { S.source store.new ≡ S.source store.old }
+    ensures cause { HasCause (S.faults store.old) (S.faults store.new) result }
+{
+    store.open_out(name)?;
+    match store.put(bytes) {
+        Ok(()) => store.close_out(),
+        Err(Failed) => Err(Failed),
+    }
+}

@@ -12,4 +12,6 @@ mod paths;
 mod prices;
 mod units;
 
-pub use graph::{Edge, Piece, State, Tag, Unit};
+pub use hm_tree::Tree;
+pub use minify::{Minified, minify_tree};
+pub use pages::read_page;

@@ -2,7 +2,7 @@
 use Rattle.std.proofs.Common.{◌≡◌, ℕ, Bool, List, refl, sym, subst}
 use Rattle.std.specs.declared.result.Result.{Result}
 use Rattle.std.specs.declared.result.Result.TheVariants.{Ok, Err}
-use Rattle.std.specs.Result.{OnOk, IsOk}
+use Rattle.std.specs.Result.{IfOk, OnOk, IsOk}
 use Rattle.hm_base.specs.Walks.{Event}
 use Rattle.hm_first_path.specs.Reading.{IsReadTo}
 
@@ -21,3 +21,8 @@ read_at page at to inside next w r e f = subst (λ k. IsReadTo page k next w) (s
 pub where_ok : {T E : Type 0} (r : Result T E) {Q : Type 0} → (IsOk r → Q) → OnOk r Q
 where_ok (Ok x) f = f refl
 where_ok (Err e) f = tt
+
+-- a clause on an Ok value, from another
+pub if_ok : {T E : Type 0} (r : Result T E) {P Q : T → Type 0} → ((x : T) → P x → Q x) → IfOk r P → IfOk r Q
+if_ok (Ok x) f p = f x p
+if_ok (Err e) f p = tt

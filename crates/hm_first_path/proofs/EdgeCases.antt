@@ -1,6 +1,6 @@
 -- Which edges a unit has, and that what is written behind a state keeps what was written last.
 use Rattle.std.proofs.Common.{◌≡◌, ℕ, Bool, true, false, not, ◌&&◌, List, [], ◌∷◌, ◌++◌, cond, refl, sym, ap, subst}
-use Rattle.hm_base.specs.Bytes.{head_is, is_digit}
+use Rattle.hm_base.specs.Bytes.{head_is, is_digit_of}
 use Rattle.hm_first_path.specs.declared.graph.Unit as units
 use Rattle.hm_first_path.specs.declared.graph.Unit.TheVariants.{Doctype, Start, Char, End}
 use Rattle.hm_first_path.specs.declared.graph.State.{State}
@@ -60,12 +60,12 @@ Keeps Nothing b = Unit {0}
 Keeps Digits b = head_is continues_number b ≡ false
 
 keeps_angle : (s : State) (b rest : List ℕ) → b ≡ 60 ∷ rest → Keeps s b
-unfolding is_digit
+unfolding is_digit_of
 keeps_angle Nothing b rest e = tt
 keeps_angle Digits b rest e = rw e refl
 
 keeps_ampersand : (s : State) (b rest : List ℕ) → b ≡ 38 ∷ rest → Keeps s b
-unfolding is_digit
+unfolding is_digit_of
 keeps_ampersand Nothing b rest e = tt
 keeps_ampersand Digits b rest e = rw e refl
 

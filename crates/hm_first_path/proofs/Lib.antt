@@ -15,3 +15,5 @@ pub mod Steps
 pub mod Answering
 pub mod Finish
 pub mod Starts
+pub mod FirstUnits
+pub mod UnitSteps

@@ -2,7 +2,7 @@
 use Rattle.std.proofs.Common.{◌≡◌, ◌+◌, ℕ, zero, suc, List, [], ◌∷◌, ◌++◌, drop, slice_get, Option, Some, add-one, sym, ap, ◌∙◌, append_assoc}
 use Rattle.hm_first_path.specs.Certificate.{row_text, rows_text}
 
-cut_row : {A : Type 0} (xs : List A) (k : ℕ) (x : A) → slice_get xs k ≡ Some x → drop k xs ≡ x ∷ drop (suc k) xs
+pub cut_row : {A : Type 0} (xs : List A) (k : ℕ) (x : A) → slice_get xs k ≡ Some x → drop k xs ≡ x ∷ drop (suc k) xs
 cut_row [] zero x e = cc
 cut_row [] (suc k) x e = cc
 cut_row (y ∷ xs) zero x e = cc

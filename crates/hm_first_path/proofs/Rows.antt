@@ -1,9 +1,6 @@
 -- Rows of prices in code are rows of least prices.
 use Rattle.std.proofs.Common.{◌≡◌, ◌<◌, ◌≤◌, ◌+◌, ◌*◌, ◌^◌, ℕ, Bool, true, false, suc, zero, List, [], ◌∷◌, ◌++◌, length, map, drop, get_or, slice_get, Option, Some, None, cond, add-one, refl, sym, ap, ◌∙◌, subst, arith, length-drop, drop-cons}
 use Rattle.std.proofs.Math.Seq.{drop-length}
-use Rattle.std.specs.declared.result.Result.{Result}
-use Rattle.std.specs.declared.result.Result.TheVariants.{Ok, Err}
-use Rattle.std.specs.Result.{IfOk}
 use Rattle.std.proofs.lemmas.List.{length-map}
 use Rattle.hm_first_path.specs.declared.graph.Unit as units
 use Rattle.hm_first_path.specs.declared.graph.State.{State}
@@ -175,11 +172,6 @@ pub last_prices : (units : List units.Unit) (states : List State) (row : List (O
 last_prices units states row prices s r p =
     let none : drop (length units) units ≡ [] = drop-length units in
     p ∙ ap (λ x. x ∷ []) (r ∙ ap (least_row []) s) ∙ ap (λ us. least_prices us (states_at units (length units))) (sym none)
-
--- a clause on an Ok value, from another
-pub if_ok : {T E : Type 0} (r : Result T E) {P Q : T → Type 0} → ((x : T) → P x → Q x) → IfOk r P → IfOk r Q
-if_ok (Ok x) f p = f x p
-if_ok (Err e) f p = tt
 
 -- A step of the first way
 

@@ -104,7 +104,7 @@ plain_space : (c : ℕ) → is_plain c ≡ true → is_blank c ≡ false → is_
 unfolding is_space is_plain
 plain_space c h e = rw (not_plain 9 c refl h, not_plain 10 c refl h, not_plain 12 c refl h, not_plain 13 c refl h, e) refl
 
-may_omit_body_start : (w : List Event) → InBody false w → begins_text_of is_blank w ≡ false → may_omit_start body None w ≡ true
+pub may_omit_body_start : (w : List Event) → InBody false w → begins_text_of is_blank w ≡ false → may_omit_start body None w ≡ true
 unfolding may_omit_start is_space
 may_omit_body_start w body_ends h = refl
 may_omit_body_start w (p_starts v i) h = refl

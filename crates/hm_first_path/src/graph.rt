@@ -77,11 +77,11 @@ impl State {
 }
 
 /// Whether this byte would be read on as a part of a decimal reference.
-#[tactic(auto, unfolding(hm_base::specs::Bytes::is_digit))]
+#[tactic(auto, unfolding(hm_base::specs::Bytes::is_digit_of))]
 fn continues_number(c: u8) -> bool
     ensures { result ≡ spellings.continues_number c }
 {
-    matches!(c, b'0'..=b'9') || c == b';'
+    char::from(c).is_digit(10) || c == b';'
 }
 
 /// What an edge writes.

@@ -6,8 +6,12 @@ mod edges;
 mod graph;
 pub mod laws;
 mod layers;
+mod minify;
 mod pages;
 mod paths;
 mod prices;
+mod units;
 
-pub use graph::{Edge, Piece, State, Tag, Unit};
+pub use hm_tree::Tree;
+pub use minify::{Minified, minify_tree};
+pub use pages::read_page;

@@ -4,7 +4,7 @@ ghost use Rattle.hm_base.specs.declared.rules.Rule.{Rule};
 ghost use Rattle.hm_base.specs.Walks.{Event, path_after, walk_size, start, end, with_text};
 ghost use Rattle.hm_base.specs.Bytes.{front, head_is};
 ghost use Rattle.hm_tree.specs.Trees.{last_agrees};
-ghost use Rattle.hm_first_path.specs.Page.{built, refused, page_tree, page_outcome, page_limit, frame, is_blank, behind_events, is_text, end_of_p};
+ghost use Rattle.hm_first_path.specs.Page.{built, refused, page_tree, page_outcome, page_limit, frame, IsFirstForm, is_blank, behind_events, is_text, end_of_p};
 ghost use Rattle.hm_first_path.specs.Page as page_words;
 ghost use Rattle.hm_first_path.specs.Reading.{IsReadTo, open_path};
 
@@ -174,6 +174,7 @@ const PAGE_LIMIT: usize = 4_194_304;
 /// other than `<` and `&`, the first of which isn't a SPACE. Places of refusals are in bytes of the page.
 pub fn read_page(alloc: Global, page: &[u8]) -> Result<Tree, Refused>
     ensures tree { IfOk result (λ tree. page_outcome page.now ≡ built tree) }
+    ensures form { IfOk result (λ tree. IsFirstForm tree) }
     ensures refused { (rule : Rule) (at : ℕ) → result ≡ Err (Refused.Page rule at) → page_outcome page.now ≡ refused rule at }
     ensures refuses { (rule : Rule) (at : ℕ) → page_outcome page.now ≡ refused rule at → (result ≡ Err (Refused.Page rule at)) ⊎ (result ≡ Err Refused.Memory) }
     ensures reads { (w : List Event) → page_outcome page.now ≡ built w → IsOk result ⊎ (result ≡ Err Refused.Memory) }

@@ -1,6 +1,8 @@
 use Rattle.std.proofs.Common.{◌≡◌, inl, sym, ◌∙◌}
 use Rattle.hm_base.specs.declared.rules.Rule.TheVariants.{TooLong}
 use Rattle.hm_first_path.specs.Page.{refused, page_tree, page_outcome, page_limit}
+use Rattle.hm_first_path.proofs.Answering.{if_ok}
+use Rattle.hm_first_path.proofs.Reading.{read_is_first_form}
 use Rattle.hm_first_path.proofs.Starts.{outcome_long, outcome_short, same_tree, tells_refusal, tells_tree}
 use Rattle.hm_first_path.proofs.pages.read_page.Goals as goal
 
@@ -35,3 +37,6 @@ returns-clause-refuses c = λ rule at e.
 pub returns-clause-reads : goal.returns-clause-reads
 returns-clause-reads c = λ w e.
     tells_tree c.read_short.result (page_tree c.args.page.now) c.read_short.ensures.refused w (sym (outcome_short c.args.page.now c.if-page-gt-PAGE_LIMIT.false) ∙ e)
+
+pub returns-clause-form : goal.returns-clause-form
+returns-clause-form c = if_ok c.read_short.result (λ tree e. read_is_first_form c.args.page.now tree e) c.read_short.ensures.tree

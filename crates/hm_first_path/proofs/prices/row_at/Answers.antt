@@ -1,7 +1,8 @@
 use Rattle.std.proofs.Common.{◌≡◌, ◌+◌, get_or, drop, arith}
 use Rattle.hm_first_path.specs.declared.graph.Unit.TheVariants.{Doctype}
 use Rattle.hm_first_path.specs.Graph.{states_at}
-use Rattle.hm_first_path.proofs.Rows.{layers_count, layer_at, cut_at, same_widths, row_small, row_before, if_ok}
+use Rattle.hm_first_path.proofs.Answering.{if_ok}
+use Rattle.hm_first_path.proofs.Rows.{layers_count, layer_at, cut_at, same_widths, row_small, row_before}
 use Rattle.hm_first_path.proofs.prices.row_at.Goals as goal
 
 pub at-here-requires : goal.at-here-requires

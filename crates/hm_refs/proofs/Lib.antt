@@ -4,4 +4,6 @@ pub mod Growing
 pub mod NumberLaws
 pub mod Places
 pub mod References
+pub mod Seeking
 pub mod Webs
+pub mod Whole

@@ -4,8 +4,9 @@
 mod fault;
 mod ids;
 pub mod laws;
-mod numbers;
 mod nodes;
+mod numbers;
+mod trie;
 
 pub use fault::TableFault;
 pub use ids::{NameId, Node};

@@ -1,4 +1,5 @@
 pub mod Bools
+pub mod FirstsLaws
 pub mod Found
 pub mod Growing
 pub mod NumberLaws

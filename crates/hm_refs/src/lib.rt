@@ -2,6 +2,7 @@
 #![tactic(auto)]
 
 mod fault;
+mod firsts;
 mod ids;
 pub mod laws;
 mod nodes;

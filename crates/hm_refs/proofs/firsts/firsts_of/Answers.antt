@@ -1,4 +1,4 @@
-use Rattle.std.proofs.Common.{sym, refl, arith}
+use Rattle.std.proofs.Common.{sym, arith}
 use Rattle.std.proofs.lemmas.Grind.{common_steps}
 use Rattle.hm_refs.proofs.FirstsLaws.{places_next, no_places}
 use Rattle.hm_refs.proofs.firsts.firsts_of.Goals as goal

@@ -2,6 +2,7 @@ pub mod Bools
 pub mod FirstsLaws
 pub mod Found
 pub mod Growing
+pub mod LoneLaws
 pub mod NumberLaws
 pub mod Places
 pub mod References

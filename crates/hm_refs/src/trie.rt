@@ -1,9 +1,11 @@
 //! Names with their trie.
 ghost use Rattle.std.specs.Prelude.{◌≡◌, ℕ, ◌<◌, ◌∷◌, [], length, option_map, IfOk, IfSome};
 ghost use Rattle.hm_refs.specs.Names.{child_of, longest};
+ghost use Rattle.hm_refs.specs.Json.{first_lone, is_lone};
 ghost use Rattle.hm_refs.specs.Tables.{IsNode, IsTrie, entry_at, found_at, front_at, names_in, points_list};
 ghost use Rattle.hm_refs.specs.Nodes.{AreNames, entries_of, place};
 
+use crate::firsts::is_closed;
 use crate::ids::{NameId, Node};
 use crate::nodes::{Name, TrieNode, behind_first, grow};
 use hm_base::{Memory, Points};
@@ -112,5 +114,36 @@ impl Trie {
             best = self.name_at(node).or(best);
         }
         best
+    }
+
+    /// The first name without `;` whose form with `;` isn't there with the same code points.
+    pub(crate) fn first_lone(&self) -> Option<NameId>
+        ensures found { option_map (λ id. (entry_at self.now.entries id).name) result
+            ≡ first_lone self.now.entries self.now.entries }
+        ensures inside { IfSome result (λ id. id < length self.now.entries) }
+    {
+        for number in 0..self.names.len() as u32 {
+            let id = NameId::new(number);
+            if self.is_lone(id) {
+                return Some(id);
+            }
+        }
+        None
+    }
+
+    fn is_lone(&self, id: NameId) -> bool
+        requires { id < length self.now.entries }
+        ensures { result ≡ is_lone self.now.entries (entry_at self.now.entries id) }
+    {
+        if is_closed(self.name(id)) {
+            return false;
+        }
+        let Some(node) = self.child(self.node_of(id), b';') else {
+            return true;
+        };
+        match self.name_at(node) {
+            Some(closed) => self.points(closed) != self.points(id),
+            None => true,
+        }
     }
 }

@@ -1,6 +1,7 @@
 pub mod Bools
 pub mod FirstsLaws
 pub mod Found
+pub mod Gathered
 pub mod Growing
 pub mod LoneLaws
 pub mod NumberLaws

@@ -1,9 +1,7 @@
 -- Names in byte order that pass all tests are a table.
-use Rattle.std.proofs.Common.{◌≡◌, ℕ, zero, suc, ◌+◌, ◌<◌, ◌≤◌, ◌⊎◌, inl, inr, Bool, true, false, cond, not, ◌&&◌, ◌||◌, ◌==◌, nat_lt, nat_le, List, [], ◌∷◌, ◌++◌, map, length, get_or, drop, Option, Some, None, option_map, Result, Ok, Err, Ordering, Less, Equal, count_by, refl, sym, ap, ◌∙◌, subst, arith, bytes_eq}
+use Rattle.std.proofs.Common.{◌≡◌, ℕ, zero, suc, ◌+◌, ◌<◌, ◌≤◌, ◌⊎◌, inl, inr, Bool, true, false, cond, not, ◌&&◌, ◌||◌, ◌==◌, nat_lt, List, [], ◌∷◌, ◌++◌, length, get_or, Option, Some, None, option_map, Ok, Err, Less, count_by, refl, ap, ◌∙◌, subst, arith}
 use Rattle.std.proofs.lemmas.Bool.{cases_lt}
 use Rattle.std.proofs.lemmas.Cmp.{nat_list_cmp_total, tied_itself}
-use Rattle.std.proofs.lemmas.List.{length-map}
-use Rattle.std.proofs.lemmas.List.Sums.{count_by-le-length}
 use Rattle.std.proofs.lemmas.Slice.Eq.{bytes_eq-Decides}
 use Rattle.std.specs.Ordering.{nat_cmp}
 use Rattle.std.specs.Cmp.Lexicographic.{slice_cmp}
@@ -13,8 +11,7 @@ use Rattle.hm_base.specs.Bytes.{head_is}
 use Rattle.hm_refs.specs.Names.{Entry, points_of, is_closed, is_good, is_good_name}
 use Rattle.hm_refs.specs.Tables.{IsIn, first, later, is_for, is_open_for, are_points, names_in, entry_at, IsTable, IsGathered}
 use Rattle.hm_refs.specs.Json.{are_same, is_lone, first_lone, is_crowded, if_crowded, lesser, least_crowded, unless, checked}
-use Rattle.hm_refs.specs.Nodes.{place, AreApart, IsShort, AreNames}
-use Rattle.hm_refs.specs.declared.fault.TableFault.{TableFault}
+use Rattle.hm_refs.specs.Nodes.{AreApart, IsShort, AreNames}
 use Rattle.hm_refs.specs.declared.fault.TableFault.TheVariants.{TooMany, TooManyFor, Lone}
 use Rattle.hm_refs.proofs.Bools.{and_left, and_right, eq_of, le_of}
 use Rattle.hm_refs.proofs.Places.{same_bytes, other_bytes}
@@ -209,3 +206,16 @@ checked_passed t u h = by_few (nat_lt 4096 (length t)) refl h
 
 pub checked_table : (t u : List Entry) → IsGathered t → checked t ≡ Ok u → IsTable u
 checked_table t u g h = let p = checked_passed t u h in subst IsTable p.same (table_of t g p.few p.uncrowded p.paired)
+
+-- no names are a table
+pub no_table : IsTable []
+unfolding IsStrictlySortedBy
+no_table = record {
+  ascending = tt;
+  own = λ e i. elim i [ ];
+  good = λ e i. elim i [ ];
+  pointed = λ e i. elim i [ ];
+  paired = λ e i k. elim i [ ];
+  few = omega arith;
+  few_for = λ c. (omega arith, omega arith);
+}

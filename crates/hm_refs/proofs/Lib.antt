@@ -4,6 +4,7 @@ pub mod Found
 pub mod Gathered
 pub mod Growing
 pub mod LoneLaws
+pub mod Members
 pub mod NumberLaws
 pub mod Places
 pub mod References

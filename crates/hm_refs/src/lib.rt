@@ -7,6 +7,7 @@ mod ids;
 pub mod laws;
 mod nodes;
 mod numbers;
+mod reading;
 mod table;
 mod trie;
 

@@ -6,4 +6,5 @@ pub mod Json
 pub mod Examples
 pub mod JsonExamples
 pub mod Nodes
+pub mod Firsts
 pub mod Laws

@@ -15,3 +15,6 @@ mod units;
 pub use hm_tree::Tree;
 pub use minify::{Minified, minify_tree};
 pub use pages::read_page;
+
+#[cfg(test)]
+mod tests;

@@ -28,10 +28,10 @@ tag_edge false piece s e (later y zs i) = elim i [ ]
 -- an edge of a character: as itself, as a reference, or as a reference with its semicolon
 pub data CharEdge (c : ℕ) (s : State) : Edge → Type 0 where
   as_itself : is_plain c ≡ true → is_broken s c ≡ false → CharEdge c s (edge (pieces.Literal c) Nothing)
-  as_digits : CharEdge c s (edge (pieces.Decimal c false) Digits)
+  as_digits : CharEdge c s (edge (pieces.Decimal c false) (Digits 10))
   as_closed : CharEdge c s (edge (pieces.Decimal c true) Nothing)
 
-reference_edge : (c : ℕ) (s : State) (e : Edge) → IsIn e (edge (pieces.Decimal c false) Digits ∷ edge (pieces.Decimal c true) Nothing ∷ []) → CharEdge c s e
+reference_edge : (c : ℕ) (s : State) (e : Edge) → IsIn e (edge (pieces.Decimal c false) (Digits 10) ∷ edge (pieces.Decimal c true) Nothing ∷ []) → CharEdge c s e
 reference_edge c s e (first zs) = as_digits
 reference_edge c s e (later y zs (first ws)) = as_closed
 reference_edge c s e (later y zs (later x ws i)) = elim i [ ]
@@ -46,7 +46,7 @@ not_true true e = cc
 not_true false e = refl
 
 literal_edge : (c : ℕ) (s : State) (e : Edge) (t : Bool) → (is_plain c && not (is_broken s c)) ≡ t
-    → IsIn e ((cond t (edge (pieces.Literal c) Nothing ∷ []) []) ++ edge (pieces.Decimal c false) Digits ∷ edge (pieces.Decimal c true) Nothing ∷ []) → CharEdge c s e
+    → IsIn e ((cond t (edge (pieces.Literal c) Nothing ∷ []) []) ++ edge (pieces.Decimal c false) (Digits 10) ∷ edge (pieces.Decimal c true) Nothing ∷ []) → CharEdge c s e
 literal_edge c s e true h (first zs) = as_itself (and_true (is_plain c) (not (is_broken s c)) h).0 (not_true (is_broken s c) (and_true (is_plain c) (not (is_broken s c)) h).1)
 literal_edge c s e true h (later y zs i) = reference_edge c s e i
 literal_edge c s e false h i = reference_edge c s e i
@@ -57,25 +57,25 @@ char_edge c s e i = literal_edge c s e (is_plain c && not (is_broken s c)) refl 
 -- what was written last isn't continued by these bytes
 abbrev pub Keeps : State → List ℕ → Type 0
 Keeps Nothing b = Unit {0}
-Keeps Digits b = head_is continues_number b ≡ false
+Keeps (Digits base) b = head_is continues_number b ≡ false
 
 keeps_angle : (s : State) (b rest : List ℕ) → b ≡ 60 ∷ rest → Keeps s b
 unfolding is_digit_of
 keeps_angle Nothing b rest e = tt
-keeps_angle Digits b rest e = rw e refl
+keeps_angle (Digits base) b rest e = rw e refl
 
 keeps_ampersand : (s : State) (b rest : List ℕ) → b ≡ 38 ∷ rest → Keeps s b
 unfolding is_digit_of
 keeps_ampersand Nothing b rest e = tt
-keeps_ampersand Digits b rest e = rw e refl
+keeps_ampersand (Digits base) b rest e = rw e refl
 
 keeps_literal : (s : State) (c : ℕ) (b rest : List ℕ) → is_broken s c ≡ false → b ≡ c ∷ rest → Keeps s b
 keeps_literal Nothing c b rest h e = tt
-keeps_literal Digits c b rest h e = rw e h
+keeps_literal (Digits base) c b rest h e = rw e h
 
 keeps_end : (s : State) (b : List ℕ) → b ≡ [] → Keeps s b
 keeps_end Nothing b e = tt
-keeps_end Digits b e = rw e refl
+keeps_end (Digits base) b e = rw e refl
 
 tag_keeps : (omits : Bool) (piece : Piece) (s : State) (e : Edge) (b rest front : List ℕ) → TagEdge omits piece s e → piece_bytes piece ≡ 60 ∷ front → b ≡ piece_bytes e.piece ++ rest → Keeps e.to rest → Keeps s b
 tag_keeps omits piece s e b rest front (omitted h) is cut k = subst (Keeps s) (sym cut) k
@@ -106,14 +106,14 @@ has_tag_edge true piece s = later (edge pieces.Empty s) (edge piece Nothing ∷ 
 has_tag_edge false piece s = first []
 
 pub has_literal : (c : ℕ) (s : State) → is_plain c ≡ true → is_broken s c ≡ false → IsIn (edge (pieces.Literal c) Nothing) (char_edges c s)
-has_literal c s h k = rw (h, k) (first (edge (pieces.Decimal c false) Digits ∷ edge (pieces.Decimal c true) Nothing ∷ []))
+has_literal c s h k = rw (h, k) (first (edge (pieces.Decimal c false) (Digits 10) ∷ edge (pieces.Decimal c true) Nothing ∷ []))
 
-pub has_digits : (c : ℕ) (s : State) → IsIn (edge (pieces.Decimal c false) Digits) (char_edges c s)
+pub has_digits : (c : ℕ) (s : State) → IsIn (edge (pieces.Decimal c false) (Digits 10)) (char_edges c s)
 has_digits c s =
-    in_behind (edge (pieces.Decimal c false) Digits) (cond (is_plain c && not (is_broken s c)) (edge (pieces.Literal c) Nothing ∷ []) []) (edge (pieces.Decimal c false) Digits ∷ edge (pieces.Decimal c true) Nothing ∷ [])
+    in_behind (edge (pieces.Decimal c false) (Digits 10)) (cond (is_plain c && not (is_broken s c)) (edge (pieces.Literal c) Nothing ∷ []) []) (edge (pieces.Decimal c false) (Digits 10) ∷ edge (pieces.Decimal c true) Nothing ∷ [])
     (first (edge (pieces.Decimal c true) Nothing ∷ []))
 
 pub has_closed : (c : ℕ) (s : State) → IsIn (edge (pieces.Decimal c true) Nothing) (char_edges c s)
 has_closed c s =
-    in_behind (edge (pieces.Decimal c true) Nothing) (cond (is_plain c && not (is_broken s c)) (edge (pieces.Literal c) Nothing ∷ []) []) (edge (pieces.Decimal c false) Digits ∷ edge (pieces.Decimal c true) Nothing ∷ [])
-    (later (edge (pieces.Decimal c false) Digits) (edge (pieces.Decimal c true) Nothing ∷ []) (first []))
+    in_behind (edge (pieces.Decimal c true) Nothing) (cond (is_plain c && not (is_broken s c)) (edge (pieces.Literal c) Nothing ∷ []) []) (edge (pieces.Decimal c false) (Digits 10) ∷ edge (pieces.Decimal c true) Nothing ∷ [])
+    (later (edge (pieces.Decimal c false) (Digits 10)) (edge (pieces.Decimal c true) Nothing ∷ []) (first []))

@@ -22,7 +22,7 @@ tag_from omits piece s more b rest e written is w f = (edge piece Nothing, has_t
 
 char_from : (c : ℕ) (s : State) (more : List units.Unit) (b rest : List ℕ) (e : Edge) → CharEdge c s e → b ≡ piece_bytes e.piece ++ rest → Way more e.to rest → Way (Char c ∷ more) Nothing b
 char_from c s more b rest e (as_itself plain kept) is w = (edge (pieces.Literal c) Nothing, has_literal c Nothing plain refl, (rest, is, w))
-char_from c s more b rest e as_digits is w = (edge (pieces.Decimal c false) Digits, has_digits c Nothing, (rest, is, w))
+char_from c s more b rest e as_digits is w = (edge (pieces.Decimal c false) (Digits 10), has_digits c Nothing, (rest, is, w))
 char_from c s more b rest e as_closed is w = (edge (pieces.Decimal c true) Nothing, has_closed c Nothing, (rest, is, w))
 
 way_from_nothing : (units : List units.Unit) (s : State) (b : List ℕ) → Way units s b → Way units Nothing b
@@ -80,13 +80,13 @@ least_of_three a b c h k = ap Some (omega arith)
 pub first_char : (c : ℕ) (units : List units.Unit) → is_plain c ≡ true → first_way (Char c ∷ units) Nothing ≡ c ∷ first_way units Nothing
 first_char c units plain =
     let n : ℕ = first_length units Nothing in
-    let d : ℕ = first_length units Digits in
+    let d : ℕ = first_length units (Digits 10) in
     let l : least units Nothing ≡ Some n = least_is_length units Nothing in
-    let k : least units Digits ≡ Some d = least_is_length units Digits in
-    let h : n ≤ d = nothing_is_least units Digits in
+    let k : least units (Digits 10) ≡ Some d = least_is_length units (Digits 10) in
+    let h : n ≤ d = nothing_is_least units (Digits 10) in
     let long : 1 ≤ length (reference c) = omega arith in
     let longer : 1 ≤ length (reference c ++ 59 ∷ []) = rw length-append (omega arith) in
-    first_is (Char c) units Nothing (edge (pieces.Literal c) Nothing) (edge (pieces.Decimal c false) Digits ∷ edge (pieces.Decimal c true) Nothing ∷ []) (rw plain refl)
+    first_is (Char c) units Nothing (edge (pieces.Literal c) Nothing) (edge (pieces.Decimal c false) (Digits 10) ∷ edge (pieces.Decimal c true) Nothing ∷ []) (rw plain refl)
     (rw (l, k) (least_of_three (1 + n) (length (reference c) + d) (length (reference c ++ 59 ∷ []) + n) (omega arith) (omega arith)))
 
 -- plain characters are written as themselves

@@ -1,5 +1,6 @@
 -- States of layers, and prices of states.
-use Rattle.std.proofs.Common.{◌≡◌, ℕ, List, [], ◌∷◌, ◌++◌, map, Option, true, false, ◌||◌, cond, refl, ap, subst}
+use Rattle.std.proofs.Common.{◌≡◌, ℕ, List, [], ◌∷◌, ◌++◌, map, Option, true, false, ◌||◌, cond, refl, ap, subst, arith}
+use Rattle.std.proofs.lemmas.Bool.Decides.{nat_tests}
 use Rattle.std.specs.List.{list_any}
 use Rattle.hm_first_path.specs.declared.graph.Unit as units
 use Rattle.hm_first_path.specs.declared.graph.State.{State}
@@ -9,13 +10,13 @@ use Rattle.hm_first_path.specs.Graph.{IsIn, first, later, same_state, edges_of, 
 
 pub same_is : (s t : State) → same_state s t ≡ true → s ≡ t
 same_is Nothing Nothing e = refl
-same_is Nothing Digits e = cc
-same_is Digits Nothing e = cc
-same_is Digits Digits e = refl
+same_is Nothing (Digits b) e = cc
+same_is (Digits a) Nothing e = cc
+same_is (Digits a) (Digits b) e = let is : a ≡ b = grind (arith, nat_tests) in ap Digits is
 
 pub same_self : (s : State) → same_state s s ≡ true
 same_self Nothing = refl
-same_self Digits = refl
+same_self (Digits a) = grind (arith, nat_tests)
 
 pub in_behind : {A : Type 0} (x : A) (xs ys : List A) → IsIn x ys → IsIn x (xs ++ ys)
 in_behind x [] ys i = i

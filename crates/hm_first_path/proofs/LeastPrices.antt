@@ -49,7 +49,7 @@ least_bounds (unit ∷ units) s b (e, i, (rest, is, w)) =
 abbrev pub plain_edge : units.Unit → Edge
 plain_edge Doctype = edge pieces.Doctype Nothing
 plain_edge (Start tag omits) = edge (pieces.StartTag tag) Nothing
-plain_edge (Char c) = edge (pieces.Decimal c false) Digits
+plain_edge (Char c) = edge (pieces.Decimal c false) (Digits 10)
 plain_edge (End tag omits) = edge (pieces.EndTag tag) Nothing
 
 pub has_plain_edge : (unit : units.Unit) (s : State) → IsIn (plain_edge unit) (edges_of unit s)

@@ -88,14 +88,14 @@ way_spells (end n false ∷ v) before path s b a (e, i, (rest, is, w)) = by_edge
 
 literal_keeps : (s : State) (c : ℕ) (b rest : List ℕ) → Keeps s b → b ≡ c ∷ rest → is_broken s c ≡ false
 literal_keeps Nothing c b rest k e = refl
-literal_keeps Digits c b rest k e = ap (head_is continues_number) (sym e) ∙ k
+literal_keeps (Digits base) c b rest k e = ap (head_is continues_number) (sym e) ∙ k
 
 text_way : (t : List ℕ) (more : List units.Unit) (More : List ℕ → Type 0) (s : State) (b : List ℕ) → ((q : State) (d : List ℕ) → Keeps q d → More d → Way more q d) → Keeps s b → SpellsText t b More → Way (chars t more) s b
 text_way [] more More s b f k x = f s b k x
 text_way (c ∷ t) more More s b f k (rest, inl (plain, is), x) =
     (edge (pieces.Literal c) Nothing, has_literal c s plain (literal_keeps s c b rest k is), (rest, is, text_way t more More Nothing rest f tt x))
 text_way (c ∷ t) more More s b f k (rest, inr (inl (is, kept)), x) =
-    (edge (pieces.Decimal c false) Digits, has_digits c s, (rest, is, text_way t more More Digits rest f kept x))
+    (edge (pieces.Decimal c false) (Digits 10), has_digits c s, (rest, is, text_way t more More (Digits 10) rest f kept x))
 text_way (c ∷ t) more More s b f k (rest, inr (inr is), x) =
     (edge (pieces.Decimal c true) Nothing, has_closed c s, (rest, is ∙ sym (append_assoc (reference c) (59 ∷ []) rest), text_way t more More Nothing rest f tt x))
 

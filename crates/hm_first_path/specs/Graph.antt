@@ -44,14 +44,14 @@ units_of path (end n foreign ∷ w) = End (tag_of n) (may_omit_end n (current (a
 
 abbrev pub same_state : State → State → Bool
 same_state Nothing Nothing = true
-same_state Nothing Digits = false
-same_state Digits Nothing = false
-same_state Digits Digits = true
+same_state Nothing (Digits b) = false
+same_state (Digits a) Nothing = false
+same_state (Digits a) (Digits b) = nat_eq a b
 
 -- whether what was written last is continued by this byte
 abbrev pub is_broken : State → ℕ → Bool
 is_broken Nothing c = false
-is_broken Digits c = continues_number c
+is_broken (Digits base) c = continues_number c
 
 -- Pieces and edges
 
@@ -83,7 +83,7 @@ tag_edges false piece from = edge piece Nothing ∷ []
 abbrev pub char_edges : ℕ → State → List Edge
 char_edges c from =
     (if is_plain c && not (is_broken from c) then edge (pieces.Literal c) Nothing ∷ [] else [])
-    ++ edge (pieces.Decimal c false) Digits ∷ edge (pieces.Decimal c true) Nothing ∷ []
+    ++ edge (pieces.Decimal c false) (Digits 10) ∷ edge (pieces.Decimal c true) Nothing ∷ []
 
 -- the edges of a unit from a state, in their order
 abbrev pub edges_of : units.Unit → State → List Edge

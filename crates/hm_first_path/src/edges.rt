@@ -91,7 +91,7 @@ fn add_char_edges(c: u8, from: State, into: &mut Edges) -> Result<(), Memory>
             c,
             semicolon: false,
         },
-        State::Digits,
+        State::Digits { base: 10 },
     )?;
     into.add(Piece::Decimal { c, semicolon: true }, State::Nothing)
 }

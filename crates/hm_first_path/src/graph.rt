@@ -50,8 +50,8 @@ pub enum Unit {
 pub enum State {
     #[default]
     Nothing,
-    /// The digits of a decimal reference without its semicolon.
-    Digits,
+    /// A numeric reference without its semicolon, in digits of this base.
+    Digits { base: u32 },
 }
 
 impl State {
@@ -59,9 +59,10 @@ impl State {
     pub fn is_same(self, other: State) -> bool
         ensures { result ≡ same_state self other }
     {
-        match self {
-            State::Nothing => matches!(other, State::Nothing),
-            State::Digits => matches!(other, State::Digits),
+        match (self, other) {
+            (State::Nothing, State::Nothing) => true,
+            (State::Digits { base }, State::Digits { base: other }) => base == other,
+            _ => false,
         }
     }
 
@@ -71,7 +72,7 @@ impl State {
     {
         match self {
             State::Nothing => false,
-            State::Digits => continues_number(c),
+            State::Digits { base: _ } => continues_number(c),
         }
     }
 }

@@ -1,7 +1,11 @@
 -- Names of elements are ASCII.
 use Rattle.std.proofs.Common.{◌≡◌, ℕ, ◌≤◌, ◌<◌, zero, suc, Bool, true, false, ◌||◌, ◌&&◌, nat_le, List, [], ◌∷◌, eqb, refl, lit<, lit≤, arith}
 use Rattle.std.proofs.lemmas.Bool.{and_parts, and_from, eqb-true, leb-true, or_from, ne_eqb}
+use borrow.Author.Tests.{ltb-true}
 use Rattle.std.proofs.lemmas.Str.{IsUtf8-from_ascii}
+use Rattle.std.proofs.lemmas.Str.Parse.{digit_from_value}
+use Rattle.std.specs.Char.{digit_value}
+use Rattle.std.specs.Int.{IsInRange}
 use Rattle.std.specs.List.{list_all}
 use Rattle.std.specs.Str.{IsUtf8, IsAscii}
 use Rattle.hm_base.specs.Bytes.{is_digit_of, all_pass}
@@ -34,15 +38,21 @@ in_range lo hi c l u h =
 is_one : (d c : ℕ) → 1 ≤ d → d < 128 → eqb c d ≡ true → IsPlainByte c
 is_one d c l u h = let e : c ≡ d = eqb-true c d h in (omega arith, omega arith)
 
+digit_is_plain : (c : ℕ) → is_digit_of 10 c ≡ true → IsPlainByte c
+unfolding is_digit_of
+digit_is_plain c h =
+    let range : IsInRange 48 57 c = digit_from_value c (ltb-true (digit_value c) 10 h) in
+    (omega arith, omega arith)
+
 -- a byte of a name is ASCII, and not zero
 tag_byte_is_plain : (c : ℕ) → is_tag_byte c ≡ true → IsPlainByte c
-unfolding is_tag_byte is_small is_digit_of
+unfolding is_tag_byte is_small
 tag_byte_is_plain c h =
     or_then _ (eqb c 45) (IsPlainByte c)
     (or_then _ (eqb c 58) (IsPlainByte c)
     (or_then _ (eqb c 95) (IsPlainByte c)
     (or_then _ (eqb c 46) (IsPlainByte c)
-    (or_then (nat_le 97 c && nat_le c 122) (nat_le 48 c && nat_le c 57) (IsPlainByte c) (in_range 97 122 c (lit≤ tt) (lit< tt)) (in_range 48 57 c (lit≤ tt) (lit< tt)))
+    (or_then (nat_le 97 c && nat_le c 122) (is_digit_of 10 c) (IsPlainByte c) (in_range 97 122 c (lit≤ tt) (lit< tt)) (digit_is_plain c))
     (is_one 46 c (lit≤ tt) (lit< tt)))
     (is_one 95 c (lit≤ tt) (lit< tt)))
     (is_one 58 c (lit≤ tt) (lit< tt)))

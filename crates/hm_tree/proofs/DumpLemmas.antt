@@ -7,6 +7,7 @@ use Rattle.std.proofs.lemmas.Option.{slice_get_within, get_or_from_slice_get}
 use Rattle.std.proofs.lemmas.Str.{encode_ascii, encodes-chars, inside_one}
 use Rattle.hm_base.specs.Walks.{Event, doctype, start, text, comment, end, Element, path_behind, path_after}
 use Rattle.hm_tree.specs.Dump.{quoted_byte, line_of, lines_from, dump_of}
+use Rattle.hm_tree.proofs.RoomLemmas.{length-path_behind}
 use Rattle.hm_tree.proofs.WalkLemmas.{path_after-push}
 
 plain_byte : (c : ℕ) → c ≢ 34 → c ≢ 92 → c ≢ 10 → c ≢ 13 → c ≢ 9 → quoted_byte c ≡ c ∷ []
@@ -63,14 +64,6 @@ lines_from-step path w i e at =
 pub quoted_whole : (before opened written whole s : List ℕ) → opened ≡ before ++ 34 ∷ [] → written ≡ opened ++ s → whole ≡ written ++ 34 ∷ [] → whole ≡ before ++ 34 ∷ (s ++ 34 ∷ [])
 quoted_whole before opened written whole s a b c = rw (c, b, a) (simp append_assoc)
 
-length-path_behind : (path : List Element) (e : Event) → length (path_behind path e) ≤ length path + 1
-length-path_behind path (doctype legacy) = omega arith
-length-path_behind path (start n foreign attributes) = omega arith
-length-path_behind path (text s raw) = omega arith
-length-path_behind path (comment s) = omega arith
-length-path_behind [] (end n foreign) = omega arith
-length-path_behind (p ∷ path) (end n foreign) = omega arith
-
 -- what is written up to event i, with the lines that are left, is the whole
 pub record IsWritten (w : List Event) (i depth : ℕ) (out : List ℕ) : Type 0 where
   pub count : depth ≡ length (path_after [] (take i w))
@@ -86,6 +79,6 @@ IsWritten-more w i depth new_depth out more e h at deep is =
     let line : lines_from path (drop i w) ≡ line_of depth e ++ lines_from (path_behind path e) (drop (i + 1) w) = rw h.count (lines_from-step path w i e at) in
     record {
       count = there ∙ sym (ap length behind);
-      most = omega (arith, there, length-path_behind path e, h.count, h.most);
+      most = omega (arith, there, (length-path_behind path e).0, h.count, h.most);
       whole = rw (is, behind, append_assoc, ← line) h.whole;
     }

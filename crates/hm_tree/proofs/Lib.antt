@@ -6,6 +6,7 @@ pub mod MakingLemmas
 pub mod ListLemmas
 pub mod OpenLemmas
 pub mod PieceLemmas
+pub mod RoomLemmas
 pub mod TableLemmas
 pub mod TextLemmas
 pub mod WalkLemmas

@@ -97,7 +97,7 @@ pub enum Piece {
 }
 
 /// The doctype as it is written.
-const DOCTYPE: &[u8] = b"<!doctype html>";
+pub const DOCTYPE: &[u8] = b"<!doctype html>";
 
 impl Piece {
     /// How many bytes it writes.

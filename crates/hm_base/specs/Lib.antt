@@ -1,5 +1,6 @@
 pub mod Bytes
 pub mod Examples
+pub mod Forms
 pub mod RawText
 pub mod Rules
 pub mod Source

@@ -6,8 +6,9 @@ use Rattle.std.proofs.lemmas.Bool.{cases_lt}
 use Rattle.std.proofs.lemmas.Bool.Decides.{Decides-eqb}
 use Rattle.hm_base.specs.Bytes.{Cut, cut_at, strip}
 use Rattle.hm_base.specs.RawText.{is_found}
-use Rattle.hm_mark_scan.specs.Tokens.{Scanned, taken, refused, cut, bad_doctype, Extends, as_comment, as_slice, doctype}
-use Rattle.hm_mark_scan.specs.Comments.{begins, cut_where, behind_end, at_once, cut_comment, read_comment, read_cdata}
+use Rattle.hm_tree.specs.Tokens.{Scanned, taken, refused, Extends, doctype}
+use Rattle.hm_mark_scan.specs.Pieces.{as_comment, as_slice}
+use Rattle.hm_mark_scan.specs.Comments.{begins, cut_where, behind_end, at_once, cut_comment, comment_at, read_comment, read_cdata}
 use Rattle.hm_mark_scan.specs.Doctypes.{doctype_form, by_form, as_doctype, read_doctype}
 use Rattle.hm_mark_scan.proofs.Cuts.{cond_both, RestExtends, CutExtends, Takes, CutTakes, Looks, strip_takes, strip_looks, strip_extends, strip_whole, cut_takes, cut_extends, cut_at_extends}
 
@@ -89,18 +90,13 @@ declared_extends (c ∷ d ∷ s) y = either (45 == c) (45 == d)
     either true false = cut_at_extends (codes ">") (c ∷ d ∷ s) y
     either false b = cut_at_extends (codes ">") (c ∷ d ∷ s) y
 
-abbrev comment_body : List ℕ → Option Cut
-comment_body s =
-    cond (begins (codes "<?") s) (cut_at (codes ">") (drop 1 s))
-      (cond (begins (codes "<!--") s) (cut_comment (drop 4 s)) (cut_at (codes ">") (drop 2 s)))
-
-comment_body_extends : (s y : List ℕ) → CutExtends y (comment_body s) (comment_body (s ++ y))
-comment_body_extends [] y = tt
-comment_body_extends (c ∷ []) y = elim (60 == c) as (λ b. CutExtends y
+comment_at_extends : (s y : List ℕ) → CutExtends y (comment_at s) (comment_at (s ++ y))
+comment_at_extends [] y = tt
+comment_at_extends (c ∷ []) y = elim (60 == c) as (λ b. CutExtends y
       (cond (is_found (cond b None None)) (cut_at (codes ">") []) (cond (is_found (cond b None None)) (cut_comment []) (cut_at (codes ">") [])))
-      (comment_body (c ∷ y)))
+      (comment_at (c ∷ y)))
     [ true ↦ tt | false ↦ tt ]
-comment_body_extends (c ∷ d ∷ s) y = either (60 == c) (63 == d) (33 == d)
+comment_at_extends (c ∷ d ∷ s) y = either (60 == c) (63 == d) (33 == d)
   where
     either : (a b e : Bool) → CutExtends y
         (cond (is_found (cond a (cond b (Some s) None) None)) (cut_at (codes ">") (d ∷ s))
@@ -114,7 +110,7 @@ comment_body_extends (c ∷ d ∷ s) y = either (60 == c) (63 == d) (33 == d)
 
 pub comment_extends : (s y : List ℕ) → Extends y (read_comment s) (read_comment (s ++ y))
 unfolding read_comment
-comment_extends s y = as_comment_extends y (comment_body s) (comment_body (s ++ y)) (comment_body_extends s y)
+comment_extends s y = as_comment_extends y (comment_at s) (comment_at (s ++ y)) (comment_at_extends s y)
 
 -- behind n bytes
 behind_extends : (mark : List ℕ) (n : ℕ) (s y : List ℕ) → CutExtends y (cut_at mark (drop n s)) (cut_at mark (drop n (s ++ y)))

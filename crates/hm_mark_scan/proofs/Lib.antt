@@ -1,5 +1,9 @@
+pub mod CommentEnds
 pub mod Cuts
 pub mod Extended
 pub mod Lowered
+pub mod Places
 pub mod RawTextLaws
 pub mod ScriptLaws
+pub mod Searches
+pub mod Steps

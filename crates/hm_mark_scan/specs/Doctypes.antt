@@ -2,7 +2,8 @@
 use Rattle.std.specs.Prelude.{ℕ, Bool, true, false, not, ◌&&◌, ◌||◌, ◌==◌, List, [], ◌∷◌, ◌++◌, Option, Some, None, if◌then◌else◌, codes, drop}
 use Rattle.hm_base.specs.Bytes.{Cut, cut_at, strip, strip_word, head_is, is_null, is_space, behind}
 use Rattle.hm_base.specs.RawText.{is_found}
-use Rattle.hm_mark_scan.specs.Tokens.{Scanned, taken, refused, doctype, cut, bad_doctype}
+use Rattle.hm_tree.specs.Tokens.{Scanned, taken, refused, doctype}
+use Rattle.hm_tree.specs.declared.tokens.ScanFault.TheVariants as faults
 
 -- a doctype begins here: `<!doctype` in any ASCII case
 unfoldable pub begins_doctype : List ℕ → Bool
@@ -36,11 +37,11 @@ unfoldable pub doctype_form : List ℕ → Option Bool
 doctype_form s = form_behind_name (strip_word (codes "html") (behind is_space s))
 
 abbrev pub by_form : Option Bool → List ℕ → Scanned
-by_form None rest = refused bad_doctype
+by_form None rest = refused faults.BadDoctype
 by_form (Some legacy) rest = taken (doctype legacy) rest
 
 abbrev pub as_doctype : Option Cut → Scanned
-as_doctype None = refused cut
+as_doctype None = refused faults.Cut
 as_doctype (Some k) = by_form (doctype_form k.before) k.behind
 
 -- the doctype that begins here

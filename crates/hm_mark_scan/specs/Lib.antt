@@ -1,5 +1,6 @@
 pub mod Comments
 pub mod Doctypes
 pub mod Examples
+pub mod Found
+pub mod Pieces
 pub mod RawTexts
-pub mod Tokens

@@ -1,2 +1,9 @@
-//! Comments, doctypes, CDATA sections, raw text and scripts: each is read from a place of a text on.
+//! Comments, doctypes, CDATA sections, raw text and scripts, each read from a place of a text on.
+//!
+//! A scan answers the token and the place behind it, in bytes of the text, or why there is none.
 #![tactic(auto)]
+
+mod comments;
+mod search;
+
+pub use comments::{begins_cdata, scan_cdata, scan_comment};

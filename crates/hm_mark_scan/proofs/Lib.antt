@@ -1,5 +1,6 @@
 pub mod CommentEnds
 pub mod Cuts
+pub mod DoctypeForms
 pub mod Extended
 pub mod Lowered
 pub mod Places

@@ -88,3 +88,11 @@ whole_longer (c ∷ w) [] y h = cc
 whole_longer (c ∷ w) (d ∷ s) y h =
     elim (c == lower d) as (λ b. is_found_whole (cond b (strip_word w s) None) ≡ true → is_found_whole (cond b (strip_word w (s ++ y)) None) ≡ true)
       [ true ↦ λ f. whole_longer w s y f | false ↦ λ f. f ] h
+
+-- a word that is found is no longer than the text
+pub word_long : (w s : List ℕ) → is_found (strip_word w s) ≡ true → length w ≤ length s
+word_long [] s h = omega arith
+word_long (c ∷ w) [] h = cc
+word_long (c ∷ w) (d ∷ s) h =
+    elim (c == lower d) as (λ b. is_found (cond b (strip_word w s) None) ≡ true → length (c ∷ w) ≤ length (d ∷ s))
+      [ true ↦ λ f. omega (arith, word_long w s f) | false ↦ λ f. cc ] h

@@ -1,5 +1,6 @@
 -- Doctypes (HTML Standard, 13.2.5.53 to 13.2.5.68), of the two forms that are read.
 use Rattle.std.specs.Prelude.{ℕ, Bool, true, false, not, ◌&&◌, ◌||◌, ◌==◌, List, [], ◌∷◌, ◌++◌, Option, Some, None, if◌then◌else◌, codes, drop}
+use Rattle.std.specs.Option.{option_or}
 use Rattle.hm_base.specs.Bytes.{Cut, cut_at, strip, strip_word, head_is, is_null, is_space, behind}
 use Rattle.hm_base.specs.RawText.{is_found}
 use Rattle.hm_tree.specs.Tokens.{Scanned, taken, refused, doctype}
@@ -9,15 +10,14 @@ use Rattle.hm_tree.specs.declared.tokens.ScanFault.TheVariants as faults
 unfoldable pub begins_doctype : List ℕ → Bool
 begins_doctype s = is_found (strip_word (codes "<!doctype") s)
 
--- behind the identifier and its quote whitespace may stand
+-- nothing but whitespace behind the identifier
 abbrev pub is_legacy_end : Option (List ℕ) → Bool
 is_legacy_end None = false
 is_legacy_end (Some s) = is_null (behind is_space s)
 
 -- `about:legacy-compat` in double or single quotes, and whitespace
 abbrev pub is_identifier : List ℕ → Bool
-is_identifier [] = false
-is_identifier (c ∷ s) = (c == 34 || c == 39) && is_legacy_end (strip (codes "about:legacy-compat" ++ c ∷ []) s)
+is_identifier s = is_legacy_end (option_or (strip (codes "\"about:legacy-compat\"") s) (strip (codes "'about:legacy-compat'") s))
 
 -- behind `system`
 abbrev pub is_legacy : Option (List ℕ) → Bool

@@ -4,6 +4,8 @@
 #![tactic(auto)]
 
 mod comments;
+mod doctypes;
 mod search;
 
 pub use comments::{begins_cdata, scan_cdata, scan_comment};
+pub use doctypes::{begins_doctype, scan_doctype};

@@ -52,6 +52,17 @@ pub fn begins_with(bytes: &[u8], mark: &[u8]) -> bool
     bytes.starts_with(mark)
 }
 
+/// What is behind a mark, where the bytes begin with it.
+pub fn behind_mark<'t>(bytes: &'t [u8], mark: &[u8]) -> Option<&'t [u8]>
+    ensures { MatchOption result (strip mark.now bytes.now ≡ None) (λ rest. strip mark.now bytes.now ≡ Some rest.now) }
+{
+    if bytes.starts_with(mark) {
+        Some(&bytes[mark.len()..])
+    } else {
+        None
+    }
+}
+
 /// An ASCII capital as its small letter.
 #[tactic(auto, unfolding(hm_base::specs::Bytes::lower))]
 fn lowered(byte: u8) -> u8

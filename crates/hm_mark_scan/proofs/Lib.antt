@@ -3,8 +3,10 @@ pub mod Cuts
 pub mod DoctypeForms
 pub mod Extended
 pub mod Lowered
+pub mod MarkPlaces
 pub mod Places
 pub mod RawTextLaws
 pub mod ScriptLaws
 pub mod Searches
 pub mod Steps
+pub mod TagPlaces

@@ -1,5 +1,5 @@
 -- Words in any case, by the lowered text: what a test of a front sees of it.
-use Rattle.std.proofs.Common.{◌≡◌, ◌≢◌, ℕ, suc, ◌+◌, ◌≤◌, ◌<◌, Bool, true, false, cond, not, ◌&&◌, ◌||◌, ◌==◌, nat_le, ◌⊎◌, inl, inr, List, [], ◌∷◌, ◌++◌, map, length, drop, Option, Some, None, option_map, refl, sym, ap, subst, ◌∙◌, arith, codes, append_assoc, lit<}
+use Rattle.std.proofs.Common.{◌≡◌, ◌≢◌, ℕ, suc, ◌+◌, ◌≤◌, ◌<◌, Bool, true, false, cond, not, ◌&&◌, ◌||◌, ◌==◌, nat_le, ◌⊎◌, inl, inr, List, [], ◌∷◌, ◌++◌, map, length, drop, Option, Some, None, option_map, option_and_then, refl, sym, ap, subst, ◌∙◌, arith, codes, append_assoc, lit<}
 use Rattle.std.proofs.lemmas.Bool.{cases_lt}
 use Rattle.std.proofs.lemmas.Bool.Decides.{nat_tests, Decides-eqb}
 use Rattle.hm_base.specs.Bytes.{strip, strip_word, head_is, lower, is_space}
@@ -96,3 +96,10 @@ word_long (c ∷ w) [] h = cc
 word_long (c ∷ w) (d ∷ s) h =
     elim (c == lower d) as (λ b. is_found (cond b (strip_word w s) None) ≡ true → length (c ∷ w) ≤ length (d ∷ s))
       [ true ↦ λ f. omega (arith, word_long w s f) | false ↦ λ f. cc ] h
+
+-- two words, one behind the other
+pub words_joined : (v w s : List ℕ) → strip_word (v ++ w) s ≡ option_and_then (strip_word w) (strip_word v s)
+words_joined [] w s = refl
+words_joined (c ∷ v) w [] = refl
+words_joined (c ∷ v) w (d ∷ s) = elim (c == lower d) as (λ b. cond b (strip_word (v ++ w) s) None ≡ option_and_then (strip_word w) (cond b (strip_word v s) None))
+    [ true ↦ words_joined v w s | false ↦ refl ]

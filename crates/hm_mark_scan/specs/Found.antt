@@ -30,3 +30,14 @@ pub record IsEnd (ends : List ℕ → Option (List ℕ)) (s : List ℕ) (n : ℕ
 -- the piece that this cut of the text from a place on gives, or none where there is no cut
 abbrev pub Finds : List ℕ → ℕ → Option Cut → Option Piece → Type 0
 Finds s from cut found = MatchOption found (cut ≡ None) (IsFound s from cut)
+
+-- A place of the text, counted from another one on. An ASCII byte stands there.
+pub record IsPlace (s : List ℕ) (from : ℕ) (found : Option ℕ) (to : ℕ) : Type 0 where
+  pub ordered : from ≤ to
+  pub inside : to < length s
+  pub ascii : slice_index s to < 128
+  pub is : found ≡ Some (to - from)
+
+-- the place that is found in the text from a place on, or none
+abbrev pub FindsPlace : List ℕ → ℕ → Option ℕ → Option ℕ → Type 0
+FindsPlace s from found place = MatchOption place (found ≡ None) (IsPlace s from found)

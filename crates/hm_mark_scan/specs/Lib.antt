@@ -4,3 +4,4 @@ pub mod Examples
 pub mod Found
 pub mod Pieces
 pub mod RawTexts
+pub mod Scripts

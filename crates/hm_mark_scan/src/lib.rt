@@ -5,7 +5,11 @@
 
 mod comments;
 mod doctypes;
+mod raw_texts;
+mod scripts;
 mod search;
 
 pub use comments::{begins_cdata, scan_cdata, scan_comment};
 pub use doctypes::{begins_doctype, scan_doctype};
+pub use raw_texts::scan_raw;
+pub use scripts::scan_script;

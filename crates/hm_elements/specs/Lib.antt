@@ -1,5 +1,9 @@
 pub mod Names
 pub mod Nesting
 pub mod Omission
+pub mod Paths
+pub mod Places
+pub mod Sample
+pub mod Settled
 pub mod Tables
 pub mod Texts

@@ -5,10 +5,17 @@
 //! to the files and the output of the system.
 #![tactic(auto)]
 
-
+mod calls;
+mod faults;
+mod file_table;
+mod mem_sink;
+mod mem_store;
+mod outside;
 mod traits;
 mod whole_files;
 
-
+pub use mem_sink::MemSink;
+pub use mem_store::MemStore;
+pub use outside::{FileStore, WriteSink};
 pub use traits::{Failed, Sink, Store};
 pub use whole_files::{LoadFault, load, write_file};

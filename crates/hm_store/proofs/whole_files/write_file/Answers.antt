@@ -1,5 +1,5 @@
-use Rattle.std.proofs.Common.{ap, ◌∙◌, ◌≡◌, inr}
-use Rattle.hm_store.specs.Files.{with_file, with_more}
+use Rattle.std.proofs.Common.{ap, ◌∙◌, inr}
+use Rattle.hm_store.specs.Files.{with_more}
 use Rattle.hm_store.proofs.FileLemmas.{put_first, front_put, front_all}
 use Rattle.hm_store.proofs.ResultLemmas.{on_ok, on_err}
 use Rattle.hm_store.proofs.whole_files.write_file.Goals as goal

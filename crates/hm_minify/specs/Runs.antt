@@ -1,0 +1,87 @@
+-- How a run ends: its status, its line, and the files behind it.
+use Rattle.std.specs.Prelude.{ℕ, ◌≡◌, List, length, Option, Some, None, IsSome}
+use Rattle.std.specs.Io.KnownBytes.{append_known}
+use Rattle.hm_base.specs.Walks.{Event}
+use Rattle.hm_base.specs.declared.rules.Rule.{Rule}
+use Rattle.hm_store.specs.Files.{FileMap, file_of, with_file}
+use Rattle.hm_first_path.specs.Page.{Outcome, built, refused, page_tree, page_outcome}
+use Rattle.hm_first_path.specs.Spellings.{SpellsTree, Shortest}
+use Rattle.hm_first_path.specs.Graph.{FeasibleFor, first_price, prices_of, shortest_text}
+use Rattle.hm_first_path.specs.Certificate.{certificate_text}
+use Rattle.hm_minify.specs.Words.{Asked, minify, asked}
+use Rattle.hm_minify.specs.Lines.{length_line, refused_line, usage_line, store_line}
+use Rattle.hm_minify.specs.declared.status.Status.{Status}
+use Rattle.hm_minify.specs.declared.status.Status.TheVariants as status
+
+-- The result of a run in which no call failed and no memory was refused
+
+pub record Ending : Type 0 where
+  pub status : Status
+  pub line : List ℕ
+  pub files : Option FileMap
+
+abbrev pub ends : Status → List ℕ → Option FileMap → Ending
+ends ended line files = record { status = ended; line = line; files = files }
+
+-- a page was read or refused
+abbrev pub page_ending : Option FileMap → List ℕ → List ℕ → Outcome → Ending
+page_ending files out cert (refused rule at) = ends status.PageRefused (refused_line rule at) files
+page_ending files out cert (built tree) =
+    ends status.Done (length_line (length (shortest_text tree)))
+    (with_file (with_file files out (shortest_text tree)) cert (certificate_text (prices_of tree)))
+
+-- a file was loaded, or isn't there
+abbrev pub loaded_ending : Option FileMap → List ℕ → List ℕ → Option (List ℕ) → Ending
+loaded_ending files out cert None = ends status.StoreFault store_line files
+loaded_ending files out cert (Some page) = page_ending files out cert (page_outcome page)
+
+abbrev pub asked_ending : Option FileMap → Option Asked → Ending
+asked_ending files None = ends status.Usage usage_line files
+asked_ending files (Some (minify page out cert)) = loaded_ending files out cert (file_of files page)
+
+-- the result of a run on these words over told files
+abbrev pub ending : List (List ℕ) → FileMap → Ending
+ending words files = asked_ending (Some files) (asked words)
+
+-- The headline
+
+-- the output parses to the tree, is a spelling of it, and no spelling is shorter; and the certificate shows that by
+-- its prices alone
+pub record IsMinified (tree : List Event) (out cert : List ℕ) : Type 0 where
+  pub parses : page_tree out ≡ built tree
+  pub spells : SpellsTree tree out
+  pub shortest : Shortest tree (length out)
+  pub prices : List (List (Option ℕ))
+  pub certificate : cert ≡ certificate_text prices
+  pub feasible : FeasibleFor tree prices
+  pub bound : first_price prices ≡ Some (length out)
+
+-- what a run has done: the page was read as a tree, OUT and CERT hold it minified, and the line says its length
+pub record HasMinified (old new : Option FileMap) (words : List (List ℕ)) (sink_old sink_new : Option (List ℕ)) : Type 0 where
+  pub page_name : List ℕ
+  pub out_name : List ℕ
+  pub cert_name : List ℕ
+  pub asks : asked words ≡ Some (minify page_name out_name cert_name)
+  pub page : List ℕ
+  pub there : IsSome old → file_of old page_name ≡ Some page
+  pub tree : List Event
+  pub reads : page_outcome page ≡ built tree
+  pub out : List ℕ
+  pub cert : List ℕ
+  pub minified : IsMinified tree out cert
+  pub files : new ≡ with_file (with_file old out_name out) cert_name cert
+  pub line : sink_new ≡ append_known sink_old (length_line (length out))
+
+-- what a run has refused: the page isn't of the form that is read, and the line says its rule and place
+pub record HasRefused (old new : Option FileMap) (words : List (List ℕ)) (sink_old sink_new : Option (List ℕ)) : Type 0 where
+  pub page_name : List ℕ
+  pub out_name : List ℕ
+  pub cert_name : List ℕ
+  pub asks : asked words ≡ Some (minify page_name out_name cert_name)
+  pub page : List ℕ
+  pub there : IsSome old → file_of old page_name ≡ Some page
+  pub rule : Rule
+  pub at : ℕ
+  pub reads : page_outcome page ≡ refused rule at
+  pub files : new ≡ old
+  pub line : sink_new ≡ append_known sink_old (refused_line rule at)

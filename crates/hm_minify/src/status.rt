@@ -1,0 +1,36 @@
+//! How a run ends.
+ghost use Rattle.std.specs.Prelude.{◌≡◌};
+ghost use Rattle.hm_minify.specs.Codes.{code_of};
+
+/// How a run ends.
+#[derive(Clone, Copy, Debug, PartialEq, Eq)]
+pub enum Status {
+    /// What the words ask for is done.
+    Done,
+    /// The words have no meaning.
+    Usage,
+    /// The page is refused.
+    PageRefused,
+    /// A call on the store has failed, or a file isn't there.
+    StoreFault,
+    /// A call on the sink has failed.
+    SinkFault,
+    /// Memory was refused.
+    Memory,
+}
+
+impl Status {
+    /// The number of the status, with which the program ends.
+    pub fn code(self) -> u8
+        ensures { result ≡ code_of self }
+    {
+        match self {
+            Status::Done => 0,
+            Status::Usage => 2,
+            Status::PageRefused => 3,
+            Status::StoreFault => 5,
+            Status::SinkFault => 6,
+            Status::Memory => 7,
+        }
+    }
+}

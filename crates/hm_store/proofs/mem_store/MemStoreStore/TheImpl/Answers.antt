@@ -1,0 +1,15 @@
+use Rattle.std.proofs.Common.{rules}
+use Rattle.hm_store.proofs.MemStoreLemmas.{pulls}
+use Rattle.hm_store.proofs.mem_store.MemStoreStore.TheImpl.Goals as goal
+
+pub pull-tells : goal.pull-tells
+pull-tells = λ c. record {
+  same = search rules;
+  reads = search rules;
+  named = search rules;
+  bound = c.ensures.bound;
+  bytes = pulls c.args.self.now.files c.args.self.now.reading c.result c.new.self.now c.new.into.now c.args.into.now _ _ c.ensures.after c.requires c.ensures.count c.ensures.copied;
+  writes = search rules;
+  target = search rules;
+  cause = c.ensures.cause;
+}

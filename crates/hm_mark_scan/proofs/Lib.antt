@@ -10,3 +10,5 @@ pub mod ScriptLaws
 pub mod Searches
 pub mod Steps
 pub mod TagPlaces
+pub mod WrittenComments
+pub mod WrittenDoctypes

@@ -19,7 +19,7 @@ eqb_lower a c h = elim (lower_cases c)
     [ inl q ↦ rw q.2 (eqb_apart a (c + 32) (λ e. omega arith) ∙ sym (eqb_apart a c (λ e. omega arith)))
     | inr q ↦ rw q.1 refl ]
 
-eqb_lower' : (a c : ℕ) → a < 65 → (lower c == a) ≡ (c == a)
+pub eqb_lower' : (a c : ℕ) → a < 65 → (lower c == a) ≡ (c == a)
 eqb_lower' a c h = elim (lower_cases c)
     [ inl q ↦ rw q.2 (eqb_apart (c + 32) a (λ e. omega arith) ∙ sym (eqb_apart c a (λ e. omega arith)))
     | inr q ↦ rw q.1 refl ]

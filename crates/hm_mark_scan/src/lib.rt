@@ -5,6 +5,7 @@
 
 mod comments;
 mod doctypes;
+pub mod laws;
 mod raw_texts;
 mod scripts;
 mod search;

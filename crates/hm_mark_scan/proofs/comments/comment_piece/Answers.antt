@@ -1,6 +1,5 @@
-use Rattle.std.proofs.Common.{drop, ◌≡◌, codes, true, false, sym}
+use Rattle.std.proofs.Common.{sym}
 use Rattle.std.proofs.lemmas.List.{take_rest}
-use Rattle.hm_mark_scan.specs.Comments.{begins}
 use Rattle.hm_mark_scan.proofs.CommentEnds.{question_piece, dashes_piece, bogus_piece}
 use Rattle.hm_mark_scan.proofs.comments.comment_piece.Goals as goal
 

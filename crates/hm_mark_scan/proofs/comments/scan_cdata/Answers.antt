@@ -1,4 +1,4 @@
-use Rattle.std.proofs.Common.{drop, ◌≡◌, ◌≤◌, ◌<◌, ◌+◌, ◌-◌, get_or, codes, length, arith, length-drop, ap, sym, ◌∙◌}
+use Rattle.std.proofs.Common.{drop, ◌≡◌, ◌≤◌, ◌+◌, ◌-◌, get_or, codes, length, arith, length-drop, ap, sym, ◌∙◌}
 use Rattle.std.proofs.lemmas.List.{drop-drop, get_or-drop}
 use Rattle.hm_base.specs.Bytes.{cut_at}
 use Rattle.hm_mark_scan.specs.Comments.{begins_cdata, read_cdata}

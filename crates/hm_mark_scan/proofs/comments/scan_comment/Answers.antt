@@ -1,9 +1,8 @@
 use Rattle.std.proofs.Common.{drop, ◌≡◌, ◌≤◌, ◌-◌, length, arith, length-drop, ap}
-use Rattle.hm_tree.specs.Tokens.{refused}
 use Rattle.hm_mark_scan.specs.Comments.{read_comment, comment_at}
 use Rattle.hm_mark_scan.specs.Pieces.{as_comment}
 use Rattle.hm_mark_scan.proofs.CommentEnds.{comment_long}
-use Rattle.hm_mark_scan.proofs.Places.{comment_read, goes_on}
+use Rattle.hm_mark_scan.proofs.Places.{comment_read}
 use Rattle.hm_mark_scan.proofs.comments.scan_comment.Goals as goal
 
 pub comment_piece-requires : goal.comment_piece-requires

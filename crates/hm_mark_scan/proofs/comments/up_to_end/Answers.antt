@@ -1,4 +1,4 @@
-use Rattle.std.proofs.Common.{ℕ, ◌≡◌, ◌+◌, ◌-◌, ◌≤◌, drop, length, codes, arith, Option, Some, None, length-drop}
+use Rattle.std.proofs.Common.{◌≡◌, ◌+◌, ◌-◌, ◌≤◌, drop, length, arith, length-drop}
 use Rattle.std.proofs.lemmas.List.{take_rest}
 use Rattle.hm_mark_scan.specs.Comments.{behind_end}
 use Rattle.hm_mark_scan.proofs.CommentEnds.{NoEnd, none_before, none_at}

@@ -1,6 +1,5 @@
-use Rattle.std.proofs.Common.{ℕ, ◌≡◌, ◌+◌, ◌-◌, ◌≤◌, ◌<◌, drop, length, get_or, codes, arith, Option, Some, None, ap, sym, ◌∙◌, true, false, add-zero, length-drop}
+use Rattle.std.proofs.Common.{◌≡◌, ◌+◌, ◌-◌, ◌≤◌, ◌<◌, drop, length, get_or, arith, sym, ◌∙◌, add-zero, length-drop}
 use Rattle.std.proofs.lemmas.List.{take_rest, get_or-drop}
-use Rattle.hm_base.specs.RawText.{begins_end_tag}
 use Rattle.hm_mark_scan.proofs.TagPlaces.{NoTag, none_before, none_at, tag_place, tag_missing}
 use Rattle.hm_mark_scan.proofs.raw_texts.end_tag_place.Goals as goal
 

@@ -1,6 +1,5 @@
-use Rattle.std.proofs.Common.{ℕ, ◌≡◌, ◌+◌, ◌-◌, ◌≤◌, ◌<◌, drop, length, get_or, arith, Option, Some, None, ap, sym, ◌∙◌, length-drop}
+use Rattle.std.proofs.Common.{◌≡◌, ◌+◌, ◌-◌, ◌<◌, drop, length, get_or, arith, Some, None, ◌∙◌, length-drop}
 use Rattle.std.proofs.lemmas.List.{take_rest, get_or-drop}
-use Rattle.memchr.specs.Find.{Passes, is_byte2}
 use Rattle.hm_base.specs.RawText.{mark_at}
 use Rattle.hm_mark_scan.specs.Scripts.{state_of, next_state}
 use Rattle.hm_mark_scan.proofs.MarkPlaces.{ends_at, goes_past, never_ends, byte_is_ascii}

@@ -1,4 +1,4 @@
-use Rattle.std.proofs.Common.{◌≡◌, ◌∙◌, sym, length, drop, true, false}
+use Rattle.std.proofs.Common.{◌≡◌, ◌∙◌, sym, length, true, false}
 use Rattle.std.proofs.lemmas.List.{take_rest}
 use Rattle.hm_mark_scan.specs.Comments.{begins}
 use Rattle.hm_mark_scan.proofs.Steps.{begins_is}

@@ -1,6 +1,5 @@
-use Rattle.std.proofs.Common.{drop, codes, Some, None, arith}
+use Rattle.std.proofs.Common.{codes, arith}
 use Rattle.std.proofs.lemmas.List.{take_rest}
-use Rattle.memchr.specs.Find.{FindsNeedle}
 use Rattle.hm_mark_scan.proofs.Searches.{found_piece, found_none}
 use Rattle.hm_mark_scan.proofs.search.up_to_brackets.Goals as goal
 

@@ -1,6 +1,5 @@
-use Rattle.std.proofs.Common.{drop, codes, Some, None, arith}
+use Rattle.std.proofs.Common.{arith}
 use Rattle.std.proofs.lemmas.List.{take_rest}
-use Rattle.memchr.specs.Find.{IsFirstByte, is_byte}
 use Rattle.hm_mark_scan.proofs.Searches.{byte_piece, byte_none}
 use Rattle.hm_mark_scan.proofs.search.up_to_greater.Goals as goal
 

@@ -28,18 +28,20 @@ NoEnd s from to = (k : ℕ) → from ≤ k → k < to → behind_end (drop k s) 
 
 -- no end stands before the next two dashes
 pub none_before : (s : List ℕ) (from at to : ℕ) → to ≤ length s → NoEnd s from at → ((j : ℕ) → j < to - at → OccursAt (drop at s) (codes "--") j → ⊥) → NoEnd s from to
-none_before s from at to inside none dashes k low high = elim (cases_lt k at)
-    [ inl h ↦ none k low h
-    | inr h ↦
-        let long : length (drop at s) ≡ length s - at = length-drop at s in
-        let there : drop (k - at) (drop at s) ≡ drop k s = drop-drop (k - at) at s ∙ ap (λ m. drop m s) (omega arith) in
-        no_dashes (drop k s) (rw there at (not_stripped (codes "--") (drop at s) (k - at) (omega arith) (dashes (k - at) (omega arith)))) ]
+none_before s from at to inside none dashes k low high = elim (cases_lt k at) [
+  | inl h ↦ none k low h
+  | inr h ↦
+      let long : length (drop at s) ≡ length s - at = length-drop at s in
+      let there : drop (k - at) (drop at s) ≡ drop k s = drop-drop (k - at) at s ∙ ap (λ m. drop m s) (omega arith) in
+      no_dashes (drop k s) (rw there at (not_stripped (codes "--") (drop at s) (k - at) (omega arith) (dashes (k - at) (omega arith))))
+]
 
 -- nor at them, where none is found
 pub none_at : (s : List ℕ) (from to : ℕ) → NoEnd s from to → behind_end (drop to s) ≡ None → NoEnd s from (to + 1)
-none_at s from to none here k low high = elim (cases_lt k to)
-    [ inl h ↦ none k low h
-    | inr h ↦ let same : to ≡ k = omega arith in subst (λ m. behind_end (drop m s) ≡ None) same here ]
+none_at s from to none here k low high = elim (cases_lt k to) [
+  | inl h ↦ none k low h
+  | inr h ↦ let same : to ≡ k = omega arith in subst (λ m. behind_end (drop m s) ≡ None) same here
+]
 
 -- what ends a comment at once
 pub ended_by : (mark s : List ℕ) (from : ℕ) (cut : Option Cut) → begins mark (drop from s) ≡ true → 0 < length mark → get_or mark 0 0 < 128 → get_or mark (length mark - 1) 0 < 128
@@ -77,6 +79,7 @@ second_byte s e f = either (begins (codes "<!") s) (strip (codes "</") s) refl r
   where
     by_mark : (mark : List ℕ) → length mark ≡ 2 → get_or mark 1 0 < 128 → begins mark s ≡ true → (2 ≤ length s) × (get_or s 1 0 < 128)
     by_mark mark two ascii g = (omega (arith, begins_long mark s g), rw (begins_reads mark s g 1 (omega arith)) ascii)
+
     either : (a : Bool) (b : Option (List ℕ)) → begins (codes "<!") s ≡ a → strip (codes "</") s ≡ b → (a && not (begins_doctype s)) || found_and is_no_tag b ≡ true → (2 ≤ length s) × (get_or s 1 0 < 128)
     either true b g h i = by_mark (codes "<!") refl (omega arith) g
     either false (Some r) g h i = by_mark (codes "</") refl (omega arith) (ap is_found h)

@@ -38,15 +38,18 @@ marks_look a b low high = record {
   where
     missed : (m s y : List ℕ) → length m ≤ length s → strip m s ≡ None → strip m (s ++ y) ≡ None
     missed m s y h e = strip_whole m s y h ∙ ap (option_map (λ r. r ++ y)) e
+
     extended : (s y : List ℕ) (o p : Option (List ℕ)) → strip a s ≡ o → RestExtends y o (strip a (s ++ y)) → RestExtends y p (strip b (s ++ y)) → Takes (length b) s p
         → RestExtends y (option_or o p) (option_or (strip a (s ++ y)) (strip b (s ++ y)))
     extended s y (Some r) p e x h t = rw x refl
     extended s y None None e x h t = tt
     extended s y None (Some r) e x h t = rw (missed a s y (omega arith) e) h
+
     none : (s y : List ℕ) → length b ≤ length s → (o p : Option (List ℕ)) → strip a s ≡ o → strip b s ≡ p → option_or o p ≡ None → option_or (strip a (s ++ y)) (strip b (s ++ y)) ≡ None
     none s y h (Some r) p e f g = cc
     none s y h None (Some r) e f g = cc
     none s y h None None e f g = rw (missed a s y (omega arith) e, missed b s y h f) refl
+
     longer : (s : List ℕ) (o p : Option (List ℕ)) → Takes (length a) s o → Takes (length b) s p → Takes (length b) (0 ∷ s) (option_or o p)
     longer s (Some r) p h i = omega arith
     longer s None None h i = tt
@@ -93,16 +96,16 @@ declared_extends (c ∷ d ∷ s) y = either (45 == c) (45 == d)
 comment_at_extends : (s y : List ℕ) → CutExtends y (comment_at s) (comment_at (s ++ y))
 comment_at_extends [] y = tt
 comment_at_extends (c ∷ []) y = elim (60 == c) as (λ b. CutExtends y
-      (cond (is_found (cond b None None)) (cut_at (codes ">") []) (cond (is_found (cond b None None)) (cut_comment []) (cut_at (codes ">") [])))
-      (comment_at (c ∷ y)))
+    (cond (is_found (cond b None None)) (cut_at (codes ">") []) (cond (is_found (cond b None None)) (cut_comment []) (cut_at (codes ">") [])))
+    (comment_at (c ∷ y)))
     [ true ↦ tt | false ↦ tt ]
 comment_at_extends (c ∷ d ∷ s) y = either (60 == c) (63 == d) (33 == d)
   where
     either : (a b e : Bool) → CutExtends y
         (cond (is_found (cond a (cond b (Some s) None) None)) (cut_at (codes ">") (d ∷ s))
-          (cond (is_found (cond a (cond e (strip (codes "--") s) None) None)) (cut_comment (drop 2 s)) (cut_at (codes ">") s)))
+        (cond (is_found (cond a (cond e (strip (codes "--") s) None) None)) (cut_comment (drop 2 s)) (cut_at (codes ">") s)))
         (cond (is_found (cond a (cond b (Some (s ++ y)) None) None)) (cut_at (codes ">") (d ∷ (s ++ y)))
-          (cond (is_found (cond a (cond e (strip (codes "--") (s ++ y)) None) None)) (cut_comment (drop 2 (s ++ y))) (cut_at (codes ">") (s ++ y))))
+        (cond (is_found (cond a (cond e (strip (codes "--") (s ++ y)) None) None)) (cut_comment (drop 2 (s ++ y))) (cut_at (codes ">") (s ++ y))))
     either true true e = cut_at_extends (codes ">") (d ∷ s) y
     either true false true = unfold declared in declared_extends s y
     either true false false = cut_at_extends (codes ">") s y
@@ -114,9 +117,10 @@ comment_extends s y = as_comment_extends y (comment_at s) (comment_at (s ++ y)) 
 
 -- behind n bytes
 behind_extends : (mark : List ℕ) (n : ℕ) (s y : List ℕ) → CutExtends y (cut_at mark (drop n s)) (cut_at mark (drop n (s ++ y)))
-behind_extends mark n s y = elim (cases_lt n (length s))
-    [ inl h ↦ rw (drop-append-le n s y (omega arith)) (cut_at_extends mark (drop n s) y)
-    | inr h ↦ rw (drop_of_length-le s h) tt ]
+behind_extends mark n s y = elim (cases_lt n (length s)) [
+  | inl h ↦ rw (drop-append-le n s y (omega arith)) (cut_at_extends mark (drop n s) y)
+  | inr h ↦ rw (drop_of_length-le s h) tt
+]
 
 pub cdata_extends : (s y : List ℕ) → Extends y (read_cdata s) (read_cdata (s ++ y))
 unfolding read_cdata

@@ -66,7 +66,7 @@ module _ (s : List ℕ) (from at to : ℕ) (low : from ≤ at) (high : at ≤ to
   goes_past st next h e =
       let place : suc (to - from) ≡ to + 1 - from = omega arith in
       ap (first_end st) (marks_between ∙ marks_at (to - from) s to h) ∙ goes_on st (to - from) (marks_from (suc (to - from)) (drop (to + 1) s)) (mark_at (drop to s)) next (sym e)
-        ∙ ap (λ i. first_end next (marks_from i (drop (to + 1) s))) place
+      ∙ ap (λ i. first_end next (marks_from i (drop (to + 1) s))) place
 
 -- without a mark up to the end
 pub never_ends : (st : ScriptState) (s : List ℕ) (from at : ℕ) → from ≤ at → at ≤ length s → ((j : ℕ) → j < length s - at → Passes (is_byte2 60 45) (drop at s) j → ⊥) → first_end st (marks_from (at - from) (drop at s)) ≡ None

@@ -53,8 +53,8 @@ module _ (name e e' : List ℕ) (ends : begins_end_tag name e ≡ true) (ends' :
   place_same [] i n at found = let same : i ≡ n = omega arith in rw same (place_first name e' n ends')
   place_same (c ∷ t) i n at found =
       rw (sym (begins_same t c)) (
-        elim (begins_end_tag name (c ∷ (t ++ e))) as (λ b. cond b (Some i) (place_from (begins_end_tag name) (suc i) (t ++ e)) ≡ Some n → cond b (Some i) (place_from (begins_end_tag name) (suc i) (t ++ e')) ≡ Some n)
-          [ true ↦ λ f. f | false ↦ λ f. place_same t (suc i) n (omega arith) f ] found)
+      elim (begins_end_tag name (c ∷ (t ++ e))) as (λ b. cond b (Some i) (place_from (begins_end_tag name) (suc i) (t ++ e)) ≡ Some n → cond b (Some i) (place_from (begins_end_tag name) (suc i) (t ++ e')) ≡ Some n)
+      [ true ↦ λ f. f | false ↦ λ f. place_same t (suc i) n (omega arith) f ] found)
 
 -- the text in front of the end tag is read
 pub raw_read : (name t e e' : List ℕ) → begins_end_tag name e' ≡ true → raw_end name (t ++ e) ≡ Some (length t) → read_raw name (t ++ e') ≡ taken (slice t) e'

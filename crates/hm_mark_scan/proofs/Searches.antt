@@ -102,8 +102,8 @@ found_piece s mark from k o none some first last inside =
     let here : drop k (drop from s) ≡ drop (from + k) s = drop-drop k from s in
     let reads : (j : ℕ) → j < length mark → get_or (drop (from + k) s) j 0 ≡ get_or mark j 0 = λ j h. rw (sym here, get_or-drop k (drop from s) j 0) (o.reads j h) in
     let passed : (j : ℕ) → from ≤ j → j < from + k → strip mark (drop j s) ≡ None =
-        λ j low high. let at : from + (j - from) ≡ j = omega arith in
-            subst (λ m. strip mark (drop m s) ≡ None) at (rw drop-drop at (not_stripped mark (drop from s) (j - from) (omega arith) (none (j - from) (omega arith)))) in
+    λ j low high. let at : from + (j - from) ≡ j = omega arith in
+    subst (λ m. strip mark (drop m s) ≡ None) at (rw drop-drop at (not_stripped mark (drop from s) (j - from) (omega arith) (none (j - from) (omega arith)))) in
     let rest : length (drop (from + k) s) ≡ length s - (from + k) = length-drop (from + k) s in
     let beyond : drop (k + length mark) (drop from s) ≡ drop (length mark) (drop (from + k) s) = drop-drop (k + length mark) from s ∙ ap (λ m. drop m s) (omega arith) ∙ sym (drop-drop (length mark) (from + k) s) in
     let end : IsEnd (strip mark) (drop (from + k) s) (length mark) = record {

@@ -34,7 +34,7 @@ signs_missing [] w s signs e = cc
 signs_missing (c ∷ m) w [] signs e = refl
 signs_missing (c ∷ m) w (d ∷ s) signs e = rw (eqb_lower c d signs.0) (
     elim (c == d) as (λ b. cond b (strip m s) None ≡ None → cond b (strip_word (m ++ w) s) None ≡ None)
-      [ true ↦ λ f. signs_missing m w s signs.1 f | false ↦ λ f. refl ] e)
+    [ true ↦ λ f. signs_missing m w s signs.1 f | false ↦ λ f. refl ] e)
 
 no_tag : (name s : List ℕ) → strip (codes "</") s ≡ None → begins_end_tag name s ≡ false
 unfolding begins_end_tag
@@ -45,18 +45,20 @@ NoTag name s from to = (k : ℕ) → from ≤ k → k < to → begins_end_tag na
 
 -- no end tag stands before the next `</`
 pub none_before : (name s : List ℕ) (from at to : ℕ) → to ≤ length s → NoTag name s from at → ((j : ℕ) → j < to - at → OccursAt (drop at s) (codes "</") j → ⊥) → NoTag name s from to
-none_before name s from at to inside none marks k low high = elim (cases_lt k at)
-    [ inl h ↦ none k low h
-    | inr h ↦
-        let long : length (drop at s) ≡ length s - at = length-drop at s in
-        let there : drop (k - at) (drop at s) ≡ drop k s = drop-drop (k - at) at s ∙ ap (λ m. drop m s) (omega arith) in
-        no_tag name (drop k s) (rw there at (not_stripped (codes "</") (drop at s) (k - at) (omega arith) (marks (k - at) (omega arith)))) ]
+none_before name s from at to inside none marks k low high = elim (cases_lt k at) [
+  | inl h ↦ none k low h
+  | inr h ↦
+      let long : length (drop at s) ≡ length s - at = length-drop at s in
+      let there : drop (k - at) (drop at s) ≡ drop k s = drop-drop (k - at) at s ∙ ap (λ m. drop m s) (omega arith) in
+      no_tag name (drop k s) (rw there at (not_stripped (codes "</") (drop at s) (k - at) (omega arith) (marks (k - at) (omega arith))))
+]
 
 -- nor at it, where none is found
 pub none_at : (name s : List ℕ) (from to : ℕ) → NoTag name s from to → begins_end_tag name (drop to s) ≡ false → NoTag name s from (to + 1)
-none_at name s from to none here k low high = elim (cases_lt k to)
-    [ inl h ↦ none k low h
-    | inr h ↦ let same : to ≡ k = omega arith in subst (λ m. begins_end_tag name (drop m s) ≡ false) same here ]
+none_at name s from to none here k low high = elim (cases_lt k to) [
+  | inl h ↦ none k low h
+  | inr h ↦ let same : to ≡ k = omega arith in subst (λ m. begins_end_tag name (drop m s) ≡ false) same here
+]
 
 pub tag_place : (name s : List ℕ) (from to : ℕ) → from ≤ to → to < length s → get_or s to 0 < 128 → NoTag name s from to → begins_end_tag name (drop to s) ≡ true → IsPlace s from (raw_end name (drop from s)) to
 tag_place name s from to low high ascii none here =

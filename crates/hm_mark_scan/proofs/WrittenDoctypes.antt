@@ -145,7 +145,7 @@ legacy_form gap name first space keyword between identifier tail g n s k b i t =
     let rest : behind is_space z ≡ q = space_front (first ∷ space) q s (head_lower keyword r 115 (codes "ystem") k letter_s) in
     let spaced : head_is is_space z ≡ true = (both (is_space first) (all_pass is_space space) s).0 in
     rw (space_front gap (name ++ z) g (head_lower name z 104 (codes "tml") n letter_h), word_front (codes "html") name z n)
-      (legacy_by z q r rest (word_there keyword r 115 (codes "ystem") k) spaced found named)
+    (legacy_by z q r rest (word_there keyword r 115 (codes "ystem") k) spaced found named)
 
 html_without : (name : List ℕ) → IsWord (codes "html") name → has_byte 62 name ≡ false
 html_without name n = word_without name ∙ ap (has_byte 62) n

@@ -1,12 +1,42 @@
 //! Comments and CDATA sections.
-ghost use Rattle.std.specs.Prelude.{◌≡◌, ℕ, ◌+◌, ◌^◌, ◌<◌, ◌≤◌, true, drop, length, IfOk, IfErr, MatchOption, None};
+ghost use Rattle.std.specs.Prelude.{◌≡◌, ℕ, ◌+◌, ◌^◌, ◌<◌, ◌≤◌, true, codes, drop, length, IfOk, IfErr, MatchOption, None};
 ghost use Rattle.hm_tree.specs.Tokens.{Reads, refused};
-ghost use Rattle.hm_mark_scan.specs.Comments.{begins_comment, comment_at, read_comment, begins_cdata, read_cdata, cut_comment, cut_where, behind_end};
+ghost use Rattle.hm_base.specs.Bytes.{strip};
+ghost use Rattle.hm_mark_scan.specs.Comments as comments;
+ghost use Rattle.hm_mark_scan.specs.Comments.{comment_at, read_comment, read_cdata, cut_comment, cut_where, behind_end};
 ghost use Rattle.hm_mark_scan.specs.Found.{Finds, IsEnd, IsFoundBehind};
 
-use crate::search::{Piece, begins_with, up_to_brackets, up_to_greater};
+use crate::doctypes::begins_doctype;
+use crate::search::{Piece, begins_with, behind_mark, up_to_brackets, up_to_greater};
 use hm_tree::{ScanFault, Token};
 use memchr::memmem;
+
+/// Whether the bytes begin with `</` before a byte that is neither a letter nor `>`.
+#[tactic(auto, unfolding(hm_base::specs::Bytes::is_letter))]
+fn begins_no_tag(bytes: &[u8]) -> bool
+    ensures { result ≡ comments.found_and comments.is_no_tag (strip (codes "</") bytes.now) }
+{
+    match behind_mark(bytes, b"</") {
+        Some(rest) => match rest.first() {
+            Some(byte) => !(byte.is_ascii_alphabetic() || *byte == b'>'),
+            None => false,
+        },
+        None => false,
+    }
+}
+
+/// Whether a comment begins at byte `at` of the text, where no CDATA section may stand (13.2.5.6,
+/// 13.2.5.7 and 13.2.5.42).
+#[tactic(auto, unfolding(crate::specs::Comments::begins_comment))]
+pub fn begins_comment(text: &str, at: u32) -> bool
+    requires { at ≤ length text.now }
+    ensures { result ≡ comments.begins_comment (drop at text.now) }
+{
+    let rest = &text.as_bytes()[at as usize..];
+    begins_with(rest, b"<?")
+        || (begins_with(rest, b"<!") && !begins_doctype(text, at))
+        || begins_no_tag(rest)
+}
 
 /// The length of the end of a comment that the bytes begin with.
 fn comment_end(bytes: &[u8]) -> Option<usize>
@@ -67,7 +97,7 @@ fn comment_text(bytes: &[u8], from: usize) -> Option<Piece>
 /// The text of the comment that begins at a place. It stands behind an ASCII byte.
 fn comment_piece(bytes: &[u8], start: usize) -> Option<Piece>
     requires inside { start + 2 ≤ length bytes.now }
-    requires begins { begins_comment (drop start bytes.now) ≡ true }
+    requires begins { comments.begins_comment (drop start bytes.now) ≡ true }
     ensures { MatchOption result (comment_at (drop start bytes.now) ≡ None) (IsFoundBehind bytes.now start (comment_at (drop start bytes.now))) }
 {
     let rest = &bytes[start..];
@@ -84,7 +114,7 @@ fn comment_piece(bytes: &[u8], start: usize) -> Option<Piece>
 /// bogus comment, which is `<?`, `<!` where neither a doctype nor a CDATA section is read, and
 /// `</` before a byte that is neither a letter nor `>`. `Cut` comes where its end is missing.
 pub fn scan_comment(text: &str, at: u32) -> Result<(Token, u32), ScanFault>
-    requires begins { begins_comment (drop at text.now) ≡ true }
+    requires begins { comments.begins_comment (drop at text.now) ≡ true }
     requires size { length text.now < 2 ^ 32 }
     ensures ok { IfOk result (λ r. Reads (read_comment (drop at text.now)) text.now r.0 r.1) }
     ensures err { IfErr result (λ fault. read_comment (drop at text.now) ≡ refused fault) }
@@ -107,7 +137,7 @@ pub fn scan_comment(text: &str, at: u32) -> Result<(Token, u32), ScanFault>
 #[tactic(auto, unfolding(crate::specs::Comments::begins_cdata))]
 pub fn begins_cdata(text: &str, at: u32) -> bool
     requires { at ≤ length text.now }
-    ensures { result ≡ begins_cdata (drop at text.now) }
+    ensures { result ≡ comments.begins_cdata (drop at text.now) }
 {
     begins_with(&text.as_bytes()[at as usize..], b"<![CDATA[")
 }
@@ -115,7 +145,7 @@ pub fn begins_cdata(text: &str, at: u32) -> bool
 /// Reads the text of the CDATA section that begins at byte `at` of the text (13.2.5.69 to
 /// 13.2.5.71). `Cut` comes where no `]]>` follows.
 pub fn scan_cdata(text: &str, at: u32) -> Result<(Token, u32), ScanFault>
-    requires begins { begins_cdata (drop at text.now) ≡ true }
+    requires begins { comments.begins_cdata (drop at text.now) ≡ true }
     requires size { length text.now < 2 ^ 32 }
     ensures ok { IfOk result (λ r. Reads (read_cdata (drop at text.now)) text.now r.0 r.1) }
     ensures err { IfErr result (λ fault. read_cdata (drop at text.now) ≡ refused fault) }

@@ -13,7 +13,10 @@ pub fn begins_doctype(text: &str, at: u32) -> bool
     requires { at ≤ length text.now }
     ensures { result ≡ doctypes.begins_doctype (drop at text.now) }
 {
-    matches!(behind_word(&text.as_bytes()[at as usize..], b"<!doctype"), Some(_))
+    matches!(
+        behind_word(&text.as_bytes()[at as usize..], b"<!doctype"),
+        Some(_)
+    )
 }
 
 /// Whether the bytes begin with whitespace.

@@ -10,7 +10,10 @@ mod raw_texts;
 mod scripts;
 mod search;
 
-pub use comments::{begins_cdata, scan_cdata, scan_comment};
+pub use comments::{begins_cdata, begins_comment, scan_cdata, scan_comment};
 pub use doctypes::{begins_doctype, scan_doctype};
 pub use raw_texts::scan_raw;
 pub use scripts::scan_script;
+
+#[cfg(test)]
+mod tests;

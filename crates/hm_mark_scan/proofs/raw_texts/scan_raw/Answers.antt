@@ -9,7 +9,7 @@ pub returns-in-Some-clause-ok : goal.returns-in-Some-clause-ok
 unfolding read_raw
 returns-in-Some-clause-ok c =
     slice_to c.args.text.now c.args.at c.in-Some.to (raw_end c.args.name.now (drop c.args.at c.args.text.now)) c.requires.boundary
-      (rw (c.as_bytes.ensures.value, c.as_bytes-2.ensures.value) at c.in-Some.ensures)
+    (rw (c.as_bytes.ensures.value, c.as_bytes-2.ensures.value) at c.in-Some.ensures)
 
 pub returns-in-None-clause-err : goal.returns-in-None-clause-err
 unfolding read_raw

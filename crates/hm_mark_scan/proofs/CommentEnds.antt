@@ -1,9 +1,8 @@
 -- Scans of comments and CDATA sections.
-use Rattle.std.proofs.Common.{◌≡◌, ℕ, ◌+◌, ◌-◌, ◌<◌, ◌≤◌, Bool, true, false, not, cond, ◌&&◌, ◌||◌, ◌==◌, List, [], ◌∷◌, ◌++◌, length, drop, get_or, Option, Some, None, refl, ap, sym, subst, ◌∙◌, arith, codes, IsUtf8, IsCharBoundary, MatchOption, ◌⊎◌, inl, inr, length-drop}
-use Rattle.std.specs.Option.{option_or}
+use Rattle.std.proofs.Common.{◌≡◌, ℕ, ◌+◌, ◌-◌, ◌<◌, ◌≤◌, Bool, true, false, not, cond, ◌&&◌, ◌||◌, ◌==◌, List, [], ◌∷◌, ◌++◌, length, drop, get_or, Option, Some, None, refl, ap, sym, subst, ◌∙◌, arith, codes, MatchOption, inl, inr, length-drop}
 use Rattle.std.proofs.lemmas.Bool.{cases_lt}
 use Rattle.std.proofs.lemmas.List.{drop-drop, get_or-drop}
-use Rattle.memchr.specs.Find.{OccursAt, NoneBefore}
+use Rattle.memchr.specs.Find.{OccursAt}
 use Rattle.hm_base.specs.Bytes.{Cut, strip, cut_at}
 use Rattle.hm_base.specs.RawText.{is_found}
 use Rattle.hm_mark_scan.specs.Comments.{begins, begins_comment, found_and, is_no_tag, behind_end, cut_comment, cut_where, comment_at}

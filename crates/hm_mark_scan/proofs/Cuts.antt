@@ -1,5 +1,5 @@
 -- A cut of a text is the same cut of a longer text.
-use Rattle.std.proofs.Common.{◌≡◌, ℕ, suc, ◌+◌, ◌≤◌, ◌<◌, Bool, true, false, cond, ◌==◌, List, [], ◌∷◌, ◌++◌, length, Option, Some, None, option_map, refl, sym, ap, ◌∙◌, arith}
+use Rattle.std.proofs.Common.{◌≡◌, ℕ, ◌≤◌, Bool, true, false, cond, ◌==◌, List, [], ◌∷◌, ◌++◌, length, Option, Some, None, option_map, refl, ap, ◌∙◌, arith}
 use Rattle.hm_base.specs.Bytes.{Cut, cut_at, strip, with_first, or_go_on}
 use Rattle.hm_mark_scan.specs.Comments.{cut_where}
 

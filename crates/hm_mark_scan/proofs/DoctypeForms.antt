@@ -1,8 +1,8 @@
 -- Scans of doctypes.
-use Rattle.std.proofs.Common.{◌≡◌, ℕ, ◌+◌, ◌-◌, ◌<◌, ◌≤◌, Bool, true, List, length, drop, slice_range, Option, Some, None, refl, ap, sym, ◌∙◌, arith, codes, IsUtf8, length-drop}
+use Rattle.std.proofs.Common.{◌≡◌, ℕ, ◌+◌, ◌-◌, ◌≤◌, Bool, true, List, length, drop, slice_range, Some, None, refl, ap, sym, arith, codes, IsUtf8, length-drop}
 use Rattle.std.proofs.lemmas.List.{drop-drop}
-use Rattle.hm_base.specs.Bytes.{Cut, cut_at}
-use Rattle.hm_tree.specs.Tokens.{Scanned, refused, Reads}
+use Rattle.hm_base.specs.Bytes.{cut_at}
+use Rattle.hm_tree.specs.Tokens.{refused, Reads}
 use Rattle.hm_tree.specs.declared.tokens.Token.TheVariants as tokens
 use Rattle.hm_tree.specs.declared.tokens.ScanFault.TheVariants as faults
 use Rattle.hm_mark_scan.specs.Doctypes.{begins_doctype, doctype_form, as_doctype, read_doctype}

@@ -1,16 +1,16 @@
 -- What ends by itself is read the same, whatever follows it.
-use Rattle.std.proofs.Common.{◌≡◌, ℕ, suc, ◌+◌, ◌≤◌, ◌<◌, Bool, true, false, cond, ◌==◌, ◌⊎◌, inl, inr, List, [], ◌∷◌, ◌++◌, length, drop, Option, Some, None, option_map, refl, sym, ap, subst, ◌∙◌, arith, codes, drop_of_length-le}
+use Rattle.std.proofs.Common.{◌≡◌, ℕ, suc, ◌≤◌, Bool, true, false, cond, ◌==◌, inl, inr, List, [], ◌∷◌, ◌++◌, length, drop, Option, Some, None, option_map, refl, ap, subst, ◌∙◌, arith, codes, drop_of_length-le}
 use Rattle.std.specs.Option.{option_or}
 use Rattle.std.proofs.lemmas.List.{drop-append-le}
 use Rattle.std.proofs.lemmas.Bool.{cases_lt}
 use Rattle.std.proofs.lemmas.Bool.Decides.{Decides-eqb}
 use Rattle.hm_base.specs.Bytes.{Cut, cut_at, strip}
 use Rattle.hm_base.specs.RawText.{is_found}
-use Rattle.hm_tree.specs.Tokens.{Scanned, taken, refused, Extends, doctype}
+use Rattle.hm_tree.specs.Tokens.{Extends}
 use Rattle.hm_mark_scan.specs.Pieces.{as_comment, as_slice}
 use Rattle.hm_mark_scan.specs.Comments.{begins, cut_where, behind_end, at_once, cut_comment, comment_at, read_comment, read_cdata}
 use Rattle.hm_mark_scan.specs.Doctypes.{doctype_form, by_form, as_doctype, read_doctype}
-use Rattle.hm_mark_scan.proofs.Cuts.{cond_both, RestExtends, CutExtends, Takes, CutTakes, Looks, strip_takes, strip_looks, strip_extends, strip_whole, cut_takes, cut_extends, cut_at_extends}
+use Rattle.hm_mark_scan.proofs.Cuts.{RestExtends, CutExtends, Takes, CutTakes, Looks, strip_takes, strip_extends, strip_whole, cut_takes, cut_extends, cut_at_extends}
 
 as_comment_extends : (y : List ℕ) (a b : Option Cut) → CutExtends y a b → Extends y (as_comment a) (as_comment b)
 as_comment_extends y None b h = tt

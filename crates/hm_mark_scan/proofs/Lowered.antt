@@ -1,9 +1,8 @@
 -- Words in any case, by the lowered text: what a test of a front sees of it.
-use Rattle.std.proofs.Common.{◌≡◌, ◌≢◌, ℕ, suc, ◌+◌, ◌≤◌, ◌<◌, Bool, true, false, cond, not, ◌&&◌, ◌||◌, ◌==◌, nat_le, ◌⊎◌, inl, inr, List, [], ◌∷◌, ◌++◌, map, length, drop, Option, Some, None, option_map, option_and_then, refl, sym, ap, subst, ◌∙◌, arith, codes, append_assoc, lit<}
-use Rattle.std.proofs.lemmas.Bool.{cases_lt}
+use Rattle.std.proofs.Common.{◌≡◌, ◌≢◌, ℕ, ◌+◌, ◌≤◌, ◌<◌, Bool, true, false, cond, ◌==◌, ◌⊎◌, inl, inr, List, [], ◌∷◌, ◌++◌, map, length, None, option_and_then, refl, sym, ◌∙◌, arith, lit<}
 use Rattle.std.proofs.lemmas.Bool.Decides.{nat_tests, Decides-eqb}
 use Rattle.hm_base.specs.Bytes.{strip, strip_word, head_is, lower, is_space}
-use Rattle.hm_base.specs.RawText.{is_name_end, is_found, is_found_whole, begins_end_tag}
+use Rattle.hm_base.specs.RawText.{is_name_end, is_found, is_found_whole}
 
 -- a capital, or a byte that stays as it is
 pub lower_cases : (c : ℕ) → ((65 ≤ c) × (c ≤ 90) × (lower c ≡ c + 32)) ⊎ (((c < 65) ⊎ (90 < c)) × (lower c ≡ c))

@@ -1,11 +1,10 @@
 -- Scans of scripts: from mark to mark.
-use Rattle.std.proofs.Common.{◌≡◌, ◌≢◌, ℕ, zero, suc, ◌+◌, ◌-◌, ◌<◌, ◌≤◌, Bool, true, false, cond, ◌||◌, ◌==◌, List, [], ◌∷◌, length, drop, get_or, Option, Some, None, refl, ap, sym, subst, ◌∙◌, arith, codes, add-zero, add-one, lit<, length-drop}
-use Rattle.std.proofs.lemmas.List.{drop-drop, drop_more, drop_all, get_or-drop}
-use Rattle.std.proofs.lemmas.Bool.Decides.{Decides-eqb, nat_tests}
+use Rattle.std.proofs.Common.{◌≡◌, ℕ, zero, suc, ◌+◌, ◌-◌, ◌<◌, ◌≤◌, Bool, true, false, cond, ◌==◌, List, [], ◌∷◌, length, drop, get_or, Option, Some, None, refl, ap, sym, ◌∙◌, arith, add-zero, lit<, length-drop}
+use Rattle.std.proofs.lemmas.List.{drop-drop, drop_more, drop_all}
+use Rattle.std.proofs.lemmas.Bool.Decides.{nat_tests}
 use Rattle.memchr.specs.Find.{Passes, is_byte2}
 use Rattle.hm_base.specs.Bytes.{lower}
-use Rattle.hm_base.specs.RawText.{Mark, Marked, ScriptState, unescaped, mark_at, with_mark, marks_from, first_end, script_end, ends_script, state_behind}
-use Rattle.hm_mark_scan.specs.Found.{IsPlace}
+use Rattle.hm_base.specs.RawText.{Mark, Marked, ScriptState, mark_at, with_mark, marks_from, first_end, ends_script, state_behind}
 use Rattle.hm_mark_scan.specs.Scripts.{next_state}
 use Rattle.hm_mark_scan.proofs.Lowered.{eqb_lower}
 

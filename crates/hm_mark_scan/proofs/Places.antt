@@ -1,10 +1,9 @@
 -- What a scan answers: a token whose places can be cut, and the place behind it.
-use Rattle.std.proofs.Common.{◌≡◌, ℕ, ◌+◌, ◌-◌, ◌<◌, ◌≤◌, Bool, true, false, not, cond, ◌&&◌, ◌||◌, ◌==◌, List, [], ◌∷◌, length, drop, get_or, Option, Some, None, refl, ap, sym, subst, ◌∙◌, arith, codes, IsUtf8, IsCharBoundary}
+use Rattle.std.proofs.Common.{◌≡◌, ℕ, ◌+◌, ◌-◌, ◌<◌, ◌≤◌, List, length, get_or, Option, refl, sym, subst, arith, IsUtf8, IsCharBoundary}
 use Rattle.std.proofs.lemmas.Str.{IsCharBoundary-before_ascii, IsCharBoundary-after_ascii}
 use Rattle.hm_base.specs.Bytes.{Cut}
-use Rattle.hm_tree.specs.Tokens.{Scanned, taken, refused, Reads, IsPiece, IsInText}
+use Rattle.hm_tree.specs.Tokens.{Reads, IsPiece}
 use Rattle.hm_tree.specs.declared.tokens.Token.TheVariants as tokens
-use Rattle.hm_tree.specs.declared.tokens.ScanFault.TheVariants as faults
 use Rattle.hm_mark_scan.specs.Pieces.{as_comment, as_slice}
 use Rattle.hm_mark_scan.specs.Found.{IsFound, IsFoundBehind}
 use Rattle.hm_mark_scan.specs.declared.search.Piece.{Piece}

@@ -1,9 +1,9 @@
 -- Where raw text ends, whatever follows its end tag.
-use Rattle.std.proofs.Common.{◌≡◌, ◌≢◌, ℕ, zero, suc, ◌+◌, ◌≤◌, ◌<◌, Bool, true, false, cond, ◌==◌, List, [], ◌∷◌, ◌++◌, map, length, take, drop, Option, Some, None, refl, sym, ap, subst, ◌∙◌, arith, append_assoc, length-append}
-use Rattle.std.proofs.lemmas.List.{length-take-le, drop-append-le, take-append-le, take-append-drop, take_at, drop_at, length-map}
+use Rattle.std.proofs.Common.{◌≡◌, ℕ, suc, ◌+◌, ◌≤◌, ◌<◌, Bool, true, false, cond, List, [], ◌∷◌, ◌++◌, map, length, take, drop, Option, Some, None, refl, sym, ap, subst, ◌∙◌, arith, append_assoc, length-append}
+use Rattle.std.proofs.lemmas.List.{length-take-le, take-append-drop, take_at, drop_at, length-map}
 use Rattle.hm_base.specs.Bytes.{strip, strip_word, lower}
 use Rattle.hm_base.specs.RawText.{is_found_whole, begins_end_tag, place_from, raw_end}
-use Rattle.hm_tree.specs.Tokens.{Scanned, taken, refused, slice, Extends}
+use Rattle.hm_tree.specs.Tokens.{taken, slice, Extends}
 use Rattle.hm_mark_scan.specs.Pieces.{slice_up_to}
 use Rattle.hm_mark_scan.specs.RawTexts.{read_raw}
 use Rattle.hm_mark_scan.proofs.Lowered.{whole_lower, whole_front, whole_word, whole_longer}

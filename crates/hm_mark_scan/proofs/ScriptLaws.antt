@@ -1,9 +1,9 @@
 -- Where the text of a script ends, whatever follows its end tag.
-use Rattle.std.proofs.Common.{◌≡◌, ◌≢◌, ℕ, zero, suc, ◌+◌, ◌≤◌, ◌<◌, Bool, true, false, cond, ◌==◌, List, [], ◌∷◌, ◌++◌, map, length, take, drop, Option, Some, None, refl, sym, ap, subst, ◌∙◌, arith, codes, length-append, lit<}
+use Rattle.std.proofs.Common.{◌≡◌, ℕ, suc, ◌+◌, ◌≤◌, ◌<◌, Bool, true, false, cond, List, [], ◌∷◌, ◌++◌, map, length, take, drop, Option, Some, None, refl, sym, ap, subst, ◌∙◌, arith, codes, length-append, lit<}
 use Rattle.std.proofs.lemmas.List.{length-take-le, take-append-drop, take_at, drop_at, length-map}
 use Rattle.hm_base.specs.Bytes.{strip, strip_word, lower}
 use Rattle.hm_base.specs.RawText.{is_found, is_found_whole, begins_end_tag, mark_at, Mark, opens_comment, closes_comment, opens_script, closes_script, with_mark, marks_from, ScriptState, unescaped, escaped, double_escaped, state_behind, ends_script, first_end, script_end}
-use Rattle.hm_tree.specs.Tokens.{Scanned, taken, refused, slice, Extends}
+use Rattle.hm_tree.specs.Tokens.{taken, slice, Extends}
 use Rattle.hm_mark_scan.specs.Pieces.{slice_up_to}
 use Rattle.hm_mark_scan.specs.RawTexts.{read_script}
 use Rattle.hm_mark_scan.proofs.Lowered.{AreSigns, found_lower, found_front, whole_lower}

@@ -1,14 +1,13 @@
 -- From the first place that a search finds to the cut of a text.
-use Rattle.std.proofs.Common.{◌≡◌, ◌≢◌, ℕ, zero, suc, ◌+◌, ◌-◌, ◌<◌, ◌≤◌, Bool, true, false, cond, ◌==◌, List, [], ◌∷◌, ◌++◌, length, drop, take, get_or, slice_range, Option, Some, None, MatchOption, All, refl, ap, sym, subst, ◌∙◌, arith, codes, add-zero, length-drop, length-append}
-use Rattle.std.proofs.lemmas.List.{drop_more, take_rest, drop-drop, drop_at, get_or-drop}
+use Rattle.std.proofs.Common.{◌≡◌, ℕ, zero, suc, ◌+◌, ◌-◌, ◌<◌, ◌≤◌, Bool, true, false, cond, ◌==◌, List, [], ◌∷◌, ◌++◌, length, drop, take, get_or, Option, Some, None, refl, ap, sym, subst, ◌∙◌, arith, add-zero, length-drop, length-append}
+use Rattle.std.proofs.lemmas.List.{drop-drop, drop_at, get_or-drop}
 use Rattle.std.proofs.lemmas.List.Prefix.{at_from_reads, at_reads, front_fits, front_reads}
-use Rattle.std.proofs.lemmas.Bool.Decides.{Decides-eqb, nat_tests}
-use Rattle.memchr.specs.Find.{IsFirst, IsFirstByte, FindsNeedle, OccursAt, Passes, is_byte}
-use Rattle.hm_base.specs.Bytes.{Cut, cut_at, strip, or_go_on, with_first}
+use Rattle.std.proofs.lemmas.Bool.Decides.{Decides-eqb}
+use Rattle.memchr.specs.Find.{IsFirstByte, OccursAt, Passes, is_byte}
+use Rattle.hm_base.specs.Bytes.{cut_at, strip}
 use Rattle.hm_base.specs.RawText.{is_found}
 use Rattle.hm_mark_scan.specs.Comments.{begins, cut_where}
-use Rattle.hm_mark_scan.specs.Found.{IsFound, IsEnd, Finds}
-use Rattle.hm_mark_scan.specs.declared.search.Piece.{Piece}
+use Rattle.hm_mark_scan.specs.Found.{IsFound, IsEnd}
 use Rattle.hm_mark_scan.proofs.Cuts.{cut_at_where}
 
 -- the cut at the first place where ends finds something

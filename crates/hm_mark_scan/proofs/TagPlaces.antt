@@ -1,12 +1,12 @@
 -- Scans of raw text and of scripts: the place of the end tag.
-use Rattle.std.proofs.Common.{◌≡◌, ◌≢◌, ℕ, zero, suc, ◌+◌, ◌-◌, ◌<◌, ◌≤◌, Bool, true, false, cond, ◌==◌, List, [], ◌∷◌, ◌++◌, length, drop, take, get_or, slice_range, Option, Some, None, refl, ap, sym, subst, ◌∙◌, ◌⊎◌, inl, inr, arith, codes, add-zero, lit<, IsUtf8, IsCharBoundary, length-drop}
+use Rattle.std.proofs.Common.{◌≡◌, ℕ, zero, suc, ◌+◌, ◌-◌, ◌<◌, ◌≤◌, Bool, true, false, cond, ◌==◌, List, [], ◌∷◌, ◌++◌, length, drop, get_or, Option, Some, None, refl, ap, subst, ◌∙◌, inl, inr, arith, codes, add-zero, lit<, IsCharBoundary, length-drop}
 use Rattle.std.proofs.lemmas.Bool.{cases_lt}
-use Rattle.std.proofs.lemmas.List.{drop-drop, get_or-drop}
+use Rattle.std.proofs.lemmas.List.{drop-drop}
 use Rattle.std.proofs.lemmas.Str.{IsCharBoundary-before_ascii}
 use Rattle.memchr.specs.Find.{OccursAt}
-use Rattle.hm_base.specs.Bytes.{strip, strip_word, lower}
+use Rattle.hm_base.specs.Bytes.{strip, strip_word}
 use Rattle.hm_base.specs.RawText.{is_found_whole, begins_end_tag, place_from, raw_end}
-use Rattle.hm_tree.specs.Tokens.{Scanned, Reads}
+use Rattle.hm_tree.specs.Tokens.{Reads}
 use Rattle.hm_tree.specs.declared.tokens.Token.TheVariants as tokens
 use Rattle.hm_mark_scan.specs.Pieces.{slice_up_to}
 use Rattle.hm_mark_scan.specs.Found.{IsPlace}

@@ -1,11 +1,11 @@
 -- A written comment is read back.
-use Rattle.std.proofs.Common.{◌≡◌, ℕ, suc, ◌+◌, ◌≤◌, ◌<◌, Bool, true, false, cond, not, ◌&&◌, ◌||◌, ◌==◌, List, [], ◌∷◌, ◌++◌, length, drop, Option, Some, None, option_map, refl, sym, ap, ◌∙◌, arith, codes}
+use Rattle.std.proofs.Common.{◌≡◌, ℕ, ◌≤◌, ◌<◌, Bool, true, false, cond, not, ◌&&◌, ◌||◌, ◌==◌, List, [], ◌∷◌, ◌++◌, length, Some, None, option_map, refl, ap, ◌∙◌, arith, codes}
 use Rattle.std.specs.Option.{option_or}
-use Rattle.hm_base.specs.Bytes.{Cut, strip}
+use Rattle.hm_base.specs.Bytes.{strip}
 use Rattle.hm_base.specs.Forms.{is_comment_text, has_byte, has_mark}
 use Rattle.hm_base.specs.RawText.{is_found}
 use Rattle.hm_tree.specs.Tokens.{taken, comment}
-use Rattle.hm_mark_scan.specs.Comments.{begins, cut_where, behind_end, cut_comment, read_comment}
+use Rattle.hm_mark_scan.specs.Comments.{begins, cut_where, behind_end, read_comment}
 use Rattle.hm_mark_scan.proofs.Cuts.{strip_whole}
 use Rattle.hm_mark_scan.proofs.Searches.{begins_not}
 

@@ -1,11 +1,11 @@
 -- A written doctype is read back.
-use Rattle.std.proofs.Common.{◌≡◌, ◌⊎◌, inl, inr, ℕ, suc, ◌+◌, ◌≤◌, ◌<◌, Bool, true, false, cond, not, ◌&&◌, ◌||◌, ◌==◌, List, [], ◌∷◌, ◌++◌, map, length, drop, Option, Some, None, refl, sym, ap, subst, ◌∙◌, arith, codes, append_assoc, append-nil, lit<}
+use Rattle.std.proofs.Common.{◌≡◌, ◌⊎◌, inl, inr, ℕ, Bool, true, false, ◌&&◌, ◌||◌, ◌==◌, List, [], ◌∷◌, ◌++◌, map, length, Some, refl, sym, ap, ◌∙◌, codes, append_assoc, lit<}
 use Rattle.std.proofs.lemmas.List.{drop_at, length-map}
 use Rattle.std.proofs.lemmas.Bool.Decides.{Decides-eqb}
-use Rattle.hm_base.specs.Bytes.{Cut, cut_at, strip_word, lower, is_space, all_pass, some_passes, head_is, is_null, behind}
-use Rattle.hm_base.specs.Forms.{is_byte, has_byte}
+use Rattle.hm_base.specs.Bytes.{cut_at, strip_word, lower, is_space, all_pass, head_is, is_null, behind}
+use Rattle.hm_base.specs.Forms.{has_byte}
 use Rattle.hm_tree.specs.Tokens.{taken, doctype}
-use Rattle.hm_mark_scan.specs.Doctypes.{doctype_form, form_behind_name, is_legacy, is_identifier, as_doctype, read_doctype}
+use Rattle.hm_mark_scan.specs.Doctypes.{doctype_form, form_behind_name, is_identifier, read_doctype}
 use Rattle.hm_mark_scan.specs.Written.{IsWord, IsBlank, IsPlainDoctype, IsLegacyDoctype, IsWrittenDoctype}
 use Rattle.hm_mark_scan.proofs.Lowered.{eqb_lower'}
 

@@ -1,5 +1,5 @@
 -- Comments (HTML Standard, 13.2.5.6, 13.2.5.7, 13.2.5.41 to 13.2.5.52) and CDATA sections (13.2.5.69 to 13.2.5.71).
-use Rattle.std.specs.Prelude.{ℕ, Bool, true, false, not, ◌&&◌, ◌||◌, ◌==◌, List, [], ◌∷◌, Option, Some, None, if◌then◌else◌, codes, drop}
+use Rattle.std.specs.Prelude.{ℕ, Bool, false, not, ◌&&◌, ◌||◌, ◌==◌, List, [], ◌∷◌, Option, Some, None, if◌then◌else◌, codes, drop}
 use Rattle.std.specs.Option.{option_or}
 use Rattle.hm_base.specs.Bytes.{Cut, cut_at, or_go_on, strip, head_is, is_letter}
 use Rattle.hm_base.specs.RawText.{is_found}

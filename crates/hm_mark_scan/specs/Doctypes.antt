@@ -1,5 +1,5 @@
 -- Doctypes (HTML Standard, 13.2.5.53 to 13.2.5.68), of the two forms that are read.
-use Rattle.std.specs.Prelude.{ℕ, Bool, true, false, not, ◌&&◌, ◌||◌, ◌==◌, List, [], ◌∷◌, ◌++◌, Option, Some, None, if◌then◌else◌, codes, drop}
+use Rattle.std.specs.Prelude.{ℕ, Bool, true, false, ◌&&◌, List, Option, Some, None, if◌then◌else◌, codes, drop}
 use Rattle.std.specs.Option.{option_or}
 use Rattle.hm_base.specs.Bytes.{Cut, cut_at, strip, strip_word, head_is, is_null, is_space, behind}
 use Rattle.hm_base.specs.RawText.{is_found}

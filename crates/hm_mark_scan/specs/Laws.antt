@@ -1,5 +1,5 @@
 -- What is written is read as it was meant, whatever follows it.
-use Rattle.std.specs.Prelude.{◌≡◌, ℕ, Bool, true, List, ◌∷◌, ◌++◌, length, Some, codes}
+use Rattle.std.specs.Prelude.{◌≡◌, ℕ, Bool, true, List, ◌++◌, length, Some, codes}
 use Rattle.hm_base.specs.Forms.{is_comment_text}
 use Rattle.hm_base.specs.RawText.{begins_end_tag, raw_end, script_end}
 use Rattle.hm_tree.specs.Tokens.{taken, doctype, slice, comment, Extends}

@@ -1,5 +1,5 @@
 -- How a doctype may be written, so that it is read.
-use Rattle.std.specs.Prelude.{◌≡◌, ◌⊎◌, ℕ, Bool, true, false, List, [], ◌∷◌, ◌++◌, map, codes}
+use Rattle.std.specs.Prelude.{◌≡◌, ◌⊎◌, ℕ, Bool, true, false, List, ◌∷◌, ◌++◌, map, codes}
 use Rattle.hm_base.specs.Bytes.{lower, is_space, all_pass}
 
 -- the word in some ASCII case

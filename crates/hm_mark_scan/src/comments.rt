@@ -60,11 +60,8 @@ fn up_to_end(bytes: &[u8], from: usize) -> Option<Piece>
     'dashes: while let Some(found) = memmem::find(&bytes[at..], b"--") {
         let to = at + found;
         if let Some(len) = comment_end(&bytes[to..]) {
-            return Some(Piece {
-                from,
-                to,
-                behind: to + len,
-            });
+            let behind = to + len;
+            return Some(Piece { from, to, behind });
         }
         at = to + 1;
     }

@@ -36,6 +36,7 @@ comment_at s =
     else if begins (codes "<!--") s then cut_comment (drop 4 s)
     else cut_at (codes ">") (drop 2 s)
 
+-- the comment that begins here
 unfoldable pub read_comment : List ℕ → Scanned
 read_comment s = as_comment (comment_at s)
 

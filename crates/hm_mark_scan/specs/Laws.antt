@@ -8,7 +8,8 @@ use Rattle.hm_mark_scan.specs.Doctypes.{read_doctype}
 use Rattle.hm_mark_scan.specs.RawTexts.{read_raw, read_script}
 use Rattle.hm_mark_scan.specs.Written.{IsWrittenDoctype}
 
--- a comment that ends is the same in a longer text
+-- What ends by itself is the same in a longer text: comments, CDATA sections, doctypes, raw text and scripts with their end tags.
+
 abbrev pub CommentsExtend : Type 0
 CommentsExtend = (s y : List ℕ) → Extends y (read_comment s) (read_comment (s ++ y))
 

@@ -1,0 +1,2 @@
+//! Open elements, and what a start tag or an end tag does to them.
+#![tactic(auto)]

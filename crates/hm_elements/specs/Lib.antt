@@ -2,6 +2,7 @@ pub mod Names
 pub mod Nesting
 pub mod Omission
 pub mod Paths
+pub mod Places
 pub mod Sample
 pub mod Settled
 pub mod Tables

@@ -4,6 +4,7 @@ ghost use Rattle.hm_store.specs.Calls.{no_calls, fails_next, with_listed};
 ghost use Rattle.hm_store.specs.Causes.{one_more, Rose};
 
 use crate::Failed;
+use crate::faults::count_failure;
 use hm_base::Memory;
 use std::alloc::Global;
 use std::collections::BTreeSet;
@@ -64,7 +65,13 @@ impl Calls {
         ensures later { self.old.faults ≤ self.new.faults }
         ensures rose { Rose self.old.faults self.new.faults }
     {
-        self.faults = self.faults.saturating_add(1);
-        Failed
+        count_failure(&mut self.faults)
+    }
+    /// How many calls have failed.
+    #[cfg(test)]
+    pub(crate) fn faults(&self) -> u64
+        ensures { result ≡ self.now.faults }
+    {
+        self.faults
     }
 }

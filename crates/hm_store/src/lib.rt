@@ -6,6 +6,7 @@
 #![tactic(auto)]
 
 mod calls;
+mod faults;
 mod file_table;
 mod mem_sink;
 mod mem_store;

@@ -72,3 +72,6 @@ impl Sink for MemSink {
         Ok(())
     }
 }
+
+#[cfg(test)]
+mod tests;

@@ -46,10 +46,10 @@ impl Model for MemStore {
     ghost use Rattle.hm_store.specs.Places.{reading_at, AreWithin};
 
     ghost view = { λ s. record {
-        files = s.files.files;
-        reading = reading_at s.files.names s.reading;
-        writing = option_map (name_at s.files.names) s.writing;
-        calls = s.calls;
+      files = s.files.files;
+      reading = reading_at s.files.names s.reading;
+      writing = option_map (name_at s.files.names) s.writing;
+      calls = s.calls;
     } };
 
     ghost invariant = { λ s. AreWithin (length s.files.names) s.reading s.writing };
@@ -224,3 +224,6 @@ impl Store for MemStore {
         Ok(())
     }
 }
+
+#[cfg(test)]
+mod tests;

@@ -1,13 +1,14 @@
 //! The trusted edge: files of the system, and a writer. They tell no content.
-ghost use Rattle.std.specs.Prelude.{◌≡◌, ◌≤◌, List, [], Bool, true, false, None, IsTrue, IfOk, is_ok};
+ghost use Rattle.std.specs.Prelude.{◌≡◌, List, [], Bool, true, false, None, IsTrue, IfOk, is_ok};
 ghost use Rattle.std.specs.Io.{ReadsAtMost};
-ghost use Rattle.hm_store.specs.Causes.{one_more, counted, Rose, HasCause};
+ghost use Rattle.hm_store.specs.Causes.{counted, HasCause};
 
+use crate::faults::count_failure;
 use crate::{Failed, Sink, Store};
-use std::fs;
 use std::io::{Read, Write};
 use std::marker::Model;
 use std::rt::Files;
+use std::{fs, io};
 
 /// Files of the system, by path. A file that isn't there counts as a failed call.
 #[derive(Drop)]
@@ -39,16 +40,6 @@ impl<'r, R: Files> FileStore<'r, R> {
             faults: 0,
         }
     }
-
-    // Another call has failed.
-    fn failed(&mut self) -> Failed
-        ensures after { self.new ≡ record self.old { faults = one_more self.old.faults } }
-        ensures later { self.old.faults ≤ self.new.faults }
-        ensures rose { Rose self.old.faults self.new.faults }
-    {
-        self.faults = self.faults.saturating_add(1);
-        Failed
-    }
 }
 
 impl<'r, R: Files> Store for FileStore<'r, R> {
@@ -77,7 +68,7 @@ impl<'r, R: Files> Store for FileStore<'r, R> {
                 self.reading = Some(file);
                 Ok(true)
             }
-            Err(_) => Err(self.failed()),
+            Err(_) => Err(count_failure(&mut self.faults)),
         }
     }
 
@@ -91,7 +82,7 @@ impl<'r, R: Files> Store for FileStore<'r, R> {
             None => unreachable!(),
             Some(file) => match file.read(into) {
                 Ok(count) => Ok(count),
-                Err(_) => Err(self.failed()),
+                Err(_) => Err(count_failure(&mut self.faults)),
             },
         }
     }
@@ -106,7 +97,7 @@ impl<'r, R: Files> Store for FileStore<'r, R> {
                 self.writing = Some(file);
                 Ok(())
             }
-            Err(_) => Err(self.failed()),
+            Err(_) => Err(count_failure(&mut self.faults)),
         }
     }
 
@@ -119,7 +110,7 @@ impl<'r, R: Files> Store for FileStore<'r, R> {
             None => unreachable!(),
             Some(file) => match file.write_all(bytes) {
                 Ok(()) => Ok(()),
-                Err(_) => Err(self.failed()),
+                Err(_) => Err(count_failure(&mut self.faults)),
             },
         }
     }
@@ -136,7 +127,7 @@ impl<'r, R: Files> Store for FileStore<'r, R> {
         self.writing = None;
         match flushed {
             Ok(()) => Ok(()),
-            Err(_) => Err(self.failed()),
+            Err(_) => Err(count_failure(&mut self.faults)),
         }
     }
 }
@@ -165,6 +156,12 @@ impl<W: Write> WriteSink<W> {
     }
 }
 
+/// Writes all the bytes, and flushes them.
+fn write_through<W: Write>(writer: &mut W, bytes: &[u8]) -> io::Result<()> {
+    writer.write_all(bytes)?;
+    writer.flush()
+}
+
 impl<W: Write> Sink for WriteSink<W> {
     ghost contents = { λ _. None };
 
@@ -174,12 +171,12 @@ impl<W: Write> Sink for WriteSink<W> {
         ensures counted { self.new ≡ counted self.old result }
         ensures cause { HasCause self.old self.new result }
     {
-        match self.inner.write_all(bytes) {
+        match write_through(&mut self.inner, bytes) {
             Ok(()) => Ok(()),
-            Err(_) => {
-                self.faults = self.faults.saturating_add(1);
-                Err(Failed)
-            }
+            Err(_) => Err(count_failure(&mut self.faults)),
         }
     }
 }
+
+#[cfg(test)]
+mod tests;

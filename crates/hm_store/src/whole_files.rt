@@ -31,11 +31,7 @@ impl From<AllocError> for LoadFault {
 const PIECE: usize = 4096;
 
 /// Puts the next bytes of the file that is being read behind `bytes`: whether there were any.
-fn pull_more<S: Store>(
-    store: &mut S,
-    bytes: &mut Vec<u8>,
-    limit: usize,
-) -> Result<bool, LoadFault>
+fn pull_more<S: Store>(store: &mut S, bytes: &mut Vec<u8>, limit: usize) -> Result<bool, LoadFault>
     requires reading { S.is_reading store.old ≡ true }
     requires limit { limit < 2 ^ 32 }
     requires room { length bytes.old.items ≤ limit }

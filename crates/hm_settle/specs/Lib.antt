@@ -1,2 +1,5 @@
-pub mod Moves
+pub mod Answers
+pub mod Elements
 pub mod Examples
+pub mod Moves
+pub mod Plans

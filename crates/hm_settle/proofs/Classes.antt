@@ -32,8 +32,8 @@ either test false x y v here there = there
 none_of : (test : Class → Bool) (n : List ℕ) → test Rcdata ≡ false → test Script ≡ false → test Raw ≡ false → test TablePart ≡ false → test (cond (is_refused n) Refused Ordinary) ≡ false → test (last_class n) ≡ false
 none_of test n rcdata script_class raw part rest =
     either test (is_rcdata n) Rcdata _ false rcdata
-      (either test (is_raw n) _ _ false (either test (bytes_eq n script) Script Raw false script_class raw)
-        (either test (is_table_part n) TablePart _ false part rest))
+    (either test (is_raw n) _ _ false (either test (bytes_eq n script) Script Raw false script_class raw)
+    (either test (is_table_part n) TablePart _ false part rest))
 
 root_class : (n : List ℕ) → is_root_class (class_of n) ≡ is_root n
 unfolding class_of
@@ -43,7 +43,7 @@ root_class n = by (is_root n)
     by true = refl
     by false =
         either is_root_class (is_void n) Void (last_class n) false refl
-          (none_of is_root_class n refl refl refl refl (either is_root_class (is_refused n) Refused Ordinary false refl refl))
+        (none_of is_root_class n refl refl refl refl (either is_root_class (is_refused n) Refused Ordinary false refl refl))
 
 void_class : (n : List ℕ) → is_void_class (class_of n) ≡ not (is_root n) && is_void n
 unfolding class_of
@@ -70,7 +70,7 @@ refused_class n = by (is_refused n) refl
     by true e = refused_name n e
     by false e =
         either is_refused_class (is_root n) Root _ false refl
-          (either is_refused_class (is_void n) Void (last_class n) false refl (none_of is_refused_class n refl refl refl refl (rw e refl)))
+        (either is_refused_class (is_void n) Void (last_class n) false refl (none_of is_refused_class n refl refl refl refl (rw e refl)))
 
 -- what a class says of a name that isn't refused
 pub record IsKnown (n : List ℕ) (c : Class) : Type 0 where

@@ -55,4 +55,4 @@ pub nested_heading : (n : List ℕ) (m : Marks) (path : List Element) → IsOthe
 unfolding is_nested is_unnested unnested_names is_among
 nested_heading n m path other h =
     rw (differs n (codes "a") other.no_a, differs n (codes "button") other.no_button, differs n (codes "form") other.no_form, differs n (codes "nobr") other.no_nobr)
-      (ap (λ (k : Marks). is_heading n && k.heading) h)
+    (ap (λ (k : Marks). is_heading n && k.heading) h)

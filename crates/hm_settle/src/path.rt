@@ -188,3 +188,6 @@ fn push(elements: &mut Vec<OpenElement>, name: Name, foreign: bool)
     };
     elements.push(element).unwrap();
 }
+
+#[cfg(test)]
+mod tests;

@@ -147,7 +147,11 @@ fn stands(elements: &[OpenElement], made: Made, name: &str) -> bool
 {
     let current = elements[elements.len() - 1].name.as_str();
     match made {
-        Made::Nothing => may_stand(name, current, Some(elements[elements.len() - 2].name.as_str())),
+        Made::Nothing => may_stand(
+            name,
+            current,
+            Some(elements[elements.len() - 2].name.as_str()),
+        ),
         Made::Section => may_stand(name, "tbody", Some(current)),
         Made::SectionAndRow => may_stand(name, "tr", Some("tbody")),
         Made::Row => may_stand(name, "tr", Some(current)),

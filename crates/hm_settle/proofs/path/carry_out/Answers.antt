@@ -18,10 +18,10 @@ push-requires-clause-room c =
 pub returns-in-Some-clause-kept : goal.returns-in-Some-clause-kept
 returns-in-Some-clause-kept c =
     IsKept-pushed c.make.new.elements c.push.new.elements (element (name_of c.in-Some.name) c.args.foreign) c.make.ensures.kept
-      (omega (arith, length-made c.truncate.new.self.items c.make.new.elements.items (elements_of c.args.plan.made) c.make.ensures.path, c.truncate.ensures.len)) c.push.ensures.pushed c.push.ensures.capacity
+    (omega (arith, length-made c.truncate.new.self.items c.make.new.elements.items (elements_of c.args.plan.made) c.make.ensures.path, c.truncate.ensures.len)) c.push.ensures.pushed c.push.ensures.capacity
 
 pub returns-in-Some-clause-path : goal.returns-in-Some-clause-path
 returns-in-Some-clause-path c =
     rw c.in-Some.is
-      (path_of-pushed c.make.new.elements.items c.push.new.elements.items (element (name_of c.in-Some.name) c.args.foreign) c.push.ensures.pushed
-      ∙ ap (λ x. element (name_of c.in-Some.name) c.args.foreign ∷ x) (rw c.truncate.ensures.items at c.make.ensures.path))
+    (path_of-pushed c.make.new.elements.items c.push.new.elements.items (element (name_of c.in-Some.name) c.args.foreign) c.push.ensures.pushed
+    ∙ ap (λ x. element (name_of c.in-Some.name) c.args.foreign ∷ x) (rw c.truncate.ensures.items at c.make.ensures.path))

@@ -19,5 +19,5 @@ returns-in-Colgroup-clause-path c =
 pub returns-in-SectionAndRow-clause-path : goal.returns-in-SectionAndRow-clause-path
 returns-in-SectionAndRow-clause-path c =
     rw c.in-SectionAndRow.is
-      (path_of-pushed c.push-in-SectionAndRow.new.elements.items c.push-in-SectionAndRow-2.new.elements.items (html_element tr) c.push-in-SectionAndRow-2.ensures.pushed
-      ∙ ap (λ x. html_element tr ∷ x) (path_of-pushed c.args.elements.now.items c.push-in-SectionAndRow.new.elements.items (html_element tbody) c.push-in-SectionAndRow.ensures.pushed))
+    (path_of-pushed c.push-in-SectionAndRow.new.elements.items c.push-in-SectionAndRow-2.new.elements.items (html_element tr) c.push-in-SectionAndRow-2.ensures.pushed
+    ∙ ap (λ x. html_element tr ∷ x) (path_of-pushed c.args.elements.now.items c.push-in-SectionAndRow.new.elements.items (html_element tbody) c.push-in-SectionAndRow.ensures.pushed))

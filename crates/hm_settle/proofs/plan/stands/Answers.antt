@@ -1,0 +1,32 @@
+use Rattle.std.proofs.Common.{◌≡◌, ◌∙◌, Some}
+use Rattle.hm_elements.specs.Names.{tbody, tr, colgroup}
+use Rattle.hm_elements.specs.Nesting.{may_stand}
+use Rattle.hm_settle.specs.Elements.{name_of}
+use Rattle.hm_settle.proofs.Ends.{stands_alone, stands_on_made}
+use Rattle.hm_settle.proofs.plan.stands.Goals as goal
+
+pub returns-in-Nothing : goal.returns-in-Nothing
+returns-in-Nothing c =
+    let o = c.index-elements-elements.result in
+    let p = c.index-elements-elements-in-Nothing.result in
+    let current : c.as_str-current.result.now ≡ name_of o.name = cc in
+    let around : c.as_str.result.now ≡ name_of p.name = cc in
+    rw c.in-Nothing.is (rw (current, around) at c.may_stand.ensures ∙ stands_alone c.args.elements.now c.args.name.now o p c.requires c.index-elements-elements.is c.index-elements-elements-in-Nothing.is)
+
+pub returns-in-Section : goal.returns-in-Section
+returns-in-Section c =
+    let o = c.index-elements-elements.result in
+    let current : c.as_str-current.result.now ≡ name_of o.name = cc in
+    rw c.in-Section.is (rw current at c.may_stand-in-Section.ensures ∙ stands_on_made c.args.elements.now c.args.name.now tbody o c.requires c.index-elements-elements.is)
+
+pub returns-in-Row : goal.returns-in-Row
+returns-in-Row c =
+    let o = c.index-elements-elements.result in
+    let current : c.as_str-current.result.now ≡ name_of o.name = cc in
+    rw c.in-Row.is (rw current at c.may_stand-in-Row.ensures ∙ stands_on_made c.args.elements.now c.args.name.now tr o c.requires c.index-elements-elements.is)
+
+pub returns-in-Colgroup : goal.returns-in-Colgroup
+returns-in-Colgroup c =
+    let o = c.index-elements-elements.result in
+    let current : c.as_str-current.result.now ≡ name_of o.name = cc in
+    rw c.in-Colgroup.is (rw current at c.may_stand-in-Colgroup.ensures ∙ stands_on_made c.args.elements.now c.args.name.now colgroup o c.requires c.index-elements-elements.is)

@@ -1,0 +1,10 @@
+//! Open elements, and what a start tag or an end tag does to them.
+#![tactic(auto)]
+
+mod element;
+mod moves;
+mod path;
+mod plan;
+
+pub use moves::{Made, Moves, SettleFault};
+pub use path::Path;

@@ -1,0 +1,122 @@
+//! What a tag does, or why it is refused.
+ghost use Rattle.std.specs.Prelude.{◌≡◌, length, map};
+ghost use Rattle.hm_elements.specs.Names.{is_among, table, words};
+ghost use Rattle.hm_elements.specs.Nesting.{made_under};
+ghost use Rattle.hm_elements.specs.Paths.{html_element};
+ghost use Rattle.hm_elements.specs.Tables as tables;
+ghost use Rattle.hm_settle.specs.Answers.{elements_of};
+ghost use Rattle.hm_settle.specs.declared.moves.SettleFault.TheVariants as faults;
+
+use hm_base::{Memory, Rule};
+use std::alloc::AllocError;
+
+/// The elements that a start tag makes before its own opens (HTML Standard, 13.2.6.4.9, 13.2.6.4.13).
+#[derive(Clone, Copy, Debug, PartialEq, Eq)]
+pub enum Made {
+    Nothing,
+    /// A `tbody`.
+    Section,
+    /// A `tbody` and a `tr` in it.
+    SectionAndRow,
+    /// A `tr`.
+    Row,
+    /// A `colgroup`.
+    Colgroup,
+}
+
+impl Made {
+    /// What is made under this parent before an element of that name opens.
+    #[tactic(auto, unfolding(crate::specs::Answers::elements_of, hm_elements::specs::Nesting::made_under))]
+    pub(crate) fn under(parent: &str, name: &str) -> Made
+        ensures { elements_of result ≡ map html_element (made_under parent.now name.now) }
+    {
+        if parent == "table" {
+            Made::in_table(name)
+        } else if is_section(parent) && is_cell(name) {
+            Made::Row
+        } else {
+            Made::Nothing
+        }
+    }
+
+    /// What is made in a table.
+    #[tactic(auto, unfolding(hm_elements::specs::Nesting::made_under))]
+    fn in_table(name: &str) -> Made
+        ensures { elements_of result ≡ map html_element (made_under table name.now) }
+    {
+        if name == "tr" {
+            Made::Section
+        } else if is_cell(name) {
+            Made::SectionAndRow
+        } else if name == "col" {
+            Made::Colgroup
+        } else {
+            Made::Nothing
+        }
+    }
+
+    /// How many elements are made.
+    pub(crate) fn count(self) -> usize
+        ensures { result ≡ length (elements_of self) }
+    {
+        match self {
+            Made::Nothing => 0,
+            Made::Section | Made::Row | Made::Colgroup => 1,
+            Made::SectionAndRow => 2,
+        }
+    }
+}
+
+#[tactic(auto, unfolding(hm_elements::specs::Tables::is_section, hm_elements::specs::Tables::sections, hm_elements::specs::Names::is_among))]
+fn is_section(name: &str) -> bool
+    ensures { result ≡ tables.is_section name.now }
+{
+    name == "thead" || name == "tbody" || name == "tfoot"
+}
+
+#[tactic(auto, unfolding(hm_elements::specs::Names::is_among))]
+fn is_cell(name: &str) -> bool
+    ensures { result ≡ is_among name.now (words "td th") }
+{
+    name == "td" || name == "th"
+}
+
+/// What a tag does to the open elements: how many close, and which are made then.
+#[derive(Clone, Copy, Debug, PartialEq, Eq)]
+pub struct Moves {
+    pub closes: u32,
+    pub made: Made,
+}
+
+/// Why a tag does nothing.
+#[derive(Clone, Copy, Debug, PartialEq, Eq)]
+pub enum SettleFault {
+    /// The page is refused by this rule.
+    Rule { rule: Rule },
+    /// Memory was refused.
+    Memory,
+}
+
+impl From<Rule> for SettleFault {
+    ghost from_gives = { λ rule fault. fault ≡ faults.Rule rule };
+
+    fn from(rule: Rule) -> Self {
+        SettleFault::Rule { rule }
+    }
+}
+
+impl From<AllocError> for SettleFault {
+    ghost from_gives = { λ _ fault. fault ≡ faults.Memory };
+
+    fn from(_error: AllocError) -> Self {
+        SettleFault::Memory
+    }
+}
+
+impl From<Memory> for SettleFault {
+    ghost from_gives = { λ _ fault. fault ≡ faults.Memory };
+
+    fn from(_error: Memory) -> Self {
+        SettleFault::Memory
+    }
+}

@@ -1,0 +1,193 @@
+//! The open elements of a page in its body.
+ghost use Rattle.std.specs.Prelude.{◌≡◌, ◌≢◌, ◌↔◌, ◌||◌, ◌+◌, ◌<◌, ◌≤◌, [], ◌∷◌, ◌++◌, length, map, reverse, take, slice_get, vec_len, vec_capacity, true, Some, Err, IfOk, OnErr, bytes_eq, if◌then◌else◌, Bool};
+ghost use Rattle.hm_base.specs.declared.rules.Rule.{Rule};
+ghost use Rattle.hm_elements.specs.Names.{body, html, svg};
+ghost use Rattle.hm_elements.specs.Paths as paths;
+ghost use Rattle.hm_elements.specs.Paths.{html_element};
+ghost use Rattle.hm_settle.specs.Answers.{IsMoved, IsStarted, elements_of};
+ghost use Rattle.hm_settle.specs.Elements.{AreMarked, IsKept, are_names_utf8, name_of, path_of};
+ghost use Rattle.hm_settle.specs.Moves.{element, refuses, start_moves, end_moves};
+ghost use Rattle.hm_settle.specs.Plans.{IsPushed, opened_by};
+
+use crate::element::{Name, OpenElement};
+use crate::plan::{DEEPEST, Plan, left_by_end, marks, plan_start};
+use crate::{Made, Moves, SettleFault};
+use hm_base::Memory;
+use std::alloc::Global;
+use std::marker::Model;
+
+/// The open elements of a page in its body. Contracts see the list of them, innermost first.
+#[derive(Debug, Drop)]
+pub struct Path {
+    elements: Vec<OpenElement>,
+}
+
+impl Model for Path {
+    ghost use Rattle.std.specs.Prelude.{List};
+    ghost use Rattle.hm_base.specs.Walks.{Element};
+
+    ghost Value = { List Element };
+
+    ghost use Rattle.hm_settle.specs.Elements.{IsKept, path_of};
+
+    ghost view = { λ p. path_of p.elements.items };
+
+    ghost invariant = { λ p. IsKept p.elements };
+}
+
+impl Path {
+    /// `html` and `body`, with room for as many elements as may be open: later only names take memory.
+    pub fn new(alloc: Global) -> Result<Path, Memory>
+        ensures { IfOk result (λ path. path ≡ html_element body ∷ html_element html ∷ []) }
+    {
+        let mut elements = Vec::with_capacity(alloc, DEEPEST)?;
+        push(&mut elements, Name::Html, false);
+        push(&mut elements, Name::Body, false);
+        Ok(Path { elements })
+    }
+
+    /// How many elements are open, at most 512. The outermost are `html` and `body`, and the names are UTF-8.
+    pub fn len(&self) -> u32
+        ensures len { result ≡ length self.now }
+        ensures most { result ≤ 512 }
+        ensures begins { take 2 (reverse self.now) ≡ html_element html ∷ html_element body ∷ [] }
+        ensures utf8 { are_names_utf8 self.now ≡ true }
+    {
+        self.elements.len() as u32
+    }
+
+    /// The name of element `i`, counted from `html`.
+    pub fn name(&self, i: u32) -> &str
+        requires { i < length self.now }
+        ensures { slice_get (reverse (map (λ e. e.name) self.now)) i ≡ Some result.now }
+    {
+        self.elements[i as usize].name.as_str()
+    }
+
+    /// Whether element `i`, counted from `html`, is one of SVG.
+    pub fn foreign(&self, i: u32) -> bool
+        requires { i < length self.now }
+        ensures { slice_get (reverse (map (λ e. e.foreign) self.now)) i ≡ Some result }
+    {
+        self.elements[i as usize].foreign
+    }
+
+    /// The name of the innermost element.
+    pub fn current(&self) -> &str
+        ensures { result.now ≡ paths.current self.now }
+    {
+        self.elements[self.elements.len() - 1].name.as_str()
+    }
+
+    /// Whether the innermost element is one of SVG.
+    pub fn is_in_svg(&self) -> bool
+        ensures { result ≡ paths.is_in_svg self.now }
+    {
+        self.elements[self.elements.len() - 1].foreign
+    }
+
+    /// Takes a start tag of this name (HTML Standard, 13.2.6.4.7 and following, 13.2.6.5): closes the
+    /// elements that yield to it, makes those that it implies, and opens its own, an element of SVG
+    /// where `foreign` is set. A void element closes at once. An `svg` that is to close at once is
+    /// ended by [`Path::end`]. Memory is taken only for a name that stays open; after a fault the path
+    /// is unchanged.
+    pub fn start(&mut self, name: &str, foreign: bool) -> Result<Moves, SettleFault>
+        requires { foreign ≡ (paths.is_in_svg self.old || bytes_eq name.now svg) }
+        ensures ok { IfOk result (λ moves. IsStarted (start_moves name.now self.old) moves self.new) }
+        ensures rule { (rule : Rule) → (result ≡ Err (SettleFault.Rule rule)) ↔ (start_moves name.now self.old ≡ refuses rule) }
+        ensures err { OnErr result (self.new ≡ self.old) }
+    {
+        let plan = plan_start(&self.elements, name)?;
+        let closes = (self.elements.len() - plan.left) as u32;
+        let opened = kept_name(*self.elements.allocator(), name, plan.is_void)?;
+        carry_out(&mut self.elements, plan, opened, foreign);
+        Ok(Moves {
+            closes,
+            made: plan.made,
+        })
+    }
+
+    /// Takes an end tag of this name: closes the elements whose ends it implies and its own, and makes
+    /// nothing. It takes no memory; after a fault the path is unchanged.
+    pub fn end(&mut self, name: &str) -> Result<Moves, SettleFault>
+        requires body { name.now ≢ body }
+        requires html { name.now ≢ html }
+        ensures ok { IfOk result (λ moves. IsMoved (end_moves name.now self.old) moves self.new) }
+        ensures rule { (rule : Rule) → (result ≡ Err (SettleFault.Rule rule)) ↔ (end_moves name.now self.old ≡ refuses rule) }
+        ensures no_memory { result ≢ Err SettleFault.Memory }
+        ensures err { OnErr result (self.new ≡ self.old) }
+    {
+        let left = left_by_end(&self.elements, name)?;
+        let closes = (self.elements.len() - left) as u32;
+        self.elements.truncate(left);
+        Ok(Moves {
+            closes,
+            made: Made::Nothing,
+        })
+    }
+}
+
+/// The name that stays open, if any.
+fn kept_name(alloc: Global, name: &str, is_void: bool) -> Result<Option<Name>, Memory>
+    ensures { IfOk result (λ kept. (foreign : Bool) → opened_by kept foreign ≡ (if is_void then [] else element name.now foreign ∷ [])) }
+{
+    if is_void {
+        Ok(None)
+    } else {
+        Ok(Some(Name::given(alloc, name)?))
+    }
+}
+
+/// Closes all but the elements that stay, and opens those that are made and one more, if any.
+fn carry_out(elements: &mut Vec<OpenElement>, plan: Plan, opened: Option<Name>, foreign: bool)
+    requires kept { IsKept elements.old }
+    requires least { 2 ≤ plan.left }
+    requires most { plan.left ≤ length elements.old.items }
+    requires room { plan.left + length (elements_of plan.made) < 512 }
+    ensures kept { IsKept elements.new }
+    ensures path { path_of elements.new.items ≡ opened_by opened foreign ++ (elements_of plan.made ++ path_of (take plan.left elements.old.items)) }
+{
+    elements.truncate(plan.left);
+    make(elements, plan.made);
+    if let Some(name) = opened {
+        push(elements, name, foreign);
+    }
+}
+
+/// Opens the elements that are made.
+fn make(elements: &mut Vec<OpenElement>, made: Made)
+    requires kept { IsKept elements.old }
+    requires room { length elements.old.items + length (elements_of made) < 512 }
+    ensures kept { IsKept elements.new }
+    ensures path { path_of elements.new.items ≡ elements_of made ++ path_of elements.old.items }
+{
+    match made {
+        Made::Nothing => {}
+        Made::Section => push(elements, Name::Tbody, false),
+        Made::SectionAndRow => {
+            push(elements, Name::Tbody, false);
+            push(elements, Name::Tr, false);
+        }
+        Made::Row => push(elements, Name::Tr, false),
+        Made::Colgroup => push(elements, Name::Colgroup, false),
+    }
+}
+
+/// Opens an element, for which there is room.
+fn push(elements: &mut Vec<OpenElement>, name: Name, foreign: bool)
+    requires marked { AreMarked [] elements.old.items }
+    requires room { vec_len elements.old < vec_capacity elements.old }
+    ensures pushed { IsPushed elements.old.items (element (name_of name) foreign) elements.new.items }
+    ensures capacity { vec_capacity elements.old ≤ vec_capacity elements.new }
+{
+    let marks = marks(elements).at(name.as_str(), foreign);
+    let element = OpenElement {
+        name,
+        foreign,
+        marks,
+    };
+    elements.push(element).unwrap();
+}
+
+#[cfg(test)]
+mod tests;

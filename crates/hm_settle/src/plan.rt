@@ -1,0 +1,225 @@
+//! What a tag does to open elements, or why it is refused, before anything changes.
+ghost use Rattle.std.specs.Prelude.{◌≡◌, ◌≢◌, ◌+◌, ◌<◌, ◌≤◌, List, [], ◌++◌, length, take, IfOk, IfErr, Bool, true, false};
+ghost use Rattle.hm_base.specs.Walks.{Element};
+ghost use Rattle.hm_elements.specs.Names.{body};
+ghost use Rattle.hm_elements.specs.Paths as paths;
+ghost use Rattle.hm_elements.specs.Paths.{behind, yields_to, falls_to, made_on, stands_on};
+ghost use Rattle.hm_settle.specs.Answers.{elements_of};
+ghost use Rattle.hm_settle.specs.Elements.{path_of, marks_of, IsPath, AreMarked};
+ghost use Rattle.hm_settle.specs.Moves.{refuses, start_moves, end_moves, start_on};
+ghost use Rattle.hm_settle.specs.Plans.{IsPlan, IsReached, IsEnd, opened};
+
+use crate::Made;
+use crate::element::{Marks, OpenElement};
+use hm_base::Rule;
+use hm_elements::{Class, class_of, ends_with, is_boundary, may_stand, svg_name, yields};
+
+/// How many elements may be open.
+pub(crate) const DEEPEST: usize = 512;
+
+/// What a start tag does.
+#[derive(Clone, Copy, Debug)]
+pub(crate) struct Plan {
+    /// How many open elements stay.
+    pub left: usize,
+    pub made: Made,
+    /// Whether the element closes at once.
+    pub is_void: bool,
+}
+
+/// What is open at the innermost of these.
+pub(crate) fn marks(elements: &[OpenElement]) -> Marks
+    requires { AreMarked [] elements.now }
+    ensures { result ≡ marks_of (path_of elements.now) }
+{
+    match elements.last() {
+        Some(innermost) => innermost.marks,
+        None => Marks::none(),
+    }
+}
+
+/// What a start tag of this name does.
+pub(crate) fn plan_start(elements: &[OpenElement], name: &str) -> Result<Plan, Rule>
+    requires { IsPath elements.now }
+    ensures ok { IfOk result (λ plan. IsPlan elements.now name.now plan) }
+    ensures rule { IfErr result (λ rule. start_moves name.now (path_of elements.now) ≡ refuses rule) }
+{
+    let innermost = &elements[elements.len() - 1];
+    if innermost.foreign {
+        plan_in_svg(elements, innermost.name.as_str(), name)
+    } else {
+        plan_in_html(elements, name)
+    }
+}
+
+/// What a start tag does in the element `current` of SVG.
+fn plan_in_svg(elements: &[OpenElement], current: &str, name: &str) -> Result<Plan, Rule>
+    requires path { IsPath elements.now }
+    requires svg { paths.is_in_svg (path_of elements.now) ≡ true }
+    requires current { current.now ≡ paths.current (path_of elements.now) }
+    ensures ok { IfOk result (λ plan. IsPlan elements.now name.now plan) }
+    ensures rule { IfErr result (λ rule. start_moves name.now (path_of elements.now) ≡ refuses rule) }
+{
+    if !svg_name(name) {
+        return Err(Rule::ForeignName);
+    }
+    if is_boundary(current, true) {
+        return Err(Rule::WrongParent);
+    }
+    if elements.len() == DEEPEST {
+        return Err(Rule::TooDeep);
+    }
+    Ok(Plan {
+        left: elements.len(),
+        made: Made::Nothing,
+        is_void: false,
+    })
+}
+
+/// What a start tag does in an element of HTML.
+fn plan_in_html(elements: &[OpenElement], name: &str) -> Result<Plan, Rule>
+    requires path { IsPath elements.now }
+    requires html { paths.is_in_svg (path_of elements.now) ≡ false }
+    ensures ok { IfOk result (λ plan. IsPlan elements.now name.now plan) }
+    ensures rule { IfErr result (λ rule. start_moves name.now (path_of elements.now) ≡ refuses rule) }
+{
+    let class = class_of(name);
+    match class {
+        Class::Refused => return Err(Rule::RefusedName),
+        Class::Root => return Err(Rule::SecondRoot),
+        _ => {}
+    }
+    let left = left_by_start(elements, name);
+    let made = made_before(&elements[..left], name)?;
+    let is_void = matches!(class, Class::Void);
+    Ok(Plan {
+        left,
+        made,
+        is_void,
+    })
+}
+
+/// How many elements stay where those are closed that yield to the start tag.
+fn left_by_start(elements: &[OpenElement], name: &str) -> usize
+    requires { IsPath elements.now }
+    ensures least { 2 ≤ result }
+    ensures most { result ≤ length elements.now }
+    ensures left { path_of (take result elements.now) ≡ behind (yields_to name.now) (path_of elements.now) }
+{
+    let mut left = elements.len();
+    while yields(elements[left - 1].name.as_str(), name) {
+        left -= 1;
+    }
+    left
+}
+
+/// What is made where the start tag's element opens on these, or why it doesn't.
+fn made_before(elements: &[OpenElement], name: &str) -> Result<Made, Rule>
+    requires { IsPath elements.now }
+    ensures opens { (closed : List Element) → start_on name.now closed (path_of elements.now) ≡ opened name.now closed (path_of elements.now) result }
+    ensures room { IfOk result (λ made. length elements.now + length (elements_of made) < 512) }
+{
+    let marks = marks(elements);
+    if marks.is_block_in_p(name) {
+        return Err(Rule::BlockInParagraph);
+    }
+    if marks.is_nested(name) {
+        return Err(Rule::Nested);
+    }
+    let made = Made::under(elements[elements.len() - 1].name.as_str(), name);
+    let depth = elements.len() + made.count();
+    if depth > DEEPEST {
+        return Err(Rule::TooDeep);
+    }
+    if !stands(elements, made, name) {
+        return Err(Rule::WrongParent);
+    }
+    if depth == DEEPEST {
+        return Err(Rule::TooDeep);
+    }
+    Ok(made)
+}
+
+/// Whether the element may stand on these where those are made.
+fn stands(elements: &[OpenElement], made: Made, name: &str) -> bool
+    requires { IsPath elements.now }
+    ensures { result ≡ stands_on name.now (elements_of made ++ path_of elements.now) }
+{
+    let current = elements[elements.len() - 1].name.as_str();
+    match made {
+        Made::Nothing => may_stand(
+            name,
+            current,
+            Some(elements[elements.len() - 2].name.as_str()),
+        ),
+        Made::Section => may_stand(name, "tbody", Some(current)),
+        Made::SectionAndRow => may_stand(name, "tr", Some("tbody")),
+        Made::Row => may_stand(name, "tr", Some(current)),
+        Made::Colgroup => may_stand(name, "colgroup", Some(current)),
+    }
+}
+
+/// How many elements stay behind an end tag of this name.
+pub(crate) fn left_by_end(elements: &[OpenElement], name: &str) -> Result<usize, Rule>
+    requires path { IsPath elements.now }
+    requires name { name.now ≢ body }
+    ensures ok { IfOk result (λ left. IsEnd elements.now name.now left) }
+    ensures rule { IfErr result (λ rule. end_moves name.now (path_of elements.now) ≡ refuses rule) }
+{
+    let reached = reached_by_end(elements, name);
+    if elements[reached - 1].name.as_str() == name {
+        return Ok(reached - 1);
+    }
+    if is_open(elements, name) {
+        Err(Rule::NotCurrent)
+    } else {
+        Err(Rule::StrayEnd)
+    }
+}
+
+/// How many elements stay where those are closed that the end tag implies.
+fn reached_by_end(elements: &[OpenElement], name: &str) -> usize
+    requires { IsPath elements.now }
+    ensures { IsReached elements.now name.now result }
+{
+    if elements[elements.len() - 1].foreign {
+        elements.len()
+    } else {
+        left_by_implied_ends(elements, name)
+    }
+}
+
+/// How many elements stay where those are closed that end with an end tag of another name.
+fn left_by_implied_ends(elements: &[OpenElement], name: &str) -> usize
+    requires { IsPath elements.now }
+    ensures least { 2 ≤ result }
+    ensures most { result ≤ length elements.now }
+    ensures left { path_of (take result elements.now) ≡ behind (falls_to name.now) (path_of elements.now) }
+{
+    let mut left = elements.len();
+    while falls(elements[left - 1].name.as_str(), name) {
+        left -= 1;
+    }
+    left
+}
+
+/// Whether the open element `current` closes with an end tag of another name.
+fn falls(current: &str, ending: &str) -> bool
+    ensures { (foreign : Bool) → result ≡ falls_to ending.now (record { name = current.now; foreign = foreign }) }
+{
+    current != ending && ends_with(current, ending)
+}
+
+/// Whether an element of this name is open. Only a page that is refused asks.
+fn is_open(elements: &[OpenElement], name: &str) -> bool
+    ensures { result ≡ paths.is_open name.now (path_of elements.now) }
+{
+    let mut left = elements.len();
+    while left > 0 {
+        left -= 1;
+        if elements[left].name.as_str() == name {
+            return true;
+        }
+    }
+    false
+}

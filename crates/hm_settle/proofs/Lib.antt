@@ -3,6 +3,7 @@ pub mod Fronts
 pub mod Starts
 pub mod Plans
 pub mod Kept
+pub mod Shapes
 pub mod Classes
 pub mod Ends
 pub mod Nested

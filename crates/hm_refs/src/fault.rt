@@ -1,4 +1,7 @@
 //! Why bytes are no table.
+ghost use Rattle.std.specs.Prelude.{◌≡◌};
+ghost use Rattle.hm_refs.specs.Faults.{fault_name};
+
 use hm_base::{Memory, Word};
 use std::alloc::{AllocError, AllocFailed};
 use thiserror::Error;
@@ -33,6 +36,25 @@ pub enum TableFault {
     /// Memory was refused.
     #[error("Memory")]
     Memory,
+}
+
+impl TableFault {
+    /// The name of the fault, as the program prints it.
+    pub fn name(&self) -> &'static str
+        ensures { result.now ≡ fault_name self.now }
+    {
+        match self {
+            TableFault::TooLong => "TooLong",
+            TableFault::NotJson => "NotJson",
+            TableFault::NotObject => "NotObject",
+            TableFault::BadName { key: _ } => "BadName",
+            TableFault::BadPoints { key: _ } => "BadPoints",
+            TableFault::TooMany => "TooMany",
+            TableFault::TooManyFor { point: _ } => "TooManyFor",
+            TableFault::Lone { key: _ } => "Lone",
+            TableFault::Memory => "Memory",
+        }
+    }
 }
 
 impl From<Memory> for TableFault {

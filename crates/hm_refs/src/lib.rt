@@ -9,6 +9,8 @@ mod nodes;
 mod numbers;
 mod reading;
 mod table;
+#[cfg(test)]
+mod tests;
 mod trie;
 
 pub use fault::TableFault;

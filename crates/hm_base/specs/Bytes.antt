@@ -1,5 +1,6 @@
 -- Words on texts as lists of bytes: tests of a byte, fronts that pass a test, prefixes, cuts at a mark.
-use Rattle.std.specs.Prelude.{ℕ, ◌+◌, Bool, true, false, ◌&&◌, ◌||◌, ◌==◌, nat_le, List, [], ◌∷◌, Option, Some, None, if◌then◌else◌}
+use Rattle.std.specs.Prelude.{ℕ, ◌+◌, Bool, true, false, ◌&&◌, ◌||◌, ◌==◌, nat_le, nat_lt, List, [], ◌∷◌, Option, Some, None, if◌then◌else◌}
+use Rattle.std.specs.Char.{digit_value}
 
 -- TAB, LF, FF, CR or SPACE
 unfoldable pub is_space : ℕ → Bool
@@ -9,13 +10,17 @@ is_space c = c == 9 || c == 10 || c == 12 || c == 13 || c == 32
 unfoldable pub is_letter : ℕ → Bool
 is_letter c = (nat_le 65 c && nat_le c 90) || (nat_le 97 c && nat_le c 122)
 
+-- an ASCII digit of a base up to 36, letters of either case being those from ten on
+unfoldable pub is_digit_of : ℕ → ℕ → Bool
+is_digit_of base c = nat_lt (digit_value c) base
+
 -- an ASCII digit
-unfoldable pub is_digit : ℕ → Bool
-is_digit c = nat_le 48 c && nat_le c 57
+abbrev pub is_digit : ℕ → Bool
+is_digit c = is_digit_of 10 c
 
 -- an ASCII hexadecimal digit
-unfoldable pub is_hex : ℕ → Bool
-is_hex c = is_digit c || (nat_le 65 c && nat_le c 70) || (nat_le 97 c && nat_le c 102)
+abbrev pub is_hex : ℕ → Bool
+is_hex c = is_digit_of 16 c
 
 -- an ASCII letter or digit
 unfoldable pub is_alnum : ℕ → Bool

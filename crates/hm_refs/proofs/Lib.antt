@@ -1,0 +1,4 @@
+pub mod Bools
+pub mod Found
+pub mod NumberLaws
+pub mod References

@@ -1,0 +1,35 @@
+//! Why bytes are no table.
+use hm_base::Word;
+use thiserror::Error;
+
+/// The first fault of a table's bytes, in the order of these cases. A key is the least one, in byte order, that has the fault.
+#[derive(Debug, Drop, Error)]
+pub enum TableFault {
+    /// More than 1,048,576 bytes.
+    #[error("TooLong")]
+    TooLong,
+    /// The bytes aren't JSON in UTF-8.
+    #[error("NotJson")]
+    NotJson,
+    /// The value isn't an object.
+    #[error("NotObject")]
+    NotObject,
+    /// The key isn't `&`, an ASCII letter, at least one more letter or digit, and at most one `;` at the end, or has more than 64 characters.
+    #[error("BadName {}", .key.text)]
+    BadName { key: Word },
+    /// The key's value isn't an object whose `codepoints` is an array of one or two scalar values other than 0, each a whole number without point or exponent.
+    #[error("BadPoints {}", .key.text)]
+    BadPoints { key: Word },
+    /// More than 4,096 names.
+    #[error("TooMany")]
+    TooMany,
+    /// More than 64 names have this first code point, or more than 4 without `;`. It is the least such point.
+    #[error("TooManyFor {point}")]
+    TooManyFor { point: u32 },
+    /// A name without `;` whose form with `;` isn't there with the same code points.
+    #[error("Lone {}", .key.text)]
+    Lone { key: Word },
+    /// Memory was refused.
+    #[error("Memory")]
+    Memory,
+}

@@ -1,0 +1,4 @@
+pub mod Attributes
+pub mod Rows
+pub mod Trees
+pub mod Views

@@ -1,0 +1,15 @@
+//! Trees as walks: a tree and its maker, the attributes of a tag, and the tokens that the scans give.
+#![tactic(auto)]
+
+mod attrs;
+mod events;
+mod maker;
+mod rows;
+mod tokens;
+mod tree;
+
+pub use attrs::Attrs;
+pub use events::EventView;
+pub use maker::Maker;
+pub use tokens::{ScanFault, Spanned, Token};
+pub use tree::Tree;

@@ -1,0 +1,328 @@
+//! The events of a walk in a table: a row for each event, and all texts one behind the other.
+ghost use Rattle.std.specs.Prelude.{◌≡◌, ◌+◌, ◌*◌, ◌^◌, ◌<◌, ◌≤◌, [], ◌∷◌, ◌++◌, length, slice_get, string_bytes, string_len, string_capacity, true, Some, None, IfOk, OnOk, OnErr};
+ghost use Rattle.hm_base.specs.Walks as walks;
+ghost use Rattle.hm_base.specs.Walks.{start, end, doctype, comment, event_size, path_after, walk_size, with_text, has_distinct_names};
+ghost use Rattle.hm_tree.specs.Attributes.{are_texts};
+ghost use Rattle.hm_tree.specs.Rows.{IsBelow, IsKept, IsPiece, attributes_at, bytes_of, ends_in_text, extended};
+ghost use Rattle.hm_tree.specs.Trees.{IsTold, end_of, innermost, last_agrees, parent_of};
+ghost use Rattle.hm_tree.specs.Views.{event_of};
+
+use crate::{Attrs, EventView};
+use hm_base::Memory;
+use std::alloc::Global;
+use std::marker::Model;
+
+// The bytes of a text from one place up to another.
+#[derive(Clone, Copy, Debug)]
+struct Piece {
+    from: u32,
+    to: u32,
+}
+
+// An event, with pieces of the table's text, and for a start the index of its attributes where it has some.
+#[derive(Clone, Copy, Debug)]
+enum Part {
+    Doctype {
+        legacy: bool,
+    },
+    Start {
+        name: Piece,
+        foreign: bool,
+        attrs: Option<u32>,
+    },
+    Text {
+        text: Piece,
+        raw: bool,
+    },
+    Comment {
+        text: Piece,
+    },
+    End {
+        name: Piece,
+        foreign: bool,
+    },
+}
+
+// An event, and the last start that is open directly before it.
+#[derive(Clone, Copy, Debug)]
+struct Row {
+    part: Part,
+    parent: Option<u32>,
+}
+
+// A list of events.
+#[derive(Debug, Drop)]
+pub(crate) struct Rows {
+    text: String,
+    lists: Vec<Attrs>,
+    none: Attrs,
+    rows: Vec<Row>,
+}
+
+impl Model for Rows {
+    ghost use Rattle.std.specs.Prelude.{List, string_bytes};
+    ghost use Rattle.hm_base.specs.Walks.{Event};
+
+    ghost Value = { List Event };
+
+    ghost use Rattle.hm_tree.specs.Rows.{events_of, IsTable};
+
+    ghost view = { λ r. events_of (string_bytes r.text) r.lists.items r.rows.items };
+
+    ghost invariant = { λ r. IsTable (string_bytes r.text) r.lists.items r.none r.rows.items };
+}
+
+impl Rows {
+    pub(crate) fn new(alloc: Global) -> Rows
+        ensures { result ≡ [] }
+    {
+        Rows {
+            text: String::new(alloc),
+            lists: Vec::new(alloc),
+            none: Attrs::new(alloc),
+            rows: Vec::new(alloc),
+        }
+    }
+
+    pub(crate) fn len(&self) -> u32
+        ensures len { result ≡ length self.now }
+        ensures told { IsTold self.now }
+    {
+        self.rows.len() as u32
+    }
+
+    pub(crate) fn event(&self, i: u32) -> EventView<'_>
+        requires { i < length self.now }
+        ensures { slice_get self.now i ≡ Some (event_of result) }
+    {
+        let row = self.rows[i as usize];
+        match row.part {
+            Part::Doctype { legacy } => EventView::Doctype { legacy },
+            Part::Start {
+                name,
+                foreign,
+                attrs,
+            } => EventView::Start {
+                name: cut(&self.text, name),
+                foreign,
+                attrs: list_at(&self.lists, &self.none, attrs),
+            },
+            Part::Text { text, raw } => EventView::Text {
+                text: cut(&self.text, text),
+                raw,
+            },
+            Part::Comment { text } => EventView::Comment {
+                text: cut(&self.text, text),
+            },
+            Part::End { name, foreign } => EventView::End {
+                name: cut(&self.text, name),
+                foreign,
+            },
+        }
+    }
+
+    pub(crate) fn parent(&self, i: u32) -> Option<u32>
+        requires { i < length self.now }
+        ensures { result ≡ parent_of self.now i }
+    {
+        self.rows[i as usize].parent
+    }
+
+    pub(crate) fn push_doctype(&mut self, legacy: bool, parent: Option<u32>) -> Result<(), Memory>
+        requires room { length self.old + 1 < 2 ^ 29 }
+        requires parent { parent ≡ innermost self.old }
+        ensures ok { OnOk result (self.new ≡ self.old ++ doctype legacy ∷ []) }
+        ensures err { OnErr result (self.new ≡ self.old) }
+    {
+        let part = Part::Doctype { legacy };
+        self.rows.push(Row { part, parent })?;
+        Ok(())
+    }
+
+    pub(crate) fn push_start(
+        &mut self,
+        name: &str,
+        foreign: bool,
+        attrs: Attrs,
+        parent: Option<u32>,
+    ) -> Result<(), Memory>
+        requires room { length self.old + 1 < 2 ^ 29 }
+        requires bytes { walk_size self.old + event_size (start name.now foreign attrs) < 2 ^ 29 }
+        requires parent { parent ≡ innermost self.old }
+        ensures ok { OnOk result (self.new ≡ self.old ++ start name.now foreign attrs ∷ []) }
+        ensures err { OnErr result (self.new ≡ self.old) }
+    {
+        self.rows.reserve(1)?;
+        self.text.reserve(name.len())?;
+        let attrs = keep(&mut self.lists, attrs)?;
+        let name = append(&mut self.text, name);
+        let part = Part::Start {
+            name,
+            foreign,
+            attrs,
+        };
+        self.rows.push(Row { part, parent }).unwrap();
+        Ok(())
+    }
+
+    pub(crate) fn push_text(
+        &mut self,
+        text: &str,
+        raw: bool,
+        parent: Option<u32>,
+    ) -> Result<(), Memory>
+        requires room { length self.old + 1 < 2 ^ 29 }
+        requires bytes { walk_size self.old + length text.now < 2 ^ 29 }
+        requires parent { parent ≡ innermost self.old }
+        ensures ok { OnOk result (self.new ≡ self.old ++ walks.text text.now raw ∷ []) }
+        ensures err { OnErr result (self.new ≡ self.old) }
+    {
+        self.rows.reserve(1)?;
+        self.text.reserve(text.len())?;
+        let text = append(&mut self.text, text);
+        let part = Part::Text { text, raw };
+        self.rows.push(Row { part, parent }).unwrap();
+        Ok(())
+    }
+
+    pub(crate) fn push_comment(&mut self, text: &str, parent: Option<u32>) -> Result<(), Memory>
+        requires room { length self.old + 1 < 2 ^ 29 }
+        requires bytes { walk_size self.old + length text.now < 2 ^ 29 }
+        requires parent { parent ≡ innermost self.old }
+        ensures ok { OnOk result (self.new ≡ self.old ++ comment text.now ∷ []) }
+        ensures err { OnErr result (self.new ≡ self.old) }
+    {
+        self.rows.reserve(1)?;
+        self.text.reserve(text.len())?;
+        let text = append(&mut self.text, text);
+        let part = Part::Comment { text };
+        self.rows.push(Row { part, parent }).unwrap();
+        Ok(())
+    }
+
+    // Joins a text that stands last, or appends one; an empty text adds nothing.
+    pub(crate) fn put_text(
+        &mut self,
+        text: &str,
+        raw: bool,
+        parent: Option<u32>,
+    ) -> Result<(), Memory>
+        requires room { length (with_text self.old text.now raw) < 2 ^ 29 }
+        requires bytes { walk_size (with_text self.old text.now raw) < 2 ^ 29 }
+        requires parent { parent ≡ innermost self.old }
+        requires same_raw { last_agrees self.old raw ≡ true }
+        ensures ok { OnOk result (self.new ≡ with_text self.old text.now raw) }
+        ensures err { OnErr result (self.new ≡ self.old) }
+    {
+        if text.is_empty() {
+            return Ok(());
+        }
+        if self.ends_in_text() {
+            self.extend_text(text)
+        } else {
+            self.push_text(text, raw, parent)
+        }
+    }
+
+    // Whether a text stands last.
+    fn ends_in_text(&self) -> bool
+        ensures { result ≡ ends_in_text self.now }
+    {
+        match self.rows.last() {
+            Some(row) => matches!(row.part, Part::Text { .. }),
+            None => false,
+        }
+    }
+
+    // Joins the text that stands last.
+    fn extend_text(&mut self, more: &str) -> Result<(), Memory>
+        requires ends { ends_in_text self.old ≡ true }
+        requires bytes { walk_size self.old + length more.now < 2 ^ 29 }
+        ensures ok { OnOk result (self.new ≡ extended self.old more.now) }
+        ensures err { OnErr result (self.new ≡ self.old) }
+    {
+        let last = self.rows.len() - 1;
+        let row = self.rows[last];
+        let Part::Text { text, raw } = row.part else {
+            unreachable!()
+        };
+        self.text.push_str(more)?;
+        let text = Piece {
+            from: text.from,
+            to: self.text.len() as u32,
+        };
+        let part = Part::Text { text, raw };
+        self.rows[last] = Row {
+            part,
+            parent: row.parent,
+        };
+        Ok(())
+    }
+
+    // Puts the end of the innermost open element, whose start is event `start`.
+    pub(crate) fn push_end(&mut self, start: u32) -> Result<(), Memory>
+        requires room { length self.old + 1 < 2 ^ 29 }
+        requires parent { Some start ≡ innermost self.old }
+        ensures ok { OnOk result (self.new ≡ self.old ++ end_of (path_after [] self.old)) }
+        ensures err { OnErr result (self.new ≡ self.old) }
+    {
+        let row = self.rows[start as usize];
+        let Part::Start { name, foreign, .. } = row.part else {
+            unreachable!()
+        };
+        let part = Part::End { name, foreign };
+        let parent = Some(start);
+        self.rows.push(Row { part, parent })?;
+        Ok(())
+    }
+}
+
+// The bytes of a piece.
+fn cut(text: &String, piece: Piece) -> &str
+    requires { IsPiece (string_bytes text.now) piece }
+    ensures { result.now ≡ bytes_of (string_bytes text.now) piece }
+{
+    &text.as_str()[piece.from as usize..piece.to as usize]
+}
+
+// The attributes at an index, or none.
+fn list_at<'t>(lists: &'t Vec<Attrs>, none: &'t Attrs, attrs: Option<u32>) -> &'t Attrs
+    requires within { IsBelow (length lists.now.items) attrs }
+    requires none { none.now ≡ [] }
+    ensures { result.now ≡ attributes_at lists.now.items attrs }
+{
+    match attrs {
+        Some(k) => &lists[k as usize],
+        None => none,
+    }
+}
+
+// Keeps the attributes, where there are some.
+fn keep(lists: &mut Vec<Attrs>, attrs: Attrs) -> Result<Option<u32>, Memory>
+    requires { length lists.old.items < 2 ^ 32 }
+    ensures kept { IfOk result (λ k. IsKept lists.old.items attrs k lists.new.items) }
+    ensures err { OnErr result (lists.new.items ≡ lists.old.items) }
+    ensures texts { are_texts attrs ≡ true }
+    ensures distinct { has_distinct_names attrs ≡ true }
+{
+    if attrs.len() == 0 {
+        return Ok(None);
+    }
+    let k = lists.len() as u32;
+    lists.push(attrs)?;
+    Ok(Some(k))
+}
+
+// Appends a text for which there is room.
+fn append(text: &mut String, more: &str) -> Piece
+    requires room { string_len text.old + length more.now ≤ string_capacity text.old }
+    requires places { length (string_bytes text.old) + length more.now < 2 ^ 32 }
+    ensures bytes { string_bytes text.new ≡ string_bytes text.old ++ more.now }
+    ensures from { result.from ≡ length (string_bytes text.old) }
+    ensures to { result.to ≡ length (string_bytes text.old) + length more.now }
+{
+    let from = text.len() as u32;
+    text.push_str(more).unwrap();
+    let to = text.len() as u32;
+    Piece { from, to }
+}

@@ -1,0 +1,94 @@
+//! A tree as its walk.
+ghost use Rattle.std.specs.Prelude.{◌≡◌, ◌<◌, ◌↔◌, [], length, slice_get, true, Some, IsTrue, MatchOption};
+ghost use Rattle.hm_base.specs.Walks.{path_after, ends_match};
+ghost use Rattle.hm_tree.specs.Trees.{DifferFirstAt, IsWalk, parent_of};
+ghost use Rattle.hm_tree.specs.Views.{event_of};
+
+use crate::rows::Rows;
+use crate::{EventView, Maker};
+use std::alloc::Global;
+use std::marker::Model;
+
+/// A tree. Contracts see its walk: the list of its events, in which each end ends the innermost open element.
+#[derive(Debug, Drop)]
+pub struct Tree {
+    rows: Rows,
+}
+
+impl Model for Tree {
+    ghost use Rattle.std.specs.Prelude.{List};
+    ghost use Rattle.hm_base.specs.Walks.{Event};
+
+    ghost Value = { List Event };
+
+    ghost use Rattle.hm_tree.specs.Trees.{IsMade};
+
+    ghost view = { λ t. t.rows };
+
+    ghost invariant = { λ t. IsMade t.rows };
+}
+
+impl Tree {
+    /// A maker of a tree. It allocates nothing until an event is added.
+    pub fn maker(alloc: Global) -> Maker
+        ensures { result ≡ [] }
+    {
+        Maker::new(alloc)
+    }
+
+    pub(crate) fn of(rows: Rows) -> Tree
+        requires matched { ends_match [] rows ≡ true }
+        requires closed { path_after [] rows ≡ [] }
+        ensures { result ≡ rows }
+    {
+        Tree { rows }
+    }
+
+    /// How many events there are. The tree is a walk within its limits, whose names and texts are UTF-8.
+    pub fn len(&self) -> u32
+        ensures len { result ≡ length self.now }
+        ensures walk { IsWalk self.now }
+    {
+        self.rows.len()
+    }
+
+    /// Event `i`.
+    pub fn event(&self, i: u32) -> EventView<'_>
+        requires { i < length self.now }
+        ensures { slice_get self.now i ≡ Some (event_of result) }
+    {
+        self.rows.event(i)
+    }
+
+    /// The last start that is open directly before event `i`; for an end this is its own start.
+    pub fn parent(&self, i: u32) -> Option<u32>
+        requires { i < length self.now }
+        ensures { result ≡ parent_of self.now i }
+    {
+        self.rows.parent(i)
+    }
+
+    /// Whether the trees are the same, event by event.
+    pub fn same(&self, other: &Tree) -> bool
+        ensures { IsTrue result ↔ (self.now ≡ other.now) }
+    {
+        self.first_other(other).is_none()
+    }
+
+    /// The least index at which the trees differ or one of them has ended.
+    pub fn first_other(&self, other: &Tree) -> Option<u32>
+        ensures { MatchOption result (self.now ≡ other.now) (DifferFirstAt self.now other.now) }
+    {
+        let both = self.len().min(other.len());
+        for i in 0..both {
+            if !self.event(i).same(&other.event(i)) {
+                return Some(i);
+            }
+        }
+        if self.len() == other.len() {
+            None
+        } else {
+            Some(both)
+        }
+    }
+}

@@ -1,0 +1,38 @@
+-- The tables of tags that may be left out. Those of html, head and body depend on no name.
+use Rattle.std.specs.Prelude.{ℕ, Bool, true, false, not, List, [], ◌∷◌, ◌++◌, if◌then◌else◌, codes, bytes_eq}
+use Rattle.hm_elements.specs.Names.{words, is_among, Row, row, is_pair, p, option, colgroup, body}
+use Rattle.hm_elements.specs.Tables.{sections, blocks}
+use Rattle.hm_elements.specs.Nesting.{without}
+
+unfoldable pub before_rows : List Row
+before_rows =
+    row "caption" (words "colgroup" ++ sections)
+    ∷ row "thead tbody" (words "tbody tfoot")
+    ∷ row "tr" (words "tr")
+    ∷ row "td th" (words "td th")
+    ∷ row "li" (words "li")
+    ∷ row "dt dd" (words "dt dd")
+    ∷ row "rt rp" (words "rt rp")
+    ∷ row "optgroup" (words "optgroup")
+    ∷ row "option" (words "option optgroup")
+    ∷ row "p" blocks
+    ∷ []
+
+-- The end tag of this element may be left out before the start tag of that HTML element.
+unfoldable pub goes_before : List ℕ → List ℕ → Bool
+goes_before n next = if bytes_eq n colgroup then true else is_pair before_rows n next
+
+-- elements whose end tag may be left out at the end of each parent
+unfoldable pub up_names : List (List ℕ)
+up_names = words "caption colgroup tbody tfoot tr td th li dd rt rp optgroup"
+
+-- the parents at whose end the end tag of p may be left out
+unfoldable pub up_of_p : List (List ℕ)
+up_of_p = body ∷ without (words "hr p table") blocks ++ words "button li dd dt td th caption object"
+
+-- The end tag of this element may be left out at the end of this parent.
+unfoldable pub goes_up : List ℕ → List ℕ → Bool
+goes_up n parent =
+    if bytes_eq n p then is_among parent up_of_p
+    else if bytes_eq n option then not (bytes_eq parent (codes "datalist"))
+    else is_among n up_names

@@ -1,0 +1,313 @@
+//! Which element may stand in which, and which closes before which tag.
+ghost use Rattle.std.specs.Prelude.{◌≡◌};
+ghost use Rattle.hm_elements.specs.Names as names;
+ghost use Rattle.hm_elements.specs.Names.{is_among};
+ghost use Rattle.hm_elements.specs.Nesting as nesting;
+ghost use Rattle.hm_elements.specs.Nesting.{is_name};
+ghost use Rattle.hm_elements.specs.Texts.{names_of, text_of};
+
+use crate::lists::{BLOCKS, HEADINGS, PARTS, SECTIONS};
+use crate::look_up::{Row, find, is_in_one_of, is_one_of, is_pair};
+
+/// What an open element yields to, but for `colgroup`.
+const YIELDS: [Row<'static>; 9] = [
+    Row {
+        heads: &["p"],
+        names: &[
+            &BLOCKS,
+            &HEADINGS,
+            &["table", "hr", "p", "li", "dd", "dt"],
+            &["rt", "rp"],
+            &PARTS,
+        ],
+    },
+    Row {
+        heads: &["li"],
+        names: &[&["li"]],
+    },
+    Row {
+        heads: &["dt", "dd"],
+        names: &[&["dt", "dd"]],
+    },
+    Row {
+        heads: &["rt", "rp"],
+        names: &[&["rt", "rp"]],
+    },
+    Row {
+        heads: &["option"],
+        names: &[&["option", "optgroup"]],
+    },
+    Row {
+        heads: &["optgroup"],
+        names: &[&["optgroup"]],
+    },
+    Row {
+        heads: &["td", "th", "caption"],
+        names: &[&PARTS],
+    },
+    Row {
+        heads: &["tr"],
+        names: &[&[
+            "caption", "col", "colgroup", "thead", "tbody", "tfoot", "tr",
+        ]],
+    },
+    Row {
+        heads: &["thead", "tbody", "tfoot"],
+        names: &[&["caption", "col", "colgroup", "thead", "tbody", "tfoot"]],
+    },
+];
+
+/// Whether the open element `current` closes before the start tag of an HTML element `next` (13.1.2.4, 13.2.6.4.7 and following).
+#[tactic(auto, unfolding(crate::specs::Nesting::yields))]
+pub fn yields(current: &str, next: &str) -> bool
+    ensures { result ≡ nesting.yields current.now next.now }
+{
+    if current == "colgroup" {
+        next != "col"
+    } else {
+        yields_by_rows(current, next)
+    }
+}
+
+#[tactic(auto, unfolding(crate::specs::Nesting::yield_rows, crate::specs::Tables::paragraph_ends, crate::specs::Tables::blocks, crate::specs::Tables::headings, crate::specs::Tables::parts, crate::specs::Names::is_among))]
+fn yields_by_rows(current: &str, next: &str) -> bool
+    ensures { result ≡ names.is_pair nesting.yield_rows current.now next.now }
+{
+    is_pair(&YIELDS, current, next)
+}
+
+/// What end tags an open element ends with.
+const ENDS: [Row<'static>; 9] = [
+    Row {
+        heads: &["p"],
+        names: &[
+            &BLOCKS,
+            &HEADINGS,
+            &[
+                "table", "button", "li", "dd", "dt", "object", "td", "th", "caption", "tr",
+            ],
+            &SECTIONS,
+        ],
+    },
+    Row {
+        heads: &["li"],
+        names: &[&["ul", "ol", "menu", "dir"]],
+    },
+    Row {
+        heads: &["dt", "dd"],
+        names: &[&["dl", "div"]],
+    },
+    Row {
+        heads: &["option"],
+        names: &[&["optgroup", "select", "datalist"]],
+    },
+    Row {
+        heads: &["optgroup"],
+        names: &[&["select"]],
+    },
+    Row {
+        heads: &["rt", "rp"],
+        names: &[&["ruby"]],
+    },
+    Row {
+        heads: &["td", "th"],
+        names: &[&["tr", "table"], &SECTIONS],
+    },
+    Row {
+        heads: &["tr"],
+        names: &[&["table"], &SECTIONS],
+    },
+    Row {
+        heads: &["thead", "tbody", "tfoot", "caption", "colgroup"],
+        names: &[&["table"]],
+    },
+];
+
+/// Whether the open element `child` ends with the end tag `ending` (13.1.2.4).
+#[tactic(auto, unfolding(crate::specs::Nesting::ends_with, crate::specs::Nesting::end_rows, crate::specs::Tables::blocks, crate::specs::Tables::headings, crate::specs::Tables::sections, crate::specs::Names::is_among))]
+pub fn ends_with(child: &str, ending: &str) -> bool
+    ensures { result ≡ nesting.ends_with child.now ending.now }
+{
+    is_pair(&ENDS, child, ending)
+}
+
+/// Parents with children of their own.
+const CHILDREN: [Row<'static>; 8] = [
+    Row {
+        heads: &["head"],
+        names: &[&[
+            "base", "link", "meta", "noscript", "script", "style", "title",
+        ]],
+    },
+    Row {
+        heads: &["table"],
+        names: &[&[
+            "caption", "colgroup", "thead", "tbody", "tfoot", "script", "style",
+        ]],
+    },
+    Row {
+        heads: &["thead", "tbody", "tfoot"],
+        names: &[&["tr", "script", "style"]],
+    },
+    Row {
+        heads: &["tr"],
+        names: &[&["td", "th", "script", "style"]],
+    },
+    Row {
+        heads: &["colgroup"],
+        names: &[&["col"]],
+    },
+    Row {
+        heads: &["select"],
+        names: &[&["option", "optgroup"]],
+    },
+    Row {
+        heads: &["optgroup"],
+        names: &[&["option"]],
+    },
+    Row {
+        heads: &[
+            "option", "script", "title", "textarea", "style", "iframe", "area", "base", "br",
+            "col", "embed", "hr", "img", "input", "link", "meta", "param", "source", "track",
+            "wbr",
+        ],
+        names: &[],
+    },
+];
+
+/// Children with parents of their own.
+const PARENTS: [Row<'static>; 5] = [
+    Row {
+        heads: &["li"],
+        names: &[&["ul", "ol", "menu", "dir"]],
+    },
+    Row {
+        heads: &["dt", "dd"],
+        names: &[&["dl"]],
+    },
+    Row {
+        heads: &["rt", "rp"],
+        names: &[&["ruby"]],
+    },
+    Row {
+        heads: &["option"],
+        names: &[&["datalist"]],
+    },
+    Row {
+        heads: &["optgroup"],
+        names: &[],
+    },
+];
+
+/// Whether an HTML element `name` may stand under the element `parent`, which itself stands under `grandparent` or at the top.
+#[tactic(auto, unfolding(crate::specs::Nesting::may_stand, crate::specs::Nesting::noscript_children))]
+pub fn may_stand(name: &str, parent: &str, grandparent: Option<&str>) -> bool
+    ensures { result ≡ nesting.may_stand name.now parent.now (text_of grandparent.entry) }
+{
+    if parent == "noscript" && is_named(grandparent, "head") {
+        return is_one_of(name, &["link", "meta", "style"]);
+    }
+    match own_children(parent) {
+        Some(children) => is_in_one_of(name, children),
+        None => stands_by_parents(name, parent, grandparent),
+    }
+}
+
+#[tactic(auto, unfolding(crate::specs::Nesting::children, crate::specs::Tables::rcdata_names, crate::specs::Tables::raw_names, crate::specs::Tables::voids, crate::specs::Names::is_among))]
+fn own_children(parent: &str) -> Option<&'static [&'static [&'static str]]>
+    ensures { names_of result ≡ names.find parent.now nesting.children }
+{
+    find(&CHILDREN, parent)
+}
+
+#[tactic(auto, unfolding(crate::specs::Nesting::own_parents, crate::specs::Names::is_among))]
+fn own_parents(child: &str) -> Option<&'static [&'static [&'static str]]>
+    ensures { names_of result ≡ names.find child.now nesting.own_parents }
+{
+    find(&PARENTS, child)
+}
+
+#[tactic(auto, unfolding(crate::specs::Nesting::bound_names, crate::specs::Tables::parts))]
+fn is_bound(name: &str) -> bool
+    ensures { result ≡ is_among name.now nesting.bound_names }
+{
+    is_in_one_of(name, &[&["html", "head", "body", "base", "title"], &PARTS])
+}
+
+/// The rule for a parent without children of its own.
+fn stands_by_parents(name: &str, parent: &str, grandparent: Option<&str>) -> bool
+    ensures { result ≡ nesting.stands_by_parents (names.find name.now nesting.own_parents) name.now parent.now (text_of grandparent.entry) }
+{
+    match own_parents(name) {
+        Some(parents) => {
+            is_in_one_of(parent, parents)
+                || (is_one_of(name, &["dt", "dd"])
+                    && parent == "div"
+                    && is_named(grandparent, "dl"))
+        }
+        None => !is_bound(name),
+    }
+}
+
+fn is_named(name: Option<&str>, wanted: &str) -> bool
+    ensures { result ≡ is_name wanted.now (text_of name.entry) }
+{
+    match name {
+        Some(name) => name == wanted,
+        None => false,
+    }
+}
+
+#[cfg(test)]
+mod tests {
+    use super::*;
+
+    #[test]
+    fn what_stands_where(rt: HostRuntime) {
+        for (name, parent, grandparent, want) in [
+            ("li", "body", Some("html"), false),
+            ("li", "ul", Some("body"), true),
+            ("div", "p", Some("body"), true),
+            ("dt", "div", Some("dl"), true),
+            ("dt", "div", Some("body"), false),
+            ("dd", "dl", Some("body"), true),
+            ("col", "table", Some("body"), false),
+            ("col", "colgroup", Some("table"), true),
+            ("link", "noscript", Some("head"), true),
+            ("p", "noscript", Some("head"), false),
+            ("p", "noscript", Some("body"), true),
+            ("title", "head", Some("html"), true),
+            ("title", "body", Some("html"), false),
+            ("br", "br", None, false),
+            ("optgroup", "datalist", None, false),
+        ] {
+            assert_eq!(rt;
+                may_stand(name, parent, grandparent),
+                want,
+                "{name} in {parent}"
+            );
+        }
+    }
+
+    #[test]
+    fn what_closes_before_what(rt: HostRuntime) {
+        for (current, next, starts, ends) in [
+            ("p", "div", true, true),
+            ("p", "hr", true, false),
+            ("p", "span", false, false),
+            ("li", "li", true, false),
+            ("li", "ul", false, true),
+            ("td", "tr", true, true),
+            ("tr", "td", false, false),
+            ("tbody", "tr", false, false),
+            ("colgroup", "col", false, false),
+            ("colgroup", "b", true, false),
+            ("colgroup", "table", true, true),
+            ("option", "optgroup", true, true),
+            ("b", "b", false, false),
+        ] {
+            assert_eq!(rt; yields(current, next), starts, "{current} before {next}");
+            assert_eq!(rt; ends_with(current, next), ends, "{current} with {next}");
+        }
+    }
+}

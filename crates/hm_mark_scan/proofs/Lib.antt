@@ -1,0 +1,5 @@
+pub mod Cuts
+pub mod Extended
+pub mod Lowered
+pub mod RawTextLaws
+pub mod ScriptLaws

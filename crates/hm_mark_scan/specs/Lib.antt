@@ -1,0 +1,5 @@
+pub mod Comments
+pub mod Doctypes
+pub mod Examples
+pub mod RawTexts
+pub mod Tokens

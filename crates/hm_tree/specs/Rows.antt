@@ -82,14 +82,29 @@ abbrev pub IsKept : List (List Attribute) → List Attribute → Option ℕ → 
 IsKept old attributes None new = (attributes ≡ []) × (new ≡ old)
 IsKept old attributes (Some k) new = (k ≡ length old) × (new ≡ old ++ attributes ∷ [])
 
+abbrev pub is_text : Event → Bool
+is_text (doctype legacy) = false
+is_text (start n foreign attributes) = false
+is_text (text s raw) = true
+is_text (comment s) = false
+is_text (end n foreign) = false
+
 -- a text stands last
 abbrev pub ends_in_text : List Event → Bool
 ends_in_text [] = false
-ends_in_text (text s raw ∷ []) = true
-ends_in_text (e ∷ w) = ends_in_text w
+ends_in_text (e ∷ []) = is_text e
+ends_in_text (e ∷ x ∷ w) = ends_in_text (x ∷ w)
 
--- the events, where bytes are put behind the text that stands last
+-- a text with more bytes, any other event as it is
+abbrev pub with_more : Event → List ℕ → Event
+with_more (doctype legacy) more = doctype legacy
+with_more (start n foreign attributes) more = start n foreign attributes
+with_more (text s raw) more = text (s ++ more) raw
+with_more (comment s) more = comment s
+with_more (end n foreign) more = end n foreign
+
+-- the events, where the text that stands last has more bytes
 abbrev pub extended : List Event → List ℕ → List Event
 extended [] more = []
-extended (text s raw ∷ []) more = text (s ++ more) raw ∷ []
-extended (e ∷ w) more = e ∷ extended w more
+extended (e ∷ []) more = with_more e more ∷ []
+extended (e ∷ x ∷ w) more = e ∷ extended (x ∷ w) more

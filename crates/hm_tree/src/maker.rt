@@ -47,6 +47,7 @@ impl Maker {
         ensures depth { result ≡ length (path_after [] self.now) }
         ensures begun { IsBegun self.now }
     {
+        // The length of the table comes with what is true of each of its events.
         let _len = self.rows.len();
         self.depth
     }
@@ -57,7 +58,8 @@ impl Maker {
         ensures ok { OnOk result (self.new ≡ self.old ++ doctype legacy ∷ []) }
         ensures err { OnErr result (self.new ≡ self.old) }
     {
-        self.rows.push_doctype(legacy, self.parent)
+        self.rows.push_doctype(legacy, self.parent)?;
+        Ok(())
     }
 
     /// Appends the start of an element, which is then open.
@@ -80,7 +82,8 @@ impl Maker {
         ensures ok { OnOk result (self.new ≡ with_text self.old text.now raw) }
         ensures err { OnErr result (self.new ≡ self.old) }
     {
-        self.rows.put_text(text, raw, self.parent)
+        self.rows.put_text(text, raw, self.parent)?;
+        Ok(())
     }
 
     /// Appends a comment.
@@ -89,7 +92,8 @@ impl Maker {
         ensures ok { OnOk result (self.new ≡ self.old ++ comment text.now ∷ []) }
         ensures err { OnErr result (self.new ≡ self.old) }
     {
-        self.rows.push_comment(text, self.parent)
+        self.rows.push_comment(text, self.parent)?;
+        Ok(())
     }
 
     /// Appends the end of the innermost open element. There is always room for it.

@@ -1,0 +1,10 @@
+pub mod AttributeLemmas
+pub mod EndLemmas
+pub mod LastLemmas
+pub mod MakingLemmas
+pub mod ListLemmas
+pub mod OpenLemmas
+pub mod PieceLemmas
+pub mod TableLemmas
+pub mod TextLemmas
+pub mod WalkLemmas

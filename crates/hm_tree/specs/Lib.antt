@@ -1,4 +1,5 @@
 pub mod Attributes
 pub mod Rows
+pub mod Tokens
 pub mod Trees
 pub mod Views

@@ -1,0 +1,6 @@
+pub mod Values
+pub mod Tags
+pub mod Reading
+pub mod Spellings
+pub mod Laws
+pub mod Examples

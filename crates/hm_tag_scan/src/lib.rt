@@ -1,0 +1,4 @@
+//! Tags: the start or end tag at a place of a text, as a token.
+#![tactic(auto)]
+
+pub mod laws;

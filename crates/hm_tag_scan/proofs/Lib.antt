@@ -3,3 +3,6 @@ pub mod Follows
 pub mod Cases
 pub mod Written
 pub mod WrittenTags
+pub mod RunEnds
+pub mod Boundaries
+pub mod ValuePlaces

@@ -3,4 +3,5 @@ pub mod Tags
 pub mod Reading
 pub mod Spellings
 pub mod Laws
+pub mod Places
 pub mod Examples

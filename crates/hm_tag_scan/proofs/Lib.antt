@@ -6,3 +6,4 @@ pub mod WrittenTags
 pub mod RunEnds
 pub mod Boundaries
 pub mod ValuePlaces
+pub mod TagParts

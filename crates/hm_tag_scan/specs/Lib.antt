@@ -4,4 +4,5 @@ pub mod Reading
 pub mod Spellings
 pub mod Laws
 pub mod Places
+pub mod Parts
 pub mod Examples

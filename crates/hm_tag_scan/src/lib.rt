@@ -4,4 +4,5 @@
 
 mod attribute;
 pub mod laws;
+mod parts;
 mod runs;

@@ -1,7 +1,5 @@
-use Rattle.std.proofs.Common.{◌≡◌, ◌+◌, get_or, arith, length, rules, subst}
+use Rattle.std.proofs.Common.{◌≡◌, ◌+◌, ◌≤◌, get_or, arith, length}
 use Rattle.std.proofs.lemmas.Str.{IsCharBoundary-after_ascii}
-use Rattle.hm_base.specs.Bytes.{is_space}
-use Rattle.hm_tag_scan.specs.Places.{IsEndOf}
 use Rattle.hm_tag_scan.proofs.Boundaries.{space_ends}
 use Rattle.hm_tag_scan.proofs.ValuePlaces.{assigned_at, bare_at, ended_at}
 use Rattle.hm_tag_scan.proofs.attribute.assigned_value.Goals as goal

@@ -1,4 +1,11 @@
 pub mod Bools
+pub mod FirstsLaws
 pub mod Found
+pub mod Growing
+pub mod LoneLaws
 pub mod NumberLaws
+pub mod Places
 pub mod References
+pub mod Seeking
+pub mod Webs
+pub mod Whole

@@ -5,4 +5,6 @@ pub mod Tables
 pub mod Json
 pub mod Examples
 pub mod JsonExamples
+pub mod Nodes
+pub mod Firsts
 pub mod Laws

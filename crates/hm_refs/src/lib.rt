@@ -2,8 +2,13 @@
 #![tactic(auto)]
 
 mod fault;
+mod firsts;
+mod ids;
 pub mod laws;
+mod nodes;
 mod numbers;
+mod trie;
 
 pub use fault::TableFault;
+pub use ids::{NameId, Node};
 pub use numbers::{best_number, number_value};

@@ -1,0 +1,64 @@
+//! Numbers of names and of nodes.
+ghost use Rattle.std.specs.Prelude.{◌≡◌};
+
+use std::marker::Model;
+
+/// A name of a table, by its number in byte order. It belongs to the table that gave it.
+#[derive(Clone, Copy, Debug, PartialEq, Eq)]
+pub struct NameId {
+    number: u32,
+}
+
+impl Model for NameId {
+    ghost use Rattle.std.specs.Prelude.{ℕ};
+
+    ghost Value = { ℕ };
+
+    ghost view = { λ id. id.number };
+
+    ghost inverse = { λ n. record { number = n } };
+}
+
+impl NameId {
+    pub(crate) fn new(number: u32) -> NameId
+        ensures { result ≡ number }
+    {
+        NameId { number }
+    }
+
+    pub(crate) fn index(self) -> usize
+        ensures { result ≡ self }
+    {
+        self.number as usize
+    }
+}
+
+/// A node of a table's trie: bytes that some name begins with, the `&` included. It belongs to the table that gave it.
+#[derive(Clone, Copy, Debug, PartialEq, Eq)]
+pub struct Node {
+    number: u32,
+}
+
+impl Model for Node {
+    ghost use Rattle.std.specs.Prelude.{ℕ};
+
+    ghost Value = { ℕ };
+
+    ghost view = { λ node. node.number };
+
+    ghost inverse = { λ n. record { number = n } };
+}
+
+impl Node {
+    pub(crate) fn new(number: u32) -> Node
+        ensures { result ≡ number }
+    {
+        Node { number }
+    }
+
+    pub(crate) fn index(self) -> usize
+        ensures { result ≡ self }
+    {
+        self.number as usize
+    }
+}

@@ -7,3 +7,5 @@ pub mod RunEnds
 pub mod Boundaries
 pub mod ValuePlaces
 pub mod TagParts
+pub mod Digits
+pub mod ReferenceReads

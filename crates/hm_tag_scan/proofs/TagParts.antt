@@ -54,7 +54,7 @@ gap_many (d ∷ g) c r all h =
     no_end [] all = gap_no_end c h
     no_end (e ∷ g) all = gap_no_end e (and_parts (is_gap_byte e) (all_pass is_gap_byte g) all).0
 
-front_passes : (p : ℕ → Bool) (s : List ℕ) → all_pass p (front p s) ≡ true
+pub front_passes : (p : ℕ → Bool) (s : List ℕ) → all_pass p (front p s) ≡ true
 front_passes p [] = refl
 front_passes p (c ∷ s) = elim (p c) as (λ b. p c ≡ b → all_pass p (cond b (c ∷ front p s) []) ≡ true)
     [ true ↦ λ e. rw (e, front_passes p s) refl | false ↦ λ e. refl ] refl

@@ -3,6 +3,7 @@ pub mod Tags
 pub mod Reading
 pub mod Spellings
 pub mod Laws
+pub mod Reads
 pub mod Places
 pub mod Parts
 pub mod Examples

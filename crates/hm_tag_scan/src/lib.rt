@@ -5,4 +5,6 @@
 mod attribute;
 pub mod laws;
 mod parts;
+mod references;
 mod runs;
+mod values;

@@ -9,3 +9,4 @@ pub mod ValuePlaces
 pub mod TagParts
 pub mod Digits
 pub mod ReferenceReads
+pub mod ValueReads

@@ -59,7 +59,7 @@ front_passes p [] = refl
 front_passes p (c ∷ s) = elim (p c) as (λ b. p c ≡ b → all_pass p (cond b (c ∷ front p s) []) ≡ true)
     [ true ↦ λ e. rw (e, front_passes p s) refl | false ↦ λ e. refl ] refl
 
-split_at : (s : List ℕ) (from at : ℕ) → from ≤ at → drop from s ≡ slice_range s from at ++ drop at s
+pub split_at : (s : List ℕ) (from at : ℕ) → from ≤ at → drop from s ≡ slice_range s from at ++ drop at s
 split_at s from at h =
     let there : from + (at - from) ≡ at = omega arith in
     sym (take-append-drop (at - from) (drop from s)) ∙ ap (λ r. slice_range s from at ++ r) (drop-drop (at - from) from s ∙ ap (λ n. drop n s) there)

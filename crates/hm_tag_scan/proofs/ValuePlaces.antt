@@ -84,7 +84,7 @@ quoted_missing s q from b none =
 pub rest_cons : (s : List ℕ) (n : ℕ) → n < length s → drop n s ≡ get_or s n 0 ∷ drop (n + 1) s
 rest_cons s n h = rw add-one (drop-cons s n 0 h)
 
-take_none : (n : ℕ) → take {A = ℕ} n [] ≡ []
+pub take_none : (n : ℕ) → take {A = ℕ} n [] ≡ []
 take_none zero = refl
 take_none (suc n) = refl
 

@@ -1,8 +1,10 @@
 pub mod Bools
 pub mod FirstsLaws
 pub mod Found
+pub mod Gathered
 pub mod Growing
 pub mod LoneLaws
+pub mod Members
 pub mod NumberLaws
 pub mod Places
 pub mod References

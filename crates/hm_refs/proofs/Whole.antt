@@ -155,6 +155,11 @@ named_at t q i h =
       own = points_place t q ∙ ap (λ o. option_map (λ i. (entry_at t i).points) o) h;
     }
 
+-- a place among the names tells a name
+pub named_so : (t : List Entry) (q : List ℕ) (o : Option ℕ) → o ≡ place q (names_in t) → (is_some o ≡ is_name t q) × IfSome o (λ i. i < length t) × IfSome o (λ i. (entry_at t i).name ≡ q)
+named_so t q None e = (ap is_some e ∙ sym (name_place t q), tt, tt)
+named_so t q (Some i) e = let m = named_at t q i (sym e) in (ap is_some e ∙ sym (name_place t q), m.inside, m.is)
+
 -- each name is found at its own place
 pub own_place : (t : List Entry) → AreApart (names_in t) → (i : ℕ) → i < length t → place (entry_at t i).name (names_in t) ≡ Some i
 own_place t a i l =
@@ -194,10 +199,6 @@ module _ (t : List Entry) (nodes : List TrieNode) (places : List ℕ) (w : IsWho
   node_ends n x l e =
       subst (λ u. x.ends ≡ place (front_at seen n) (names_in u)) (take_all (length t) t (omega arith))
       (w.put.grown.names.ended n x l (sym e) ∙ ap (λ q. place q (names_in (take (length t) t))) (sym (front_at_place t nodes n x l (sym e))))
-
-  pub name_ends : (n : ℕ) (o : Option ℕ) → o ≡ place (front_at seen n) (names_in t) → (is_some o ≡ is_name t (front_at seen n)) × IfSome o (λ i. (i < length t) × ((entry_at t i).name ≡ front_at seen n))
-  name_ends n None e = (ap is_some e ∙ sym (name_place t (front_at seen n)), tt)
-  name_ends n (Some i) e = let m = named_at t (front_at seen n) i (sym e) in (ap is_some e ∙ sym (name_place t (front_at seen n)), (m.inside, m.is))
 
   pub place_node : (i : ℕ) → i < length t → IsNode seen (get_or places i 0)
   place_node i l = let s = place_stands (entry_at t i).name (fronts_of t nodes) (get_or places i 0) (w.put.placed i l) in node_is t nodes places w (get_or places i 0) s.inside

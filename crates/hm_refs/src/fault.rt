@@ -1,5 +1,6 @@
 //! Why bytes are no table.
-use hm_base::Word;
+use hm_base::{Memory, Word};
+use std::alloc::AllocError;
 use thiserror::Error;
 
 /// The first fault of a table's bytes, in the order of these cases. A key is the least one, in byte order, that has the fault.
@@ -32,4 +33,26 @@ pub enum TableFault {
     /// Memory was refused.
     #[error("Memory")]
     Memory,
+}
+
+impl From<Memory> for TableFault {
+    ghost use Rattle.std.specs.Prelude.{◌≡◌};
+    ghost use Rattle.hm_refs.specs.declared.fault.TableFault.TheVariants as faults;
+
+    ghost from_gives = { λ _ fault. fault ≡ faults.Memory };
+
+    fn from(_refused: Memory) -> TableFault {
+        TableFault::Memory
+    }
+}
+
+impl From<AllocError> for TableFault {
+    ghost use Rattle.std.specs.Prelude.{◌≡◌};
+    ghost use Rattle.hm_refs.specs.declared.fault.TableFault.TheVariants as faults;
+
+    ghost from_gives = { λ _ fault. fault ≡ faults.Memory };
+
+    fn from(_refused: AllocError) -> TableFault {
+        TableFault::Memory
+    }
 }

@@ -7,8 +7,10 @@ mod ids;
 pub mod laws;
 mod nodes;
 mod numbers;
+mod table;
 mod trie;
 
 pub use fault::TableFault;
 pub use ids::{NameId, Node};
 pub use numbers::{best_number, number_value};
+pub use table::Table;

@@ -50,6 +50,7 @@ impl Trie {
         ensures front { front_at self.now result ≡ 38 ∷ [] }
         ensures node { IsNode self.now result }
         ensures names { AreNames self.now.entries }
+        ensures trie { IsTrie self.now }
     {
         let _nodes = &self.nodes;
         Node::new(0)
@@ -86,11 +87,18 @@ impl Trie {
         self.names[id.index()].points
     }
 
+    pub(crate) fn text(&self, id: NameId) -> &str
+        requires { id < length self.now.entries }
+        ensures { result.now ≡ (entry_at self.now.entries id).name }
+    {
+        self.names[id.index()].text.as_str()
+    }
+
     pub(crate) fn name(&self, id: NameId) -> &[u8]
         requires { id < length self.now.entries }
         ensures { result.now ≡ (entry_at self.now.entries id).name }
     {
-        self.names[id.index()].text.as_bytes()
+        self.text(id).as_bytes()
     }
 
     pub(crate) fn longest(&self, text: &[u8]) -> Option<NameId>

@@ -1,7 +1,10 @@
 pub mod Bytes
 pub mod Examples
+pub mod Faults
+pub mod Places
 pub mod Forms
 pub mod RawText
 pub mod Rules
 pub mod Source
+pub mod SourceExamples
 pub mod Walks

@@ -1,5 +1,5 @@
 -- The text of a page (HTML Standard, 13.2.3): its bytes without a mark, each line end as one LF, each byte with its place.
-use Rattle.std.specs.Prelude.{ℕ, zero, suc, ◌+◌, ◌&&◌, ◌==◌, nat_lt, List, [], ◌∷◌, length, map, Option, Some, None, if◌then◌else◌}
+use Rattle.std.specs.Prelude.{ℕ, zero, suc, ◌+◌, Bool, not, ◌&&◌, ◌==◌, nat_lt, List, [], ◌∷◌, length, map, Option, Some, None, if◌then◌else◌}
 use Rattle.hm_base.specs.declared.rules.Rule.{Rule}
 use Rattle.hm_base.specs.declared.rules.Rule.TheVariants.{NotUtf8, Nul}
 use Rattle.std.specs.Str.Lossy.{utf8_valid_len}
@@ -42,6 +42,10 @@ byte_of a = a.byte
 -- the bytes of the text
 abbrev pub text_of : List ℕ → List ℕ
 text_of page = map byte_of (placed_text page)
+
+-- a byte that a text may have: none is zero, and no CR is left
+abbrev pub is_text_byte : ℕ → Bool
+is_text_byte c = not (c == 0) && not (c == 13)
 
 -- the place of the byte at an index; behind the last one it is the page's length
 abbrev pub place_in : List Placed → ℕ → ℕ → ℕ

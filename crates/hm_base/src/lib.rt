@@ -3,6 +3,8 @@
 
 mod plain;
 mod rules;
+mod source;
 
 pub use plain::{Memory, Points, SpellRules, TreeOptions, Word, is_space};
 pub use rules::{Refused, Rule};
+pub use source::{LONGEST_PAGE, SourceText, TextFault};

@@ -1,1 +1,9 @@
 pub mod Among
+pub mod TableTools
+pub mod TableFacts
+pub mod UpFacts
+pub mod Events
+pub mod Chain
+pub mod Gathered
+pub mod RawEnds
+pub mod NameFacts

@@ -1,5 +1,10 @@
+pub mod Laws
 pub mod Names
 pub mod Nesting
 pub mod Omission
+pub mod Paths
+pub mod Places
+pub mod Sample
+pub mod Settled
 pub mod Tables
 pub mod Texts

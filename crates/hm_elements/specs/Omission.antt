@@ -1,7 +1,7 @@
 -- The tables of tags that may be left out. Those of html, head and body depend on no name.
-use Rattle.std.specs.Prelude.{ℕ, Bool, true, false, not, List, [], ◌∷◌, ◌++◌, if◌then◌else◌, codes, bytes_eq}
-use Rattle.hm_elements.specs.Names.{words, is_among, Row, row, is_pair, p, option, colgroup, body}
-use Rattle.hm_elements.specs.Tables.{sections, blocks}
+use Rattle.std.specs.Prelude.{ℕ, Bool, true, not, ◌&&◌, ◌||◌, List, [], ◌∷◌, ◌++◌, if◌then◌else◌, codes, bytes_eq}
+use Rattle.hm_elements.specs.Names.{words, is_among, Row, row, is_pair, p, option, colgroup, tbody, body}
+use Rattle.hm_elements.specs.Tables.{sections, blocks, is_section}
 use Rattle.hm_elements.specs.Nesting.{without}
 
 unfoldable pub before_rows : List Row
@@ -36,3 +36,14 @@ goes_up n parent =
     if bytes_eq n p then is_among parent up_of_p
     else if bytes_eq n option then not (bytes_eq parent (codes "datalist"))
     else is_among n up_names
+
+unfoldable pub start_rows : List Row
+start_rows = row "colgroup" (words "col") ∷ row "tbody" (words "tr") ∷ []
+
+-- The start tag of this element may be left out before the start tag of that child.
+unfoldable pub start_goes_before : List ℕ → List ℕ → Bool
+start_goes_before n child = is_pair start_rows n child
+
+-- Where the end tag of this element was left out, the start tag of that one behind it isn't left out.
+unfoldable pub bars_start : List ℕ → List ℕ → Bool
+bars_start before n = (bytes_eq n tbody && is_section before) || (bytes_eq n colgroup && bytes_eq before colgroup)

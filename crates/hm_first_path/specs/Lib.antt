@@ -1,4 +1,5 @@
 pub mod Page
+pub mod Reading
 pub mod Spellings
 pub mod Graph
 pub mod Certificate

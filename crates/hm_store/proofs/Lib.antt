@@ -1,2 +1,6 @@
+pub mod CallLemmas
+pub mod EdgeLemmas
 pub mod FileLemmas
+pub mod MemStoreLemmas
+pub mod NamedFileLemmas
 pub mod ResultLemmas

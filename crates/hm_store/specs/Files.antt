@@ -1,5 +1,5 @@
 -- What a store tells of its files, and what each call does to that. Names and contents are lists of bytes.
-use Rattle.std.specs.Prelude.{ℕ, ◌≡◌, ◌<◌, ◌⊎◌, List, [], ◌++◌, length, take, Bool, IsTrue, IsSome, Some, None, MatchResult}
+use Rattle.std.specs.Prelude.{ℕ, ◌≡◌, ◌<◌, List, [], ◌++◌, length, take, Bool, IsTrue, IsSome, Some, None, MatchResult}
 use Rattle.std.specs.declared.option.Option.{Option}
 use Rattle.std.specs.declared.result.Result.{Result}
 use Rattle.std.specs.Option.{option_map, option_and_then, unwrap_or}

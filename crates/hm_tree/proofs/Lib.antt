@@ -1,4 +1,5 @@
 pub mod AttributeLemmas
+pub mod DumpLemmas
 pub mod EndLemmas
 pub mod LastLemmas
 pub mod MakingLemmas

@@ -1,6 +1,6 @@
 -- A text put behind a walk: it joins the text that stands last, or stands last itself.
-use Rattle.std.proofs.Common.{◌≡◌, ℕ, ◌+◌, ◌<◌, Bool, true, false, ◌&&◌, List, [], ◌∷◌, ◌++◌, length, Option, sym, ap, ◌∙◌, refl, arith, length-append}
-use Rattle.hm_base.specs.Walks.{Event, doctype, start, text, comment, end, Attribute, Element, event_size, is_same_element, path_behind, path_after, ends_match, walk_size, with_text}
+use Rattle.std.proofs.Common.{◌≡◌, ℕ, ◌+◌, ◌<◌, Bool, true, false, ◌&&◌, List, [], ◌∷◌, ◌++◌, length, ap, ◌∙◌, refl, arith, length-append}
+use Rattle.hm_base.specs.Walks.{Event, doctype, start, text, comment, end, Element, event_size, is_same_element, path_behind, path_after, ends_match, walk_size, with_text}
 use Rattle.hm_tree.specs.Trees.{open_behind, open_after}
 use Rattle.hm_tree.specs.Rows.{is_text, ends_in_text, with_more, extended}
 

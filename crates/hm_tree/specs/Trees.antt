@@ -1,7 +1,7 @@
 -- What is true of the walk of a tree, which starts are open in it, and where two walks differ.
-use Rattle.std.specs.Prelude.{◌≡◌, ◌≢◌, ℕ, ◌+◌, ◌^◌, ◌<◌, Bool, true, ◌&&◌, List, [], ◌∷◌, ◌++◌, length, take, slice_get, Option}
+use Rattle.std.specs.Prelude.{◌≡◌, ◌≢◌, ℕ, ◌+◌, ◌^◌, ◌<◌, Bool, true, ◌&&◌, List, [], ◌∷◌, length, take, slice_get, Option}
 use Rattle.std.specs.Str.{is_utf8}
-use Rattle.hm_base.specs.Walks.{Event, doctype, start, text, comment, end, Attribute, Element, path_after, ends_match, same_flag, has_distinct_names, walk_size}
+use Rattle.hm_base.specs.Walks.{Event, doctype, start, text, comment, end, Element, path_after, ends_match, same_flag, has_distinct_names, walk_size}
 use Rattle.hm_tree.specs.Attributes.{are_texts}
 
 -- names, values, texts and comments are UTF-8, and the names of a start's attributes are distinct

@@ -2,6 +2,7 @@
 #![tactic(auto)]
 
 mod attrs;
+mod dump;
 mod events;
 mod maker;
 mod rows;

@@ -1,7 +1,7 @@
-use Rattle.std.proofs.Common.{◌≡◌, ◌==◌, ◌<◌, ◌++◌, [], ◌∷◌, true, false, Bool, ℕ, List, length, sym, ap, ◌∙◌, arith, length-append}
+use Rattle.std.proofs.Common.{◌≡◌, ◌==◌, ◌<◌, [], ◌∷◌, true, false, Bool, ℕ, List, length, sym, ap, ◌∙◌, arith, length-append}
 use Rattle.std.proofs.lemmas.Bool.{eqb-false}
-use Rattle.hm_base.specs.Walks.{text, with_text, walk_size}
-use Rattle.hm_tree.specs.Rows.{ends_in_text, extended}
+use Rattle.hm_base.specs.Walks.{text, walk_size}
+use Rattle.hm_tree.specs.Rows.{ends_in_text}
 use Rattle.hm_tree.proofs.TextLemmas.{with_text-extended, with_text-push, walk_size-extended}
 use Rattle.hm_tree.proofs.WalkLemmas.{walk_size-push}
 use Rattle.hm_tree.proofs.rows.Rows.put_text.Goals as goal

@@ -1,0 +1,28 @@
+-- Texts whose bytes all pass a test.
+use Rattle.std.proofs.Common.{◌≡◌, ℕ, Bool, true, false, ◌&&◌, List, [], ◌∷◌, ◌++◌, refl}
+use Rattle.hm_base.specs.Bytes.{all_pass}
+
+-- both tests hold where both together do
+pub both_true : (a b : Bool) → a ≡ true → b ≡ true → (a && b) ≡ true
+both_true a b h k = rw (h, k) refl
+
+pub first_true : (a b : Bool) → (a && b) ≡ true → a ≡ true
+first_true true b h = refl
+first_true false b h = h
+
+pub second_true : (a b : Bool) → (a && b) ≡ true → b ≡ true
+second_true true b h = h
+second_true false b h = cc
+
+pub all_pass-append : (p : ℕ → Bool) (s t : List ℕ) → all_pass p s ≡ true → all_pass p t ≡ true → all_pass p (s ++ t) ≡ true
+all_pass-append p [] t h k = k
+all_pass-append p (c ∷ s) t h k = both_true (p c) (all_pass p (s ++ t)) (first_true (p c) (all_pass p s) h) (all_pass-append p s t (second_true (p c) (all_pass p s) h) k)
+
+-- of two texts together each passes
+pub all_pass_first : (p : ℕ → Bool) (s t : List ℕ) → all_pass p (s ++ t) ≡ true → all_pass p s ≡ true
+all_pass_first p [] t h = refl
+all_pass_first p (c ∷ s) t h = both_true (p c) (all_pass p s) (first_true (p c) (all_pass p (s ++ t)) h) (all_pass_first p s t (second_true (p c) (all_pass p (s ++ t)) h))
+
+pub all_pass_second : (p : ℕ → Bool) (s t : List ℕ) → all_pass p (s ++ t) ≡ true → all_pass p t ≡ true
+all_pass_second p [] t h = h
+all_pass_second p (c ∷ s) t h = all_pass_second p s t (second_true (p c) (all_pass p (s ++ t)) h)

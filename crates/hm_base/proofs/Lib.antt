@@ -1,0 +1,6 @@
+pub mod Bytes
+pub mod Faults
+pub mod Lines
+pub mod Mark
+pub mod Page
+pub mod Places

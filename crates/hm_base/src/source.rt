@@ -1,0 +1,253 @@
+//! The text of a page, with the place of each byte.
+ghost use Rattle.std.specs.Prelude.{◌≡◌, ◌+◌, ◌≤◌, ◌++◌, None, length, map, true, IfOk, OnOk, IfErr};
+ghost use Rattle.hm_base.specs.Bytes.{all_pass};
+ghost use Rattle.hm_base.specs.Faults.{HasText, IsRefusedBy};
+ghost use Rattle.hm_base.specs.Places.{is_nonzero, mark_of, start_of, with_bytes, with_lines, with_pair};
+ghost use Rattle.hm_base.specs.Source.{byte_of, is_text_byte, numbered, place_in, source_of, text_fault, without_mark};
+
+use crate::plain::Memory;
+use memchr::memchr;
+use std::alloc::Global;
+use std::marker::Model;
+use std::str;
+use thiserror::Error;
+
+/// The bytes of the longest page that is read, whatever its limit.
+pub const LONGEST_PAGE: u32 = 67_108_864;
+
+/// Why a page has no text. Places count bytes of the page.
+#[derive(Clone, Copy, Debug, PartialEq, Eq, Error)]
+pub enum TextFault {
+    /// There are more bytes than the limit.
+    #[error("the page is too long")]
+    TooLong,
+    /// The byte `at` begins the first sequence that isn't UTF-8.
+    #[error("not UTF-8 at {at}")]
+    NotUtf8 { at: u32 },
+    /// The byte `at` is the first zero.
+    #[error("a zero byte at {at}")]
+    Nul { at: u32 },
+    /// Memory was refused.
+    #[error("out of memory")]
+    Memory,
+}
+
+impl From<Memory> for TextFault {
+    ghost use Rattle.hm_base.specs.declared.source.TextFault.TheVariants as faults;
+
+    ghost from_gives = { λ _ fault. fault ≡ faults.Memory };
+
+    fn from(_error: Memory) -> Self {
+        TextFault::Memory
+    }
+}
+
+/// The text of a page (HTML Standard, 13.2.3): without a leading U+FEFF, its line ends LF alone.
+///
+/// Contracts see its bytes, each with its place in the page, and the page's length.
+#[derive(Debug, Drop)]
+pub struct SourceText {
+    text: String,
+    has_mark: bool,
+    // The indices in `text` of the LFs that were CR LF, in order.
+    pairs: Vec<u32>,
+}
+
+impl Model for SourceText {
+    ghost use Rattle.std.specs.Prelude.{string_bytes};
+    ghost use Rattle.hm_base.specs.Places.{IsSourceText, source_from, start_of};
+    ghost use Rattle.hm_base.specs.Source.{Source};
+
+    ghost Value = { Source };
+
+    ghost view = { λ s. source_from (start_of s.has_mark) s.pairs.items (string_bytes s.text) };
+
+    ghost invariant = { λ s. IsSourceText (start_of s.has_mark) s.pairs.items (string_bytes s.text) };
+}
+
+impl SourceText {
+    /// The text of the bytes of a page. Places count bytes of the page as it is.
+    ///
+    /// The fault is `TooLong` where there are more bytes than `limit`, else that of the lesser
+    /// place. `Memory` comes only where the page has a text.
+    pub fn read(alloc: Global, bytes: &[u8], limit: u32) -> Result<SourceText, TextFault>
+        requires { limit ≤ LONGEST_PAGE }
+        ensures read { IfOk result (λ text. text ≡ source_of bytes.now) }
+        ensures sound { OnOk result (HasText limit bytes.now) }
+        ensures refused { IfErr result (λ fault. IsRefusedBy fault limit bytes.now) }
+    {
+        let page = checked(bytes, limit)?;
+        let text = SourceText::of_page(alloc, page)?;
+        Ok(text)
+    }
+
+    /// The text.
+    pub fn text(&self) -> &str
+        ensures bytes { result.now ≡ map byte_of self.now.placed }
+        ensures len { length result.now ≡ length self.now.placed }
+        ensures plain { all_pass is_text_byte result.now ≡ true }
+        ensures within { length result.now ≤ self.now.end }
+        ensures short { self.now.end ≤ LONGEST_PAGE }
+    {
+        self.text.as_str()
+    }
+
+    /// The byte of the page where the byte `index` of the text came from. An LF that was CR LF came
+    /// from the CR. For the text's length it is the page's length.
+    pub fn place_of(&self, index: u32) -> u32
+        requires { index ≤ length self.now.placed }
+        ensures { result ≡ place_in self.now.placed self.now.end index }
+    {
+        let before = self.pairs.partition_point(|pair| *pair < index);
+        start_of(self.has_mark) + index + before as u32
+    }
+
+    // The text of a page that is UTF-8.
+    fn of_page(alloc: Global, page: &str) -> Result<SourceText, Memory>
+        requires short { length page.now ≤ LONGEST_PAGE }
+        requires sound { text_fault page.now ≡ None }
+        ensures { IfOk result (λ text. text ≡ source_of page.now) }
+    {
+        let (has_mark, lines) = without_mark(page);
+        let mut text = SourceText {
+            text: String::with_capacity(alloc, lines.len())?,
+            has_mark,
+            pairs: Vec::new(alloc),
+        };
+        text.push_lines(lines)?;
+        Ok(text)
+    }
+
+    // Adds what is left of a page, each of its line ends as LF.
+    fn push_lines(&mut self, page: &str) -> Result<(), Memory>
+        requires room { self.old.end + length page.now ≤ LONGEST_PAGE }
+        requires no_zero { all_pass is_nonzero page.now ≡ true }
+        ensures { OnOk result (self.new ≡ with_lines self.old page.now) }
+    {
+        let mut rest = page;
+        while let Some((line, behind)) = rest.split_once('\r') {
+            self.push_bytes(line)?;
+            match behind.strip_prefix('\n') {
+                Some(next) => {
+                    self.push_pair()?;
+                    rest = next;
+                }
+                None => {
+                    self.push_bytes("\n")?;
+                    rest = behind;
+                }
+            }
+        }
+        self.push_bytes(rest)
+    }
+
+    // Adds bytes that stand in the page as they are, or an LF for a CR.
+    fn push_bytes(&mut self, bytes: &str) -> Result<(), Memory>
+        requires room { self.old.end + length bytes.now ≤ LONGEST_PAGE }
+        requires plain { all_pass is_text_byte bytes.now ≡ true }
+        ensures { OnOk result (self.new ≡ with_bytes self.old bytes.now) }
+    {
+        self.text.push_str(bytes)?;
+        Ok(())
+    }
+
+    // Adds the LF of a CR LF.
+    fn push_pair(&mut self) -> Result<(), Memory>
+        requires { self.old.end + 2 ≤ LONGEST_PAGE }
+        ensures { OnOk result (self.new ≡ with_pair self.old) }
+    {
+        let at = self.text.len() as u32;
+        self.text.push('\n')?;
+        self.pairs.push(at)?;
+        Ok(())
+    }
+}
+
+// The byte of the page where the text starts.
+fn start_of(has_mark: bool) -> u32
+    ensures { result ≡ start_of has_mark }
+{
+    if has_mark { 3 } else { 0 }
+}
+
+// Whether the page begins with the mark U+FEFF, and what is left of it.
+fn without_mark(page: &str) -> (bool, &str)
+    ensures whole { page.now ≡ mark_of result.0 ++ result.1.now }
+    ensures places { without_mark (numbered 0 page.now) ≡ numbered (start_of result.0) result.1.now }
+{
+    match page.strip_prefix('\u{feff}') {
+        Some(rest) => (true, rest),
+        None => (false, page),
+    }
+}
+
+// The bytes of a page as text, where they have one.
+fn checked(bytes: &[u8], limit: u32) -> Result<&str, TextFault>
+    requires { limit ≤ LONGEST_PAGE }
+    ensures text { IfOk result (λ page. page.now ≡ bytes.now) }
+    ensures sound { OnOk result (HasText limit bytes.now) }
+    ensures refused { IfErr result (λ fault. IsRefusedBy fault limit bytes.now) }
+{
+    if bytes.len() > limit as usize {
+        return Err(TextFault::TooLong);
+    }
+    match str::from_utf8(bytes) {
+        Ok(page) => match memchr(0, bytes) {
+            None => Ok(page),
+            Some(at) => Err(TextFault::Nul { at: at as u32 }),
+        },
+        Err(error) => {
+            let bad = error.valid_up_to();
+            match memchr(0, &bytes[..bad]) {
+                None => Err(TextFault::NotUtf8 { at: bad as u32 }),
+                Some(at) => Err(TextFault::Nul { at: at as u32 }),
+            }
+        }
+    }
+}
+
+#[cfg(test)]
+mod tests {
+    use super::*;
+
+    #[test]
+    fn limit(rt: HostRuntime) -> Result<(), TextFault> {
+        let page = vec![in rt.alloc(); b'a'; 4_194_305].expect(&rt, "memory");
+        let text = SourceText::read(rt.alloc(), &page[1..], 4_194_304)?;
+        assert_eq!(rt; text.text().len(), 4_194_304);
+        let fault = SourceText::read(rt.alloc(), &page, 4_194_304).err();
+        assert_eq!(rt; fault, Some(TextFault::TooLong));
+        Ok(())
+    }
+
+    #[test]
+    fn faults(rt: HostRuntime) {
+        let cases: [(&[u8], TextFault); 5] = [
+            (b"<!doctype html>\xFF", TextFault::NotUtf8 { at: 15 }),
+            (b"<!doctype html>\x00", TextFault::Nul { at: 15 }),
+            (b"a\x00\xFF", TextFault::Nul { at: 1 }),
+            (b"a\xC3(\x00", TextFault::NotUtf8 { at: 1 }),
+            (b"\xEF\xBB\xBF\xE2\x82", TextFault::NotUtf8 { at: 3 }),
+        ];
+        for (page, fault) in cases {
+            let read = SourceText::read(rt.alloc(), page, 100).err();
+            assert_eq!(rt; read, Some(fault));
+        }
+    }
+
+    #[test]
+    fn places(rt: HostRuntime) -> Result<(), TextFault> {
+        let page = b"\xEF\xBB\xBFa\r\nb\rc\r\r\n\xC3\xA9\n";
+        let text = SourceText::read(rt.alloc(), page, 100)?;
+        assert_eq!(rt; text.text(), "a\nb\nc\n\n\u{e9}\n");
+        let places = [3, 4, 6, 7, 8, 9, 10, 12, 13, 14, 15];
+        assert_eq!(rt; text.text().len(), 10);
+        for index in 0..11 {
+            assert_eq!(rt; text.place_of(index), places[index as usize], "at {index}");
+        }
+        let empty = SourceText::read(rt.alloc(), b"\xEF\xBB\xBF", 3)?;
+        assert_eq!(rt; empty.text(), "");
+        assert_eq!(rt; empty.place_of(0), 3);
+        Ok(())
+    }
+}

@@ -1,0 +1,17 @@
+pub mod LayerStates
+pub mod EdgeCases
+pub mod LeastPrices
+pub mod Writable
+pub mod Reading
+pub mod FirstWay
+pub mod Spelled
+pub mod Shortest
+pub mod Numbers
+pub mod Rows
+pub mod Lines
+pub mod Joined
+pub mod PlainBytes
+pub mod Steps
+pub mod Answering
+pub mod Finish
+pub mod Starts

@@ -1,0 +1,83 @@
+//! The calls on an object in memory.
+ghost use Rattle.std.specs.Prelude.{◌≡◌, ◌≤◌, OnOk, OnErr};
+ghost use Rattle.hm_store.specs.Calls.{no_calls, fails_next, with_listed};
+ghost use Rattle.hm_store.specs.Causes.{one_more, Rose};
+
+use crate::Failed;
+use crate::faults::count_failure;
+use hm_base::Memory;
+use std::alloc::Global;
+use std::collections::BTreeSet;
+use std::marker::Model;
+
+/// Which calls are listed to fail, and how many were made and have failed.
+#[derive(Drop)]
+pub(crate) struct Calls {
+    // their numbers, the first call having the number 1
+    listed: BTreeSet<u64>,
+    made: u64,
+    faults: u64,
+}
+
+impl Model for Calls {
+    ghost use Rattle.std.specs.FinSet as set;
+    ghost use Rattle.hm_store.specs.Calls.{CallLog, call_log_code};
+
+    ghost Value = { CallLog };
+
+    ghost coded = { call_log_code };
+
+    ghost view = { λ c. record {
+      listed = set.from_list c.listed.keys;
+      made = c.made;
+      faults = c.faults;
+    } };
+}
+
+impl Calls {
+    /// No call is listed, and none was made.
+    pub(crate) fn new(alloc: Global) -> Self
+        ensures { result ≡ no_calls }
+    {
+        Calls {
+            listed: BTreeSet::new(alloc),
+            made: 0,
+            faults: 0,
+        }
+    }
+
+    /// Lists a call to fail.
+    pub(crate) fn list(&mut self, number: u32) -> Result<(), Memory>
+        ensures ok { OnOk result (self.new ≡ with_listed self.old number) }
+        ensures err { OnErr result (self.new ≡ self.old) }
+    {
+        self.listed.insert(u64::from(number))?;
+        Ok(())
+    }
+
+    /// Begins the next call: whether it is listed to fail.
+    pub(crate) fn begin(&mut self) -> bool
+        ensures listed { result ≡ fails_next self.old }
+        ensures after { self.new ≡ record self.old { made = one_more self.old.made } }
+    {
+        self.made = self.made.saturating_add(1);
+        self.listed.contains(&self.made)
+    }
+
+    /// Counts the call that was begun last as failed.
+    pub(crate) fn fail(&mut self) -> Failed
+        ensures after { self.new ≡ record self.old { faults = one_more self.old.faults } }
+        ensures later { self.old.faults ≤ self.new.faults }
+        ensures rose { Rose self.old.faults self.new.faults }
+    {
+        count_failure(&mut self.faults)
+    }
+
+    /// How many calls have failed.
+    #[cfg(test)]
+    pub(crate) fn faults(&self) -> u64
+        ensures { result ≡ self.now.faults }
+    {
+        self.faults
+    }
+}

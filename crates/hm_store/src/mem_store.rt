@@ -1,0 +1,251 @@
+//! A store in memory.
+ghost use Rattle.std.specs.Prelude.{◌≡◌, ◌+◌, ◌-◌, ◌++◌, min, ℕ, List, [], length, take, drop, true, is_some, is_err, IsTrue, IsErr, IfOk, OnOk, OnErr, Some, None};
+ghost use Rattle.std.specs.Io.{ReadsAtMost};
+ghost use Rattle.std.specs.Option.{option_copied, option_map};
+ghost use Rattle.std.specs.Result.{result_unwrap_or};
+ghost use Rattle.std.specs.FinMap as finmap;
+ghost use Rattle.hm_store.specs.Calls.{fails_next, with_listed, after_call};
+ghost use Rattle.hm_store.specs.Causes.{HasCause};
+ghost use Rattle.hm_store.specs.MemStore.{empty_store, source_of, rest_of, left_of, target_of, with_bytes, opened, advanced};
+
+use crate::calls::Calls;
+use crate::file_table::FileTable;
+use crate::{Failed, Store};
+use hm_base::Memory;
+use std::alloc::Global;
+use std::marker::Model;
+
+/// What is being read: the place of a file, and how many of its bytes were taken.
+#[derive(Clone, Copy)]
+struct Reading {
+    place: usize,
+    taken: usize,
+}
+
+/// Files in memory, as a store that fails at the calls that are listed to fail.
+#[derive(Drop)]
+pub struct MemStore {
+    files: FileTable,
+    reading: Option<Reading>,
+    // the place of the file that is being written
+    writing: Option<usize>,
+    calls: Calls,
+}
+
+impl Model for MemStore {
+    ghost use Rattle.std.specs.Prelude.{length};
+    ghost use Rattle.std.specs.Option.{option_map};
+    ghost use Rattle.hm_store.specs.MemStore.{StoredFiles, stored_files_code};
+    ghost use Rattle.hm_store.specs.NamedFiles.{name_at};
+
+    ghost Value = { StoredFiles };
+
+    ghost coded = { stored_files_code };
+
+    ghost use Rattle.hm_store.specs.Places.{reading_at, AreWithin};
+
+    ghost view = { λ s. record {
+      files = s.files.files;
+      reading = reading_at s.files.names s.reading;
+      writing = option_map (name_at s.files.names) s.writing;
+      calls = s.calls;
+    } };
+
+    ghost invariant = { λ s. AreWithin (length s.files.names) s.reading s.writing };
+}
+
+impl MemStore {
+    /// A store without files, with no listed call.
+    pub fn new(alloc: Global) -> Self
+        ensures { result ≡ empty_store }
+    {
+        MemStore {
+            files: FileTable::new(alloc),
+            reading: None,
+            writing: None,
+            calls: Calls::new(alloc),
+        }
+    }
+
+    /// Puts a file, in place of one of that name.
+    pub fn add(&mut self, name: &str, bytes: &[u8]) -> Result<(), Memory>
+        ensures ok { OnOk result (self.new ≡ record self.old {
+          files = finmap.insert self.old.files name.now bytes.now;
+        }) }
+        ensures err { OnErr result (self.new ≡ self.old) }
+    {
+        self.files.set(name, bytes)?;
+        Ok(())
+    }
+
+    /// Lists the call of that number to fail. The calls of all methods of `Store` are numbered from 1.
+    pub fn fail(&mut self, call: u32) -> Result<(), Memory>
+        ensures ok { OnOk result (self.new ≡ record self.old { calls = with_listed self.old.calls call }) }
+        ensures err { OnErr result (self.new ≡ self.old) }
+    {
+        self.calls.list(call)
+    }
+
+    /// The bytes of a file, or None where there is none of that name.
+    pub fn file(&self, name: &str) -> Option<&[u8]>
+        ensures { option_copied result ≡ finmap.get self.now.files name.now }
+    {
+        self.files.get(name)
+    }
+}
+
+/// Copies the bytes behind those that were taken to the front of `into`, as many as there is room for: how many.
+fn copy_rest(bytes: &[u8], taken: usize, into: &mut [u8]) -> usize
+    ensures count { result ≡ min (length (drop taken bytes.now)) (length into.old) }
+    ensures copied { into.new ≡ take result (drop taken bytes.now) ++ drop result into.old }
+{
+    let rest = if taken < bytes.len() {
+        &bytes[taken..]
+    } else {
+        &[]
+    };
+    let count = rest.len().min(into.len());
+    into[..count].copy_from_slice(&rest[..count]);
+    count
+}
+
+impl Store for MemStore {
+    ghost files = { λ s. Some s.files };
+
+    ghost is_reading = { λ s. is_some s.reading };
+
+    ghost source = { λ s. source_of s.reading };
+
+    ghost rest = { λ s. rest_of s.files s.reading };
+
+    ghost is_writing = { λ s. is_some s.writing };
+
+    ghost target = { λ s. target_of s.writing };
+
+    ghost faults = { λ s. s.calls.faults };
+
+    /// It fails exactly where the call is listed.
+    fn open_in(&mut self, name: &str) -> Result<bool, Failed>
+        ensures listed { is_err result ≡ fails_next self.old.calls }
+        ensures found { IfOk result (λ found. found ≡ finmap.contains_key self.old.files name.now) }
+        ensures after { self.new ≡ record self.old {
+          reading = opened name.now result;
+          calls = after_call self.old.calls result;
+        } }
+        ensures cause { HasCause self.old.calls.faults self.new.calls.faults result }
+    {
+        self.reading = None;
+        if self.calls.begin() {
+            return Err(self.calls.fail());
+        }
+        match self.files.place(name) {
+            Some(place) => {
+                self.reading = Some(Reading { place, taken: 0 });
+                Ok(true)
+            }
+            None => Ok(false),
+        }
+    }
+
+    /// It fails exactly where the call is listed, and else takes as many bytes as are there and have room.
+    fn pull(&mut self, into: &mut [u8]) -> Result<usize, Failed>
+        requires { is_some self.old.reading ≡ true }
+        ensures listed { is_err result ≡ fails_next self.old.calls }
+        ensures bound { ReadsAtMost result into.new }
+        ensures count { IfOk result (λ n. n ≡ min (length (left_of self.old)) (length into.old)) }
+        ensures copied { IfOk result (λ n. into.new ≡ take n (left_of self.old) ++ drop n into.old) }
+        ensures untouched { OnErr result (into.new ≡ into.old) }
+        ensures after { self.new ≡ record self.old {
+          reading = advanced self.old.reading (result_unwrap_or result 0);
+          calls = after_call self.old.calls result;
+        } }
+        ensures cause { HasCause self.old.calls.faults self.new.calls.faults result }
+    {
+        if self.calls.begin() {
+            return Err(self.calls.fail());
+        }
+        match self.reading {
+            None => unreachable!(),
+            Some(Reading { place, taken }) => {
+                let count = copy_rest(self.files.bytes(place), taken, into);
+                self.reading = Some(Reading {
+                    place,
+                    taken: taken + count,
+                });
+                Ok(count)
+            }
+        }
+    }
+
+    /// It fails where the call is listed, and else only for want of memory; then the files are as before.
+    fn open_out(&mut self, name: &str) -> Result<(), Failed>
+        ensures listed { IsTrue (fails_next self.old.calls) → IsErr result }
+        ensures ok { OnOk result (self.new ≡ record self.old {
+          files = finmap.insert self.old.files name.now [];
+          writing = Some name.now;
+          calls = after_call self.old.calls result;
+        }) }
+        ensures err { OnErr result (self.new ≡ record self.old {
+          writing = None;
+          calls = after_call self.old.calls result;
+        }) }
+        ensures cause { HasCause self.old.calls.faults self.new.calls.faults result }
+    {
+        self.writing = None;
+        if self.calls.begin() {
+            return Err(self.calls.fail());
+        }
+        match self.files.set(name, &[]) {
+            Ok(place) => {
+                self.writing = Some(place);
+                Ok(())
+            }
+            Err(Memory) => Err(self.calls.fail()),
+        }
+    }
+
+    /// It fails where the call is listed, and else only for want of memory; then the files are as before.
+    fn put(&mut self, bytes: &[u8]) -> Result<(), Failed>
+        requires { is_some self.old.writing ≡ true }
+        ensures listed { IsTrue (fails_next self.old.calls) → IsErr result }
+        ensures ok { OnOk result (self.new ≡ record self.old {
+          files = with_bytes self.old bytes.now;
+          calls = after_call self.old.calls result;
+        }) }
+        ensures err { OnErr result (self.new ≡ record self.old {
+          calls = after_call self.old.calls result;
+        }) }
+        ensures cause { HasCause self.old.calls.faults self.new.calls.faults result }
+    {
+        if self.calls.begin() {
+            return Err(self.calls.fail());
+        }
+        match self.writing {
+            None => unreachable!(),
+            Some(place) => match self.files.append(place, bytes) {
+                Ok(()) => Ok(()),
+                Err(Memory) => Err(self.calls.fail()),
+            },
+        }
+    }
+
+    /// It fails exactly where the call is listed.
+    fn close_out(&mut self) -> Result<(), Failed>
+        requires { is_some self.old.writing ≡ true }
+        ensures listed { is_err result ≡ fails_next self.old.calls }
+        ensures after { self.new ≡ record self.old {
+          writing = None;
+          calls = after_call self.old.calls result;
+        } }
+        ensures cause { HasCause self.old.calls.faults self.new.calls.faults result }
+    {
+        self.writing = None;
+        if self.calls.begin() {
+            return Err(self.calls.fail());
+        }
+        Ok(())
+    }
+}
+
+#[cfg(test)]
+mod tests;

@@ -1,0 +1,208 @@
+//! The trusted edge: files of the system, and a writer. They tell no content.
+ghost use Rattle.std.specs.Prelude.{◌≡◌, List, [], Bool, true, None, IsTrue, IfOk, OnOk, is_ok, is_some};
+ghost use Rattle.std.specs.Io.{ReadsAtMost};
+ghost use Rattle.std.specs.Io.KnownBytes.{Appends, ReadConsumes};
+ghost use Rattle.hm_store.specs.Causes.{counted, HasCause};
+ghost use Rattle.hm_store.specs.Edge.{ForBoth, no_open_files};
+
+use crate::faults::count_failure;
+use crate::{Failed, Sink, Store};
+use std::io::{Read, Write};
+use std::marker::Model;
+use std::rt::Files;
+use std::{fs, io};
+
+/// Files of the system, by path. A file that isn't there counts as a failed call.
+#[derive(Drop)]
+pub struct FileStore<'r, R: Files> {
+    rt: &'r R,
+    reading: Option<R::File>,
+    writing: Option<R::File>,
+    faults: u64,
+}
+
+impl<'r, R: Files> Model for FileStore<'r, R> {
+    ghost use Rattle.hm_store.specs.Edge.{OpenFiles};
+
+    ghost Value = { OpenFiles R.File };
+
+    ghost view = { λ s. record {
+      reading = s.reading;
+      writing = s.writing;
+      faults = s.faults;
+    } };
+}
+
+impl<'r, R: Files> FileStore<'r, R> {
+    /// A store with no open file.
+    pub fn new(rt: &'r R) -> Self
+        ensures { result ≡ no_open_files }
+    {
+        FileStore {
+            rt,
+            reading: None,
+            writing: None,
+            faults: 0,
+        }
+    }
+}
+
+impl<'r, R: Files> Store for FileStore<'r, R> {
+    ghost files = { λ _. None };
+
+    ghost is_reading = { λ s. is_some s.reading };
+
+    ghost source = { λ _. [] };
+
+    ghost rest = { λ _. None };
+
+    ghost is_writing = { λ s. is_some s.writing };
+
+    ghost target = { λ _. [] };
+
+    ghost faults = { λ s. s.faults };
+
+    fn open_in(&mut self, name: &str) -> Result<bool, Failed>
+        ensures reads { is_some self.new.reading ≡ is_ok result }
+        ensures found { IfOk result (λ found. IsTrue found) }
+        ensures writes { self.new.writing ≡ self.old.writing }
+        ensures counted { self.new.faults ≡ counted self.old.faults result }
+        ensures cause { HasCause self.old.faults self.new.faults result }
+    {
+        self.reading = None;
+        match fs::open(self.rt, name) {
+            Ok(file) => {
+                self.reading = Some(file);
+                Ok(true)
+            }
+            Err(_) => Err(count_failure(&mut self.faults)),
+        }
+    }
+
+    fn pull(&mut self, into: &mut [u8]) -> Result<usize, Failed>
+        requires { is_some self.old.reading ≡ true }
+        ensures reads { is_some self.new.reading ≡ true }
+        ensures bound { ReadsAtMost result into.new }
+        ensures pulled { ForBoth self.old.reading self.new.reading
+            (λ old new. ReadConsumes (R.File.remaining old) (R.File.remaining new) result into.new) }
+        ensures writes { self.new.writing ≡ self.old.writing }
+        ensures counted { self.new.faults ≡ counted self.old.faults result }
+        ensures cause { HasCause self.old.faults self.new.faults result }
+    {
+        match &mut self.reading {
+            None => unreachable!(),
+            Some(file) => match file.read(into) {
+                Ok(count) => Ok(count),
+                Err(_) => Err(count_failure(&mut self.faults)),
+            },
+        }
+    }
+
+    fn open_out(&mut self, name: &str) -> Result<(), Failed>
+        ensures writes { is_some self.new.writing ≡ is_ok result }
+        ensures reads { self.new.reading ≡ self.old.reading }
+        ensures counted { self.new.faults ≡ counted self.old.faults result }
+        ensures cause { HasCause self.old.faults self.new.faults result }
+    {
+        self.writing = None;
+        match fs::create(self.rt, name) {
+            Ok(file) => {
+                self.writing = Some(file);
+                Ok(())
+            }
+            Err(_) => Err(count_failure(&mut self.faults)),
+        }
+    }
+
+    fn put(&mut self, bytes: &[u8]) -> Result<(), Failed>
+        requires { is_some self.old.writing ≡ true }
+        ensures writes { is_some self.new.writing ≡ true }
+        ensures written { OnOk result (ForBoth self.old.writing self.new.writing
+            (λ old new. Appends (R.File.contents old) (R.File.contents new) bytes.now)) }
+        ensures reads { self.new.reading ≡ self.old.reading }
+        ensures counted { self.new.faults ≡ counted self.old.faults result }
+        ensures cause { HasCause self.old.faults self.new.faults result }
+    {
+        match &mut self.writing {
+            None => unreachable!(),
+            Some(file) => match file.write_all(bytes) {
+                Ok(()) => Ok(()),
+                Err(_) => Err(count_failure(&mut self.faults)),
+            },
+        }
+    }
+
+    fn close_out(&mut self) -> Result<(), Failed>
+        requires { is_some self.old.writing ≡ true }
+        ensures idle { self.new.writing ≡ None }
+        ensures reads { self.new.reading ≡ self.old.reading }
+        ensures counted { self.new.faults ≡ counted self.old.faults result }
+        ensures cause { HasCause self.old.faults self.new.faults result }
+    {
+        let flushed = match &mut self.writing {
+            None => unreachable!(),
+            Some(file) => file.flush(),
+        };
+        self.writing = None;
+        match flushed {
+            Ok(()) => Ok(()),
+            Err(_) => Err(count_failure(&mut self.faults)),
+        }
+    }
+}
+
+/// A writer as a sink.
+#[derive(Drop)]
+pub struct WriteSink<W: Write> {
+    inner: W,
+    faults: u64,
+}
+
+impl<W: Write> Model for WriteSink<W> {
+    ghost use Rattle.hm_store.specs.Edge.{SinkOver};
+
+    ghost Value = { SinkOver W };
+
+    ghost view = { λ s. record {
+      inner = s.inner;
+      faults = s.faults;
+    } };
+}
+
+impl<W: Write> WriteSink<W> {
+    /// A sink whose bytes go to `inner`.
+    pub fn new(inner: W) -> Self
+        ensures { result ≡ record { inner = inner; faults = 0 } }
+    {
+        WriteSink { inner, faults: 0 }
+    }
+}
+
+/// Writes all the bytes, and flushes them.
+fn write_through<W: Write>(writer: &mut W, bytes: &[u8]) -> io::Result<()>
+    ensures { OnOk result (Appends (W.contents writer.old) (W.contents writer.new) bytes.now) }
+{
+    writer.write_all(bytes)?;
+    writer.flush()
+}
+
+impl<W: Write> Sink for WriteSink<W> {
+    ghost contents = { λ _. None };
+
+    ghost faults = { λ s. s.faults };
+
+    fn put(&mut self, bytes: &[u8]) -> Result<(), Failed>
+        ensures written { OnOk result
+            (Appends (W.contents self.old.inner) (W.contents self.new.inner) bytes.now) }
+        ensures counted { self.new.faults ≡ counted self.old.faults result }
+        ensures cause { HasCause self.old.faults self.new.faults result }
+    {
+        match write_through(&mut self.inner, bytes) {
+            Ok(()) => Ok(()),
+            Err(_) => Err(count_failure(&mut self.faults)),
+        }
+    }
+}
+
+#[cfg(test)]
+mod tests;

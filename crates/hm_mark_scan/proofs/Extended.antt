@@ -6,8 +6,9 @@ use Rattle.std.proofs.lemmas.Bool.{cases_lt}
 use Rattle.std.proofs.lemmas.Bool.Decides.{Decides-eqb}
 use Rattle.hm_base.specs.Bytes.{Cut, cut_at, strip}
 use Rattle.hm_base.specs.RawText.{is_found}
-use Rattle.hm_mark_scan.specs.Tokens.{Scanned, taken, refused, cut, bad_doctype, Extends, as_comment, as_slice, doctype}
-use Rattle.hm_mark_scan.specs.Comments.{begins, cut_where, behind_end, at_once, cut_comment, read_comment, read_cdata}
+use Rattle.hm_tree.specs.Tokens.{Scanned, taken, refused, Extends, doctype}
+use Rattle.hm_mark_scan.specs.Pieces.{as_comment, as_slice}
+use Rattle.hm_mark_scan.specs.Comments.{begins, cut_where, behind_end, at_once, cut_comment, comment_at, read_comment, read_cdata}
 use Rattle.hm_mark_scan.specs.Doctypes.{doctype_form, by_form, as_doctype, read_doctype}
 use Rattle.hm_mark_scan.proofs.Cuts.{cond_both, RestExtends, CutExtends, Takes, CutTakes, Looks, strip_takes, strip_looks, strip_extends, strip_whole, cut_takes, cut_extends, cut_at_extends}
 
@@ -37,15 +38,18 @@ marks_look a b low high = record {
   where
     missed : (m s y : List ℕ) → length m ≤ length s → strip m s ≡ None → strip m (s ++ y) ≡ None
     missed m s y h e = strip_whole m s y h ∙ ap (option_map (λ r. r ++ y)) e
+
     extended : (s y : List ℕ) (o p : Option (List ℕ)) → strip a s ≡ o → RestExtends y o (strip a (s ++ y)) → RestExtends y p (strip b (s ++ y)) → Takes (length b) s p
         → RestExtends y (option_or o p) (option_or (strip a (s ++ y)) (strip b (s ++ y)))
     extended s y (Some r) p e x h t = rw x refl
     extended s y None None e x h t = tt
     extended s y None (Some r) e x h t = rw (missed a s y (omega arith) e) h
+
     none : (s y : List ℕ) → length b ≤ length s → (o p : Option (List ℕ)) → strip a s ≡ o → strip b s ≡ p → option_or o p ≡ None → option_or (strip a (s ++ y)) (strip b (s ++ y)) ≡ None
     none s y h (Some r) p e f g = cc
     none s y h None (Some r) e f g = cc
     none s y h None None e f g = rw (missed a s y (omega arith) e, missed b s y h f) refl
+
     longer : (s : List ℕ) (o p : Option (List ℕ)) → Takes (length a) s o → Takes (length b) s p → Takes (length b) (0 ∷ s) (option_or o p)
     longer s (Some r) p h i = omega arith
     longer s None None h i = tt
@@ -89,24 +93,19 @@ declared_extends (c ∷ d ∷ s) y = either (45 == c) (45 == d)
     either true false = cut_at_extends (codes ">") (c ∷ d ∷ s) y
     either false b = cut_at_extends (codes ">") (c ∷ d ∷ s) y
 
-abbrev comment_body : List ℕ → Option Cut
-comment_body s =
-    cond (begins (codes "<?") s) (cut_at (codes ">") (drop 1 s))
-      (cond (begins (codes "<!--") s) (cut_comment (drop 4 s)) (cut_at (codes ">") (drop 2 s)))
-
-comment_body_extends : (s y : List ℕ) → CutExtends y (comment_body s) (comment_body (s ++ y))
-comment_body_extends [] y = tt
-comment_body_extends (c ∷ []) y = elim (60 == c) as (λ b. CutExtends y
-      (cond (is_found (cond b None None)) (cut_at (codes ">") []) (cond (is_found (cond b None None)) (cut_comment []) (cut_at (codes ">") [])))
-      (comment_body (c ∷ y)))
+comment_at_extends : (s y : List ℕ) → CutExtends y (comment_at s) (comment_at (s ++ y))
+comment_at_extends [] y = tt
+comment_at_extends (c ∷ []) y = elim (60 == c) as (λ b. CutExtends y
+    (cond (is_found (cond b None None)) (cut_at (codes ">") []) (cond (is_found (cond b None None)) (cut_comment []) (cut_at (codes ">") [])))
+    (comment_at (c ∷ y)))
     [ true ↦ tt | false ↦ tt ]
-comment_body_extends (c ∷ d ∷ s) y = either (60 == c) (63 == d) (33 == d)
+comment_at_extends (c ∷ d ∷ s) y = either (60 == c) (63 == d) (33 == d)
   where
     either : (a b e : Bool) → CutExtends y
         (cond (is_found (cond a (cond b (Some s) None) None)) (cut_at (codes ">") (d ∷ s))
-          (cond (is_found (cond a (cond e (strip (codes "--") s) None) None)) (cut_comment (drop 2 s)) (cut_at (codes ">") s)))
+        (cond (is_found (cond a (cond e (strip (codes "--") s) None) None)) (cut_comment (drop 2 s)) (cut_at (codes ">") s)))
         (cond (is_found (cond a (cond b (Some (s ++ y)) None) None)) (cut_at (codes ">") (d ∷ (s ++ y)))
-          (cond (is_found (cond a (cond e (strip (codes "--") (s ++ y)) None) None)) (cut_comment (drop 2 (s ++ y))) (cut_at (codes ">") (s ++ y))))
+        (cond (is_found (cond a (cond e (strip (codes "--") (s ++ y)) None) None)) (cut_comment (drop 2 (s ++ y))) (cut_at (codes ">") (s ++ y))))
     either true true e = cut_at_extends (codes ">") (d ∷ s) y
     either true false true = unfold declared in declared_extends s y
     either true false false = cut_at_extends (codes ">") s y
@@ -114,13 +113,14 @@ comment_body_extends (c ∷ d ∷ s) y = either (60 == c) (63 == d) (33 == d)
 
 pub comment_extends : (s y : List ℕ) → Extends y (read_comment s) (read_comment (s ++ y))
 unfolding read_comment
-comment_extends s y = as_comment_extends y (comment_body s) (comment_body (s ++ y)) (comment_body_extends s y)
+comment_extends s y = as_comment_extends y (comment_at s) (comment_at (s ++ y)) (comment_at_extends s y)
 
 -- behind n bytes
 behind_extends : (mark : List ℕ) (n : ℕ) (s y : List ℕ) → CutExtends y (cut_at mark (drop n s)) (cut_at mark (drop n (s ++ y)))
-behind_extends mark n s y = elim (cases_lt n (length s))
-    [ inl h ↦ rw (drop-append-le n s y (omega arith)) (cut_at_extends mark (drop n s) y)
-    | inr h ↦ rw (drop_of_length-le s h) tt ]
+behind_extends mark n s y = elim (cases_lt n (length s)) [
+  | inl h ↦ rw (drop-append-le n s y (omega arith)) (cut_at_extends mark (drop n s) y)
+  | inr h ↦ rw (drop_of_length-le s h) tt
+]
 
 pub cdata_extends : (s y : List ℕ) → Extends y (read_cdata s) (read_cdata (s ++ y))
 unfolding read_cdata

@@ -1,5 +1,5 @@
 -- Words in any case, by the lowered text: what a test of a front sees of it.
-use Rattle.std.proofs.Common.{◌≡◌, ◌≢◌, ℕ, suc, ◌+◌, ◌≤◌, ◌<◌, Bool, true, false, cond, not, ◌&&◌, ◌||◌, ◌==◌, nat_le, ◌⊎◌, inl, inr, List, [], ◌∷◌, ◌++◌, map, length, drop, Option, Some, None, option_map, refl, sym, ap, subst, ◌∙◌, arith, codes, append_assoc, lit<}
+use Rattle.std.proofs.Common.{◌≡◌, ◌≢◌, ℕ, suc, ◌+◌, ◌≤◌, ◌<◌, Bool, true, false, cond, not, ◌&&◌, ◌||◌, ◌==◌, nat_le, ◌⊎◌, inl, inr, List, [], ◌∷◌, ◌++◌, map, length, drop, Option, Some, None, option_map, option_and_then, refl, sym, ap, subst, ◌∙◌, arith, codes, append_assoc, lit<}
 use Rattle.std.proofs.lemmas.Bool.{cases_lt}
 use Rattle.std.proofs.lemmas.Bool.Decides.{nat_tests, Decides-eqb}
 use Rattle.hm_base.specs.Bytes.{strip, strip_word, head_is, lower, is_space}
@@ -15,14 +15,16 @@ eqb_apart a b h = grind (arith, nat_tests)
 
 -- a byte below the letters is a byte exactly where it is the lowered byte
 pub eqb_lower : (a c : ℕ) → a < 65 → (a == lower c) ≡ (a == c)
-eqb_lower a c h = elim (lower_cases c)
-    [ inl q ↦ rw q.2 (eqb_apart a (c + 32) (λ e. omega arith) ∙ sym (eqb_apart a c (λ e. omega arith)))
-    | inr q ↦ rw q.1 refl ]
+eqb_lower a c h = elim (lower_cases c) [
+  | inl q ↦ rw q.2 (eqb_apart a (c + 32) (λ e. omega arith) ∙ sym (eqb_apart a c (λ e. omega arith)))
+  | inr q ↦ rw q.1 refl
+]
 
-eqb_lower' : (a c : ℕ) → a < 65 → (lower c == a) ≡ (c == a)
-eqb_lower' a c h = elim (lower_cases c)
-    [ inl q ↦ rw q.2 (eqb_apart (c + 32) a (λ e. omega arith) ∙ sym (eqb_apart c a (λ e. omega arith)))
-    | inr q ↦ rw q.1 refl ]
+pub eqb_lower' : (a c : ℕ) → a < 65 → (lower c == a) ≡ (c == a)
+eqb_lower' a c h = elim (lower_cases c) [
+  | inl q ↦ rw q.2 (eqb_apart (c + 32) a (λ e. omega arith) ∙ sym (eqb_apart c a (λ e. omega arith)))
+  | inr q ↦ rw q.1 refl
+]
 
 -- case doesn't tell whether a byte ends a name
 name_end_lower : (c : ℕ) → is_name_end (lower c) ≡ is_name_end c
@@ -52,7 +54,7 @@ found_lower [] s signs = refl
 found_lower (c ∷ m) [] signs = refl
 found_lower (c ∷ m) (d ∷ s) signs = rw (eqb_lower c d signs.0) (
     elim (c == d) as (λ b. is_found (cond b (strip m s) None) ≡ is_found (cond b (strip m (map lower s)) None))
-      [ true ↦ found_lower m s signs.1 | false ↦ refl ])
+    [ true ↦ found_lower m s signs.1 | false ↦ refl ])
 
 -- What stands behind a word and one more byte doesn't matter.
 pub whole_front : (w z r : List ℕ) → length w < length z → is_found_whole (strip w (z ++ r)) ≡ is_found_whole (strip w z)
@@ -87,4 +89,19 @@ whole_longer [] (d ∷ s) y h = h
 whole_longer (c ∷ w) [] y h = cc
 whole_longer (c ∷ w) (d ∷ s) y h =
     elim (c == lower d) as (λ b. is_found_whole (cond b (strip_word w s) None) ≡ true → is_found_whole (cond b (strip_word w (s ++ y)) None) ≡ true)
-      [ true ↦ λ f. whole_longer w s y f | false ↦ λ f. f ] h
+    [ true ↦ λ f. whole_longer w s y f | false ↦ λ f. f ] h
+
+-- a word that is found is no longer than the text
+pub word_long : (w s : List ℕ) → is_found (strip_word w s) ≡ true → length w ≤ length s
+word_long [] s h = omega arith
+word_long (c ∷ w) [] h = cc
+word_long (c ∷ w) (d ∷ s) h =
+    elim (c == lower d) as (λ b. is_found (cond b (strip_word w s) None) ≡ true → length (c ∷ w) ≤ length (d ∷ s))
+    [ true ↦ λ f. omega (arith, word_long w s f) | false ↦ λ f. cc ] h
+
+-- two words, one behind the other
+pub words_joined : (v w s : List ℕ) → strip_word (v ++ w) s ≡ option_and_then (strip_word w) (strip_word v s)
+words_joined [] w s = refl
+words_joined (c ∷ v) w [] = refl
+words_joined (c ∷ v) w (d ∷ s) = elim (c == lower d) as (λ b. cond b (strip_word (v ++ w) s) None ≡ option_and_then (strip_word w) (cond b (strip_word v s) None))
+    [ true ↦ words_joined v w s | false ↦ refl ]

@@ -3,7 +3,8 @@ use Rattle.std.proofs.Common.{◌≡◌, ◌≢◌, ℕ, zero, suc, ◌+◌, ◌
 use Rattle.std.proofs.lemmas.List.{length-take-le, drop-append-le, take-append-le, take-append-drop, take_at, drop_at, length-map}
 use Rattle.hm_base.specs.Bytes.{strip, strip_word, lower}
 use Rattle.hm_base.specs.RawText.{is_found_whole, begins_end_tag, place_from, raw_end}
-use Rattle.hm_mark_scan.specs.Tokens.{Scanned, taken, refused, slice, Extends, slice_up_to}
+use Rattle.hm_tree.specs.Tokens.{Scanned, taken, refused, slice, Extends}
+use Rattle.hm_mark_scan.specs.Pieces.{slice_up_to}
 use Rattle.hm_mark_scan.specs.RawTexts.{read_raw}
 use Rattle.hm_mark_scan.proofs.Lowered.{whole_lower, whole_front, whole_word, whole_longer}
 
@@ -52,8 +53,8 @@ module _ (name e e' : List ℕ) (ends : begins_end_tag name e ≡ true) (ends' :
   place_same [] i n at found = let same : i ≡ n = omega arith in rw same (place_first name e' n ends')
   place_same (c ∷ t) i n at found =
       rw (sym (begins_same t c)) (
-        elim (begins_end_tag name (c ∷ (t ++ e))) as (λ b. cond b (Some i) (place_from (begins_end_tag name) (suc i) (t ++ e)) ≡ Some n → cond b (Some i) (place_from (begins_end_tag name) (suc i) (t ++ e')) ≡ Some n)
-          [ true ↦ λ f. f | false ↦ λ f. place_same t (suc i) n (omega arith) f ] found)
+      elim (begins_end_tag name (c ∷ (t ++ e))) as (λ b. cond b (Some i) (place_from (begins_end_tag name) (suc i) (t ++ e)) ≡ Some n → cond b (Some i) (place_from (begins_end_tag name) (suc i) (t ++ e')) ≡ Some n)
+      [ true ↦ λ f. f | false ↦ λ f. place_same t (suc i) n (omega arith) f ] found)
 
 -- the text in front of the end tag is read
 pub raw_read : (name t e e' : List ℕ) → begins_end_tag name e' ≡ true → raw_end name (t ++ e) ≡ Some (length t) → read_raw name (t ++ e') ≡ taken (slice t) e'

@@ -3,7 +3,8 @@ use Rattle.std.proofs.Common.{◌≡◌, ◌≢◌, ℕ, zero, suc, ◌+◌, ◌
 use Rattle.std.proofs.lemmas.List.{length-take-le, take-append-drop, take_at, drop_at, length-map}
 use Rattle.hm_base.specs.Bytes.{strip, strip_word, lower}
 use Rattle.hm_base.specs.RawText.{is_found, is_found_whole, begins_end_tag, mark_at, Mark, opens_comment, closes_comment, opens_script, closes_script, with_mark, marks_from, ScriptState, unescaped, escaped, double_escaped, state_behind, ends_script, first_end, script_end}
-use Rattle.hm_mark_scan.specs.Tokens.{Scanned, taken, refused, slice, Extends, slice_up_to}
+use Rattle.hm_tree.specs.Tokens.{Scanned, taken, refused, slice, Extends}
+use Rattle.hm_mark_scan.specs.Pieces.{slice_up_to}
 use Rattle.hm_mark_scan.specs.RawTexts.{read_script}
 use Rattle.hm_mark_scan.proofs.Lowered.{AreSigns, found_lower, found_front, whole_lower}
 use Rattle.hm_mark_scan.proofs.RawTextLaws.{lowered_before, whole_before, parted, begins_longer}
@@ -89,6 +90,7 @@ first_found st i n (c ∷ s) found = either (mark_at (c ∷ s)) refl found (λ n
   where
     behind_first : ((k : ℕ) × (n ≡ suc i + k) × (k < length s) × (ends (drop k s) ≡ true)) → (k : ℕ) × (n ≡ i + k) × (k < length (c ∷ s)) × (ends (drop k (c ∷ s)) ≡ true)
     behind_first q = (suc q.0, omega (arith, q.1), omega (arith, q.2), q.3)
+
     either : (m : Option Mark) → mark_at (c ∷ s) ≡ m → first_end st (with_mark m i (marks_from (suc i) s)) ≡ Some n
         → ((next : ScriptState) → first_end next (marks_from (suc i) s) ≡ Some n → (k : ℕ) × (n ≡ suc i + k) × (k < length s) × (ends (drop k s) ≡ true))
         → (k : ℕ) × (n ≡ i + k) × (k < length (c ∷ s)) × (ends (drop k (c ∷ s)) ≡ true)
@@ -137,7 +139,7 @@ module _ (e e' : List ℕ) (ends_e : ends e ≡ true) (ends_e' : ends e' ≡ tru
       either None f more = more st f
       either (Some k) f more =
           elim (ends_script st k) as (λ b. cond b (Some i) (first_end (state_behind st k) (marks_from (suc i) (t ++ e))) ≡ Some n → cond b (Some i) (first_end (state_behind st k) (marks_from (suc i) (t ++ e'))) ≡ Some n)
-            [ true ↦ λ g. g | false ↦ λ g. more (state_behind st k) g ] f
+          [ true ↦ λ g. g | false ↦ λ g. more (state_behind st k) g ] f
 
 -- the text in front of the end tag is read
 pub script_read : (t e e' : List ℕ) → ends e' ≡ true → script_end (t ++ e) ≡ Some (length t) → read_script (t ++ e') ≡ taken (slice t) e'

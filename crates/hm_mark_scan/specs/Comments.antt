@@ -3,7 +3,8 @@ use Rattle.std.specs.Prelude.{ℕ, Bool, true, false, not, ◌&&◌, ◌||◌, �
 use Rattle.std.specs.Option.{option_or}
 use Rattle.hm_base.specs.Bytes.{Cut, cut_at, or_go_on, strip, head_is, is_letter}
 use Rattle.hm_base.specs.RawText.{is_found}
-use Rattle.hm_mark_scan.specs.Tokens.{Scanned, as_comment, as_slice}
+use Rattle.hm_tree.specs.Tokens.{Scanned}
+use Rattle.hm_mark_scan.specs.Pieces.{as_comment, as_slice}
 use Rattle.hm_mark_scan.specs.Doctypes.{begins_doctype}
 
 -- the text begins with these bytes
@@ -27,12 +28,16 @@ at_once (Some rest) k = Some (record { before = []; behind = rest })
 abbrev pub cut_comment : List ℕ → Option Cut
 cut_comment s = at_once (option_or (strip (codes ">") s) (strip (codes "->") s)) (cut_where behind_end s)
 
--- The comment that begins here. Behind `<!` and `</` the text runs to the first `>`; a `?` belongs to it.
-unfoldable pub read_comment : List ℕ → Scanned
-read_comment s = as_comment
-    (if begins (codes "<?") s then cut_at (codes ">") (drop 1 s)
+-- The text of the comment that begins here, and what is behind its end. Behind `<!` and `</` the text runs to the
+-- first `>`; a `?` belongs to it.
+abbrev pub comment_at : List ℕ → Option Cut
+comment_at s =
+    if begins (codes "<?") s then cut_at (codes ">") (drop 1 s)
     else if begins (codes "<!--") s then cut_comment (drop 4 s)
-    else cut_at (codes ">") (drop 2 s))
+    else cut_at (codes ">") (drop 2 s)
+
+unfoldable pub read_comment : List ℕ → Scanned
+read_comment s = as_comment (comment_at s)
 
 -- behind `</`: neither a tag's name nor `>`
 abbrev pub is_no_tag : ℕ → Bool

@@ -1,22 +1,23 @@
 -- Doctypes (HTML Standard, 13.2.5.53 to 13.2.5.68), of the two forms that are read.
 use Rattle.std.specs.Prelude.{ℕ, Bool, true, false, not, ◌&&◌, ◌||◌, ◌==◌, List, [], ◌∷◌, ◌++◌, Option, Some, None, if◌then◌else◌, codes, drop}
+use Rattle.std.specs.Option.{option_or}
 use Rattle.hm_base.specs.Bytes.{Cut, cut_at, strip, strip_word, head_is, is_null, is_space, behind}
 use Rattle.hm_base.specs.RawText.{is_found}
-use Rattle.hm_mark_scan.specs.Tokens.{Scanned, taken, refused, doctype, cut, bad_doctype}
+use Rattle.hm_tree.specs.Tokens.{Scanned, taken, refused, doctype}
+use Rattle.hm_tree.specs.declared.tokens.ScanFault.TheVariants as faults
 
 -- a doctype begins here: `<!doctype` in any ASCII case
 unfoldable pub begins_doctype : List ℕ → Bool
 begins_doctype s = is_found (strip_word (codes "<!doctype") s)
 
--- behind the identifier and its quote whitespace may stand
+-- nothing but whitespace behind the identifier
 abbrev pub is_legacy_end : Option (List ℕ) → Bool
 is_legacy_end None = false
 is_legacy_end (Some s) = is_null (behind is_space s)
 
 -- `about:legacy-compat` in double or single quotes, and whitespace
 abbrev pub is_identifier : List ℕ → Bool
-is_identifier [] = false
-is_identifier (c ∷ s) = (c == 34 || c == 39) && is_legacy_end (strip (codes "about:legacy-compat" ++ c ∷ []) s)
+is_identifier s = is_legacy_end (option_or (strip (codes "\"about:legacy-compat\"") s) (strip (codes "'about:legacy-compat'") s))
 
 -- behind `system`
 abbrev pub is_legacy : Option (List ℕ) → Bool
@@ -36,11 +37,11 @@ unfoldable pub doctype_form : List ℕ → Option Bool
 doctype_form s = form_behind_name (strip_word (codes "html") (behind is_space s))
 
 abbrev pub by_form : Option Bool → List ℕ → Scanned
-by_form None rest = refused bad_doctype
+by_form None rest = refused faults.BadDoctype
 by_form (Some legacy) rest = taken (doctype legacy) rest
 
 abbrev pub as_doctype : Option Cut → Scanned
-as_doctype None = refused cut
+as_doctype None = refused faults.Cut
 as_doctype (Some k) = by_form (doctype_form k.before) k.behind
 
 -- the doctype that begins here

@@ -2,7 +2,8 @@
 use Rattle.std.specs.Prelude.{◌≡◌, true, false, [], codes, refl}
 use Rattle.hm_base.specs.Bytes.{is_letter, is_space, lower}
 use Rattle.hm_base.specs.RawText.{begins_end_tag, is_name_end, mark_at}
-use Rattle.hm_mark_scan.specs.Tokens.{taken, refused, doctype, slice, comment, cut, bad_doctype}
+use Rattle.hm_tree.specs.Tokens.{taken, refused, doctype, slice, comment}
+use Rattle.hm_tree.specs.declared.tokens.ScanFault.TheVariants as faults
 use Rattle.hm_mark_scan.specs.Comments.{read_comment, begins_comment, read_cdata}
 use Rattle.hm_mark_scan.specs.Doctypes.{read_doctype, doctype_form, begins_doctype}
 use Rattle.hm_mark_scan.specs.RawTexts.{read_raw, read_script}
@@ -19,7 +20,7 @@ ended_by_a_bang : read_comment (codes "<!--a--!>b") ≡ taken (comment (codes "a
 unfolding read_comment
 ended_by_a_bang = refl
 
-open_comment : read_comment (codes "<!--a--") ≡ refused cut
+open_comment : read_comment (codes "<!--a--") ≡ refused faults.Cut
 unfolding read_comment
 open_comment = refl
 
@@ -47,7 +48,7 @@ a_legacy_doctype : read_doctype (codes "<!doctype html System'about:legacy-compa
 unfolding read_doctype doctype_form is_space lower
 a_legacy_doctype = refl
 
-another_doctype : read_doctype (codes "<!doctype htmlSYSTEM\"about:legacy-compat\">") ≡ refused bad_doctype
+another_doctype : read_doctype (codes "<!doctype htmlSYSTEM\"about:legacy-compat\">") ≡ refused faults.BadDoctype
 unfolding read_doctype doctype_form is_space lower
 another_doctype = refl
 

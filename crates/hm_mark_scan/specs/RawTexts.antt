@@ -1,7 +1,8 @@
 -- Raw text and the text of a script, up to the end tag.
 use Rattle.std.specs.Prelude.{ℕ, List}
 use Rattle.hm_base.specs.RawText.{raw_end, script_end}
-use Rattle.hm_mark_scan.specs.Tokens.{Scanned, slice_up_to}
+use Rattle.hm_tree.specs.Tokens.{Scanned}
+use Rattle.hm_mark_scan.specs.Pieces.{slice_up_to}
 
 -- the raw text of an element with this name, from here on
 unfoldable pub read_raw : List ℕ → List ℕ → Scanned

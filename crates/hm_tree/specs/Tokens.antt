@@ -1,5 +1,5 @@
 -- Tokens without where their bytes lie, and what a scan reads from a place of a text on.
-use Rattle.std.specs.Prelude.{◌≡◌, ℕ, ◌≤◌, Bool, List, ◌∷◌, ◌++◌, drop, slice_range, string_bytes, option_to_list, IsCharBoundary}
+use Rattle.std.specs.Prelude.{◌≡◌, ℕ, ◌≤◌, Bool, List, ◌∷◌, ◌++◌, drop, slice_range, option_to_list, IsCharBoundary}
 use Rattle.hm_base.specs.Walks.{Attribute}
 use Rattle.hm_base.specs.declared.plain.Points.{Points}
 use Rattle.hm_tree.specs.declared.tokens.Token.{Token}

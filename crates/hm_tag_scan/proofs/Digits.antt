@@ -2,13 +2,31 @@
 use Rattle.std.proofs.Common.{◌≡◌, ℕ, zero, suc, ◌+◌, ◌-◌, ◌*◌, ◌^◌, ◌<◌, ◌≤◌, ◌⊎◌, Bool, true, List, [], ◌∷◌, length, take, get_or, inl, inr, refl, ap, sym, ◌∙◌, arith}
 use Rattle.std.proofs.Math.Nat.{mul-le-mul_left}
 use Rattle.std.specs.Char.{digit_value}
+use Rattle.std.specs.Int.{is_in_range}
 use Rattle.std.specs.Str.Parse.{digits_value}
-use Rattle.std.proofs.lemmas.Bool.{and_parts}
+use Rattle.std.proofs.lemmas.Bool.{and_parts, cases_lt}
 use Rattle.std.proofs.lemmas.Int.Digits.{digits_value_more}
-use Rattle.hm_base.specs.Bytes.{all_pass}
+use Rattle.hm_base.specs.Bytes.{all_pass, is_digit, is_digit_of}
 use Rattle.hm_refs.specs.Numbers.{point_of}
 use Rattle.hm_refs.specs.References.{value_of}
 use Rattle.hm_refs.proofs.NumberLaws.{point_above}
+
+digit_inside : (c : ℕ) → 48 ≤ c → c < 58 → is_in_range 48 57 c ≡ is_digit c
+unfolding is_digit_of
+digit_inside c low high = grind arith
+
+digit_below : (c : ℕ) → c < 48 → is_in_range 48 57 c ≡ is_digit c
+unfolding is_digit_of
+digit_below c h = grind arith
+
+digit_above : (c : ℕ) → 58 ≤ c → is_in_range 48 57 c ≡ is_digit c
+unfolding is_digit_of
+digit_above c h = grind arith
+
+pub digit_is : (c : ℕ) → is_in_range 48 57 c ≡ is_digit c
+digit_is c = elim (cases_lt c 48)
+    [ inl low ↦ digit_below c low
+    | inr low ↦ elim (cases_lt c 58) [ inl high ↦ digit_inside c low high | inr high ↦ digit_above c high ] ]
 
 -- the number, or one above 0x10FFFF as it is
 pub record IsNumber (base number : ℕ) (ds : List ℕ) : Type 0 where

@@ -10,3 +10,4 @@ pub mod TagParts
 pub mod Digits
 pub mod ReferenceReads
 pub mod ValueReads
+pub mod NameReads

@@ -16,26 +16,9 @@ use Rattle.hm_refs.proofs.Found.{longest_is_longest, good_of}
 use Rattle.hm_tag_scan.specs.Places.{IsEndOf}
 use Rattle.hm_tag_scan.specs.Reads.{IsRead}
 use Rattle.hm_tag_scan.specs.declared.references.Reference.{Reference}
-use Rattle.hm_tag_scan.proofs.Digits.{all_pass_at}
+use Rattle.hm_tag_scan.proofs.Digits.{all_pass_at, digit_is}
 use Rattle.hm_tag_scan.proofs.TagParts.{front_passes}
 use Rattle.hm_tag_scan.proofs.ValuePlaces.{rest_cons}
-
-digit_inside : (c : ℕ) → 48 ≤ c → c < 58 → is_in_range 48 57 c ≡ is_digit c
-unfolding is_digit_of
-digit_inside c low high = grind arith
-
-digit_below : (c : ℕ) → c < 48 → is_in_range 48 57 c ≡ is_digit c
-unfolding is_digit_of
-digit_below c h = grind arith
-
-digit_above : (c : ℕ) → 58 ≤ c → is_in_range 48 57 c ≡ is_digit c
-unfolding is_digit_of
-digit_above c h = grind arith
-
-digit_is : (c : ℕ) → is_in_range 48 57 c ≡ is_digit c
-digit_is c = elim (cases_lt c 48)
-    [ inl low ↦ digit_below c low
-    | inr low ↦ elim (cases_lt c 58) [ inl high ↦ digit_inside c low high | inr high ↦ digit_above c high ] ]
 
 alnum_is : (c : ℕ) → is_ascii_alphanumeric c ≡ is_alnum c
 unfolding is_alnum is_letter

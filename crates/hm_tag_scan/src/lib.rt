@@ -4,6 +4,7 @@
 
 mod attribute;
 pub mod laws;
+mod names;
 mod parts;
 mod references;
 mod runs;

@@ -10,6 +10,7 @@ ghost use Rattle.hm_tag_scan.specs.Places.{IsEndOf};
 ghost use Rattle.hm_tag_scan.specs.Reads.{IsRead};
 
 use hm_base::Points;
+use hm_refs::laws::every_table;
 use hm_refs::{Table, number_value};
 
 /// The code points that a reference gives, and how many bytes it has.
@@ -160,6 +161,7 @@ fn named_reference(table: &Table, text: &[u8], in_value: bool) -> Option<Referen
     ensures { let read = refs.named in_value (longest table.now.entries text.now) in
         MatchOption result (read ≡ None) (IsRead read text.now) }
 {
+    every_table(table);
     let id = table.longest(text)?;
     let name = table.name(id);
     if is_blocked(in_value, name, text) {

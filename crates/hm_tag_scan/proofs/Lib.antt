@@ -11,3 +11,5 @@ pub mod Digits
 pub mod ReferenceReads
 pub mod ValueReads
 pub mod NameReads
+pub mod Kept
+pub mod TagBodies

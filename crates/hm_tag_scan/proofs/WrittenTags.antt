@@ -53,7 +53,7 @@ end_stops unquoted slash gap after h = end_ends_value slash gap after h
 end_stops double slash gap after h = tt
 end_stops single slash gap after h = tt
 
-with_all : (raws : List Attribute) (g : Tag) → with_attributes raws (Some g) ≡ Some (record g { attributes = raws ++ g.attributes })
+pub with_all : (raws : List Attribute) (g : Tag) → with_attributes raws (Some g) ≡ Some (record g { attributes = raws ++ g.attributes })
 with_all [] g = refl
 with_all (a ∷ raws) g = rw (with_all raws g) refl
 

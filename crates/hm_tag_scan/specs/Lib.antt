@@ -6,4 +6,5 @@ pub mod Laws
 pub mod Reads
 pub mod Places
 pub mod Parts
+pub mod Collected
 pub mod Examples

@@ -3,9 +3,11 @@
 
 
 mod attribute;
+mod collected;
 pub mod laws;
 mod names;
 mod parts;
 mod references;
 mod runs;
+mod tag_body;
 mod values;

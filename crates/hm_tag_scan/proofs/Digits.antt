@@ -24,9 +24,10 @@ unfolding is_digit_of
 digit_above c h = grind arith
 
 pub digit_is : (c : ℕ) → is_in_range 48 57 c ≡ is_digit c
-digit_is c = elim (cases_lt c 48)
-    [ inl low ↦ digit_below c low
-    | inr low ↦ elim (cases_lt c 58) [ inl high ↦ digit_inside c low high | inr high ↦ digit_above c high ] ]
+digit_is c = elim (cases_lt c 48) [
+  | inl low ↦ digit_below c low
+  | inr low ↦ elim (cases_lt c 58) [ inl high ↦ digit_inside c low high | inr high ↦ digit_above c high ]
+]
 
 -- the number, or one above 0x10FFFF as it is
 pub record IsNumber (base number : ℕ) (ds : List ℕ) : Type 0 where

@@ -31,7 +31,7 @@ without_push n (b ∷ attributes) a = by_test (bytes_eq b.name n) (without_push 
   where
     by_test : (e : Bool) → without_name n (attributes ++ a ∷ []) ≡ without_name n attributes ++ without_name n (a ∷ [])
         → cond e (without_name n (attributes ++ a ∷ [])) (b ∷ without_name n (attributes ++ a ∷ []))
-          ≡ cond e (without_name n attributes) (b ∷ without_name n attributes) ++ without_name n (a ∷ [])
+        ≡ cond e (without_name n attributes) (b ∷ without_name n attributes) ++ without_name n (a ∷ [])
     by_test true more = more
     by_test false more = ap (λ r. b ∷ r) more
 
@@ -42,6 +42,7 @@ repeats_push (x ∷ xs) a = ap (λ r. x ∷ without_name x.name r) (repeats_push
   where
     rest : List Attribute
     rest = without_repeats xs
+
     by_test : (e : Bool) → bytes_eq x.name a.name ≡ e → (h : Bool) → has_name a.name rest ≡ h
         → x ∷ without_name x.name (cond h rest (rest ++ a ∷ [])) ≡ cond (cond e true (has_name a.name (without_name x.name rest))) (x ∷ without_name x.name rest) (x ∷ (without_name x.name rest ++ a ∷ []))
     by_test true e true f = refl
@@ -100,13 +101,13 @@ collected_more t written a old new c k =
       count = count;
       bad = bad;
       few = subst (λ n. length new.attrs ≤ n) (sym k.count)
-        (subst (λ r. length r ≤ old.count + 1) (sym k.attrs) (few (new.keeps && not new.has_bad_name && nat_le new.count attribute_limit)));
+          (subst (λ r. length r ≤ old.count + 1) (sym k.attrs) (few (new.keeps && not new.has_bad_name && nat_le new.count attribute_limit)));
       read = λ keeps none short.
-        let parts = or_parts (has_bad_name written) (is_bad_name a.name) (sym (bad_push written a) ∙ none) in
-        let longer : length (written ++ a ∷ []) ≡ length written + 1 = length-append written (a ∷ []) in
-        let wants : new.keeps && not new.has_bad_name && nat_le new.count attribute_limit ≡ true = wanted new.keeps new.has_bad_name new.count keeps (bad ∙ none) (omega arith) in
-        let before : old.attrs ≡ read_attributes t written = c.read (sym k.keeps ∙ keeps) parts.0 (omega arith) in
-        k.attrs ∙ ap (λ b. cond b (added old.attrs (read_attribute t a)) old.attrs) wants
+          let parts = or_parts (has_bad_name written) (is_bad_name a.name) (sym (bad_push written a) ∙ none) in
+          let longer : length (written ++ a ∷ []) ≡ length written + 1 = length-append written (a ∷ []) in
+          let wants : new.keeps && not new.has_bad_name && nat_le new.count attribute_limit ≡ true = wanted new.keeps new.has_bad_name new.count keeps (bad ∙ none) (omega arith) in
+          let before : old.attrs ≡ read_attributes t written = c.read (sym k.keeps ∙ keeps) parts.0 (omega arith) in
+          k.attrs ∙ ap (λ b. cond b (added old.attrs (read_attribute t a)) old.attrs) wants
           ∙ ap (λ r. added r (read_attribute t a)) before
           ∙ sym (ap without_repeats (map_push (read_attribute t) written a) ∙ repeats_push (map (read_attribute t) written) (read_attribute t a));
     }

@@ -13,3 +13,4 @@ pub mod ValueReads
 pub mod NameReads
 pub mod Kept
 pub mod TagBodies
+pub mod Faults

@@ -59,7 +59,7 @@ passes_at p s from to at e low high =
     let long : at - from < length (slice_range s from to) = simp (length-take, length-drop) (omega arith) in
     let there : from + (at - from) ≡ at = omega arith in
     let read : get_or (slice_range s from to) (at - from) 0 ≡ get_or s at 0 =
-      get_or-take (to - from) (drop from s) (at - from) 0 (omega arith) ∙ get_or-drop from s (at - from) 0 ∙ ap (λ n. get_or s n 0) there in
+    get_or-take (to - from) (drop from s) (at - from) 0 (omega arith) ∙ get_or-drop from s (at - from) 0 ∙ ap (λ n. get_or s n 0) there in
     subst (λ c. p c ≡ true) read (all_pass_at p (slice_range s from to) (at - from) all long)
 
 pub digits_pass : (p : ℕ → Bool) (s : List ℕ) (from to : ℕ) → IsEndOf p s from to → all_pass p (slice_range s from to) ≡ true
@@ -75,12 +75,14 @@ semicolon_end s to more inside by = by_cases (cases_lt to (length s)) by
   where
     none : more ≡ 0 → (to + more ≤ length s) × (0 < to → get_or s (to - 1) 0 < 128 → get_or s (to + more - 1) 0 < 128)
     none e = let same : to + more - 1 ≡ to - 1 = omega arith in (omega arith, λ some h. rw same h)
+
     here : to < length s → (b : Bool) → (59 == get_or s to 0) ≡ b → more ≡ cond b 1 0 → (to + more ≤ length s) × (0 < to → get_or s (to - 1) 0 < 128 → get_or s (to + more - 1) 0 < 128)
     here l true e m =
         let at : to + more - 1 ≡ to = omega arith in
         let byte : 59 ≡ get_or s to 0 = (Decides-eqb 59 (get_or s to 0)).0 e in
         (omega arith, λ some h. rw at (omega arith))
     here l false e m = none m
+
     by_cases : (to < length s) ⊎ (length s ≤ to) → more ≡ cond (head_is is_semicolon (drop to s)) 1 0 → (to + more ≤ length s) × (0 < to → get_or s (to - 1) 0 < 128 → get_or s (to + more - 1) 0 < 128)
     by_cases (inl l) m = here l (59 == get_or s to 0) refl (rw (rest_cons s to l) at m)
     by_cases (inr l) m = none (rw (drop_of_length-le s l) at m)
@@ -122,6 +124,7 @@ tail_low (c ∷ s) h = by_test (is_alnum c) refl (c == 59) refl h (tail_low s)
     ended : (r : List ℕ) → is_null r ≡ true → all_pass is_low r ≡ true
     ended [] e = refl
     ended (d ∷ r) e = absurd (cc)
+
     by_test : (a : Bool) → is_alnum c ≡ a → (b : Bool) → (c == 59) ≡ b → (a && is_tail s) || (b && is_null s) ≡ true → (is_tail s ≡ true → all_pass is_low s ≡ true) → is_low c && all_pass is_low s ≡ true
     by_test true e b f h more = rw (low_byte c (alnum_low c e), either (is_tail s) refl b h) refl
       where
@@ -163,7 +166,7 @@ found_named t text id k e =
     let long : length n + length (drop (length n) text) ≡ length text = sym (length-append n (drop (length n) text)) ∙ ap length is.cut in
     let low : is_low (get_or n (length n - 1) 0) ≡ true = all_pass_at is_low n (length n - 1) (good_low n good) (omega arith) in
     let read : get_or text (length n - 1) 0 ≡ get_or n (length n - 1) 0 =
-      ap (λ x. get_or x (length n - 1) 0) (sym is.cut) ∙ get_or_append_left n (drop (length n) text) 0 (length n - 1) (omega arith) in
+    ap (λ x. get_or x (length n - 1) 0) (sym is.cut) ∙ get_or_append_left n (drop (length n) text) 0 (length n - 1) (omega arith) in
     record {
       some = some;
       inside = omega arith;

@@ -10,7 +10,7 @@ range_more s from at low high =
     let there : from + (at - from) ≡ at = omega arith in
     let short : at - from < length (drop from s) = simp length-drop (omega arith) in
     ap (λ m. take m (drop from s)) n ∙ take_more (drop from s) (at - from) 0 short
-      ∙ ap (λ c. take (at - from) (drop from s) ++ c ∷ []) (get_or-drop from s (at - from) 0 ∙ ap (λ m. get_or s m 0) there)
+    ∙ ap (λ c. take (at - from) (drop from s) ++ c ∷ []) (get_or-drop from s (at - from) 0 ∙ ap (λ m. get_or s m 0) there)
 
 -- the run has come from one place to another
 pub record Runs (p : ℕ → Bool) (s : List ℕ) (from at : ℕ) : Type 0 where

@@ -82,6 +82,7 @@ gap_cut s from at e = elim (cases_lt from at) [ inl h ↦ some h | inr h ↦ non
         let same : from ≡ at = omega arith in
         let not_lt : nat_lt from at ≡ false = grind arith in
         ap (λ n. cut_tag (drop n s)) same ∙ rw not_lt (sym (no_slash (cut_tag (drop at s))))
+
     some : from < at → cut_tag (drop from s) ≡ with_slash (nat_lt from at && (get_or s (at - 1) 0 == 47) && head_is is_tag_end (drop at s)) (cut_tag (drop at s))
     some h =
         let high = e.inside in
@@ -95,7 +96,7 @@ gap_cut s from at e = elim (cases_lt from at) [ inl h ↦ some h | inr h ↦ non
         let last = (and_parts (is_gap_byte c) true both.1).0 in
         let cut : drop from s ≡ slice_range s from m ++ c ∷ drop at s = split_at s from m (omega arith) ∙ ap (λ r. slice_range s from m ++ r) (rest_cons s m (omega arith) ∙ ap (λ n. c ∷ drop n s) next) in
         ap cut_tag cut ∙ gap_many (slice_range s from m) c (drop at s) both.0 last ∙ gap_one c (drop at s) last
-          ∙ rw lt refl
+        ∙ rw lt refl
 
 -- a tag behind passed bytes
 skipped : (k : ℕ) (s : List ℕ) → tag_from k s ≡ cut_tag (drop k s)
@@ -156,12 +157,12 @@ pair_is s from at a u b e h no_end is =
     let long : length r - length (drop a.value.behind s) ≡ a.value.behind - (at + 1) = simp length-drop (omega arith) in
     let there : (at + 1) + (a.value.behind - (at + 1)) ≡ a.value.behind = omega arith in
     let behind : drop (length r - length (drop a.value.behind s)) r ≡ drop a.value.behind s =
-      ap (λ n. drop n r) long ∙ drop-drop (a.value.behind - (at + 1)) (at + 1) s ∙ ap (λ n. drop n s) there in
+    ap (λ n. drop n r) long ∙ drop-drop (a.value.behind - (at + 1)) (at + 1) s ∙ ap (λ n. drop n s) there in
     record {
       cut = gap_cut s from at e
-        ∙ unflagged (nat_lt from at && (get_or s (at - 1) 0 == 47)) (drop at s) c r (cut_tag (drop at s)) cut no_gt
-        ∙ ap cut_tag cut
-        ∙ pair_cut c r (drop a.value.behind s) (written_in s at a) stop no_gt is.is behind;
+          ∙ unflagged (nat_lt from at && (get_or s (at - 1) 0 == 47)) (drop at s) c r (cut_tag (drop at s)) cut no_gt
+          ∙ ap cut_tag cut
+          ∙ pair_cut c r (drop a.value.behind s) (written_in s at a) stop no_gt is.is behind;
       forward = e.forward;
       starts = gap_ends s from at u b e;
       is = is;

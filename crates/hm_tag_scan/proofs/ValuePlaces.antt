@@ -128,14 +128,14 @@ pub assigned_at : (s : List ℕ) (from equals at : ℕ) (v : Value) → IsEndOf 
 assigned_at s from equals at v e h is f k =
     let same : (get_or s equals 0 == 61) ≡ true = (Decides-eqb (get_or s equals 0) 61).1 is in
     let cut : cut_assigned (drop from s) (behind is_space (drop from s)) ≡ cut_value (drop at s) =
-      ap (cut_assigned (drop from s)) (e.behind ∙ rest_cons s equals h) ∙ rw same (ap cut_value f.behind) in
+    ap (cut_assigned (drop from s)) (e.behind ∙ rest_cons s equals h) ∙ rw same (ap cut_value f.behind) in
     rw cut k
 
 pub bare_at : (s : List ℕ) (from equals : ℕ) → IsCharBoundary s from → IsEndOf is_space s from equals → equals < length s → (get_or s equals 0 == 61) ≡ false
     → IsCutAt (cut_assigned (drop from s) (behind is_space (drop from s))) s (record { from = from; to = from; behind = from })
 bare_at s from equals b e h differs =
     let cut : cut_assigned (drop from s) (behind is_space (drop from s)) ≡ record { before = []; behind = drop from s } =
-      ap (cut_assigned (drop from s)) (e.behind ∙ rest_cons s equals h) ∙ rw differs refl in
+    ap (cut_assigned (drop from s)) (e.behind ∙ rest_cons s equals h) ∙ rw differs refl in
     let zero_long : from - from ≡ 0 = omega arith in
     record {
       before = ap (λ k. k.before) cut ∙ sym (ap (λ n. take n (drop from s)) zero_long);
@@ -161,7 +161,7 @@ attribute_is s at a h e k forward =
     let name : slice_range s at a.name_to ≡ get_or s at 0 ∷ slice_range s (at + 1) a.name_to = range_cons s at a.name_to h (omega (arith, e.forward)) in
     record {
       is = ap₂ named (ap (λ r. get_or s at 0 ∷ r) e.front ∙ sym name) e.behind
-        ∙ ap₂ (λ v r. record { attribute = record { name = slice_range s at a.name_to; value = v }; rest = r }) k.before k.behind;
+          ∙ ap₂ (λ v r. record { attribute = record { name = slice_range s at a.name_to; value = v }; rest = r }) k.before k.behind;
       forward = omega (arith, e.forward);
       behind = forward;
       ordered = k.ordered;

@@ -57,7 +57,7 @@ range_join : (s : List ℕ) (a b c : ℕ) → a ≤ b → b ≤ c → slice_rang
 range_join s a b c low high =
     let there : a + (b - a) ≡ b = omega arith in
     take_split (b - a) (c - b) (c - a) (drop a s) (omega arith)
-      ∙ ap (λ r. slice_range s a b ++ take (c - b) r) (drop-drop (b - a) a s ∙ ap (λ n. drop n s) there)
+    ∙ ap (λ r. slice_range s a b ++ take (c - b) r) (drop-drop (b - a) a s ∙ ap (λ n. drop n s) there)
 
 not_true : (b : Bool) → (b ≡ true → ⊥) → b ≡ false
 not_true true h = absurd (h refl)
@@ -70,14 +70,14 @@ passed_amp t s from at len p (none, here) =
     let long : length (drop at s) ≡ length s - at = length-drop at s in
     let short : len < length (drop at s) = none.high in
     let read : read_value t (drop at s) ≡ take len (drop at s) ++ read_value t (drop len (drop at s)) =
-      other_bytes t (drop at s) len (omega arith) (λ k l. not_true (get_or (drop at s) k 0 == 38) (none.before k (omega arith) l)) in
+    other_bytes t (drop at s) len (omega arith) (λ k l. not_true (get_or (drop at s) k 0 == 38) (none.before k (omega arith) l)) in
     let same : slice_range s at (at + len) ≡ take len (drop at s) = let n : at + len - at ≡ len = omega arith in ap (λ m. take m (drop at s)) n in
     record {
       forward = omega arith;
       inside = omega arith;
       read = p.read ∙ ap (λ r. slice_range s from at ++ r) (read ∙ ap₂ (λ x y. x ++ read_value t y) (sym same) (drop-drop len at s))
-        ∙ sym (append_assoc (slice_range s from at) (slice_range s at (at + len)) (read_value t (drop (at + len) s)))
-        ∙ ap (λ r. r ++ read_value t (drop (at + len) s)) (sym (range_join s from at (at + len) low (omega arith)));
+          ∙ sym (append_assoc (slice_range s from at) (slice_range s at (at + len)) (read_value t (drop (at + len) s)))
+          ∙ ap (λ r. r ++ read_value t (drop (at + len) s)) (sym (range_join s from at (at + len) low (omega arith)));
     }
 
 pub amp_byte : (s : List ℕ) (at len : ℕ) → IsFirstByte (is_byte 38) (drop at s) (Some len) → get_or s (at + len) 0 ≡ 38
@@ -101,8 +101,8 @@ passed_more t s from amp p h is none =
       forward = omega arith;
       inside = omega arith;
       read = p.read ∙ ap (λ r. slice_range s from amp ++ r) read
-        ∙ sym (append_assoc (slice_range s from amp) (38 ∷ []) (read_value t (drop (amp + 1) s)))
-        ∙ ap (λ r. r ++ read_value t (drop (amp + 1) s)) (sym (range_more s from amp low h ∙ ap (λ c. slice_range s from amp ++ c ∷ []) is));
+          ∙ sym (append_assoc (slice_range s from amp) (38 ∷ []) (read_value t (drop (amp + 1) s)))
+          ∙ ap (λ r. r ++ read_value t (drop (amp + 1) s)) (sym (range_more s from amp low h ∙ ap (λ c. slice_range s from amp ++ c ∷ []) is));
     }
 
 after_pred : (n : ℕ) → 0 < n → suc (pred n) ≡ n
@@ -127,7 +127,7 @@ next_is t s from amp r u p h is found =
       some = some;
       starts = IsCharBoundary-before_ascii s amp h (omega arith);
       ends = let next : amp + r.len - 1 + 1 ≡ amp + r.len = omega arith in
-        subst (λ n. IsCharBoundary s n) next (IsCharBoundary-after_ascii s (amp + r.len - 1) u (omega arith) (subst (λ c. c < 128) last found.ascii));
+          subst (λ n. IsCharBoundary s n) next (IsCharBoundary-after_ascii s (amp + r.len - 1) u (omega arith) (subst (λ c. c < 128) last found.ascii));
     }
 
 -- no '&' is left
@@ -135,9 +135,9 @@ pub passed_all : (t : List Entry) (s : List ℕ) (from at : ℕ) → IsPassed t 
 passed_all t s from at p none =
     let rest = drop at s in
     let read : read_value t rest ≡ take (length rest) rest ++ read_value t (drop (length rest) rest) =
-      other_bytes t rest (length rest) (omega arith) (λ k l. not_true (get_or rest k 0 == 38) (none k (omega arith) l)) in
+    other_bytes t rest (length rest) (omega arith) (λ k l. not_true (get_or rest k 0 == 38) (none k (omega arith) l)) in
     let whole : take (length rest) rest ++ read_value t (drop (length rest) rest) ≡ rest =
-      ap₂ (λ x y. x ++ read_value t y) (take_all (length rest) rest (omega arith)) (drop_of_length-le rest (omega arith)) ∙ append-nil rest in
+    ap₂ (λ x y. x ++ read_value t y) (take_all (length rest) rest (omega arith)) (drop_of_length-le rest (omega arith)) ∙ append-nil rest in
     p.read ∙ ap (λ r. slice_range s from at ++ r) (read ∙ whole) ∙ sym (split_at s from at p.forward)
 
 pub read_none : (t : List Entry) (s : List ℕ) → IsUtf8 s → IsReadTo t s [] 0

@@ -21,11 +21,12 @@ pub record IsCollected (t : List Entry) (written : List Attribute) (c : Collecte
   pub read : c.keeps ≡ true → has_bad_name written ≡ false → length written ≤ attribute_limit → c.attrs ≡ read_attributes t written
 
 -- the tag whose name ends at a place
-pub record IsTagBody (t : List Entry) (s : List ℕ) (from : ℕ) (b : TagBody) : Type 0 where
+pub record IsTagBody (t : List Entry) (keeps : Bool) (s : List ℕ) (from : ℕ) (b : TagBody) : Type 0 where
   pub tag : Tag
   pub is : cut_tag (drop from s) ≡ Some tag
   pub slash : b.slash ≡ tag.slash
   pub rest : drop b.behind s ≡ tag.rest
+  pub kept : b.collected.keeps ≡ keeps
   pub collected : IsCollected t tag.attributes b.collected
   pub forward : from < b.behind
   pub boundary : IsCharBoundary s b.behind

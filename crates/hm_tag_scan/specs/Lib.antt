@@ -7,4 +7,5 @@ pub mod Reads
 pub mod Places
 pub mod Parts
 pub mod Collected
+pub mod Wholes
 pub mod Examples

@@ -56,7 +56,7 @@ impl Collected {
         requires few { length self.old.attrs ≤ self.old.count }
         ensures taken { OnOk result
             ((written : List Attribute) → IsCollected table.now.entries written self.old
-                → IsCollected table.now.entries (written ++ record { name = name.now; value = value.now } ∷ []) self.new) }
+            → IsCollected table.now.entries (written ++ record { name = name.now; value = value.now } ∷ []) self.new) }
         ensures keeps { self.new.keeps ≡ self.old.keeps }
     {
         self.count += 1;

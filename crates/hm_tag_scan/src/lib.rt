@@ -1,7 +1,6 @@
 //! Tags: the start or end tag at a place of a text, as a token.
 #![tactic(auto)]
 
-
 mod attribute;
 mod collected;
 pub mod laws;
@@ -9,5 +8,8 @@ mod names;
 mod parts;
 mod references;
 mod runs;
+mod scan;
 mod tag_body;
 mod values;
+
+pub use scan::scan_tag;

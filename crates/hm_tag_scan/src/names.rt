@@ -38,12 +38,7 @@ fn is_digit(byte: u8) -> bool
 fn is_tag_byte(byte: u8) -> bool
     ensures { result ≡ forms.is_tag_byte byte }
 {
-    is_small(byte)
-        || is_digit(byte)
-        || byte == b'.'
-        || byte == b'_'
-        || byte == b':'
-        || byte == b'-'
+    is_small(byte) || is_digit(byte) || byte == b'.' || byte == b'_' || byte == b':' || byte == b'-'
 }
 
 /// Whether the bytes may stand in the name of an element.

@@ -123,8 +123,8 @@ fn is_blocked(in_value: bool, name: &[u8], text: &[u8]) -> bool
     requires { length name.now ≤ length text.now }
     ensures { result
         ≡ (in_value
-            && not (names.is_closed name.now)
-            && head_is refs.blocks (drop (length name.now) text.now)) }
+        && not (names.is_closed name.now)
+        && head_is refs.blocks (drop (length name.now) text.now)) }
 {
     in_value && !is_closed(name) && begins_with_blocking(&text[name.len()..])
 }

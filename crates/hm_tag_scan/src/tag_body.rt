@@ -26,7 +26,7 @@ pub(crate) fn read_body(
 ) -> Result<TagBody, ScanFault>
     requires boundary { IsCharBoundary text.now from }
     requires size { length text.now < 2 ^ 32 }
-    ensures ok { IfOk result (IsTagBody table.now.entries text.now from) }
+    ensures ok { IfOk result (IsTagBody table.now.entries keeps text.now from) }
     ensures err { IfErr result (HasNoBody text.now from) }
 {
     let bytes = text.as_bytes();

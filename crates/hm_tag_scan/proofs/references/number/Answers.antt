@@ -7,7 +7,7 @@ pub loop-byte-preserved : goal.loop-byte-preserved
 loop-byte-preserved c =
     let base = c.args.base in let i = c.loop-byte.byte-index in
     elim c.if-number-le1114111.branch [
-      then-number-le1114111 w ↦ rw w.number-is (number_more base c.loop-byte.number c.args.digits.now i w.digit.result c.requires.high w.digit.ensures.below c.loop-byte-test.true w.digit.ensures.value w.if-number-le1114111.true c.loop-byte.invariant)
+      | then-number-le1114111 w ↦ rw w.number-is (number_more base c.loop-byte.number c.args.digits.now i w.digit.result c.requires.high w.digit.ensures.below c.loop-byte-test.true w.digit.ensures.value w.if-number-le1114111.true c.loop-byte.invariant)
       | else-number-le1114111 w ↦ rw w.number-is (number_high base c.loop-byte.number c.args.digits.now i c.requires.low c.loop-byte-test.true w.if-number-le1114111.false c.loop-byte.invariant)
     ]
 

@@ -10,8 +10,8 @@ pub returns-else-text-gt1 : goal.returns-else-text-gt1
 returns-else-text-gt1 c =
     let text = c.args.text.now in
     let no_hash : 1 < length text → get_or text 1 0 ≡ 35 → ⊥ =
-      elim c.else-text-gt1.branch [
-        else-text-gt1-via-then-text-gt1+else-text-eq35 w ↦ λ l e. w.if-text-eq35.false e
-        | else-text-gt1-via-else-text-gt1 w ↦ λ l e. omega arith
-      ] in
+    elim c.else-text-gt1.branch [
+      | else-text-gt1-via-then-text-gt1+else-text-eq35 w ↦ λ l e. w.if-text-eq35.false e
+      | else-text-gt1-via-else-text-gt1 w ↦ λ l e. omega arith
+    ] in
     rw (reference_named c.args.table.now.entries c.args.in_value text c.requires.some c.requires.amp no_hash) c.named_reference.ensures

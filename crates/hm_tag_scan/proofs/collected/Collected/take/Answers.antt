@@ -7,10 +7,10 @@ use Rattle.hm_tag_scan.proofs.collected.Collected.take.Goals.{then-self, else-se
 pub returns-in_ok-keep-clause-taken : goal.returns-in_ok-keep-clause-taken
 returns-in_ok-keep-clause-taken c =
     let bad : c.if-self.self ≡ c.args.self.now.has_bad_name || reading.is_bad_name c.args.name.now =
-      elim c.if-self.branch [
-        then-self w ↦ rw w.if-self.true (w.self-is ∙ w.if-self.true)
-        | else-self w ↦ rw (w.if-self.false, ← w.as_bytes.ensures.value) (w.self-is ∙ w.is_bad_name-self.ensures)
-      ] in
+    elim c.if-self.branch [
+      | then-self w ↦ rw w.if-self.true (w.self-is ∙ w.if-self.true)
+      | else-self w ↦ rw (w.if-self.false, ← w.as_bytes.ensures.value) (w.self-is ∙ w.is_bad_name-self.ensures)
+    ] in
     λ written old. collected_more c.args.table.now.entries written (record { name = c.args.name.now; value = c.args.value.now }) c.args.self.now _ old (record {
       keeps = refl;
       count = refl;
@@ -21,10 +21,10 @@ returns-in_ok-keep-clause-taken c =
 pub returns-else-wants-clause-taken : goal.returns-else-wants-clause-taken
 returns-else-wants-clause-taken c =
     let bad : c.if-self.self ≡ c.args.self.now.has_bad_name || reading.is_bad_name c.args.name.now =
-      elim c.if-self.branch [
-        then-self w ↦ rw w.if-self.true (w.self-is ∙ w.if-self.true)
-        | else-self w ↦ rw (w.if-self.false, ← w.as_bytes.ensures.value) (w.self-is ∙ w.is_bad_name-self.ensures)
-      ] in
+    elim c.if-self.branch [
+      | then-self w ↦ rw w.if-self.true (w.self-is ∙ w.if-self.true)
+      | else-self w ↦ rw (w.if-self.false, ← w.as_bytes.ensures.value) (w.self-is ∙ w.is_bad_name-self.ensures)
+    ] in
     λ written old. collected_more c.args.table.now.entries written (record { name = c.args.name.now; value = c.args.value.now }) c.args.self.now _ old (record {
       keeps = refl;
       count = refl;

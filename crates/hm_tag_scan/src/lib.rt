@@ -12,4 +12,5 @@ mod scan;
 mod tag_body;
 mod values;
 
+pub use references::{Reference, read_reference};
 pub use scan::scan_tag;

@@ -1,2 +1,9 @@
-//! Text and character references.
+//! Text between markup, and in title and textarea, with its character references, each piece read from a place of a
+//! text on.
 #![tactic(auto)]
+
+mod plain;
+mod scan;
+
+pub use scan::scan_text;
+

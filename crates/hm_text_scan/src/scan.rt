@@ -1,0 +1,29 @@
+//! The scan of a piece of text.
+ghost use Rattle.std.specs.Prelude.{◌≡◌, ◌^◌, ◌<◌, drop, false, length, IsCharBoundary};
+ghost use Rattle.hm_tree.specs.Tokens.{Reads};
+ghost use Rattle.hm_text_scan.specs.Texts.{begins_markup, read_text};
+
+use crate::plain::{plain_end, reference_here};
+use hm_refs::Table;
+use hm_tree::Token;
+
+/// Reads the piece of text that begins at byte `at`: one character reference, or the longest piece without reference
+/// and markup (13.2.5.1, 13.2.5.2 and 13.2.5.72 to 13.2.5.80). `rcdata` tells that the text is that of a title or a
+/// textarea and ends with it: nothing in it is markup. Answers the token and the place behind it, in bytes of the text.
+pub fn scan_text(text: &str, at: u32, rcdata: bool, table: &Table) -> (Token, u32)
+    requires inside { at < length text.now }
+    requires boundary { IsCharBoundary text.now at }
+    requires size { length text.now < 2 ^ 32 }
+    requires markup { rcdata ≡ false → begins_markup (drop at text.now) ≡ false }
+    ensures reads { Reads (read_text table.now.entries rcdata (drop at text.now)) text.now result.0 result.1 }
+    ensures forward { at < result.1 }
+{
+    let bytes = text.as_bytes();
+    let from = at as usize;
+    if let Some(reference) = reference_here(table, &bytes[from..]) {
+        let points = reference.points;
+        return (Token::Points { points }, (from + reference.len) as u32);
+    }
+    let to = plain_end(table, bytes, from, rcdata) as u32;
+    (Token::Slice { from: at, to }, to)
+}

@@ -5,5 +5,7 @@
 mod plain;
 mod scan;
 
-pub use scan::scan_text;
+pub use scan::{begins_markup, scan_text};
 
+#[cfg(test)]
+mod tests;

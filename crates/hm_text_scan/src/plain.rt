@@ -28,7 +28,7 @@ fn opens_markup(bytes: &[u8]) -> bool
 
 /// Whether markup begins at the front of the bytes.
 #[tactic(auto, unfolding(crate::specs::Texts::begins_markup))]
-fn begins_markup(bytes: &[u8]) -> bool
+pub fn markup_here(bytes: &[u8]) -> bool
     ensures { result ≡ texts.begins_markup bytes.now }
 {
     match bytes {
@@ -55,7 +55,7 @@ fn ends_plain(table: &Table, bytes: &[u8], rcdata: bool) -> bool
     requires { 0 < length bytes.now }
     ensures { result ≡ ends_before table.now.entries rcdata bytes.now }
 {
-    (!rcdata && begins_markup(bytes)) || reference_here(table, bytes).is_some()
+    (!rcdata && markup_here(bytes)) || reference_here(table, bytes).is_some()
 }
 
 /// How far behind a place the next byte stands before which a plain text can end.

@@ -1,11 +1,21 @@
 //! The scan of a piece of text.
-ghost use Rattle.std.specs.Prelude.{◌≡◌, ◌^◌, ◌<◌, drop, false, length, IsCharBoundary};
+ghost use Rattle.std.specs.Prelude.{◌≡◌, ◌^◌, ◌<◌, ◌≤◌, drop, false, length, IsCharBoundary};
 ghost use Rattle.hm_tree.specs.Tokens.{Reads};
-ghost use Rattle.hm_text_scan.specs.Texts.{begins_markup, read_text};
+ghost use Rattle.hm_text_scan.specs.Texts as texts;
+ghost use Rattle.hm_text_scan.specs.Texts.{read_text};
 
-use crate::plain::{plain_end, reference_here};
+use crate::plain::{markup_here, plain_end, reference_here};
 use hm_refs::Table;
 use hm_tree::Token;
+
+/// Whether markup begins at byte `at` of ordinary text: a tag, a comment, a doctype, a CDATA section, or `</>`, which
+/// stands for nothing (13.2.5.6 and 13.2.5.7).
+pub fn begins_markup(text: &str, at: u32) -> bool
+    requires { at ≤ length text.now }
+    ensures { result ≡ texts.begins_markup (drop at text.now) }
+{
+    markup_here(&text.as_bytes()[at as usize..])
+}
 
 /// Reads the piece of text that begins at byte `at`: one character reference, or the longest piece without reference
 /// and markup (13.2.5.1, 13.2.5.2 and 13.2.5.72 to 13.2.5.80). `rcdata` tells that the text is that of a title or a
@@ -14,7 +24,7 @@ pub fn scan_text(text: &str, at: u32, rcdata: bool, table: &Table) -> (Token, u3
     requires inside { at < length text.now }
     requires boundary { IsCharBoundary text.now at }
     requires size { length text.now < 2 ^ 32 }
-    requires markup { rcdata ≡ false → begins_markup (drop at text.now) ≡ false }
+    requires markup { rcdata ≡ false → texts.begins_markup (drop at text.now) ≡ false }
     ensures reads { Reads (read_text table.now.entries rcdata (drop at text.now)) text.now result.0 result.1 }
     ensures forward { at < result.1 }
 {

@@ -1,14 +1,11 @@
 -- Where plain text ends.
-use Rattle.std.proofs.Common.{◌≡◌, ℕ, zero, suc, ◌+◌, ◌-◌, ◌<◌, ◌≤◌, Bool, true, false, cond, not, ◌&&◌, ◌||◌, ◌==◌, List, [], ◌∷◌, ◌++◌, length, take, drop, get_or, slice_range, Option, Some, None, is_some, MatchOption, refl, ap, ap₂, sym, subst, ◌∙◌, inl, inr, arith, length-drop, drop_of_length-le}
+use Rattle.std.proofs.Common.{◌≡◌, ℕ, zero, suc, ◌+◌, ◌-◌, ◌<◌, ◌≤◌, Bool, true, false, cond, not, ◌&&◌, ◌||◌, ◌==◌, List, [], ◌∷◌, length, take, drop, get_or, None, is_some, refl, ap, subst, ◌∙◌, inl, inr, arith, length-drop}
 use Rattle.std.proofs.lemmas.Bool.{cases_lt}
 use Rattle.std.proofs.lemmas.List.{drop-drop, get_or-drop}
 use Rattle.std.proofs.lemmas.Bool.Decides.{Decides-eqb}
-use Rattle.memchr.specs.Find.{IsFirstByte, is_byte, is_byte2}
 use Rattle.hm_refs.specs.Names.{Entry}
 use Rattle.hm_tag_scan.proofs.ValuePlaces.{rest_cons}
 use Rattle.hm_refs.specs.References as refs
-use Rattle.hm_tag_scan.specs.Reads.{IsRead}
-use Rattle.hm_tag_scan.specs.declared.references.Reference.{Reference}
 use Rattle.hm_text_scan.specs.Texts.{ends_plain, begins_markup, reference_in, plain_front}
 use Rattle.hm_text_scan.specs.Places.{reference_here, ends_before, is_sign, IsPlainTo}
 
@@ -83,15 +80,8 @@ unfolding reference_in
 here_other t [] never = refl
 here_other t (c ∷ s) never = elim (c == 38) as (λ b. (c == 38) ≡ b → cond b (refs.reference t false (c ∷ s)) None ≡ None) [ true ↦ λ e. absurd (never ((Decides-eqb c 38).0 e)) | false ↦ λ e. refl ] refl
 
-some_here : (o : Option refs.Reference) (s : List ℕ) (r : Option Reference) → MatchOption r (o ≡ None) (IsRead o s) → is_some r ≡ is_some o
-some_here o s None e = rw e refl
-some_here o s (Some x) i = rw i.is refl
-
 pub ends_is : (t : List Entry) (rcdata : Bool) (s : List ℕ) → ends_before t rcdata s ≡ ((not rcdata && begins_markup s) || is_some (reference_here t s))
 unfolding begins_markup
 ends_is t true [] = refl
 ends_is t false [] = refl
 ends_is t rcdata (c ∷ s) = refl
-
-pub ends_by : (t : List Entry) (rcdata markup : Bool) (s : List ℕ) (r : Option Reference) → markup ≡ (not rcdata && begins_markup s) → MatchOption r (reference_here t s ≡ None) (IsRead (reference_here t s) s) → markup || is_some r ≡ ends_before t rcdata s
-ends_by t rcdata markup s r e h = ap₂ (λ a b. a || b) e (some_here (reference_here t s) s r h) ∙ sym (ends_is t rcdata s)

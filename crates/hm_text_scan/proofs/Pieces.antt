@@ -1,5 +1,5 @@
 -- A piece of text as a token.
-use Rattle.std.proofs.Common.{◌≡◌, ℕ, ◌+◌, ◌-◌, ◌<◌, ◌≤◌, Bool, true, false, not, ◌&&◌, ◌||◌, List, [], ◌∷◌, length, drop, get_or, slice_range, Option, Some, None, is_some, refl, ap, ap₂, sym, subst, ◌∙◌, inl, inr, arith, length-drop, length-take}
+use Rattle.std.proofs.Common.{◌≡◌, ℕ, ◌+◌, ◌-◌, ◌<◌, ◌≤◌, Bool, List, [], ◌∷◌, length, drop, get_or, slice_range, None, refl, ap, ap₂, subst, ◌∙◌, inl, inr, arith, length-drop, length-take}
 use Rattle.std.specs.Str.{IsUtf8, IsCharBoundary}
 use Rattle.std.proofs.lemmas.Str.{IsCharBoundary-after_ascii, IsCharBoundary-before_ascii, IsCharBoundary-end}
 use Rattle.std.proofs.lemmas.Bool.{cases_lt}
@@ -10,9 +10,8 @@ use Rattle.hm_tag_scan.specs.declared.references.Reference.{Reference}
 use Rattle.hm_tree.specs.Tokens.{Reads, taken, slice, points}
 use Rattle.hm_refs.specs.Tables.{points_list}
 use Rattle.hm_tree.specs.declared.tokens.Token.TheVariants as tokens
-use Rattle.hm_text_scan.specs.Texts.{begins_markup, plain_front, read_by, read_text}
-use Rattle.hm_text_scan.specs.Places.{reference_here, ends_before, IsPlainTo}
-use Rattle.hm_text_scan.proofs.Ends.{ends_is}
+use Rattle.hm_text_scan.specs.Texts.{plain_front, read_by, read_text}
+use Rattle.hm_text_scan.specs.Places.{reference_here, IsPlainTo}
 
 text_by : (t : List Entry) (rcdata : Bool) (s : List ℕ) → read_text t rcdata s ≡ read_by (reference_here t s) t rcdata s
 unfolding read_text
@@ -56,20 +55,3 @@ reads_slice t rcdata s at to starts none p =
       inside = record { ordered = p.forward; from_boundary = starts; to_boundary = ends };
       boundary = ends;
     }
-
-plain_some : (t : List Entry) (rcdata : Bool) (s : List ℕ) → 0 < length s → ends_before t rcdata s ≡ false → 0 < length (plain_front t rcdata s)
-plain_some t rcdata [] h e = absurd (omega arith)
-plain_some t rcdata (c ∷ s) h e = rw e (omega arith)
-
--- the text goes on
-pub goes_on : (t : List Entry) (rcdata : Bool) (s : List ℕ) (at to : ℕ) → at < length s → (rcdata ≡ false → begins_markup (drop at s) ≡ false) → reference_here t (drop at s) ≡ None → IsPlainTo t rcdata s at to → at < to
-goes_on t rcdata s at to h markup none p =
-    let long : length (drop at s) ≡ length s - at = length-drop at s in
-    let free : ends_before t rcdata (drop at s) ≡ false = ends_is t rcdata (drop at s) ∙ rw none (by_kind rcdata markup) in
-    let some : 0 < length (plain_front t rcdata (drop at s)) = plain_some t rcdata (drop at s) (omega arith) free in
-    let count : length (plain_front t rcdata (drop at s)) ≡ to - at = ap length p.is ∙ piece_long s at to p.forward p.inside in
-    omega arith
-  where
-    by_kind : (b : Bool) → (b ≡ false → begins_markup (drop at s) ≡ false) → (not b && begins_markup (drop at s)) || false ≡ false
-    by_kind true e = refl
-    by_kind false e = rw (e refl) refl

@@ -1,6 +1,6 @@
 -- The definitions on examples.
 use Rattle.std.specs.Prelude.{◌≡◌, true, false, List, [], ◌∷◌, codes, refl}
-use Rattle.hm_base.specs.Bytes.{is_letter, is_alnum, is_digit_of}
+use Rattle.hm_base.specs.Bytes.{is_letter, is_digit_of}
 use Rattle.hm_refs.specs.Names.{Entry, found_here}
 use Rattle.hm_refs.specs.Numbers.{point_of}
 use Rattle.hm_refs.specs.References.{reference, value_of, is_blocked}

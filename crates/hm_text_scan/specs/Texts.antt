@@ -1,5 +1,5 @@
 -- Text between markup, and in title and textarea (HTML Standard, 13.2.5.1, 13.2.5.2 and 13.2.5.72 to 13.2.5.80).
-use Rattle.std.specs.Prelude.{ℕ, Bool, true, false, not, ◌&&◌, ◌||◌, ◌==◌, List, [], ◌∷◌, length, drop, Option, Some, None, is_some, if◌then◌else◌}
+use Rattle.std.specs.Prelude.{ℕ, Bool, false, not, ◌&&◌, ◌||◌, ◌==◌, List, [], ◌∷◌, length, drop, Option, Some, None, is_some, if◌then◌else◌}
 use Rattle.hm_base.specs.Bytes.{is_letter, is_null}
 use Rattle.hm_refs.specs.Names.{Entry}
 use Rattle.hm_refs.specs.References.{Reference, reference}

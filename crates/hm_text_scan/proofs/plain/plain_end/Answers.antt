@@ -1,6 +1,6 @@
 use Rattle.std.proofs.Common.{◌≡◌, ◌+◌, ◌-◌, ◌<◌, ◌≤◌, true, drop, length, get_or, arith, sym, length-drop}
 use Rattle.std.proofs.lemmas.List.{take_rest, get_or-drop}
-use Rattle.hm_text_scan.specs.Places.{ends_before, is_sign}
+use Rattle.hm_text_scan.specs.Places.{is_sign}
 use Rattle.hm_text_scan.proofs.Ends.{NoEnd, none_before, none_at, plain_to, sign_low}
 use Rattle.hm_text_scan.proofs.plain.plain_end.Goals as goal
 

@@ -1,5 +1,5 @@
 -- Worked examples of the definitions.
-use Rattle.std.specs.Prelude.{◌≡◌, List, Option, Some, None, codes, refl}
+use Rattle.std.specs.Prelude.{◌≡◌, Some, None, codes, refl}
 use Rattle.hm_base.specs.Bytes.{is_space, lower}
 use Rattle.hm_base.specs.RawText.{is_name_end, begins_end_tag, mark_at, raw_end, script_end}
 

@@ -1,5 +1,5 @@
 -- Forms of names and texts.
-use Rattle.std.specs.Prelude.{ℕ, Bool, true, false, not, ◌&&◌, ◌||◌, ◌==◌, nat_le, List, [], ◌∷◌, codes}
+use Rattle.std.specs.Prelude.{ℕ, Bool, false, not, ◌&&◌, ◌||◌, ◌==◌, nat_le, List, [], ◌∷◌, codes}
 use Rattle.hm_base.specs.Bytes.{is_space, is_digit, all_pass, some_passes, is_null, strip}
 use Rattle.hm_base.specs.RawText.{is_found}
 

@@ -1,5 +1,5 @@
 -- Where the text of style, iframe, title, textarea and script ends.
-use Rattle.std.specs.Prelude.{ℕ, zero, suc, Bool, true, false, not, ◌&&◌, ◌||◌, ◌==◌, List, [], ◌∷◌, Option, Some, None, if◌then◌else◌, codes}
+use Rattle.std.specs.Prelude.{ℕ, suc, Bool, true, false, ◌||◌, ◌==◌, List, [], ◌∷◌, Option, Some, None, if◌then◌else◌, codes}
 use Rattle.hm_base.specs.Bytes.{is_space, head_is, strip, strip_word}
 
 -- the byte ends the name of a tag: whitespace, '/' or '>'

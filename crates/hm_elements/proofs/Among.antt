@@ -1,11 +1,10 @@
 -- How a look through lists of names goes on.
-use Rattle.std.proofs.Common.{◌≡◌, ℕ, ◌+◌, ◌<◌, ◌≤◌, Bool, true, false, cond, ◌||◌, List, [], ◌∷◌, ◌++◌, length, drop, get_or, bytes_eq, refl, sym, ap, ◌∙◌, if◌then◌else◌}
+use Rattle.std.proofs.Common.{◌≡◌, ℕ, ◌+◌, ◌<◌, ◌≤◌, true, false, ◌||◌, List, [], ◌∷◌, ◌++◌, length, drop, get_or, bytes_eq, refl, sym, ap, ◌∙◌}
 use Rattle.std.proofs.lemmas.List.{at_drop_more, at_drop_all}
 use Rattle.std.proofs.Math.Bool.{or_assoc}
 use denote.Ref.{Bor}
-use Rattle.hm_elements.specs.declared.look_up.Row.{Row}
-use Rattle.hm_elements.specs.Names.{is_among, is_pair}
-use Rattle.hm_elements.specs.Texts.{texts, joined_texts, row_of, rows_of}
+use Rattle.hm_elements.specs.Names.{is_among}
+use Rattle.hm_elements.specs.Texts.{texts, joined_texts}
 
 pub is_among-append : (n : List ℕ) (ms ks : List (List ℕ)) → is_among n (ms ++ ks) ≡ is_among n ms || is_among n ks
 unfolding is_among

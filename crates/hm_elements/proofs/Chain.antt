@@ -1,13 +1,13 @@
 -- The rules of settled walks give the walk part by part.
-use Rattle.std.proofs.Common.{◌≡◌, ℕ, Bool, true, false, cond, ◌||◌, ◌&&◌, not, List, [], ◌∷◌, bytes_eq, refl, sym, ◌∙◌, ap, ap₂, subst, Option, Some, None}
+use Rattle.std.proofs.Common.{◌≡◌, ℕ, Bool, true, false, cond, ◌&&◌, not, List, [], ◌∷◌, bytes_eq, refl, sym, ap, ap₂, subst, Some, None}
 use Rattle.std.proofs.lemmas.Bool.{and_parts, not-true, false_from_ne_true, both_ways}
 use Rattle.hm_base.specs.Forms.{is_blank}
-use Rattle.hm_base.specs.Walks.{Attribute, Event, doctype, start, text, comment, end, Element, same_flag, is_same_element, path_behind, path_after, ends_match}
+use Rattle.hm_base.specs.Walks.{Event, doctype, start, text, comment, end, Element, same_flag, is_same_element, path_behind, ends_match}
 use Rattle.hm_elements.specs.Names.{is_among, html, head, body}
 use Rattle.hm_elements.specs.Tables.{is_root, roots}
 use Rattle.hm_elements.specs.Paths.{html_element}
 use Rattle.hm_elements.specs.Settled.{is_html, go_on, Top, no_doctype, no_html, all_there, is_doctype, has_top, Frame, no_head, no_body, has_body, starts_root, has_frame, all_events, nests, is_svg_in_place, closes_void, is_text_in_place, is_raw_text, is_comment_in_form, has_attributes_in_form, is_not_deep, is_event_utf8, SettledFrom, Settled}
-use Rattle.hm_elements.specs.Places.{RootAllowed, one_of_two, html_path, SettledLast, SettledBehindBody, SettledInside, SettledBody, SettledBeforeBody, SettledHead, SettledBeforeHead, SettledBeforeHtml, SettledPage}
+use Rattle.hm_elements.specs.Places.{html_path, SettledLast, SettledBehindBody, SettledInside, SettledBody, SettledBeforeBody, SettledHead, SettledBeforeHead, SettledBeforeHtml, SettledPage}
 use Rattle.hm_elements.proofs.TableTools.{same_bytes, eq_self}
 use Rattle.hm_elements.proofs.Events.{EventStands, same_is, comment_allowed, text_allowed, attributes_allowed, start_allowed}
 

@@ -1,14 +1,13 @@
 -- What the rules of settled walks say of one event, taken apart and put together.
-use Rattle.std.proofs.Common.{◌≡◌, ℕ, Bool, true, false, cond, ◌||◌, ◌&&◌, not, List, [], ◌∷◌, ◌++◌, length, nat_le, eqb, bytes_eq, refl, sym, ◌∙◌, ap, subst, ◌⊎◌, inl, inr, Option, Some, None}
-use Rattle.std.proofs.lemmas.Bool.{and_parts, and_from, or_cases, or_parts, or_right, and_right, not-true, not_from_false, eqb-true, eq-eqb, both_ways}
-use Rattle.std.specs.Str.{is_utf8}
+use Rattle.std.proofs.Common.{◌≡◌, ℕ, Bool, true, false, cond, ◌||◌, ◌&&◌, not, List, [], ◌∷◌, ◌++◌, length, nat_le, bytes_eq, refl, sym, ◌∙◌, ap, subst, inl, inr, Option, Some, None}
+use Rattle.std.proofs.lemmas.Bool.{and_parts, and_from, or_right, and_right, not-true, eqb-true, eq-eqb, both_ways}
 use Rattle.hm_base.specs.Bytes.{is_null}
-use Rattle.hm_base.specs.Forms.{has_byte, is_blank, is_tag_name, is_comment_text}
-use Rattle.hm_base.specs.Walks.{Attribute, Event, doctype, start, text, comment, end, Element, same_flag, path_behind, has_distinct_names}
+use Rattle.hm_base.specs.Forms.{has_byte, is_blank, is_tag_name}
+use Rattle.hm_base.specs.Walks.{Attribute, Event, start, text, comment, Element, same_flag, has_distinct_names}
 use Rattle.hm_elements.specs.Names.{svg}
 use Rattle.hm_elements.specs.Tables.{is_root, is_void, is_refused, is_svg_name, holds_svg_text, holds_text}
 use Rattle.hm_elements.specs.Paths.{current, is_in_svg, stands_on, head_yields, is_block_in_p, is_nested, is_deep, is_in_raw, is_in_text, is_in_blank}
-use Rattle.hm_elements.specs.Settled.{begins_end, begins_text, starts_root, no_zero_in_values, raw_text_end, is_place, end_tag, all_names_in_form, all_utf8, nests, is_svg_in_place, closes_void, is_text_in_place, is_raw_text, is_comment_in_form, has_attributes_in_form, is_not_deep, is_event_utf8}
+use Rattle.hm_elements.specs.Settled.{begins_end, begins_text, starts_root, no_zero_in_values, raw_text_end, is_place, end_tag, all_names_in_form, nests, is_svg_in_place, closes_void, is_text_in_place, is_raw_text, is_comment_in_form, has_attributes_in_form, is_not_deep, is_event_utf8}
 use Rattle.hm_elements.specs.Places.{AttributesAllowed, HtmlAllowed, SvgAllowed, ElementAllowed, StartAllowed, TextAllowed, CommentAllowed}
 use Rattle.hm_elements.proofs.TableTools.{same_bytes}
 use Rattle.hm_elements.proofs.TableFacts.{svg_is_plain, svg_is_kept, stands_parent, stands_parent_holds}
@@ -97,15 +96,15 @@ head_keeps_svg (e ∷ path) h = svg_is_kept e.name _ h
 -- svg in an element of HTML
 svg_allowed : (path : List Element) (n : List ℕ) (w : List Event) → n ≡ svg → stands_on svg path ≡ true → HtmlAllowed n true path w
 svg_allowed path n w is h =
-    let plain = svg_is_plain path in
+    let plain = svg_is_plain in
     rw is (record {
       kind = refl;
       name = plain.name;
       known = plain.known;
       stands = h;
       kept = head_keeps_svg path h;
-      no_block_in_p = plain.no_block_in_p;
-      not_nested = plain.not_nested;
+      no_block_in_p = plain.no_block_in_p path;
+      not_nested = plain.not_nested path;
       void_is_closed = λ e. absurd (both_ways (is_void svg) plain.not_void e);
     })
 

@@ -1,13 +1,12 @@
 -- A walk that is settled part by part keeps the rules of settled walks.
-use Rattle.std.proofs.Common.{◌≡◌, ℕ, Bool, true, false, cond, ◌||◌, ◌&&◌, not, List, [], ◌∷◌, bytes_eq, refl, sym, ◌∙◌, ap, subst, Option, Some, None}
+use Rattle.std.proofs.Common.{◌≡◌, ℕ, Bool, true, false, ◌||◌, List, [], ◌∷◌, bytes_eq, refl}
 use Rattle.std.proofs.lemmas.Bool.{and_from}
-use Rattle.hm_base.specs.Forms.{is_blank}
-use Rattle.hm_base.specs.Walks.{Attribute, Event, doctype, start, text, comment, end, Element, same_flag, is_same_element, path_behind, path_after, ends_match}
+use Rattle.hm_base.specs.Walks.{Attribute, Event, doctype, start, text, comment, end, Element, same_flag, is_same_element, path_behind, ends_match}
 use Rattle.hm_elements.specs.Names.{is_among, html, head, body, svg}
 use Rattle.hm_elements.specs.Tables.{roots, voids, raw_names, rcdata_names, is_root, is_void, is_raw, is_rcdata, holds_text}
 use Rattle.hm_elements.specs.Paths.{html_element, is_in_svg, is_in_text, is_deep}
-use Rattle.hm_elements.specs.Settled.{is_html, Top, no_doctype, no_html, all_there, has_top, Frame, no_head, no_body, has_body, starts_root, starts_inner_root, has_frame, all_events, nests, is_svg_in_place, closes_void, is_text_in_place, is_raw_text, is_comment_in_form, has_attributes_in_form, is_not_deep, is_event_utf8, SettledFrom, Settled}
-use Rattle.hm_elements.specs.Places.{RootAllowed, one_of_two, html_path, SettledLast, SettledBehindBody, SettledInside, SettledBody, SettledBeforeBody, SettledHead, SettledBeforeHead, SettledBeforeHtml, SettledPage}
+use Rattle.hm_elements.specs.Settled.{is_html, Top, no_doctype, no_html, all_there, has_top, Frame, no_head, no_body, has_body, starts_root, has_frame, all_events, nests, is_svg_in_place, closes_void, is_text_in_place, is_raw_text, is_comment_in_form, has_attributes_in_form, is_not_deep, is_event_utf8, SettledFrom, Settled}
+use Rattle.hm_elements.specs.Places.{RootAllowed, html_path, SettledLast, SettledBehindBody, SettledInside, SettledBody, SettledBeforeBody, SettledHead, SettledBeforeHead, SettledBeforeHtml, SettledPage}
 use Rattle.hm_elements.proofs.TableTools.{eq_self}
 use Rattle.hm_elements.proofs.Events.{EventStands, is_same, comment_stands, text_stands, start_stands, start_is_no_root}
 use Rattle.hm_elements.proofs.Chain.{Inside, at_root, deeper, inside_top, inside_frame, no_root_is_other, html_is_itself, head_is_root, body_is_root}

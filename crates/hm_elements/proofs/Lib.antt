@@ -5,3 +5,5 @@ pub mod UpFacts
 pub mod Events
 pub mod Chain
 pub mod Gathered
+pub mod RawEnds
+pub mod NameFacts

@@ -1,17 +1,16 @@
 -- Facts about which element may stand where, what is made, and what closes.
-use Rattle.std.proofs.Common.{◌≡◌, ℕ, Bool, true, false, cond, ◌||◌, ◌&&◌, not, List, [], ◌∷◌, ◌++◌, bytes_eq, refl, sym, codes, ◌⊎◌, inl, inr, Option, Some, None, if◌then◌else◌}
-use Rattle.std.specs.List.{list_all}
-use Rattle.std.specs.Option.{is_some}
-use Rattle.std.proofs.lemmas.Bool.{or_cases, and_parts, not-true, false_from_ne_true, both_ways}
+use Rattle.std.proofs.Common.{◌≡◌, ℕ, suc, ◌≤◌, length, arith, Bool, true, false, cond, ◌||◌, ◌&&◌, not, List, [], ◌∷◌, ◌++◌, bytes_eq, refl, sym, ◌⊎◌, inl, inr, Option, None}
+use Rattle.std.proofs.lemmas.Bool.{or_cases, and_parts, not-true, false_from_ne_true, both_ways, ltb-false, le-ltb}
 use Rattle.hm_base.specs.Bytes.{is_digit_of}
 use Rattle.hm_base.specs.Forms.{is_small, is_tag_byte, is_tag_name}
 use Rattle.hm_base.specs.Walks.{Element}
-use Rattle.hm_elements.specs.Names.{words, is_among, Row, find, is_pair, head, body, noscript, div, table, tbody, tr, td, th, col, colgroup, script, svg}
+use Rattle.hm_elements.specs.Names.{words, is_among, find, is_pair, head, table, tbody, tr, col, colgroup, script, svg}
 use Rattle.hm_elements.specs.Tables.{is_raw, is_rcdata, holds_text, roots, voids, rcdata_names, raw_names, refused_names, headings, sections, parts, blocks, paragraph_ends, unnested_names, is_root, is_void, is_refused, is_section, is_heading, is_unnested, closes_p}
 use Rattle.hm_elements.specs.Nesting.{children, noscript_children, own_parents, bound_names, may_stand, yield_rows, yields, end_rows, ends_with, made_under}
 use Rattle.hm_elements.specs.Omission.{start_rows, start_goes_before}
-use Rattle.hm_elements.specs.Paths.{current, current_name, stands_on, head_yields, is_block_in_p, is_nested}
-use Rattle.hm_elements.proofs.TableTools.{same_bytes, eq_self, entry_passes, each_pair, pair_passes, HoldsInTables, stands_passes, no_row, none_among, no_head, second_of}
+use Rattle.hm_elements.specs.Paths.{is_block_in_p, is_nested, is_deep}
+use Rattle.hm_elements.specs.Laws.{ParentIs, HoldsMore, StartIsMade, SvgIsPlain}
+use Rattle.hm_elements.proofs.TableTools.{same_bytes, each_pair, pair_passes, HoldsInTables, stands_passes, no_row, none_among, no_head, second_of}
 
 abbrev pub is_nil : List (List ℕ) → Bool
 is_nil [] = true
@@ -65,15 +64,6 @@ parents_of_parts_hold = record {
   where
     ordinary : (n t : List ℕ) → is_among n bound_names ≡ false → parents_of_parts n t ≡ true
     ordinary n t not_in = rw (none_among n (words "caption colgroup thead tbody tfoot") bound_names not_in refl, none_among n (words "tr") bound_names not_in refl, none_among n (words "td th") bound_names not_in refl, none_among n (words "col") bound_names not_in refl, none_among n (words "head body html") bound_names not_in refl, none_among n (words "base title") bound_names not_in refl) refl
-
--- the parents of what stands in tables, in html and in head
-pub record ParentIs (n t : List ℕ) : Type 0 where
-  pub in_table : is_among n (words "caption colgroup thead tbody tfoot") ≡ true → t ≡ table
-  pub in_section : n ≡ tr → is_section t ≡ true
-  pub in_row : is_among n (words "td th") ≡ true → t ≡ tr
-  pub in_colgroup : n ≡ col → t ≡ colgroup
-  pub is_no_root : is_root n ≡ false
-  pub in_head : is_among n (words "base title") ≡ true → t ≡ head
 
 only_means : (names ps : List (List ℕ)) (c t : List ℕ) → only_in names ps c t ≡ true → is_among c names ≡ true → is_among t ps ≡ true
 only_means names ps c t h e = second_of (not (is_among c names)) (is_among t ps) h (rw e refl)
@@ -156,21 +146,13 @@ start_cases n k h =
       | inr f ↦ inr (both_names n k tbody tr f)
     ]
 
--- An element whose start tag is left out before that of a child stands in a table, where the child's start tag makes it.
-pub record StartIsMade (n k t : List ℕ) : Type 0 where
-  pub in_table : t ≡ table
-  pub makes : made_under t k ≡ n ∷ []
-  pub kept : yields t k ≡ false
-  pub kept_inside : yields n k ≡ false
-  pub last : (l : List ℕ) → start_goes_before k l ≡ false
-
 made_col : (t : List ℕ) → t ≡ table → StartIsMade colgroup col t
-unfolding made_under yields yield_rows is_among start_goes_before start_rows
-made_col t e = record { in_table = e; makes = rw e refl; kept = rw e refl; kept_inside = refl; last = λ l. refl }
+unfolding made_under yields yield_rows is_among start_goes_before start_rows is_block_in_p is_nested closes_p paragraph_ends blocks headings is_unnested unnested_names is_heading
+made_col t e = record { in_table = e; makes = rw e refl; kept = rw e refl; kept_inside = refl; last = λ l. refl; no_block_in_p = λ path. refl; not_nested = λ path. refl }
 
 made_tr : (t : List ℕ) → t ≡ table → StartIsMade tbody tr t
-unfolding made_under yields yield_rows is_among start_goes_before start_rows blocks headings paragraph_ends parts
-made_tr t e = record { in_table = e; makes = rw e refl; kept = rw e refl; kept_inside = refl; last = λ l. refl }
+unfolding made_under yields yield_rows parts is_among start_goes_before start_rows is_block_in_p is_nested closes_p paragraph_ends blocks headings is_unnested unnested_names is_heading
+made_tr t e = record { in_table = e; makes = rw e refl; kept = rw e refl; kept_inside = refl; last = λ l. refl; no_block_in_p = λ path. refl; not_nested = λ path. refl }
 
 pub start_is_made : (n k t : List ℕ) (g : Option (List ℕ)) → may_stand n t g ≡ true → start_goes_before n k ≡ true → StartIsMade n k t
 unfolding is_among
@@ -180,34 +162,9 @@ start_is_made n k t g h before =
       | inr (c, d) ↦ rw (c, d) (made_tr t ((stands_parent n t g h).in_table (rw c refl)))
     ]
 
--- the elements that are made, and those before which they are, are neither blocks nor kept from their own kind
-pub tr_in_place : (path : List Element) → (is_block_in_p tr path ≡ false) × (is_nested tr path ≡ false)
-unfolding is_block_in_p is_nested closes_p paragraph_ends blocks headings is_unnested unnested_names is_heading is_among
-tr_in_place path = (refl, refl)
-
-pub col_in_place : (path : List Element) → (is_block_in_p col path ≡ false) × (is_nested col path ≡ false)
-unfolding is_block_in_p is_nested closes_p paragraph_ends blocks headings is_unnested unnested_names is_heading is_among
-col_in_place path = (refl, refl)
-
--- svg: its name is read, it closes no paragraph, it nests, it isn't void, and no element that may hold it yields to it
-pub record SvgIsPlain (path : List Element) : Type 0 where
-  pub name : is_tag_name svg ≡ true
-  pub known : is_refused svg ≡ false
-  pub no_block_in_p : is_block_in_p svg path ≡ false
-  pub not_nested : is_nested svg path ≡ false
-  pub not_void : is_void svg ≡ false
-  pub not_root : is_root svg ≡ false
-
-pub svg_is_plain : (path : List Element) → SvgIsPlain path
+pub svg_is_plain : SvgIsPlain
 unfolding is_tag_name is_small is_tag_byte is_digit_of is_refused refused_names is_block_in_p is_nested closes_p paragraph_ends blocks headings is_unnested unnested_names is_heading is_void voids is_root roots is_among
-svg_is_plain path = record {
-  name = refl;
-  known = refl;
-  no_block_in_p = refl;
-  not_nested = refl;
-  not_void = refl;
-  not_root = refl;
-}
+svg_is_plain = record { name = refl; known = refl; no_block_in_p = λ path. refl; not_nested = λ path. refl; not_void = refl; not_root = refl }
 
 no_svg_after : each_pair (λ c k. not (bytes_eq k svg)) yield_rows ≡ true
 unfolding yield_rows paragraph_ends blocks headings parts is_among
@@ -227,11 +184,6 @@ svg_is_kept t g h = by_colgroup (bytes_eq t colgroup) refl
     by_colgroup : (b : Bool) → bytes_eq t colgroup ≡ b → cond b true (is_pair yield_rows t svg) ≡ false
     by_colgroup true e = absurd (never e)
     by_colgroup false e = false_from_ne_true (is_pair yield_rows t svg) (λ k. both_ways (bytes_eq svg svg) (not-true (bytes_eq svg svg) (pair_passes (λ c n. not (bytes_eq n svg)) t svg yield_rows no_svg_after k)) refl)
-
--- an element that holds more than one text, and isn't void
-pub record HoldsMore (c : List ℕ) : Type 0 where
-  pub no_text : holds_text c ≡ false
-  pub not_void : is_void c ≡ false
 
 abbrev pub holds_more : List ℕ → Bool
 holds_more c = not (holds_text c) && not (is_void c)
@@ -256,3 +208,7 @@ parent_holds = record {
 -- an element in which another stands
 pub stands_parent_holds : (n t : List ℕ) (g : Option (List ℕ)) → may_stand n t g ≡ true → HoldsMore t
 stands_parent_holds n t g h = holds_more_means t (stands_passes (λ c t'. holds_more t') parent_holds n t g h)
+
+pub outer_is_not_deep : (e : Element) (path : List Element) → is_deep (e ∷ path) ≡ false → is_deep path ≡ false
+unfolding is_deep
+outer_is_not_deep e path h = let l : suc (length path) ≤ 512 = ltb-false 512 (suc (length path)) h in le-ltb 512 (length path) (omega arith)

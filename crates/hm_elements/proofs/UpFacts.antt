@@ -1,14 +1,15 @@
 -- What ends a parent ends the child that was left open in it.
-use Rattle.std.proofs.Common.{◌≡◌, ℕ, Bool, true, false, cond, ◌||◌, ◌&&◌, not, List, [], ◌∷◌, bytes_eq, refl, codes, inl, inr, Option, Some, None, if◌then◌else◌}
+use Rattle.std.proofs.Common.{◌≡◌, ℕ, Bool, true, false, cond, ◌||◌, ◌&&◌, not, List, bytes_eq, refl, codes, ◌⊎◌, inl, inr, Option, Some, None, if◌then◌else◌}
 use Rattle.std.specs.List.{list_all}
 use Rattle.std.specs.Option.{is_some}
 use Rattle.std.proofs.lemmas.Bool.{and_parts, not-true, false_from_ne_true, both_ways}
-use Rattle.hm_elements.specs.Names.{words, is_among, find, is_among_found, is_pair, body, p, div, noscript, option, table, tbody, tr, col, colgroup}
+use Rattle.hm_elements.specs.Names.{is_among, find, is_among_found, is_pair, body, p, option, table, tbody, tr, col, colgroup}
 use Rattle.hm_elements.specs.Tables.{voids, rcdata_names, raw_names, headings, sections, parts, blocks, paragraph_ends, is_section, is_void, is_raw, is_rcdata, holds_text}
 use Rattle.hm_elements.specs.Nesting.{children, noscript_children, own_parents, bound_names, may_stand, yield_rows, yields, end_rows, ends_with}
 use Rattle.hm_elements.specs.Omission.{before_rows, goes_before, up_names, up_of_p, goes_up, start_goes_before, bars_start}
-use Rattle.hm_elements.proofs.TableTools.{same_bytes, entry_passes, each_pair, pair_passes, HoldsInTables, stands_passes, no_row, second_of}
-use Rattle.hm_elements.proofs.TableFacts.{stands_parent, stands_beside_colgroup, start_cases, HoldsMore, holds_more, holds_more_means}
+use Rattle.hm_elements.proofs.TableTools.{same_bytes, entry_passes, each_pair, pair_passes, HoldsInTables, stands_passes, no_row}
+use Rattle.hm_elements.proofs.TableFacts.{stands_parent, stands_beside_colgroup, start_cases, holds_more, holds_more_means}
+use Rattle.hm_elements.specs.Laws.{Follows, HoldsMore}
 
 abbrev all_found : (List ℕ → Bool) → Option (List (List ℕ)) → Bool
 all_found test None = true
@@ -61,13 +62,6 @@ up_follows_hold = record {
 
 stands_follows : (n t : List ℕ) (g : Option (List ℕ)) → may_stand n t g ≡ true → goes_up n t ≡ true → follows n t ≡ true
 stands_follows n t g h up = let k : up_follows n t ≡ true = stands_passes up_follows up_follows_hold n t g h in rw up at k
-
--- what laws use of it
-pub record Follows (c t : List ℕ) : Type 0 where
-  pub not_in_p : bytes_eq t p ≡ false
-  pub ends_there : ends_with c t ≡ true
-  pub yields_on : (k : List ℕ) → yields t k ≡ true → yields c k ≡ true
-  pub ends_on : (k : List ℕ) → ends_with t k ≡ true → ends_with c k ≡ true
 
 found_passes : (test : List ℕ → Bool) (o : Option (List (List ℕ))) (k : List ℕ) → all_found test o ≡ true → is_among_found k o ≡ true → test k ≡ true
 found_passes test None k all h = cc
@@ -202,3 +196,7 @@ up_holds_more c t h = by_p (bytes_eq c p) refl h
 
 pub goes_up_holds_more : (c t : List ℕ) → goes_up c t ≡ true → HoldsMore c
 goes_up_holds_more c t h = holds_more_means c (up_holds_more c t h)
+
+pub left_open_holds : (c k : List ℕ) → (goes_before c k ≡ true) ⊎ (goes_up c k ≡ true) → HoldsMore c
+left_open_holds c k (inl h) = goes_before_holds_more c k h
+left_open_holds c k (inr h) = goes_up_holds_more c k h

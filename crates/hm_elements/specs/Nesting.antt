@@ -1,6 +1,6 @@
 -- Which element may stand in which, and which closes before which tag.
-use Rattle.std.specs.Prelude.{ℕ, Bool, true, false, not, ◌&&◌, ◌||◌, List, [], ◌∷◌, ◌++◌, Option, Some, None, if◌then◌else◌, codes, bytes_eq}
-use Rattle.hm_elements.specs.Names.{words, is_among, Row, row, find, is_pair, head, noscript, p, div, dl, table, colgroup, col, tbody, tr, td, th, script}
+use Rattle.std.specs.Prelude.{ℕ, Bool, false, not, ◌&&◌, ◌||◌, List, [], ◌∷◌, ◌++◌, Option, Some, None, if◌then◌else◌, bytes_eq}
+use Rattle.hm_elements.specs.Names.{words, is_among, Row, row, find, is_pair, head, noscript, div, dl, table, colgroup, col, tbody, tr}
 use Rattle.hm_elements.specs.Tables.{voids, rcdata_names, raw_names, sections, parts, blocks, paragraph_ends, is_section}
 
 -- Parents with children of their own.

@@ -1,5 +1,5 @@
 -- The tables of tags that may be left out. Those of html, head and body depend on no name.
-use Rattle.std.specs.Prelude.{ℕ, Bool, true, false, not, ◌&&◌, ◌||◌, List, [], ◌∷◌, ◌++◌, if◌then◌else◌, codes, bytes_eq}
+use Rattle.std.specs.Prelude.{ℕ, Bool, true, not, ◌&&◌, ◌||◌, List, [], ◌∷◌, ◌++◌, if◌then◌else◌, codes, bytes_eq}
 use Rattle.hm_elements.specs.Names.{words, is_among, Row, row, is_pair, p, option, colgroup, tbody, body}
 use Rattle.hm_elements.specs.Tables.{sections, blocks, is_section}
 use Rattle.hm_elements.specs.Nesting.{without}

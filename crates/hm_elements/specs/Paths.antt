@@ -1,5 +1,5 @@
 -- Open elements, innermost first, and what the rules of nesting ask of them.
-use Rattle.std.specs.Prelude.{ℕ, Bool, true, false, not, ◌&&◌, ◌||◌, nat_lt, List, [], ◌∷◌, length, map, Option, Some, None, if◌then◌else◌, bytes_eq}
+use Rattle.std.specs.Prelude.{ℕ, Bool, false, not, ◌&&◌, ◌||◌, nat_lt, List, [], ◌∷◌, length, map, Option, Some, None, if◌then◌else◌, bytes_eq}
 use Rattle.hm_base.specs.Walks.{Element}
 use Rattle.hm_elements.specs.Names.{words, is_among, head, noscript, p}
 use Rattle.hm_elements.specs.Tables.{is_raw, holds_text, is_heading, is_unnested, closes_p, is_boundary}

@@ -1,5 +1,5 @@
 -- Kinds of elements and attributes, by name.
-use Rattle.std.specs.Prelude.{ℕ, Bool, true, false, ◌||◌, List, [], ◌∷◌, ◌++◌, if◌then◌else◌, bytes_eq}
+use Rattle.std.specs.Prelude.{ℕ, Bool, ◌||◌, List, [], ◌∷◌, ◌++◌, if◌then◌else◌, bytes_eq}
 use Rattle.hm_elements.specs.declared.class.Class.{Class}
 use Rattle.hm_elements.specs.declared.class.Class.TheVariants.{Root, Void, Rcdata, Raw, Script, TablePart, Ordinary, Refused}
 use Rattle.hm_elements.specs.Names.{words, is_among, table, script}

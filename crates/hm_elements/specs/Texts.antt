@@ -1,5 +1,5 @@
 -- What the code's arrays of names hold, as lists.
-use Rattle.std.specs.Prelude.{ℕ, Bool, true, false, List, [], ◌∷◌, ◌++◌, Option, Some, None}
+use Rattle.std.specs.Prelude.{ℕ, List, [], ◌∷◌, ◌++◌, Option, Some, None}
 use denote.Ref.{Bor}
 use Rattle.hm_elements.specs.Names as names
 use Rattle.hm_elements.specs.declared.look_up.Row.{Row}

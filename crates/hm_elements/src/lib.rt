@@ -2,6 +2,7 @@
 #![tactic(auto)]
 
 mod class;
+pub mod laws;
 mod lists;
 mod look_up;
 mod nesting;

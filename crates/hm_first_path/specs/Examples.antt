@@ -3,7 +3,7 @@ use Rattle.std.specs.Prelude.{◌≡◌, false, List, [], ◌∷◌, ◌++◌, c
 use Rattle.hm_base.specs.Walks.{Event, start, text, end}
 use Rattle.hm_base.specs.declared.rules.Rule.TheVariants.{NotYet, StrayEnd}
 use Rattle.std.specs.Fmt.{digits}
-use Rattle.hm_base.specs.Bytes.{is_space, is_digit}
+use Rattle.hm_base.specs.Bytes.{is_space, is_digit_of}
 use Rattle.hm_first_path.specs.Page.{built, refused, page_tree, item_at, is_plain, html, body, p, frame}
 use Rattle.hm_first_path.specs.Spellings.{may_omit_start, may_omit_end}
 use Rattle.hm_first_path.specs.Graph.{prices_of, shortest_text}
@@ -17,12 +17,12 @@ unfolding page_tree item_at is_plain
 two_paragraphs_read = refl
 
 pub two_paragraphs_short : shortest_text two_paragraphs ≡ codes "<!doctype html><p>a<p>b"
-unfolding may_omit_start may_omit_end is_plain is_space is_digit digits
+unfolding may_omit_start may_omit_end is_plain is_space is_digit_of digits
 two_paragraphs_short = refl
 
 pub two_paragraphs_prices : certificate_text (prices_of two_paragraphs)
     ≡ codes "html-cert 1" ++ 10 ∷ (codes "rules omit unquote" ++ 10 ∷ (codes "23" ++ 10 ∷ (codes "8" ++ 10 ∷ (codes "8" ++ 10 ∷ (codes "8" ++ 10 ∷ (codes "8" ++ 10 ∷ (codes "8" ++ 10 ∷ (codes "5" ++ 10 ∷ (codes "4 4" ++ 10 ∷ (codes "4 4" ++ 10 ∷ (codes "1" ++ 10 ∷ (codes "0 0" ++ 10 ∷ (codes "0 0" ++ 10 ∷ (codes "0 0" ++ 10 ∷ (codes "0 0" ++ 10 ∷ [])))))))))))))))
-unfolding may_omit_start may_omit_end is_plain is_space is_digit digits
+unfolding may_omit_start may_omit_end is_plain is_space is_digit_of digits
 two_paragraphs_prices = refl
 
 pub empty_page : page_tree [] ≡ refused NotYet 0

@@ -1,5 +1,5 @@
 -- The layered graph of spellings: units of a tree, states between units, edges, ways, prices.
-use Rattle.std.specs.Prelude.{ℕ, ◌≡◌, ◌≤◌, ◌+◌, Bool, true, false, not, ◌&&◌, List, [], ◌∷◌, ◌++◌, length, map, min, Option, Some, None, if◌then◌else◌, bytes_eq, nat_eq}
+use Rattle.std.specs.Prelude.{ℕ, zero, suc, ◌≡◌, ◌≤◌, ◌<◌, ◌+◌, Bool, true, false, not, ◌&&◌, List, [], ◌∷◌, ◌++◌, length, map, drop, min, Option, Some, None, if◌then◌else◌, bytes_eq, nat_eq}
 use Rattle.std.specs.Option.{option_map}
 use Rattle.std.specs.List.{list_any}
 use Rattle.hm_base.specs.Walks.{Event, Element, doctype, start, text, comment, end}
@@ -9,9 +9,8 @@ use Rattle.hm_first_path.specs.declared.graph.Tag.{Tag}
 use Rattle.hm_first_path.specs.declared.graph.Tag.TheVariants.{Html, Head, Body, P}
 use Rattle.hm_first_path.specs.declared.graph.Unit as units
 use Rattle.hm_first_path.specs.declared.graph.Unit.TheVariants.{Doctype, Start, Char, End}
-use Rattle.hm_first_path.specs.declared.graph.Pending.{Pending}
-use Rattle.hm_first_path.specs.declared.graph.Pending.TheVariants.{Nothing, Digits}
 use Rattle.hm_first_path.specs.declared.graph.State.{State}
+use Rattle.hm_first_path.specs.declared.graph.State.TheVariants.{Nothing, Digits}
 use Rattle.hm_first_path.specs.declared.graph.Piece.{Piece}
 use Rattle.hm_first_path.specs.declared.graph.Piece.TheVariants as pieces
 use Rattle.hm_first_path.specs.declared.graph.Edge.{Edge}
@@ -43,22 +42,14 @@ units_of path (end n foreign ∷ w) = End (tag_of n) (may_omit_end n (current (a
 
 -- States
 
-abbrev pub nothing : State
-nothing = record { pending = Nothing }
-
-abbrev pub digits_of : ℕ → State
-digits_of base = record { pending = Digits base }
-
-abbrev pub same_pending : Pending → Pending → Bool
-same_pending Nothing Nothing = true
-same_pending (Digits a) (Digits b) = nat_eq a b
-same_pending p q = false
-
 abbrev pub same_state : State → State → Bool
-same_state s t = same_pending s.pending t.pending
+same_state Nothing Nothing = true
+same_state Nothing (Digits b) = false
+same_state (Digits a) Nothing = false
+same_state (Digits a) (Digits b) = nat_eq a b
 
--- whether what is pending is broken by this byte
-abbrev pub is_broken : Pending → ℕ → Bool
+-- whether what was written last is continued by this byte
+abbrev pub is_broken : State → ℕ → Bool
 is_broken Nothing c = false
 is_broken (Digits base) c = continues_number c
 
@@ -83,20 +74,20 @@ edge piece to = record { piece = piece; to = to }
 abbrev pub edge_len : Edge → ℕ
 edge_len e = length (piece_bytes e.piece)
 
--- a tag of its own, or nothing before it where it may be omitted
+-- nothing, where the tag may be omitted; the tag
 abbrev pub tag_edges : Bool → Piece → State → List Edge
-tag_edges true piece from = edge pieces.Empty from ∷ edge piece nothing ∷ []
-tag_edges false piece from = edge piece nothing ∷ []
+tag_edges true piece from = edge pieces.Empty from ∷ edge piece Nothing ∷ []
+tag_edges false piece from = edge piece Nothing ∷ []
 
 -- a character as itself, where it may be and breaks nothing; as its decimal reference; as that with a semicolon
 abbrev pub char_edges : ℕ → State → List Edge
 char_edges c from =
-    (if is_plain c && not (is_broken from.pending c) then edge (pieces.Literal c) nothing ∷ [] else [])
-    ++ edge (pieces.Decimal c false) (digits_of 10) ∷ edge (pieces.Decimal c true) nothing ∷ []
+    (if is_plain c && not (is_broken from c) then edge (pieces.Literal c) Nothing ∷ [] else [])
+    ++ edge (pieces.Decimal c false) (Digits 10) ∷ edge (pieces.Decimal c true) Nothing ∷ []
 
 -- the edges of a unit from a state, in their order
 abbrev pub edges_of : units.Unit → State → List Edge
-edges_of Doctype from = edge pieces.Doctype nothing ∷ []
+edges_of Doctype from = edge pieces.Doctype Nothing ∷ []
 edges_of (Start tag omits) from = tag_edges omits (pieces.StartTag tag) from
 edges_of (Char c) from = char_edges c from
 edges_of (End tag omits) from = tag_edges omits (pieces.EndTag tag) from
@@ -146,10 +137,14 @@ abbrev pub along : Option Edge → (State → List ℕ) → List ℕ
 along None more = []
 along (Some e) more = piece_bytes e.piece ++ more e.to
 
+-- the first edge of a unit over which the least price comes
+abbrev pub cheapest : units.Unit → List units.Unit → State → Option Edge
+cheapest unit units from = first_edge (least units) (least (unit ∷ units) from) (edges_of unit from)
+
 -- the bytes of the way that takes the first edge of a least price at each state
 abbrev pub first_way : List units.Unit → State → List ℕ
 first_way [] from = []
-first_way (unit ∷ units) from = along (first_edge (least units) (least (unit ∷ units) from) (edges_of unit from)) (first_way units)
+first_way (unit ∷ units) from = along (cheapest unit units from) (first_way units)
 
 -- Layers
 
@@ -171,16 +166,49 @@ with_layer ends unit (s ∷ states) = with_layer (with_ends ends (edges_of unit 
 abbrev pub states_behind : units.Unit → List State → List State
 states_behind unit states = with_layer [] unit states
 
+-- the first layer has one state: nothing was written
+abbrev pub first_layer : List State
+first_layer = Nothing ∷ []
+
+-- the states of each layer, from one on whose states these are
+abbrev pub layers_of : List units.Unit → List State → List (List State)
+layers_of [] states = states ∷ []
+layers_of (unit ∷ units) states = states ∷ layers_of units (states_behind unit states)
+
+-- the states of layer k behind a layer with these states
+abbrev pub states_from : List State → List units.Unit → ℕ → List State
+states_from states units zero = states
+states_from states [] (suc k) = states
+states_from states (unit ∷ units) (suc k) = states_from (states_behind unit states) units k
+
 -- the price of a state by the prices of its layer
 abbrev pub price_at : List State → List (Option ℕ) → State → Option ℕ
 price_at [] prices s = None
 price_at (t ∷ states) [] s = None
 price_at (t ∷ states) (q ∷ prices) s = if same_state t s then q else price_at states prices s
 
+-- the least prices of these states, before these units
+abbrev pub least_row : List units.Unit → List State → List (Option ℕ)
+least_row units states = map (least units) states
+
 -- the least prices of all layers from one on, that layer's states being these
 abbrev pub least_prices : List units.Unit → List State → List (List (Option ℕ))
-least_prices [] states = map (least []) states ∷ []
-least_prices (unit ∷ units) states = map (least (unit ∷ units)) states ∷ least_prices units (states_behind unit states)
+least_prices [] states = least_row [] states ∷ []
+least_prices (unit ∷ units) states = least_row (unit ∷ units) states ∷ least_prices units (states_behind unit states)
+
+-- the states of layer k
+abbrev pub states_at : List units.Unit → ℕ → List State
+states_at units k = states_from first_layer units k
+
+-- the least prices of the layers from k on
+abbrev pub prices_from : List units.Unit → ℕ → List (List (Option ℕ))
+prices_from units k = least_prices (drop k units) (states_at units k)
+
+-- each number among these prices is below a bound
+abbrev pub AreBelow : ℕ → List (Option ℕ) → Type 0
+AreBelow bound [] = Unit {0}
+AreBelow bound (None ∷ row) = AreBelow bound row
+AreBelow bound (Some n ∷ row) = (n < bound) × AreBelow bound row
 
 -- Prices that show a bound by themselves
 
@@ -219,10 +247,6 @@ Feasible (unit ∷ units) states (row ∷ next ∷ rows) =
     KeepsLayer unit (price_at (states_behind unit states) next) states row
     × Feasible units (states_behind unit states) (next ∷ rows)
 
--- the first layer has one state: nothing is pending
-abbrev pub first_layer : List State
-first_layer = nothing ∷ []
-
 -- the first price of all
 abbrev pub first_price : List (List (Option ℕ)) → Option ℕ
 first_price [] = None
@@ -241,4 +265,4 @@ abbrev pub prices_of : List Event → List (List (Option ℕ))
 prices_of w = least_prices (tree_units w) first_layer
 
 abbrev pub shortest_text : List Event → List ℕ
-shortest_text w = first_way (tree_units w) nothing
+shortest_text w = first_way (tree_units w) Nothing

@@ -66,10 +66,10 @@ stepped (plain c) inside at more = behind_events (text (c ∷ []) false ∷ []) 
 stepped other inside at more = refused NotYet at
 
 -- the items from a place of the page on, where a p is open or not; the first skip bytes are passed over
-abbrev pub items : Bool → ℕ → ℕ → List ℕ → Outcome
-items inside at skip [] = built (end_of_p inside ++ end body false ∷ end html false ∷ [])
-items inside at (suc skip) (c ∷ s) = items inside (at + 1) skip s
-items inside at zero (c ∷ s) = stepped (item_at c s) inside at (λ next skip. items next (at + 1) skip s)
+abbrev pub read_items : Bool → ℕ → ℕ → List ℕ → Outcome
+read_items inside at skip [] = built (end_of_p inside ++ end body false ∷ end html false ∷ [])
+read_items inside at (suc skip) (c ∷ s) = read_items inside (at + 1) skip s
+read_items inside at zero (c ∷ s) = stepped (item_at c s) inside at (λ next skip. read_items next (at + 1) skip s)
 
 abbrev pub is_blank : ℕ → Bool
 is_blank c = c == 32
@@ -83,7 +83,7 @@ abbrev pub behind_doctype : Option (List ℕ) → Outcome
 behind_doctype None = refused NotYet 0
 behind_doctype (Some s) =
     if head_is is_blank s then refused NotYet 15
-    else behind_events frame (items false 15 0 s)
+    else behind_events frame (read_items false 15 0 s)
 
 -- the tree of a page, whatever its length
 unfoldable pub page_tree : List ℕ → Outcome

@@ -1,9 +1,9 @@
 -- How a run ends: its status, its line, and the files behind it.
-use Rattle.std.specs.Prelude.{ℕ, ◌≡◌, List, length, Option, Some, None, IsSome}
+use Rattle.std.specs.Prelude.{ℕ, ◌≡◌, ◌⊎◌, ◌||◌, bytes_eq, Bool, true, false, List, length, Option, Some, None, IsSome}
 use Rattle.std.specs.Io.KnownBytes.{append_known}
 use Rattle.hm_base.specs.Walks.{Event}
 use Rattle.hm_base.specs.declared.rules.Rule.{Rule}
-use Rattle.hm_store.specs.Files.{FileMap, file_of, with_file}
+use Rattle.hm_store.specs.Files.{FileMap, file_of, with_file, HasFront, IsMissing}
 use Rattle.hm_first_path.specs.Page.{Outcome, built, refused, page_tree, page_outcome}
 use Rattle.hm_first_path.specs.Spellings.{SpellsTree, Shortest}
 use Rattle.hm_first_path.specs.Graph.{FeasibleFor, first_price, prices_of, shortest_text}
@@ -42,6 +42,70 @@ asked_ending files (Some (minify page out cert)) = loaded_ending files out cert 
 -- the result of a run on these words over told files
 abbrev pub ending : List (List ℕ) → FileMap → Ending
 ending words files = asked_ending (Some files) (asked words)
+
+-- a status that says what the words and the page gave, and no fault
+abbrev pub is_answer : Status → Bool
+is_answer status.Done = true
+is_answer status.Usage = true
+is_answer status.PageRefused = true
+is_answer status.StoreFault = false
+is_answer status.SinkFault = false
+is_answer status.Memory = false
+
+-- status, files and sink are those of an ending
+pub record EndsAs (e : Ending) (ended : Status) (new : Option FileMap) (sink_old sink_new : Option (List ℕ)) : Type 0 where
+  pub status : ended ≡ e.status
+  pub files : new ≡ e.files
+  pub sink : sink_new ≡ append_known sink_old e.line
+
+-- The work between the words and the line
+
+-- the bytes that were loaded of a page: where the store tells its files, the page is there, and its outcome is theirs
+pub record IsLoaded (told : Option FileMap) (name bytes : List ℕ) : Type 0 where
+  pub page : List ℕ
+  pub there : IsSome told → file_of told name ≡ Some page
+  pub outcome : page_outcome bytes ≡ page_outcome page
+
+-- status, line and files are those of a page that is there
+pub record Works (old new : Option FileMap) (page_name out_name cert_name : List ℕ) (ended : Status) (line : List ℕ) : Type 0 where
+  pub page : List ℕ
+  pub there : IsSome old → file_of old page_name ≡ Some page
+  pub is : ends ended line new ≡ page_ending old out_name cert_name (page_outcome page)
+
+-- after a fault of the store in the writing of two files: nothing is touched, or a front of the first stands, or the
+-- first is whole and a front of the second stands
+abbrev pub IsHalfway : Option FileMap → Option FileMap → List ℕ → List ℕ → List ℕ → List ℕ → Type 0
+IsHalfway old new out_name out cert_name cert =
+    (new ≡ old) ⊎ (HasFront old new out_name out ⊎ ((new ≡ with_file old out_name out) ⊎ HasFront (with_file old out_name out) new cert_name cert))
+
+-- after a fault of the store: halfway to what the page gives
+pub record Stops (old new : Option FileMap) (page_name out_name cert_name : List ℕ) : Type 0 where
+  pub page : List ℕ
+  pub there : IsSome old → file_of old page_name ≡ Some page
+  pub tree : List Event
+  pub reads : page_outcome page ≡ built tree
+  pub files : IsHalfway old new out_name (shortest_text tree) cert_name (certificate_text (prices_of tree))
+
+-- after a fault of the store: halfway to what the words ask for
+pub record HasStopped (old new : Option FileMap) (words : List (List ℕ)) : Type 0 where
+  pub page_name : List ℕ
+  pub out_name : List ℕ
+  pub cert_name : List ℕ
+  pub asks : asked words ≡ Some (minify page_name out_name cert_name)
+  pub stops : Stops old new page_name out_name cert_name
+
+-- a file that the words ask to be written
+abbrev pub is_written : Option Asked → List ℕ → Bool
+is_written None name = false
+is_written (Some (minify page out cert)) name = bytes_eq name out || bytes_eq name cert
+
+-- the words ask for a page that isn't there
+pub record PageIsMissing (told : Option FileMap) (words : List (List ℕ)) : Type 0 where
+  pub page_name : List ℕ
+  pub out_name : List ℕ
+  pub cert_name : List ℕ
+  pub asks : asked words ≡ Some (minify page_name out_name cert_name)
+  pub missing : IsMissing told page_name
 
 -- The headline
 

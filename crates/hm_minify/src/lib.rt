@@ -3,6 +3,9 @@
 
 mod lines;
 mod status;
+mod top;
 mod words;
+mod work;
 
 pub use status::Status;
+pub use top::run;

@@ -1,7 +1,15 @@
 pub mod Bools
+pub mod FirstsLaws
 pub mod Found
+pub mod Gathered
 pub mod Growing
+pub mod LoneLaws
+pub mod Members
+pub mod NameForms
 pub mod NumberLaws
 pub mod Places
+pub mod ReadingLaws
 pub mod References
+pub mod Seeking
 pub mod Webs
+pub mod Whole

@@ -104,3 +104,9 @@ names_of_data (Some d) = names_of_object (as_object d)
 -- the names in byte order that the bytes of a table give, or the first of its faults
 unfoldable pub names : List ℕ → Result (List Entry) TableFault
 names bytes = if nat_lt 1048576 (length bytes) then Err TooLong else names_of_data (json bytes)
+
+-- ---- the keys of an object
+
+abbrev pub keys_in : Members → List (List ℕ)
+keys_in no_members = []
+keys_in (member k d ms) = k ∷ keys_in ms

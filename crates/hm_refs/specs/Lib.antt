@@ -3,7 +3,9 @@ pub mod Numbers
 pub mod References
 pub mod Tables
 pub mod Json
+pub mod Faults
 pub mod Examples
 pub mod JsonExamples
 pub mod Nodes
+pub mod Firsts
 pub mod Laws

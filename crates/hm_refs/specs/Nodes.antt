@@ -1,10 +1,10 @@
 -- The nodes of a trie, as the code keeps them.
-use Rattle.std.specs.Prelude.{◌≡◌, ℕ, suc, ◌+◌, ◌*◌, ◌<◌, ◌≤◌, ◌⊎◌, true, false, cond, nat_eq, is_some, List, [], ◌∷◌, ◌++◌, map, take, drop, length, Option, Some, None, option_map, if◌then◌else◌, slice_index_or, slice_set, bytes_eq, string_bytes}
+use Rattle.std.specs.Prelude.{◌≡◌, ℕ, suc, ◌+◌, ◌*◌, ◌<◌, ◌≤◌, ◌⊎◌, true, false, cond, nat_eq, is_some, List, [], ◌∷◌, ◌++◌, map, take, drop, length, Option, Some, None, option_map, IfSome, if◌then◌else◌, slice_index_or, slice_set, bytes_eq, string_bytes}
 use Rattle.std.specs.Ordering.{nat_cmp}
 use Rattle.std.specs.BTreeMap.{BTreeMap, get}
 use Rattle.hm_base.specs.Bytes.{is_null}
-use Rattle.hm_refs.specs.Names.{Entry, is_front}
-use Rattle.hm_refs.specs.Tables.{names_in, entry_at, points_list}
+use Rattle.hm_refs.specs.Names.{Entry, is_front, or_else, found_longer, longest}
+use Rattle.hm_refs.specs.Tables.{names_in, entry_at, points_list, found_at, TableView, front_at}
 use Rattle.hm_refs.specs.declared.nodes.Name.{Name}
 use Rattle.hm_refs.specs.declared.nodes.TrieNode.{TrieNode}
 
@@ -85,9 +85,10 @@ pub record IsWalked (t : List Entry) (k j at : ℕ) (old nodes : List TrieNode) 
   pub front : slice_index_or (fronts_of t nodes) at [] ≡ 38 ∷ take j (drop 1 (entry_at t k).name)
   pub keeps : KeepsPlaces (fronts_of t old) (fronts_of t nodes)
 
--- '&' stands first, and there are at most 64 bytes
+-- '&' stands first, and there are three to 64 bytes
 pub record IsShort (name : List ℕ) : Type 0 where
   pub begins : name ≡ 38 ∷ drop 1 name
+  pub long : 3 ≤ length name
   pub short : length name ≤ 64
 
 -- what the names have to be for a trie
@@ -112,3 +113,11 @@ pub record IsPut (t : List Entry) (k : ℕ) (nodes : List TrieNode) (places : Li
 pub record IsWhole (t : List Entry) (nodes : List TrieNode) (places : List ℕ) : Type 0 where
   pub names : AreNames t
   pub put : IsPut t (length t) nodes places
+
+-- With i bytes behind the '&' read, at a node: the longest name is a longer one than these bytes, or the best so far.
+pub record IsSought (v : TableView) (text rest : List ℕ) (i node : ℕ) (best : Option ℕ) : Type 0 where
+  pub whole : text ≡ 38 ∷ rest
+  pub inside : node < length v.fronts
+  pub front : front_at v node ≡ 38 ∷ take i rest
+  pub so_far : longest v.entries text ≡ or_else (found_longer v.entries (front_at v node) (drop i rest)) (option_map (λ id. found_at v.entries id text) best)
+  pub best_inside : IfSome best (λ id. id < length v.entries)

@@ -2,6 +2,7 @@
 use Rattle.std.specs.Prelude.{◌≡◌, ℕ, suc, ◌<◌, ◌≤◌, Bool, true, false, not, ◌&&◌, ◌||◌, ◌==◌, nat_lt, nat_le, List, [], ◌∷◌, ◌++◌, map, length, Some, option_to_list, if◌then◌else◌, slice_index_or, count_by, drop}
 use Rattle.std.specs.Ordering.{nat_cmp}
 use Rattle.std.specs.Cmp.Lexicographic.{slice_cmp}
+use Rattle.std.specs.List.{list_all}
 use Rattle.std.specs.List.Sorted.{IsStrictlySortedBy}
 use Rattle.hm_base.specs.Bytes.{head_is, is_null}
 use Rattle.hm_base.specs.declared.plain.Points.{Points}
@@ -95,3 +96,9 @@ points_list p = p.first ∷ option_to_list p.second
 -- the name with this number at the front of s
 abbrev pub found_at : List Entry → ℕ → List ℕ → Found
 found_at t i s = record { name = (entry_at t i).name; points = (entry_at t i).points; rest = drop (length (entry_at t i).name) s }
+
+-- names in byte order, each of its form and with its code points
+pub record IsGathered (t : List Entry) : Type 0 where
+  pub ascending : IsStrictlySortedBy (slice_cmp nat_cmp) (names_in t)
+  pub good : list_all (λ (e : Entry). is_good_name e.name) t ≡ true
+  pub pointed : list_all (λ (e : Entry). are_points e.points) t ≡ true

@@ -1,5 +1,7 @@
 //! Laws over the definitions. The functions do nothing.
-ghost use Rattle.hm_refs.specs.Laws.{BestIsLeast, LongestIsLongest, NoneIsBest, NoneIsLongest};
+ghost use Rattle.hm_refs.specs.Laws.{BestIsLeast, KeysAscend, LongestIsLongest, NamesAreTable, NoneIsBest, NoneIsLongest};
+
+pub use crate::table::every_table;
 
 /// What `longest` finds is the longest name that the text begins with.
 pub fn longest_is_longest()
@@ -19,4 +21,14 @@ pub fn best_is_least()
 /// Where a code point has no best number, no number gives it.
 pub fn none_is_best()
     ensures { NoneIsBest }
+{}
+
+/// The keys of a JSON object stand in byte order.
+pub fn keys_ascend()
+    ensures { KeysAscend }
+{}
+
+/// The names that a table's bytes give are a table.
+pub fn names_are_table()
+    ensures { NamesAreTable }
 {}

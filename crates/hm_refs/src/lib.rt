@@ -2,11 +2,18 @@
 #![tactic(auto)]
 
 mod fault;
+mod firsts;
 mod ids;
 pub mod laws;
-mod numbers;
 mod nodes;
+mod numbers;
+mod reading;
+mod table;
+#[cfg(test)]
+mod tests;
+mod trie;
 
 pub use fault::TableFault;
 pub use ids::{NameId, Node};
 pub use numbers::{best_number, number_value};
+pub use table::Table;

@@ -51,7 +51,7 @@ fn step(
     Ok(child)
 }
 
-fn behind_first(text: &[u8]) -> &[u8]
+pub(crate) fn behind_first(text: &[u8]) -> &[u8]
     requires { 0 < length text.now }
     ensures { result.now ≡ drop 1 text.now }
 {
@@ -81,7 +81,11 @@ fn add_name(
 }
 
 /// Makes the nodes of the names, and tells the node of each.
-fn grow(alloc: Global, names: &[Name], nodes: &mut Vec<TrieNode>) -> Result<Vec<Node>, Memory>
+pub(crate) fn grow(
+    alloc: Global,
+    names: &[Name],
+    nodes: &mut Vec<TrieNode>,
+) -> Result<Vec<Node>, Memory>
     requires names { AreNames (entries_of names.now) }
     requires empty { nodes.old.items ≡ [] }
     ensures { IfOk result

@@ -1,5 +1,5 @@
 -- What the edge to the system says of its calls, where nothing is told.
-use Rattle.std.proofs.Common.{◌≡◌, ◌↔◌, ℕ, List, Bool, true, false, None, refl, IsTrue, MatchResult, IfOk, is_ok}
+use Rattle.std.proofs.Common.{◌≡◌, ◌↔◌, ℕ, List, Bool, true, false, None, refl, IsTrue, IfOk, is_ok}
 use Rattle.std.specs.declared.option.Option.{Option}
 use Rattle.std.specs.declared.result.Result.{Result}
 use Rattle.std.specs.declared.result.Result.TheVariants.{Ok, Err}
@@ -23,9 +23,9 @@ none_opens name (Err x) = tt
 abbrev pub untold : Option (List ℕ)
 untold = None
 
-pub none_pulls : {E : Type 0} (r : Result ℕ E) (into : List ℕ) → MatchResult r (λ n. Pulls untold untold n into) (λ _. untold ≡ untold)
+pub none_pulls : {E : Type 0} (r : Result ℕ E) (into : List ℕ) → IfOk r (λ n. Pulls untold untold n into)
 none_pulls (Ok n) into = record { front = refl; ended = λ _ _. tt }
-none_pulls (Err x) into = refl
+none_pulls (Err x) into = tt
 
 pub at_ok : {T E : Type 0} (r : Result T E) (b : Bool) → b ≡ is_ok r → OnOk r (b ≡ true)
 at_ok (Ok x) b e = e

@@ -1,9 +1,9 @@
 -- What a pull from a store in memory takes.
-use Rattle.std.proofs.Common.{◌≡◌, ℕ, ◌+◌, ◌≤◌, min, true, List, [], ◌∷◌, ◌++◌, length, take, drop, Some, None, refl, sym, ap, ◌∙◌, arith, subst, is_some, MatchResult, IfOk}
+use Rattle.std.proofs.Common.{◌≡◌, ℕ, ◌+◌, ◌≤◌, min, true, List, [], ◌∷◌, ◌++◌, length, take, drop, Some, None, refl, sym, ap, ◌∙◌, arith, subst, is_some, IfOk}
 use Rattle.std.specs.declared.option.Option.{Option}
 use Rattle.std.specs.declared.result.Result.{Result}
 use Rattle.std.specs.declared.result.Result.TheVariants.{Ok, Err}
-use Rattle.std.specs.Result.{result_unwrap_or}
+use Rattle.std.specs.Result.{OnErr, result_unwrap_or}
 use Rattle.std.specs.Option.{unwrap_or}
 use Rattle.std.proofs.lemmas.Grind.{common_steps}
 use Rattle.std.proofs.lemmas.List.{take-append-drop}
@@ -41,16 +41,26 @@ stays t c = ap (λ k. drop k c) (omega arith)
 
 pulls_by : {E : Type 0} (files : FileMap) (reading : Option Reading) (result : Result ℕ E) (into was : List ℕ) → is_some reading ≡ true
     → IfOk result (λ n. n ≡ min (length (unwrap_or (rest_of files reading) [])) (length was)) → IfOk result (λ n. into ≡ take n (unwrap_or (rest_of files reading) []) ++ drop n was)
-    → MatchResult result (λ n. Pulls (rest_of files reading) (rest_of files (advanced reading (result_unwrap_or result 0))) n into) (λ _. rest_of files (advanced reading (result_unwrap_or result 0)) ≡ rest_of files reading)
+    → IfOk result (λ n. Pulls (rest_of files reading) (rest_of files (advanced reading (result_unwrap_or result 0))) n into)
 pulls_by files None result into was there count copied = absurd (cc)
 pulls_by files (Some r) (Ok n) into was there count copied = pulls_left (content files r.name) into was r.taken n count copied
-pulls_by files (Some r) (Err e) into was there count copied = ap Some (stays r.taken (content files r.name))
+pulls_by files (Some r) (Err e) into was there count copied = tt
 
-pub pulls : {E : Type 0} (files : FileMap) (reading : Option Reading) (result : Result ℕ E) (new : StoredFiles) (into was : List ℕ) (writing : Option (List ℕ)) (calls : CallLog)
-    → new ≡ record { files = files; reading = advanced reading (result_unwrap_or result 0); writing = writing; calls = calls }
-    → is_some reading ≡ true
-    → IfOk result (λ n. n ≡ min (length (unwrap_or (rest_of files reading) [])) (length was)) → IfOk result (λ n. into ≡ take n (unwrap_or (rest_of files reading) []) ++ drop n was)
-    → MatchResult result (λ n. Pulls (rest_of files reading) (rest_of new.files new.reading) n into) (λ _. rest_of new.files new.reading ≡ rest_of files reading)
-pulls files reading result new into was writing calls is there count copied =
-    let P : StoredFiles → Type 0 = λ s. MatchResult result (λ n. Pulls (rest_of files reading) (rest_of s.files s.reading) n into) (λ _. rest_of s.files s.reading ≡ rest_of files reading) in
-    subst P (sym is) (pulls_by files reading result into was there count copied)
+stays_by : {E : Type 0} (files : FileMap) (reading : Option Reading) (result : Result ℕ E) → OnErr result (rest_of files (advanced reading (result_unwrap_or result 0)) ≡ rest_of files reading)
+stays_by files reading (Ok n) = tt
+stays_by files None (Err e) = refl
+stays_by files (Some r) (Err e) = ap Some (stays r.taken (content files r.name))
+
+module _ {E : Type 0} (files : FileMap) (reading : Option Reading) (result : Result ℕ E) (new : StoredFiles) (writing : Option (List ℕ)) (calls : CallLog)
+    (is : new ≡ record { files = files; reading = advanced reading (result_unwrap_or result 0); writing = writing; calls = calls }) where
+  pub pulls : (into was : List ℕ) → is_some reading ≡ true
+      → IfOk result (λ n. n ≡ min (length (unwrap_or (rest_of files reading) [])) (length was)) → IfOk result (λ n. into ≡ take n (unwrap_or (rest_of files reading) []) ++ drop n was)
+      → IfOk result (λ n. Pulls (rest_of files reading) (rest_of new.files new.reading) n into)
+  pulls into was there count copied =
+      let P : StoredFiles → Type 0 = λ s. IfOk result (λ n. Pulls (rest_of files reading) (rest_of s.files s.reading) n into) in
+      subst P (sym is) (pulls_by files reading result into was there count copied)
+
+  pub stays_in_place : OnErr result (rest_of new.files new.reading ≡ rest_of files reading)
+  stays_in_place =
+      let P : StoredFiles → Type 0 = λ s. OnErr result (rest_of s.files s.reading ≡ rest_of files reading) in
+      subst P (sym is) (stays_by files reading result)

@@ -1,5 +1,5 @@
 -- What contracts see of a store in memory.
-use Rattle.std.specs.Prelude.{ℕ, ◌+◌, Bool, true, false, List, [], drop, Some, None, refl}
+use Rattle.std.specs.Prelude.{ℕ, ◌+◌, Bool, true, false, List, [], ◌++◌, drop, Some, None, refl}
 use Rattle.std.specs.declared.option.Option.{Option}
 use Rattle.std.specs.declared.result.Result.{Result}
 use Rattle.std.specs.declared.result.Result.TheVariants.{Ok, Err}
@@ -46,6 +46,11 @@ left_of s = unwrap_or (rest_of s.files s.reading) []
 -- the name of the file that is being written
 abbrev pub target_of : Option (List ℕ) → List ℕ
 target_of writing = unwrap_or writing []
+
+-- the files, with these bytes behind the file that is being written
+abbrev pub with_bytes : StoredFiles → List ℕ → FileMap
+with_bytes s bytes =
+    let name = target_of s.writing in finmap.insert s.files name (content s.files name ++ bytes)
 
 -- what is being read after an opening with this answer
 abbrev pub opened : {E : Type 0} → List ℕ → Result Bool E → Option Reading

@@ -27,10 +27,15 @@ impl Model for Calls {
 
     ghost coded = { call_log_code };
 
-    ghost view = { λ c. record { listed = set.from_list c.listed.keys; made = c.made; faults = c.faults } };
+    ghost view = { λ c. record {
+      listed = set.from_list c.listed.keys;
+      made = c.made;
+      faults = c.faults;
+    } };
 }
 
 impl Calls {
+    /// No call is listed, and none was made.
     pub(crate) fn new(alloc: Global) -> Self
         ensures { result ≡ no_calls }
     {
@@ -67,6 +72,7 @@ impl Calls {
     {
         count_failure(&mut self.faults)
     }
+
     /// How many calls have failed.
     #[cfg(test)]
     pub(crate) fn faults(&self) -> u64

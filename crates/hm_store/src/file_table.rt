@@ -23,10 +23,14 @@ impl Model for FileTable {
 
     ghost coded = { named_files_code };
 
-    ghost view = { λ t. record { names = names_of t.files.entries; files = files_of t.files.entries } };
+    ghost view = { λ t. record {
+      names = names_of t.files.entries;
+      files = files_of t.files.entries;
+    } };
 }
 
 impl FileTable {
+    /// No files.
     pub(crate) fn new(alloc: Global) -> Self
         ensures { result ≡ no_files }
     {
@@ -80,7 +84,8 @@ impl FileTable {
     /// Puts a file, in place of one of that name, and gives its place.
     pub(crate) fn set(&mut self, name: &str, bytes: &[u8]) -> Result<usize, Memory>
         ensures files { OnOk result (self.new.files ≡ finmap.insert self.old.files name.now bytes.now) }
-        ensures places { OnOk result ((more : List (List ℕ)) × (self.new.names ≡ self.old.names ++ more)) }
+        ensures places { OnOk result
+            ((more : List (List ℕ)) × (self.new.names ≡ self.old.names ++ more)) }
         ensures within { IfOk result (λ place. place < length self.new.names) }
         ensures named { IfOk result (λ place. name_at self.new.names place ≡ name.now) }
         ensures err { OnErr result (self.new ≡ self.old) }

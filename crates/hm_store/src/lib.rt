@@ -1,8 +1,8 @@
 //! The outside of hminify: stores of files and sinks of bytes, by what they tell.
 //!
-//! `Store` and `Sink` are what the program asks of the outside. `load` and `write_file` read and write a whole file.
-//! `MemStore` and `MemSink` keep bytes in memory and fail at listed calls; `FileStore` and `WriteSink` are the trusted edge
-//! to the files and the output of the system.
+//! `Store` and `Sink` are what the program asks of the outside. `load` and `write_file` read and write
+//! a whole file. `MemStore` and `MemSink` keep bytes in memory and fail at listed calls. `FileStore` and
+//! `WriteSink` are the trusted edge to the files and the output of the system.
 #![tactic(auto)]
 
 mod calls;

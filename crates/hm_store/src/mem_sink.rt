@@ -24,7 +24,10 @@ impl Model for MemSink {
 
     ghost coded = { sunk_bytes_code };
 
-    ghost view = { λ s. record { bytes = s.bytes.items; calls = s.calls } };
+    ghost view = { λ s. record {
+      bytes = s.bytes.items;
+      calls = s.calls;
+    } };
 }
 
 impl MemSink {
@@ -62,8 +65,13 @@ impl Sink for MemSink {
     /// It fails where the call is listed, and else only for want of memory; then the bytes are as before.
     fn put(&mut self, bytes: &[u8]) -> Result<(), Failed>
         ensures listed { IsTrue (fails_next self.old.calls) → IsErr result }
-        ensures ok { OnOk result (self.new ≡ record { bytes = self.old.bytes ++ bytes.now; calls = after_call self.old.calls result }) }
-        ensures err { OnErr result (self.new ≡ record { bytes = self.old.bytes; calls = after_call self.old.calls result }) }
+        ensures ok { OnOk result (self.new ≡ record {
+          bytes = self.old.bytes ++ bytes.now;
+          calls = after_call self.old.calls result;
+        }) }
+        ensures err { OnErr result (self.new ≡ record self.old {
+          calls = after_call self.old.calls result;
+        }) }
         ensures cause { HasCause self.old.calls.faults self.new.calls.faults result }
     {
         if self.calls.begin() || self.bytes.extend_from_slice(bytes).is_err() {

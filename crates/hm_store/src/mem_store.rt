@@ -6,8 +6,7 @@ ghost use Rattle.std.specs.Result.{result_unwrap_or};
 ghost use Rattle.std.specs.FinMap as finmap;
 ghost use Rattle.hm_store.specs.Calls.{fails_next, with_listed, after_call};
 ghost use Rattle.hm_store.specs.Causes.{HasCause};
-ghost use Rattle.hm_store.specs.Files.{content};
-ghost use Rattle.hm_store.specs.MemStore.{empty_store, source_of, rest_of, left_of, target_of, opened, advanced};
+ghost use Rattle.hm_store.specs.MemStore.{empty_store, source_of, rest_of, left_of, target_of, with_bytes, opened, advanced};
 
 use crate::calls::Calls;
 use crate::file_table::FileTable;
@@ -70,7 +69,9 @@ impl MemStore {
 
     /// Puts a file, in place of one of that name.
     pub fn add(&mut self, name: &str, bytes: &[u8]) -> Result<(), Memory>
-        ensures ok { OnOk result (self.new ≡ record self.old { files = finmap.insert self.old.files name.now bytes.now }) }
+        ensures ok { OnOk result (self.new ≡ record self.old {
+          files = finmap.insert self.old.files name.now bytes.now;
+        }) }
         ensures err { OnErr result (self.new ≡ self.old) }
     {
         self.files.set(name, bytes)?;
@@ -127,7 +128,10 @@ impl Store for MemStore {
     fn open_in(&mut self, name: &str) -> Result<bool, Failed>
         ensures listed { is_err result ≡ fails_next self.old.calls }
         ensures found { IfOk result (λ found. found ≡ finmap.contains_key self.old.files name.now) }
-        ensures after { self.new ≡ record self.old { reading = opened name.now result; calls = after_call self.old.calls result } }
+        ensures after { self.new ≡ record self.old {
+          reading = opened name.now result;
+          calls = after_call self.old.calls result;
+        } }
         ensures cause { HasCause self.old.calls.faults self.new.calls.faults result }
     {
         self.reading = None;
@@ -151,7 +155,10 @@ impl Store for MemStore {
         ensures count { IfOk result (λ n. n ≡ min (length (left_of self.old)) (length into.old)) }
         ensures copied { IfOk result (λ n. into.new ≡ take n (left_of self.old) ++ drop n into.old) }
         ensures untouched { OnErr result (into.new ≡ into.old) }
-        ensures after { self.new ≡ record self.old { reading = advanced self.old.reading (result_unwrap_or result 0); calls = after_call self.old.calls result } }
+        ensures after { self.new ≡ record self.old {
+          reading = advanced self.old.reading (result_unwrap_or result 0);
+          calls = after_call self.old.calls result;
+        } }
         ensures cause { HasCause self.old.calls.faults self.new.calls.faults result }
     {
         if self.calls.begin() {
@@ -173,8 +180,15 @@ impl Store for MemStore {
     /// It fails where the call is listed, and else only for want of memory; then the files are as before.
     fn open_out(&mut self, name: &str) -> Result<(), Failed>
         ensures listed { IsTrue (fails_next self.old.calls) → IsErr result }
-        ensures ok { OnOk result (self.new ≡ record self.old { files = finmap.insert self.old.files name.now []; writing = Some name.now; calls = after_call self.old.calls result }) }
-        ensures err { OnErr result (self.new ≡ record self.old { writing = None; calls = after_call self.old.calls result }) }
+        ensures ok { OnOk result (self.new ≡ record self.old {
+          files = finmap.insert self.old.files name.now [];
+          writing = Some name.now;
+          calls = after_call self.old.calls result;
+        }) }
+        ensures err { OnErr result (self.new ≡ record self.old {
+          writing = None;
+          calls = after_call self.old.calls result;
+        }) }
         ensures cause { HasCause self.old.calls.faults self.new.calls.faults result }
     {
         self.writing = None;
@@ -194,8 +208,13 @@ impl Store for MemStore {
     fn put(&mut self, bytes: &[u8]) -> Result<(), Failed>
         requires { is_some self.old.writing ≡ true }
         ensures listed { IsTrue (fails_next self.old.calls) → IsErr result }
-        ensures ok { let name = target_of self.old.writing in OnOk result (self.new ≡ record self.old { files = finmap.insert self.old.files name (content self.old.files name ++ bytes.now); calls = after_call self.old.calls result }) }
-        ensures err { OnErr result (self.new ≡ record self.old { calls = after_call self.old.calls result }) }
+        ensures ok { OnOk result (self.new ≡ record self.old {
+          files = with_bytes self.old bytes.now;
+          calls = after_call self.old.calls result;
+        }) }
+        ensures err { OnErr result (self.new ≡ record self.old {
+          calls = after_call self.old.calls result;
+        }) }
         ensures cause { HasCause self.old.calls.faults self.new.calls.faults result }
     {
         if self.calls.begin() {
@@ -214,7 +233,10 @@ impl Store for MemStore {
     fn close_out(&mut self) -> Result<(), Failed>
         requires { is_some self.old.writing ≡ true }
         ensures listed { is_err result ≡ fails_next self.old.calls }
-        ensures after { self.new ≡ record self.old { writing = None; calls = after_call self.old.calls result } }
+        ensures after { self.new ≡ record self.old {
+          writing = None;
+          calls = after_call self.old.calls result;
+        } }
         ensures cause { HasCause self.old.calls.faults self.new.calls.faults result }
     {
         self.writing = None;

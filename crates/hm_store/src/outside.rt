@@ -1,7 +1,9 @@
 //! The trusted edge: files of the system, and a writer. They tell no content.
-ghost use Rattle.std.specs.Prelude.{◌≡◌, List, [], Bool, true, false, None, IsTrue, IfOk, is_ok};
+ghost use Rattle.std.specs.Prelude.{◌≡◌, List, [], Bool, true, None, IsTrue, IfOk, OnOk, is_ok, is_some};
 ghost use Rattle.std.specs.Io.{ReadsAtMost};
+ghost use Rattle.std.specs.Io.KnownBytes.{Appends, ReadConsumes};
 ghost use Rattle.hm_store.specs.Causes.{counted, HasCause};
+ghost use Rattle.hm_store.specs.Edge.{ForBoth, no_open_files};
 
 use crate::faults::count_failure;
 use crate::{Failed, Sink, Store};
@@ -20,18 +22,21 @@ pub struct FileStore<'r, R: Files> {
 }
 
 impl<'r, R: Files> Model for FileStore<'r, R> {
-    ghost use Rattle.std.specs.Prelude.{is_some};
-    ghost use Rattle.hm_store.specs.Edge.{Handles};
+    ghost use Rattle.hm_store.specs.Edge.{OpenFiles};
 
-    ghost Value = { Handles };
+    ghost Value = { OpenFiles R.File };
 
-    ghost view = { λ s. record { is_reading = is_some s.reading; is_writing = is_some s.writing; faults = s.faults } };
+    ghost view = { λ s. record {
+      reading = s.reading;
+      writing = s.writing;
+      faults = s.faults;
+    } };
 }
 
 impl<'r, R: Files> FileStore<'r, R> {
     /// A store with no open file.
     pub fn new(rt: &'r R) -> Self
-        ensures { result ≡ record { is_reading = false; is_writing = false; faults = 0 } }
+        ensures { result ≡ no_open_files }
     {
         FileStore {
             rt,
@@ -45,21 +50,23 @@ impl<'r, R: Files> FileStore<'r, R> {
 impl<'r, R: Files> Store for FileStore<'r, R> {
     ghost files = { λ _. None };
 
-    ghost is_reading = { λ s. s.is_reading };
+    ghost is_reading = { λ s. is_some s.reading };
 
     ghost source = { λ _. [] };
 
     ghost rest = { λ _. None };
 
-    ghost is_writing = { λ s. s.is_writing };
+    ghost is_writing = { λ s. is_some s.writing };
 
     ghost target = { λ _. [] };
 
     ghost faults = { λ s. s.faults };
 
     fn open_in(&mut self, name: &str) -> Result<bool, Failed>
-        ensures after { self.new ≡ record { is_reading = is_ok result; is_writing = self.old.is_writing; faults = counted self.old.faults result } }
+        ensures reads { is_some self.new.reading ≡ is_ok result }
         ensures found { IfOk result (λ found. IsTrue found) }
+        ensures writes { self.new.writing ≡ self.old.writing }
+        ensures counted { self.new.faults ≡ counted self.old.faults result }
         ensures cause { HasCause self.old.faults self.new.faults result }
     {
         self.reading = None;
@@ -73,9 +80,13 @@ impl<'r, R: Files> Store for FileStore<'r, R> {
     }
 
     fn pull(&mut self, into: &mut [u8]) -> Result<usize, Failed>
-        requires { self.old.is_reading ≡ true }
-        ensures after { self.new ≡ record self.old { faults = counted self.old.faults result } }
+        requires { is_some self.old.reading ≡ true }
+        ensures reads { is_some self.new.reading ≡ true }
         ensures bound { ReadsAtMost result into.new }
+        ensures pulled { ForBoth self.old.reading self.new.reading
+            (λ old new. ReadConsumes (R.File.remaining old) (R.File.remaining new) result into.new) }
+        ensures writes { self.new.writing ≡ self.old.writing }
+        ensures counted { self.new.faults ≡ counted self.old.faults result }
         ensures cause { HasCause self.old.faults self.new.faults result }
     {
         match &mut self.reading {
@@ -88,7 +99,9 @@ impl<'r, R: Files> Store for FileStore<'r, R> {
     }
 
     fn open_out(&mut self, name: &str) -> Result<(), Failed>
-        ensures after { self.new ≡ record { is_reading = self.old.is_reading; is_writing = is_ok result; faults = counted self.old.faults result } }
+        ensures writes { is_some self.new.writing ≡ is_ok result }
+        ensures reads { self.new.reading ≡ self.old.reading }
+        ensures counted { self.new.faults ≡ counted self.old.faults result }
         ensures cause { HasCause self.old.faults self.new.faults result }
     {
         self.writing = None;
@@ -102,8 +115,12 @@ impl<'r, R: Files> Store for FileStore<'r, R> {
     }
 
     fn put(&mut self, bytes: &[u8]) -> Result<(), Failed>
-        requires { self.old.is_writing ≡ true }
-        ensures after { self.new ≡ record self.old { faults = counted self.old.faults result } }
+        requires { is_some self.old.writing ≡ true }
+        ensures writes { is_some self.new.writing ≡ true }
+        ensures written { OnOk result (ForBoth self.old.writing self.new.writing
+            (λ old new. Appends (R.File.contents old) (R.File.contents new) bytes.now)) }
+        ensures reads { self.new.reading ≡ self.old.reading }
+        ensures counted { self.new.faults ≡ counted self.old.faults result }
         ensures cause { HasCause self.old.faults self.new.faults result }
     {
         match &mut self.writing {
@@ -116,8 +133,10 @@ impl<'r, R: Files> Store for FileStore<'r, R> {
     }
 
     fn close_out(&mut self) -> Result<(), Failed>
-        requires { self.old.is_writing ≡ true }
-        ensures after { self.new ≡ record { is_reading = self.old.is_reading; is_writing = false; faults = counted self.old.faults result } }
+        requires { is_some self.old.writing ≡ true }
+        ensures idle { self.new.writing ≡ None }
+        ensures reads { self.new.reading ≡ self.old.reading }
+        ensures counted { self.new.faults ≡ counted self.old.faults result }
         ensures cause { HasCause self.old.faults self.new.faults result }
     {
         let flushed = match &mut self.writing {
@@ -132,7 +151,7 @@ impl<'r, R: Files> Store for FileStore<'r, R> {
     }
 }
 
-/// A writer as a sink. Contracts see it as the number of its failed calls.
+/// A writer as a sink.
 #[derive(Drop)]
 pub struct WriteSink<W: Write> {
     inner: W,
@@ -140,24 +159,29 @@ pub struct WriteSink<W: Write> {
 }
 
 impl<W: Write> Model for WriteSink<W> {
-    ghost use Rattle.std.specs.Prelude.{ℕ};
+    ghost use Rattle.hm_store.specs.Edge.{SinkOver};
 
-    ghost Value = { ℕ };
+    ghost Value = { SinkOver W };
 
-    ghost view = { λ s. s.faults };
+    ghost view = { λ s. record {
+      inner = s.inner;
+      faults = s.faults;
+    } };
 }
 
 impl<W: Write> WriteSink<W> {
     /// A sink whose bytes go to `inner`.
     pub fn new(inner: W) -> Self
-        ensures { result ≡ 0 }
+        ensures { result ≡ record { inner = inner; faults = 0 } }
     {
         WriteSink { inner, faults: 0 }
     }
 }
 
 /// Writes all the bytes, and flushes them.
-fn write_through<W: Write>(writer: &mut W, bytes: &[u8]) -> io::Result<()> {
+fn write_through<W: Write>(writer: &mut W, bytes: &[u8]) -> io::Result<()>
+    ensures { OnOk result (Appends (W.contents writer.old) (W.contents writer.new) bytes.now) }
+{
     writer.write_all(bytes)?;
     writer.flush()
 }
@@ -165,11 +189,13 @@ fn write_through<W: Write>(writer: &mut W, bytes: &[u8]) -> io::Result<()> {
 impl<W: Write> Sink for WriteSink<W> {
     ghost contents = { λ _. None };
 
-    ghost faults = { λ s. s };
+    ghost faults = { λ s. s.faults };
 
     fn put(&mut self, bytes: &[u8]) -> Result<(), Failed>
-        ensures counted { self.new ≡ counted self.old result }
-        ensures cause { HasCause self.old self.new result }
+        ensures written { OnOk result
+            (Appends (W.contents self.old.inner) (W.contents self.new.inner) bytes.now) }
+        ensures counted { self.new.faults ≡ counted self.old.faults result }
+        ensures cause { HasCause self.old.faults self.new.faults result }
     {
         match write_through(&mut self.inner, bytes) {
             Ok(()) => Ok(()),

@@ -1,5 +1,5 @@
 //! What the program asks of the outside.
-ghost use Rattle.std.specs.Prelude.{◌≡◌, ◌≢◌, ◌↔◌, ◌⊎◌, ℕ, List, [], Bool, true, false, IsSome, OnOk, OnErr, MatchResult};
+ghost use Rattle.std.specs.Prelude.{◌≡◌, ◌↔◌, ◌⊎◌, ℕ, List, [], Bool, true, false, IsSome, IfOk, OnOk, OnErr};
 ghost use Rattle.std.specs.declared.option.Option.{Option};
 ghost use Rattle.std.specs.Io.{ReadsAtMost};
 ghost use Rattle.std.specs.Io.KnownBytes.{append_known};
@@ -15,16 +15,19 @@ pub trait Store {
     // the files, where the store tells them
     ghost files: { Self → Option FileMap };
 
-    // whether a file is being read; where the files are told, its name and the bytes of it that are left to read
+    // whether a file is being read
     ghost is_reading: { Self → Bool };
 
+    // its name, where the files are told
     ghost source: { Self → List ℕ };
 
+    // its bytes that are left to read, where the files are told
     ghost rest: { Self → Option (List ℕ) };
 
-    // whether a file is being written, and its name where the files are told
+    // whether a file is being written
     ghost is_writing: { Self → Bool };
 
+    // its name, where the files are told
     ghost target: { Self → List ℕ };
 
     // how often a call has failed
@@ -33,7 +36,7 @@ pub trait Store {
     /// Opens a file for reading, from its front. False says that the store has no such file.
     fn open_in(&mut self, name: &str) -> Result<bool, Failed>
         ensures same { files self.new ≡ files self.old }
-        ensures reads { is_reading self.new ≡ true ↔ result ≡ Ok true }
+        ensures reads { (is_reading self.new ≡ true) ↔ (result ≡ Ok true) }
         ensures named { result ≡ Ok true → IsSome (files self.old) → source self.new ≡ name.now }
         ensures opens { Opens (files self.old) name.now result (rest self.new) }
         ensures absent { result ≡ Ok false → IsMissing (files self.old) name.now }
@@ -48,7 +51,8 @@ pub trait Store {
         ensures reads { is_reading self.new ≡ true }
         ensures named { source self.new ≡ source self.old }
         ensures bound { ReadsAtMost result into.new }
-        ensures bytes { MatchResult result (λ n. Pulls (rest self.old) (rest self.new) n into.new) (λ _. rest self.new ≡ rest self.old) }
+        ensures bytes { IfOk result (λ n. Pulls (rest self.old) (rest self.new) n into.new) }
+        ensures place { OnErr result (rest self.new ≡ rest self.old) }
         ensures writes { is_writing self.new ≡ is_writing self.old }
         ensures target { target self.new ≡ target self.old }
         ensures cause { HasCause (faults self.old) (faults self.new) result };
@@ -58,7 +62,8 @@ pub trait Store {
         ensures ok { OnOk result (files self.new ≡ with_file (files self.old) name.now []) }
         ensures writes { OnOk result (is_writing self.new ≡ true) }
         ensures named { OnOk result (IsSome (files self.old) → target self.new ≡ name.now) }
-        ensures err { OnErr result ((files self.new ≡ files self.old) ⊎ (files self.new ≡ with_file (files self.old) name.now [])) }
+        ensures err { OnErr result ((files self.new ≡ files self.old)
+            ⊎ (files self.new ≡ with_file (files self.old) name.now [])) }
         ensures idle { OnErr result (is_writing self.new ≡ false) }
         ensures reads { is_reading self.new ≡ is_reading self.old }
         ensures source { source self.new ≡ source self.old }
@@ -67,8 +72,10 @@ pub trait Store {
     /// Puts bytes behind the file that is being written, a front of them where it fails.
     fn put(&mut self, bytes: &[u8]) -> Result<(), Failed>
         requires { is_writing self.old ≡ true }
-        ensures ok { OnOk result (files self.new ≡ with_more (files self.old) (target self.old) bytes.now) }
-        ensures err { OnErr result ((files self.new ≡ files self.old) ⊎ PutsFront (files self.old) (files self.new) (target self.old) bytes.now) }
+        ensures ok { OnOk result
+            (files self.new ≡ with_more (files self.old) (target self.old) bytes.now) }
+        ensures err { OnErr result ((files self.new ≡ files self.old)
+            ⊎ PutsFront (files self.old) (files self.new) (target self.old) bytes.now) }
         ensures writes { is_writing self.new ≡ true }
         ensures named { target self.new ≡ target self.old }
         ensures reads { is_reading self.new ≡ is_reading self.old }

@@ -39,7 +39,8 @@ fn pull_more<S: Store>(store: &mut S, bytes: &mut Vec<u8>, limit: usize) -> Resu
     ensures reading { S.is_reading store.new ≡ true }
     ensures writing { S.is_writing store.new ≡ S.is_writing store.old }
     ensures target { S.target store.new ≡ S.target store.old }
-    ensures follows { IfOk result (λ more. Follows bytes.old.items (S.rest store.old) bytes.new.items (S.rest store.new) more) }
+    ensures follows { IfOk result
+        (λ more. Follows bytes.old.items (S.rest store.old) bytes.new.items (S.rest store.new) more) }
     ensures within { length bytes.new.items ≤ limit + 1 }
     ensures later { S.faults store.old ≤ S.faults store.new }
     ensures failed { result ≡ Err LoadFault.Store → Rose (S.faults store.old) (S.faults store.new) }
@@ -83,9 +84,11 @@ pub fn load<S: Store>(
     name: &str,
     limit: u32,
 ) -> Result<Vec<u8>, LoadFault>
-    ensures loaded { IfOk result (λ bytes. Takes (file_of (S.files store.old) name.now) (limit + 1) bytes.items) }
+    ensures loaded { IfOk result
+        (λ bytes. Takes (file_of (S.files store.old) name.now) (limit + 1) bytes.items) }
     ensures within { IfOk result (λ bytes. length bytes.items ≤ limit + 1) }
-    ensures there { IsOk result → IsSome (S.files store.old) → IsSome (file_of (S.files store.old) name.now) }
+    ensures there { IsOk result → IsSome (S.files store.old)
+        → IsSome (file_of (S.files store.old) name.now) }
 
     // It changes nothing but what is being read.
     ensures same { S.files store.new ≡ S.files store.old }
@@ -94,7 +97,8 @@ pub fn load<S: Store>(
 
     // A call has failed, or the file isn't there.
     ensures later { S.faults store.old ≤ S.faults store.new }
-    ensures failed { result ≡ Err LoadFault.Store → Rose (S.faults store.old) (S.faults store.new) ⊎ IsMissing (S.files store.old) name.now }
+    ensures failed { result ≡ Err LoadFault.Store
+        → Rose (S.faults store.old) (S.faults store.new) ⊎ IsMissing (S.files store.old) name.now }
     ensures missing { IsMissing (S.files store.old) name.now → result ≡ Err LoadFault.Store }
 {
     match store.open_in(name) {
@@ -106,13 +110,16 @@ pub fn load<S: Store>(
 /// Writes a whole file: opens it, puts the bytes at once, and closes it. The first call that fails ends it.
 pub fn write_file<S: Store>(store: &mut S, name: &str, bytes: &[u8]) -> Result<(), Failed>
     ensures ok { OnOk result (S.files store.new ≡ with_file (S.files store.old) name.now bytes.now) }
-    ensures err { OnErr result ((S.files store.new ≡ S.files store.old) ⊎ HasFront (S.files store.old) (S.files store.new) name.now bytes.now) }
+    ensures err { OnErr result ((S.files store.new ≡ S.files store.old)
+        ⊎ HasFront (S.files store.old) (S.files store.new) name.now bytes.now) }
     ensures idle { OnOk result (S.is_writing store.new ≡ false) }
     ensures reading { S.is_reading store.new ≡ S.is_reading store.old }
     ensures source { S.source store.new ≡ S.source store.old }
     ensures cause { HasCause (S.faults store.old) (S.faults store.new) result }
 {
     store.open_out(name)?;
-    store.put(bytes)?;
-    store.close_out()
+    match store.put(bytes) {
+        Ok(()) => store.close_out(),
+        Err(Failed) => Err(Failed),
+    }
 }

@@ -1,5 +1,5 @@
 -- Names of attributes, and the entries of the map that holds them.
-use Rattle.std.proofs.Common.{◌≡◌, ℕ, Bool, true, false, not, cond, ◌&&◌, List, [], ◌∷◌, ◌++◌, String, string_bytes, string_eq, bytes_eq, Option, Some, None, is_some, sym, ap, ◌∙◌, refl}
+use Rattle.std.proofs.Common.{◌≡◌, ℕ, Bool, true, false, not, cond, List, [], ◌∷◌, ◌++◌, String, string_bytes, string_eq, bytes_eq, Option, Some, is_some, ap, ◌∙◌, refl}
 use Rattle.std.specs.Cmp.Lexicographic.{nat_list_eq_equiv}
 use Rattle.std.specs.Map.{lookup}
 use Rattle.std.proofs.lemmas.Str.{IsUtf8-string_bytes, is_utf8-from_IsUtf8}
@@ -23,7 +23,7 @@ pub lookup-has_name : {Y : Type 0} (q : List ℕ) (es : List (String Y × String
 lookup-has_name q [] = refl
 lookup-has_name q (e ∷ es) =
     rw (nat_list_eq_equiv.symm (string_bytes e.0) q)
-      (found_by (bytes_eq q (string_bytes e.0)) e.1 (lookup (λ k. bytes_eq q (string_bytes k)) es) (has_name q (attributes_of es)) (lookup-has_name q es))
+    (found_by (bytes_eq q (string_bytes e.0)) e.1 (lookup (λ k. bytes_eq q (string_bytes k)) es) (has_name q (attributes_of es)) (lookup-has_name q es))
 
 neither : (b r : Bool) → cond b true r ≡ false → (b ≡ false) × (r ≡ false)
 neither true r h = absurd (cc)

@@ -1,9 +1,9 @@
 -- The row of the innermost open start, and the row of its end.
-use Rattle.std.proofs.Common.{◌≡◌, ℕ, ◌+◌, ◌^◌, ◌<◌, Bool, true, List, [], ◌∷◌, ◌++◌, length, get_or, slice_get, IsUtf8, Option, Some, None, sym, ap, ◌∙◌, refl, arith}
+use Rattle.std.proofs.Common.{◌≡◌, ℕ, ◌+◌, ◌^◌, ◌<◌, Bool, List, [], ◌∷◌, ◌++◌, length, get_or, IsUtf8, Option, Some, sym, ap, ◌∙◌, refl, arith}
 use Rattle.std.proofs.lemmas.List.{append-nil}
 use Rattle.std.proofs.lemmas.Option.{slice_get_within}
 use Rattle.std.proofs.lemmas.Str.{IsUtf8-nil, is_utf8-from_IsUtf8}
-use Rattle.hm_base.specs.Walks.{Event, doctype, start, text, comment, end, Attribute, Element, path_after, walk_size}
+use Rattle.hm_base.specs.Walks.{Event, start, end, Attribute, path_after, walk_size}
 use Rattle.hm_tree.specs.Trees.{innermost, end_of}
 use Rattle.hm_tree.specs.Rows.{IsPiece, IsTable, bytes_of, event_at, events_of}
 use Rattle.hm_tree.specs.declared.rows.Piece.{Piece}
@@ -29,7 +29,7 @@ module _ (s : List ℕ) (lists : List (List Attribute)) (empty : List Attribute)
     same_event : (part : Part) → r.part ≡ part → event_at s lists part ≡ start around.element.name around.element.foreign around.start.attributes
     same_event part e =
         let both : Some (event_at s lists part) ≡ Some (start around.element.name around.element.foreign around.start.attributes) =
-          sym (part_event s lists empty rows w view k within table r is part e) ∙ around.start.at in
+        sym (part_event s lists empty rows w view k within table r is part e) ∙ around.start.at in
         cc
 
     by_part : (part : Part) → r.part ≡ part → ((name : Piece) (foreign : Bool) (attrs : Option ℕ) → r.part ≡ parts.Start name foreign attrs → ⊥) → ⊥
@@ -57,15 +57,15 @@ module _ (s : List ℕ) (lists : List (List Attribute)) (empty : List Attribute)
       pub IsTableOf-end : IsTableOf s lists empty (rows ++ record { part = parts.End name foreign; parent = Some k } ∷ []) (w ++ end_of (path_after [] w))
       IsTableOf-end =
           rw around.path (IsTableOf-push s [] s lists [] lists empty rows w (record { part = parts.End name foreign; parent = Some k }) (end around.element.name around.element.foreign)
-            (append-nil s) (append-nil lists) view table (record {
-              utf8 = IsUtf8-nil;
-              event = rw (names, flags) refl;
-              inside = inside;
-              reaches = tt;
-              parent = open_start;
-              sound = rw (← names) (is_utf8-from_IsUtf8 (bytes_of s name) (IsUtf8-bytes_of s name utf8 inside));
-              room = room;
-              bytes = omega (arith, table.told.bytes, ap walk_size view);
-              size = omega arith;
-              count = omega arith;
-            }))
+          (append-nil s) (append-nil lists) view table (record {
+            utf8 = IsUtf8-nil;
+            event = rw (names, flags) refl;
+            inside = inside;
+            reaches = tt;
+            parent = open_start;
+            sound = rw (← names) (is_utf8-from_IsUtf8 (bytes_of s name) (IsUtf8-bytes_of s name utf8 inside));
+            room = room;
+            bytes = omega (arith, table.told.bytes, ap walk_size view);
+            size = omega arith;
+            count = omega arith;
+          }))

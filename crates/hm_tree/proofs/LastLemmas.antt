@@ -1,8 +1,7 @@
 -- The last row of a table, and the text that stands last.
-use Rattle.std.proofs.Common.{◌≡◌, ℕ, suc, ◌+◌, ◌-◌, ◌^◌, ◌<◌, ◌≤◌, Bool, true, false, List, [], ◌∷◌, ◌++◌, length, take, drop, set, get_or, slice_get, IsUtf8, Option, Some, None, sym, ap, subst, ◌∙◌, refl, arith}
-use Rattle.std.proofs.lemmas.List.{take_all, take_more, set_split, drop_all, map-append, length-map}
-use Rattle.std.proofs.lemmas.Option.{slice_get_within, get_or_from_slice_get}
-use Rattle.hm_base.specs.Walks.{Event, doctype, start, text, comment, end, Attribute, walk_size}
+use Rattle.std.proofs.Common.{◌≡◌, ℕ, suc, ◌+◌, ◌^◌, ◌<◌, Bool, true, false, List, [], ◌∷◌, ◌++◌, length, take, drop, set, get_or, IsUtf8, sym, ap, subst, ◌∙◌, refl, arith}
+use Rattle.std.proofs.lemmas.List.{take_all, take_more, set_split, drop_all, map-append}
+use Rattle.hm_base.specs.Walks.{Event, text, Attribute, walk_size}
 use Rattle.hm_tree.specs.Rows.{IsTable, bytes_of, event_at, events_of, is_text, ends_in_text, with_more, extended}
 use Rattle.hm_tree.specs.declared.rows.Piece.{Piece}
 use Rattle.hm_tree.specs.declared.rows.Part.{Part}
@@ -68,6 +67,6 @@ module _ (s : List ℕ) (lists : List (List Attribute)) (rows : List Row) (w : L
       let fits : walk_size (events_of s lists (front ++ r ∷ [])) + length more < 2 ^ 29 = rw (← parts_of, view) room in
       let end_at : q.to ≡ length (s ++ more) = rw bytes to in
       let becomes : extended w more ≡ events_of s lists front ++ text (bytes_of s p ++ more) raw ∷ [] =
-        ap (λ v. extended v more) split ∙ extended-push (events_of s lists front) (event_at s lists r.part) more ∙ ap (λ part. events_of s lists front ++ with_more (event_at s lists part) more ∷ []) is in
+      ap (λ v. extended v more) split ∙ extended-push (events_of s lists front) (event_at s lists r.part) more ∙ ap (λ part. events_of s lists front ++ with_more (event_at s lists part) more ∷ []) is in
       rw (set_last rows n (longer r q raw) last, becomes, ← bytes)
-        (IsTable-longer s more lists empty front r p q raw whole is utf8 fits from end_at, events_of-longer s more lists empty front r p q raw whole is utf8 fits from end_at)
+      (IsTable-longer s more lists empty front r p q raw whole is utf8 fits from end_at, events_of-longer s more lists empty front r p q raw whole is utf8 fits from end_at)

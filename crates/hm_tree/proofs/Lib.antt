@@ -1,10 +1,12 @@
 pub mod AttributeLemmas
+pub mod DumpLemmas
 pub mod EndLemmas
 pub mod LastLemmas
 pub mod MakingLemmas
 pub mod ListLemmas
 pub mod OpenLemmas
 pub mod PieceLemmas
+pub mod RoomLemmas
 pub mod TableLemmas
 pub mod TextLemmas
 pub mod WalkLemmas

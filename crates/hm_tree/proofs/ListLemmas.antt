@@ -1,5 +1,5 @@
 -- Two lists step by step, and texts that compare equal.
-use Rattle.std.proofs.Common.{◌≡◌, ℕ, zero, suc, ◌+◌, ◌<◌, ◌≤◌, min, length, arith, inl, inr, Bool, true, false, not, List, [], ◌∷◌, ◌++◌, take, slice_get, bytes_eq, Option, Some, None, sym, ap, ◌∙◌, refl, get_or}
+use Rattle.std.proofs.Common.{◌≡◌, ℕ, zero, suc, ◌+◌, ◌<◌, ◌≤◌, min, length, arith, inl, inr, Bool, true, false, not, List, [], ◌∷◌, ◌++◌, take, slice_get, bytes_eq, Some, None, sym, ◌∙◌, refl, get_or}
 use Rattle.std.proofs.lemmas.List.{take_more}
 use Rattle.std.proofs.lemmas.Option.{slice_get_within, slice_get_past, slice_get-get_or, get_or_from_slice_get}
 use Rattle.std.proofs.lemmas.Bool.{cases_lt}
@@ -43,6 +43,7 @@ ends_first xs (y ∷ ys) n past within e =
 
 -- where one list ends and the other doesn't, they differ
 pub differ_at_end : {X : Type 0} (xs ys : List X) (n : ℕ) → n ≡ min (length xs) (length ys) → (length xs ≡ length ys → ⊥) → slice_get xs n ≡ slice_get ys n → ⊥
-differ_at_end xs ys n at other e = elim (cases_lt (length xs) (length ys))
-    [ inl h ↦ ends_first xs ys n (omega arith) (omega arith) e
-    | inr h ↦ ends_first ys xs n (omega arith) (omega arith) (sym e) ]
+differ_at_end xs ys n at other e = elim (cases_lt (length xs) (length ys)) [
+  | inl h ↦ ends_first xs ys n (omega arith) (omega arith) e
+  | inr h ↦ ends_first ys xs n (omega arith) (omega arith) (sym e)
+]

@@ -1,5 +1,5 @@
 -- The open starts of a walk are the open elements: each index is that of the start, and the starts before it are those open there.
-use Rattle.std.proofs.Common.{◌≡◌, ℕ, ◌+◌, ◌<◌, ◌≤◌, Bool, true, List, [], ◌∷◌, ◌++◌, length, take, slice_get, Option, Some, None, IsSome, sym, ap, subst, ◌∙◌, refl, arith, append_assoc}
+use Rattle.std.proofs.Common.{◌≡◌, ℕ, ◌<◌, List, [], ◌∷◌, ◌++◌, length, take, slice_get, Some, IsSome, ap, subst, ◌∙◌, refl, arith, append_assoc}
 use Rattle.std.proofs.lemmas.List.{take-append-le, take_at, append-nil}
 use Rattle.std.proofs.lemmas.Option.{slice_get_within}
 use Rattle.hm_base.specs.Walks.{Event, doctype, start, text, comment, end, Attribute, Element, path_behind, path_after}
@@ -33,10 +33,11 @@ step : (w : List Event) (e : Event) (ks : List ℕ) (path : List Element) → op
 step w (doctype legacy) ks path is h = AreOpen-append w (doctype legacy ∷ []) ks path h
 step w (text s raw) ks path is h = AreOpen-append w (text s raw ∷ []) ks path h
 step w (comment s) ks path is h = AreOpen-append w (comment s ∷ []) ks path h
-step w (start n foreign attributes) ks path is h =
-    (record { attributes = attributes; at = slice_get_at w (start n foreign attributes) },
-     ap (open_after [] 0) (take_at w (start n foreign attributes ∷ []) (length w) refl) ∙ is,
-     AreOpen-append w (start n foreign attributes ∷ []) ks path h)
+step w (start n foreign attributes) ks path is h = (
+  record { attributes = attributes; at = slice_get_at w (start n foreign attributes) },
+  ap (open_after [] 0) (take_at w (start n foreign attributes ∷ []) (length w) refl) ∙ is,
+  AreOpen-append w (start n foreign attributes ∷ []) ks path h,
+)
 step w (end n foreign) [] [] is h = tt
 step w (end n foreign) [] (p ∷ path) is h = absurd h
 step w (end n foreign) (k ∷ ks) [] is h = absurd h

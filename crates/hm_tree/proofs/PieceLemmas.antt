@@ -1,5 +1,5 @@
 -- Pieces of a text, where more is put behind it.
-use Rattle.std.proofs.Common.{◌≡◌, ℕ, ◌+◌, ◌-◌, ◌<◌, ◌≤◌, List, [], ◌∷◌, ◌++◌, length, take, drop, get_or, slice_index, IsUtf8, IsCharBoundary, sym, ap, subst, ◌∙◌, refl, inl, inr, arith, length-append, length-drop}
+use Rattle.std.proofs.Common.{◌≡◌, ℕ, ◌+◌, ◌-◌, ◌≤◌, List, ◌++◌, length, take, drop, IsUtf8, IsCharBoundary, sym, ap, subst, ◌∙◌, refl, inl, inr, arith, length-append, length-drop}
 use Rattle.std.proofs.lemmas.Bool.{cases_lt}
 use Rattle.std.proofs.lemmas.List.{get_or_append_left, drop-append-le, take-append-le, drop_at, take_all, take_rest}
 use Rattle.std.proofs.lemmas.Str.{IsCharBoundary-at_seam, IsCharBoundary-end, IsUtf8-between}
@@ -7,11 +7,12 @@ use Rattle.hm_tree.specs.declared.rows.Piece.{Piece}
 use Rattle.hm_tree.specs.Rows.{IsPiece, bytes_of}
 
 boundary_stays : (s more : List ℕ) (i : ℕ) → IsUtf8 more → IsCharBoundary s i → IsCharBoundary (s ++ more) i
-boundary_stays s more i utf8 b = elim (cases_lt i (length s))
-    [ inl h ↦ (omega (arith, length-append s more), λ _. rw (get_or_append_left s more 0 i h) (b.1 h))
-    | inr h ↦
-        let here : length s ≡ i = omega (arith, b.0) in
-        subst (IsCharBoundary (s ++ more)) here (IsCharBoundary-at_seam (s ++ more) s more refl utf8) ]
+boundary_stays s more i utf8 b = elim (cases_lt i (length s)) [
+  | inl h ↦ (omega (arith, length-append s more), λ _. rw (get_or_append_left s more 0 i h) (b.1 h))
+  | inr h ↦
+      let here : length s ≡ i = omega (arith, b.0) in
+      subst (IsCharBoundary (s ++ more)) here (IsCharBoundary-at_seam (s ++ more) s more refl utf8)
+]
 
 -- a piece stays one
 pub IsPiece-append : (s more : List ℕ) (p : Piece) → IsUtf8 more → IsPiece s p → IsPiece (s ++ more) p

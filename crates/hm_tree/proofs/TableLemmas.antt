@@ -1,12 +1,11 @@
 -- Tables of rows with one more row, or with more bytes in the text that stands last.
-use Rattle.std.proofs.Common.{◌≡◌, ℕ, zero, suc, ◌+◌, ◌-◌, ◌^◌, ◌<◌, ◌≤◌, Bool, true, List, [], ◌∷◌, ◌++◌, length, take, drop, map, get_or, slice_get, slice_index_or, IsUtf8, Option, Some, None, option_map, sym, ap, subst, ◌∙◌, refl, arith, length-append}
+use Rattle.std.proofs.Common.{◌≡◌, ℕ, zero, suc, ◌+◌, ◌^◌, ◌<◌, ◌≤◌, Bool, true, List, [], ◌∷◌, ◌++◌, length, map, get_or, slice_get, IsUtf8, Option, Some, None, option_map, sym, ap, subst, ◌∙◌, refl, arith, length-append}
 use Rattle.std.proofs.lemmas.List.{map-append, get_or_append_left, get_or_push, length-map, append-nil}
 use Rattle.std.proofs.lemmas.Option.{slice_get-map, slice_get_read}
-use Rattle.std.proofs.lemmas.Bool.{and_parts, and_from}
 use Rattle.std.proofs.lemmas.Str.{IsUtf8-append, IsUtf8-from_is_utf8, is_utf8-from_IsUtf8}
-use Rattle.hm_base.specs.Walks.{Event, doctype, start, text, comment, end, Attribute, event_size, walk_size}
-use Rattle.hm_tree.specs.Trees.{IsTold, is_sound, are_sound, innermost, open_after, parent_of}
-use Rattle.hm_tree.specs.Rows.{IsPiece, IsBelow, IsInside, AreInside, ReachesEnd, LastReachesEnd, IsKept, IsTable, attributes_at, bytes_of, event_at, events_of, parents_from, with_more}
+use Rattle.hm_base.specs.Walks.{Event, text, Attribute, event_size, walk_size}
+use Rattle.hm_tree.specs.Trees.{IsTold, is_sound, innermost, parent_of}
+use Rattle.hm_tree.specs.Rows.{IsPiece, IsBelow, IsInside, AreInside, ReachesEnd, LastReachesEnd, IsKept, IsTable, attributes_at, bytes_of, event_at, events_of, parents_from}
 use Rattle.hm_tree.specs.declared.rows.Piece.{Piece}
 use Rattle.hm_tree.specs.declared.rows.Part.{Part}
 use Rattle.hm_tree.specs.declared.rows.Part.TheVariants as parts
@@ -87,7 +86,7 @@ module _ (s more : List ℕ) (lists extra : List (List Attribute)) (empty : List
   events_more : events_of (s ++ more) (lists ++ extra) (rows ++ r ∷ []) ≡ events_of s lists rows ++ e ∷ []
   events_more =
       map-append (λ q. event_at (s ++ more) (lists ++ extra) q.part) rows (r ∷ [])
-        ∙ rw (events_of-append s more lists extra rows table.inside, new.event) refl
+      ∙ rw (events_of-append s more lists extra rows table.inside, new.event) refl
 
   table_more : IsTable (s ++ more) (lists ++ extra) empty (rows ++ r ∷ [])
   table_more =
@@ -112,9 +111,9 @@ pub IsTableOf-push : (s more t : List ℕ) (lists extra kept : List (List Attrib
     → IsNewRow more t extra kept w r e → IsTableOf t kept empty (rows ++ r ∷ []) (w ++ e ∷ [])
 IsTableOf-push s more t lists extra kept empty rows w r e bytes list view table =
     subst (λ v. IsNewRow more t extra kept v r e → IsTableOf t kept empty (rows ++ r ∷ []) (v ++ e ∷ [])) view
-      (subst (λ m. IsNewRow more t extra m (events_of s lists rows) r e → IsTableOf t m empty (rows ++ r ∷ []) (events_of s lists rows ++ e ∷ [])) list
-        (subst (λ u. IsNewRow more u extra (lists ++ extra) (events_of s lists rows) r e → IsTableOf u (lists ++ extra) empty (rows ++ r ∷ []) (events_of s lists rows ++ e ∷ [])) bytes
-          (λ new. (table_more s more lists extra empty rows r e table new, events_more s more lists extra empty rows r e table new))))
+    (subst (λ m. IsNewRow more t extra m (events_of s lists rows) r e → IsTableOf t m empty (rows ++ r ∷ []) (events_of s lists rows ++ e ∷ [])) list
+    (subst (λ u. IsNewRow more u extra (lists ++ extra) (events_of s lists rows) r e → IsTableOf u (lists ++ extra) empty (rows ++ r ∷ []) (events_of s lists rows ++ e ∷ [])) bytes
+    (λ new. (table_more s more lists extra empty rows r e table new, events_more s more lists extra empty rows r e table new))))
 
 -- the row of a text that stands last, with more bytes
 abbrev pub longer : Row → Piece → Bool → Row
@@ -142,7 +141,7 @@ module _ (s more : List ℕ) (lists : List (List Attribute)) (empty : List Attri
   parents_same =
       let w = events_of s lists rows in
       let same : map (λ t. t.parent) (rows ++ longer r q raw ∷ []) ≡ map (λ t. t.parent) (rows ++ r ∷ []) =
-        map-append (λ t. t.parent) rows (longer r q raw ∷ []) ∙ sym (map-append (λ t. t.parent) rows (r ∷ [])) in
+      map-append (λ t. t.parent) rows (longer r q raw ∷ []) ∙ sym (map-append (λ t. t.parent) rows (r ∷ [])) in
       same ∙ table.parents ∙ ap (parents_from [] 0) before ∙ parents_from-push [] 0 w (text (bytes_of s p) raw) ∙ sym (parents_from-push [] 0 w (text (bytes_of s p ++ more) raw))
 
   told_still : IsTold (events_of s lists rows ++ text (bytes_of s p ++ more) raw ∷ [])

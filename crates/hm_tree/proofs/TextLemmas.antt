@@ -1,8 +1,9 @@
 -- A text put behind a walk: it joins the text that stands last, or stands last itself.
-use Rattle.std.proofs.Common.{◌≡◌, ℕ, ◌+◌, ◌<◌, Bool, true, false, ◌&&◌, List, [], ◌∷◌, ◌++◌, length, Option, sym, ap, ◌∙◌, refl, arith, length-append}
-use Rattle.hm_base.specs.Walks.{Event, doctype, start, text, comment, end, Attribute, Element, event_size, is_same_element, path_behind, path_after, ends_match, walk_size, with_text}
+use Rattle.std.proofs.Common.{◌≡◌, ℕ, ◌+◌, ◌<◌, Bool, true, false, ◌&&◌, List, [], ◌∷◌, ◌++◌, length, ap, ◌∙◌, refl, arith, length-append}
+use Rattle.hm_base.specs.Walks.{Event, doctype, start, text, comment, end, Element, event_size, is_same_element, path_behind, path_after, ends_match, walk_size, with_text}
 use Rattle.hm_tree.specs.Trees.{open_behind, open_after}
 use Rattle.hm_tree.specs.Rows.{is_text, ends_in_text, with_more, extended}
+use Rattle.hm_tree.proofs.WalkLemmas.{walk_size-push}
 
 with_text-cons : (x y : Event) (w : List Event) (c : ℕ) (s : List ℕ) (raw : Bool) → with_text (x ∷ y ∷ w) (c ∷ s) raw ≡ x ∷ with_text (y ∷ w) (c ∷ s) raw
 with_text-cons (doctype legacy) y w c s raw = refl
@@ -106,3 +107,9 @@ pub length-extended : (w : List Event) (more : List ℕ) → length (extended w 
 length-extended [] more = refl
 length-extended (x ∷ []) more = refl
 length-extended (x ∷ y ∷ w) more = omega (arith, length-extended (y ∷ w) more)
+
+pub length-with_new_text : (w : List Event) (s : List ℕ) (raw : Bool) → 0 < length s → ends_in_text w ≡ false → length (with_text w s raw) ≡ length w + 1
+length-with_new_text w s raw some h = omega (arith, ap length (with_text-push w s raw some h), length-append w (text s raw ∷ []))
+
+-- for `grind`: what a text that is put behind a walk makes of it
+pub ruleset texts = (with_text-extended, with_text-push, walk_size-extended, walk_size-push, length-with_new_text)

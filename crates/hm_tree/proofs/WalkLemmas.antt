@@ -1,8 +1,8 @@
 -- Walks with one more event at their end.
-use Rattle.std.proofs.Common.{◌≡◌, ℕ, zero, suc, ◌+◌, ◌<◌, Bool, true, false, ◌&&◌, List, [], ◌∷◌, ◌++◌, length, take, slice_get, Option, Some, None, sym, ap, ◌∙◌, refl, arith, add-one, one-add}
+use Rattle.std.proofs.Common.{◌≡◌, ℕ, zero, suc, ◌+◌, ◌<◌, Bool, true, false, ◌&&◌, List, [], ◌∷◌, ◌++◌, length, take, slice_get, Some, ap, ◌∙◌, refl, arith}
 use Rattle.std.proofs.lemmas.Bool.{and_parts, and_from}
-use Rattle.hm_base.specs.Walks.{Event, doctype, start, text, comment, end, Attribute, Element, is_same_element, path_behind, path_after, ends_match, event_size, walk_size}
-use Rattle.hm_tree.specs.Trees.{is_sound, are_sound, open_behind, open_after, innermost, parent_of}
+use Rattle.hm_base.specs.Walks.{Event, doctype, start, text, comment, end, Element, is_same_element, path_behind, path_after, ends_match, event_size, walk_size}
+use Rattle.hm_tree.specs.Trees.{is_sound, are_sound, open_behind, open_after}
 use Rattle.hm_tree.specs.Rows.{parents_from}
 
 pub path_after-push : (path : List Element) (w : List Event) (e : Event) → path_after path (w ++ e ∷ []) ≡ path_behind (path_after path w) e

@@ -1,5 +1,5 @@
 -- Attributes, and the entries of the index map that holds them.
-use Rattle.std.specs.Prelude.{◌≡◌, ℕ, ◌^◌, ◌<◌, Bool, true, ◌&&◌, List, [], ◌∷◌, String, string_bytes, length, map}
+use Rattle.std.specs.Prelude.{◌≡◌, ◌^◌, ◌<◌, Bool, true, ◌&&◌, List, [], ◌∷◌, String, string_bytes, length, map}
 use Rattle.std.specs.Str.{is_utf8}
 use Rattle.hm_base.specs.Walks.{Attribute, has_distinct_names}
 

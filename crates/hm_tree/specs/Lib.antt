@@ -1,4 +1,6 @@
 pub mod Attributes
+pub mod Dump
 pub mod Rows
+pub mod Tokens
 pub mod Trees
 pub mod Views

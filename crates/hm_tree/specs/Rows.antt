@@ -1,5 +1,5 @@
 -- How rows of a table stand for the events of a walk.
-use Rattle.std.specs.Prelude.{◌≡◌, ℕ, ◌+◌, ◌-◌, ◌<◌, ◌≤◌, ◌^◌, List, [], ◌∷◌, length, take, drop, map, slice_index_or, slice_get, Option, Some, None, Bool, true, false, ◌++◌, String, string_bytes, IsCharBoundary}
+use Rattle.std.specs.Prelude.{◌≡◌, ℕ, ◌+◌, ◌-◌, ◌<◌, ◌≤◌, List, [], ◌∷◌, length, take, drop, map, slice_index_or, slice_get, Option, Some, None, Bool, true, false, ◌++◌, IsCharBoundary}
 use Rattle.hm_base.specs.Walks.{Event, doctype, start, text, comment, end, Attribute, walk_size}
 use Rattle.hm_tree.specs.Trees.{IsTold, open_behind}
 use Rattle.hm_tree.specs.declared.rows.Piece.{Piece}

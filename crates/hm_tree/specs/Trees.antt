@@ -1,7 +1,7 @@
 -- What is true of the walk of a tree, which starts are open in it, and where two walks differ.
-use Rattle.std.specs.Prelude.{◌≡◌, ◌≢◌, ℕ, ◌+◌, ◌^◌, ◌<◌, Bool, true, ◌&&◌, List, [], ◌∷◌, ◌++◌, length, take, slice_get, Option}
+use Rattle.std.specs.Prelude.{◌≡◌, ◌≢◌, ℕ, ◌+◌, ◌^◌, ◌<◌, Bool, true, ◌&&◌, List, [], ◌∷◌, length, take, slice_get, Option}
 use Rattle.std.specs.Str.{is_utf8}
-use Rattle.hm_base.specs.Walks.{Event, doctype, start, text, comment, end, Attribute, Element, path_after, ends_match, same_flag, has_distinct_names, walk_size}
+use Rattle.hm_base.specs.Walks.{Event, doctype, start, text, comment, end, Element, path_after, ends_match, same_flag, has_distinct_names, walk_size}
 use Rattle.hm_tree.specs.Attributes.{are_texts}
 
 -- names, values, texts and comments are UTF-8, and the names of a start's attributes are distinct
@@ -46,11 +46,19 @@ abbrev pub end_of : List Element → List Event
 end_of [] = []
 end_of (e ∷ path) = end e.name e.foreign ∷ []
 
--- a text that stands last is raw exactly where `raw` is set
+-- a text is raw exactly where `raw` is set
+abbrev pub agrees : Event → Bool → Bool
+agrees (doctype legacy) raw = true
+agrees (start n foreign attributes) raw = true
+agrees (text s is_raw) raw = same_flag is_raw raw
+agrees (comment s) raw = true
+agrees (end n foreign) raw = true
+
+-- where a text stands last, it is raw exactly where `raw` is set
 abbrev pub last_agrees : List Event → Bool → Bool
 last_agrees [] raw = true
-last_agrees (text s last_raw ∷ []) raw = same_flag last_raw raw
-last_agrees (e ∷ w) raw = last_agrees w raw
+last_agrees (e ∷ []) raw = agrees e raw
+last_agrees (e ∷ x ∷ w) raw = last_agrees (x ∷ w) raw
 
 -- the indices of the starts that are open behind event i, innermost first
 abbrev pub open_behind : List ℕ → ℕ → Event → List ℕ

@@ -2,6 +2,7 @@
 #![tactic(auto)]
 
 mod attrs;
+mod dump;
 mod events;
 mod maker;
 mod rows;
@@ -13,3 +14,6 @@ pub use events::EventView;
 pub use maker::Maker;
 pub use tokens::{ScanFault, Spanned, Token};
 pub use tree::Tree;
+
+#[cfg(test)]
+mod tests;

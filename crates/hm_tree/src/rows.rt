@@ -201,6 +201,7 @@ impl Rows {
     }
 
     // Joins a text that stands last, or appends one; an empty text adds nothing.
+    #[tactic(auto, using(crate::proofs::TextLemmas::texts))]
     pub(crate) fn put_text(
         &mut self,
         text: &str,

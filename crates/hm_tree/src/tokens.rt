@@ -2,6 +2,7 @@
 use crate::Attrs;
 use hm_base::{Memory, Points, Word};
 use std::alloc::{AllocError, AllocFailed};
+use thiserror::Error;
 
 /// A token of the tokenization stage, 13.2.5 of the HTML Standard.
 #[derive(Debug, Drop)]
@@ -42,17 +43,18 @@ pub struct Spanned {
 }
 
 /// Why a construct isn't read.
-#[derive(Clone, Copy, Debug, PartialEq, Eq)]
+#[derive(Clone, Copy, Debug, PartialEq, Eq, Error)]
 pub enum ScanFault {
-    /// The text ends inside it.
+    #[error("the text ends inside the construct")]
     Cut,
-    /// A tag or attribute name that isn't read.
+    #[error("a tag or attribute name that isn't read")]
     BadName,
-    /// More attributes in one tag than the limit, repeats counted.
+    /// Repeats are counted.
+    #[error("more attributes in one tag than the limit")]
     TooManyAttributes,
-    /// A doctype of another form.
+    #[error("a doctype of another form")]
     BadDoctype,
-    /// Memory was refused.
+    #[error("memory was refused")]
     Memory,
 }
 

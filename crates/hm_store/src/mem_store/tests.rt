@@ -1,6 +1,5 @@
 use super::MemStore;
-use crate::{Failed, LoadFault, Store, load, write_file};
-use std::alloc::Global;
+use crate::{Failed, Store, load, write_file};
 use std::test::Fail;
 
 fn has_file(store: &MemStore, name: &str, text: &str) -> bool {

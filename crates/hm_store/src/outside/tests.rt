@@ -1,5 +1,5 @@
 use super::{FileStore, WriteSink};
-use crate::{Failed, LoadFault, Sink, Store, load, write_file};
+use crate::{Failed, Sink, load, write_file};
 use std::io::Write;
 use std::test::Fail;
 use std::{env, fs, io};

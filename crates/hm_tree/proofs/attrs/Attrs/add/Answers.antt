@@ -1,19 +1,19 @@
-use Rattle.std.proofs.Common.{◌≡◌, false, not, string_bytes, string_eq, length, ◌^◌, ◌<◌, ◌+◌, ◌++◌, ◌∷◌, [], sym, ap, ◌∙◌, refl, arith, length-append}
+use Rattle.std.proofs.Common.{◌≡◌, false, not, string_bytes, ◌++◌, ◌∷◌, [], sym, ap, ◌∙◌, refl, length-append}
 use Rattle.hm_base.specs.Walks.{has_name}
-use Rattle.hm_tree.specs.Attributes.{IsAttributeList, attributes_of}
+use Rattle.hm_tree.specs.Attributes.{attributes_of}
 use Rattle.hm_tree.proofs.AttributeLemmas.{lookup-has_name, insert_entry-attributes, has_distinct_names-push}
 use Rattle.hm_tree.proofs.attrs.Attrs.add.Goals as goal
 
 pub returns-then-contains_key-clause-there : goal.returns-then-contains_key-clause-there
 returns-then-contains_key-clause-there c =
     let found : c.contains_key.result ≡ has_name (string_bytes c.args.name) c.args.self.now =
-      rw (← c.self.view_is, ← c.as_str.ensures.value) (c.contains_key.ensures ∙ lookup-has_name c.as_str.result.now c.self.inside.map.entries) in
+    rw (← c.self.view_is, ← c.as_str.ensures.value) (c.contains_key.ensures ∙ lookup-has_name c.as_str.result.now c.self.inside.map.entries) in
     ap not (sym c.if-contains_key.true ∙ found)
 
 new : (c : goal.Joined-branch-2) → has_name (string_bytes c.args.name) (attributes_of c.self.inside.map.entries) ≡ false
 new c =
     let found : c.contains_key.result ≡ has_name (string_bytes c.args.name) (attributes_of c.self.inside.map.entries) =
-      rw (← c.as_str.ensures.value) (c.contains_key.ensures ∙ lookup-has_name c.as_str.result.now c.self.inside.map.entries) in
+    rw (← c.as_str.ensures.value) (c.contains_key.ensures ∙ lookup-has_name c.as_str.result.now c.self.inside.map.entries) in
     sym found ∙ c.if-contains_key.false
 
 after : (c : goal.Joined-branch-2) → attributes_of c.insert.new.self.entries ≡ attributes_of c.self.inside.map.entries ++ record { name = string_bytes c.args.name; value = string_bytes c.args.value } ∷ []

@@ -1,4 +1,3 @@
-use Rattle.std.proofs.Common.{sym}
 use Rattle.hm_tree.proofs.AttributeLemmas.{texts_held}
 use Rattle.hm_tree.proofs.attrs.Attrs.len.Goals as goal
 

@@ -1,6 +1,5 @@
-use Rattle.std.proofs.Common.{◌≡◌, ◌<◌, Some, IsSome, length, [], sym, ap, subst, ◌∙◌, arith}
-use Rattle.hm_base.specs.Walks.{path_after}
-use Rattle.hm_tree.specs.Trees.{IsMaking, innermost}
+use Rattle.std.proofs.Common.{Some, sym, ◌∙◌}
+use Rattle.hm_tree.specs.Trees.{IsMaking}
 use Rattle.hm_tree.proofs.MakingLemmas.{IsMaking-end}
 use Rattle.hm_tree.proofs.OpenLemmas.{IsSome-innermost, innermost_within}
 use Rattle.hm_tree.proofs.maker.Maker.end.Goals as goal

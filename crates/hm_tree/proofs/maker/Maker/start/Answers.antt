@@ -11,4 +11,4 @@ push_start-requires-clause-bytes c =
 pub invariant_of-self-2 : goal.invariant_of-self-2
 invariant_of-self-2 c =
     rw c.in_ok-push_start.ensures.ok
-      (IsMaking-start c.self.inside.rows c.self.inside.parent c.self.inside.depth c.self.invariant c.args.name.now c.args.foreign c.args.attrs c.len-start.result c.len-start.ensures.len (rw c.self.view_is c.requires))
+    (IsMaking-start c.self.inside.rows c.self.inside.parent c.self.inside.depth c.self.invariant c.args.name.now c.args.foreign c.args.attrs c.len-start.result c.len-start.ensures.len (rw c.self.view_is c.requires))

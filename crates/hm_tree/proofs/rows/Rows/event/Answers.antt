@@ -1,7 +1,4 @@
-use Rattle.std.proofs.Common.{◌≡◌, ◌∙◌, Some, ap, string_bytes, slice_get}
-use Rattle.hm_base.specs.Walks as walks
-use Rattle.hm_tree.specs.Rows.{IsInside, event_at}
-use Rattle.hm_tree.specs.declared.rows.Part.{Part}
+use Rattle.std.proofs.Common.{string_bytes}
 use Rattle.hm_tree.specs.declared.rows.Part.TheVariants.{Doctype, Start, Text, Comment, End}
 use Rattle.hm_tree.proofs.TableLemmas.{part_inside, part_event}
 use Rattle.hm_tree.proofs.rows.Rows.event.Goals.{After-index-row}

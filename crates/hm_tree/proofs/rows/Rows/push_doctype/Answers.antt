@@ -12,18 +12,18 @@ pushed c =
     let s = string_bytes c.self.inside.text in
     let lists = c.self.inside.lists.items in
     IsTableOf-push s [] s lists [] lists c.self.inside.none c.self.inside.rows.items c.args.self.now (record { part = Doctype c.args.legacy; parent = c.args.parent }) (doctype c.args.legacy)
-      (append-nil s) (append-nil lists) c.self.view_is c.self.invariant (record {
-        utf8 = IsUtf8-nil;
-        event = refl;
-        inside = tt;
-        reaches = tt;
-        parent = c.requires.parent;
-        sound = refl;
-        room = c.requires.room;
-        bytes = omega (arith, c.self.invariant.told.bytes, ap walk_size c.self.view_is);
-        size = omega arith;
-        count = omega arith;
-      })
+    (append-nil s) (append-nil lists) c.self.view_is c.self.invariant (record {
+      utf8 = IsUtf8-nil;
+      event = refl;
+      inside = tt;
+      reaches = tt;
+      parent = c.requires.parent;
+      sound = refl;
+      room = c.requires.room;
+      bytes = omega (arith, c.self.invariant.told.bytes, ap walk_size c.self.view_is);
+      size = omega arith;
+      count = omega arith;
+    })
 
 pub invariant_of-self-2 : goal.invariant_of-self-2
 invariant_of-self-2 c = rw c.in_ok-push.ensures.items (pushed c).0

@@ -3,7 +3,6 @@ use Rattle.std.proofs.lemmas.List.{append-nil}
 use Rattle.std.proofs.lemmas.Str.{is_utf8-from_IsUtf8}
 use Rattle.hm_base.specs.Walks.{text}
 use Rattle.hm_tree.specs.declared.rows.Part.TheVariants.{Text}
-use Rattle.hm_tree.specs.declared.rows.Row.{Row}
 use Rattle.hm_tree.proofs.PieceLemmas.{IsPiece-new, bytes_of-new}
 use Rattle.hm_tree.proofs.TableLemmas.{IsTableOf, IsTableOf-push}
 use Rattle.hm_tree.proofs.rows.Rows.push_text.Goals as goal
@@ -17,18 +16,18 @@ pushed c =
     let from : c.append-text.result.from ≡ length s = c.append-text.ensures.from ∙ ap length c.reserve-2.ensures.bytes in
     let to : c.append-text.result.to ≡ length s + length c.args.text.now = c.append-text.ensures.to ∙ ap (λ t. length t + length c.args.text.now) c.reserve-2.ensures.bytes in
     IsTableOf-push s c.args.text.now (string_bytes c.append-text.new.text) lists [] (c.self.inside.lists.items) c.self.inside.none c.self.inside.rows.items c.args.self.now (record { part = Text c.append-text.result c.args.raw; parent = c.args.parent }) (text c.args.text.now c.args.raw)
-      bytes (append-nil lists) c.self.view_is c.self.invariant (record {
-        utf8 = c.utf8.text;
-        event = rw (← bytes, bytes_of-new s c.args.text.now c.append-text.result from to) refl;
-        inside = rw (← bytes) (IsPiece-new s c.args.text.now c.append-text.result c.utf8.text from to);
-        reaches = rw (← bytes, length-append s c.args.text.now) to;
-        parent = c.requires.parent;
-        sound = is_utf8-from_IsUtf8 c.args.text.now c.utf8.text;
-        room = c.requires.room;
-        bytes = c.requires.bytes;
-        size = omega arith;
-        count = omega arith;
-      })
+    bytes (append-nil lists) c.self.view_is c.self.invariant (record {
+      utf8 = c.utf8.text;
+      event = rw (← bytes, bytes_of-new s c.args.text.now c.append-text.result from to) refl;
+      inside = rw (← bytes) (IsPiece-new s c.args.text.now c.append-text.result c.utf8.text from to);
+      reaches = rw (← bytes, length-append s c.args.text.now) to;
+      parent = c.requires.parent;
+      sound = is_utf8-from_IsUtf8 c.args.text.now c.utf8.text;
+      room = c.requires.room;
+      bytes = c.requires.bytes;
+      size = omega arith;
+      count = omega arith;
+    })
 
 -- the rows that are then there
 items : (c : goal.After-unwrap) → c.push.new.self.items ≡ c.self.inside.rows.items ++ record { part = Text c.append-text.result c.args.raw; parent = c.args.parent } ∷ []

@@ -1,4 +1,4 @@
-use Rattle.std.proofs.Common.{◌≡◌, min, length, take, sym, ◌∙◌, arith}
+use Rattle.std.proofs.Common.{◌≡◌, min, length, sym, ◌∙◌, arith}
 use Rattle.hm_tree.specs.Views.{event_of}
 use Rattle.hm_tree.proofs.ListLemmas.{take_more_alike, differ_at_end}
 use Rattle.hm_tree.proofs.tree.Tree.first_other.Goals as goal

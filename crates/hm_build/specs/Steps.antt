@@ -1,0 +1,361 @@
+-- How a tree is built, token by token (HTML Standard, 13.2.6), on pages without repairs.
+--
+-- A step answers the events that it makes and the state then, or the rule that refuses the token. Texts are taken byte by
+-- byte: the bytes of a code point above U+007F are none that a rule asks for, and all of them fare like the first.
+use Rattle.std.specs.Prelude.{ℕ, ◌+◌, Bool, true, false, not, ◌&&◌, ◌||◌, ◌==◌, List, [], ◌∷◌, ◌++◌, map, Some, None, if◌then◌else◌, codes, bytes_eq, encode_utf8_all}
+use Rattle.hm_base.specs.Bytes.{is_space}
+use Rattle.hm_base.specs.Walks.{Attribute, Event, doctype, start, text, comment, end, Element}
+use Rattle.hm_base.specs.declared.rules.Rule.{Rule}
+use Rattle.hm_base.specs.declared.rules.Rule.TheVariants.{Cut, NoDoctype, SecondDoctype, RefusedName, SecondRoot, StrayEnd, NotCurrent, WrongParent, TextHere, AfterHead, AfterBody, Unclosed}
+use Rattle.hm_elements.specs.Names.{words, is_among, html, head, body, noscript, p}
+use Rattle.hm_elements.specs.Tables.{is_void, is_refused}
+use Rattle.hm_elements.specs.Nesting.{may_stand, noscript_children}
+use Rattle.hm_elements.specs.Paths.{html_element, current, current_name, is_in_svg, outer, stands_on, is_open, is_in_raw, is_in_text, is_in_blank}
+use Rattle.hm_settle.specs.Moves.{Moves, moves, refuses, element, start_moves, end_moves, is_void_open}
+use Rattle.hm_tree.specs.Tokens.{Seen}
+use Rattle.hm_tree.specs.Tokens as tokens
+
+-- insertion modes, as far as they are told apart
+pub data Phase : Type 0 where
+  initial : Phase
+  before_html : Phase
+  before_head : Phase
+  in_head : Phase
+  after_head : Phase
+  in_body : Phase
+  after_body : Phase
+  after_html : Phase
+
+-- The phase, the open elements, whether a line feed that comes next is dropped, and the comments behind body and html,
+-- which stand in the tree only behind what is still open.
+pub record State : Type 0 where
+  pub phase : Phase
+  pub path : List Element
+  pub drops_line_feed : Bool
+  pub behind_body : List (List ℕ)
+  pub behind_html : List (List ℕ)
+
+-- the events of a step and the state then, or a rule, with the number of bytes of the token before those that it refuses
+pub data Stepped : Type 0 where
+  went : List Event → State → Stepped
+  stops : Rule → ℕ → Stepped
+
+abbrev pub behind_events : List Event → Stepped → Stepped
+behind_events es (went fs st) = went (es ++ fs) st
+behind_events es (stops rule n) = stops rule n
+
+abbrev pub moved : State → Phase → List Element → State
+moved st phase path = record st { phase = phase; path = path }
+
+-- ---- One element is made or closed, and the step goes on
+
+abbrev pub under_html : List Element
+under_html = html_element html ∷ []
+
+abbrev pub under_head : List Element
+under_head = html_element head ∷ under_html
+
+abbrev pub under_body : List Element
+under_body = html_element body ∷ under_html
+
+abbrev pub make_html : (State → Stepped) → State → Stepped
+make_html more st = behind_events (start html false [] ∷ []) (more (moved st before_head under_html))
+
+abbrev pub make_head : (State → Stepped) → State → Stepped
+make_head more st = behind_events (start head false [] ∷ []) (more (moved st in_head under_head))
+
+abbrev pub close_head : (State → Stepped) → State → Stepped
+close_head more st = behind_events (end head false ∷ []) (more (moved st after_head under_html))
+
+abbrev pub make_body : (State → Stepped) → State → Stepped
+make_body more st = behind_events (start body false [] ∷ []) (more (moved st in_body under_body))
+
+-- what is missing up to the open head is made
+abbrev pub reach_head : Phase → Rule → (State → Stepped) → State → Stepped
+reach_head before_html rule more st = make_html (make_head more) st
+reach_head before_head rule more st = make_head more st
+reach_head in_head rule more st = more st
+reach_head phase rule more st = stops rule 0
+
+-- what is missing up to body is made, and head is closed
+abbrev pub reach_body : Phase → (State → Stepped) → State → Stepped
+reach_body initial more st = stops NoDoctype 0
+reach_body before_html more st = make_html (make_head (close_head (make_body more))) st
+reach_body before_head more st = make_head (close_head (make_body more)) st
+reach_body in_head more st = close_head (make_body more) st
+reach_body after_head more st = make_body more st
+reach_body in_body more st = more st
+reach_body after_body more st = stops AfterBody 0
+reach_body after_html more st = stops AfterBody 0
+
+-- ---- Texts
+
+-- noscript in head is the innermost element
+abbrev pub is_in_noscript : Phase → List Element → Bool
+is_in_noscript in_head path = bytes_eq (current path) noscript
+is_in_noscript phase path = false
+
+abbrev pub keep_byte : ℕ → State → Stepped
+keep_byte c st = went (text (c ∷ []) (is_in_raw st.path) ∷ []) st
+
+-- whitespace is dropped before head, and else stands where it is
+abbrev pub space_byte : Phase → ℕ → State → Stepped
+space_byte initial c st = went [] st
+space_byte before_html c st = went [] st
+space_byte before_head c st = went [] st
+space_byte phase c st = keep_byte c st
+
+abbrev pub body_byte : ℕ → State → Stepped
+body_byte c st = if is_in_blank st.path then stops TextHere 0 else keep_byte c st
+
+abbrev pub other_byte : ℕ → State → Stepped
+other_byte c st = if is_in_noscript st.phase st.path then stops TextHere 0 else reach_body st.phase (body_byte c) st
+
+-- a byte of a text; in title, textarea, style, iframe and script each stands where it is
+abbrev pub kept_byte : ℕ → State → Stepped
+kept_byte c st =
+    if is_in_text st.path then keep_byte c st
+    else if is_space c then space_byte st.phase c st
+    else other_byte c st
+
+abbrev pub no_drop : State → State
+no_drop st = record st { drops_line_feed = false }
+
+unfoldable pub step_byte : ℕ → State → Stepped
+step_byte c st = if st.drops_line_feed && c == 10 then went [] (no_drop st) else kept_byte c (no_drop st)
+
+-- a step behind n bytes of the same token
+abbrev pub behind_bytes : ℕ → Stepped → Stepped
+behind_bytes n (went es st) = went es st
+behind_bytes n (stops rule k) = stops rule (n + k)
+
+abbrev pub then_step : Stepped → (State → Stepped) → Stepped
+then_step (went es st) more = behind_events es (more st)
+then_step (stops rule n) more = stops rule n
+
+abbrev pub step_bytes : List ℕ → State → Stepped
+step_bytes [] st = went [] st
+step_bytes (c ∷ s) st = then_step (step_byte c st) (λ next. behind_bytes 1 (step_bytes s next))
+
+-- what a reference gives is refused at its front
+abbrev pub at_front : Stepped → Stepped
+at_front (went es st) = went es st
+at_front (stops rule n) = stops rule 0
+
+-- ---- Start tags
+
+-- a line feed directly behind the start tags of these is dropped
+abbrev pub drops_behind : List Element → Bool
+drops_behind [] = false
+drops_behind (e ∷ path) = not e.foreign && is_among e.name (words "pre textarea")
+
+-- the innermost element was opened by a tag: it closes at once if it is void, or one of SVG whose tag closes itself
+abbrev pub closes_at_once : Bool → List Element → Bool
+closes_at_once slash path = is_void_open path || (slash && is_in_svg path)
+
+abbrev pub entered : List Attribute → Bool → State → List Element → Stepped
+entered attributes slash st [] = went [] st
+entered attributes slash st (e ∷ path) =
+    if closes_at_once slash (e ∷ path) then went (start e.name e.foreign attributes ∷ end e.name e.foreign ∷ []) (record st { path = path })
+    else went (start e.name e.foreign attributes ∷ []) (record st { path = e ∷ path; drops_line_feed = drops_behind (e ∷ path) })
+
+abbrev pub end_event : Element → Event
+end_event e = end e.name e.foreign
+
+abbrev pub start_event : Element → Event
+start_event e = start e.name e.foreign []
+
+-- the starts of elements that are given innermost first
+abbrev pub starts : List Element → List Event
+starts [] = []
+starts (e ∷ path) = starts path ++ start_event e ∷ []
+
+abbrev pub after_moves : List Attribute → Bool → State → Moves → Stepped
+after_moves attributes slash st (moves closed made path) = behind_events (map end_event closed ++ starts made) (entered attributes slash st path)
+after_moves attributes slash st (refuses rule) = stops rule 0
+
+abbrev pub start_in_body : List ℕ → List Attribute → Bool → State → Stepped
+start_in_body n attributes slash st = after_moves attributes slash st (start_moves n st.path)
+
+abbrev pub opened : List ℕ → List Attribute → State → Stepped
+opened n attributes st = entered attributes false st (html_element n ∷ st.path)
+
+abbrev pub open_html : Phase → List Attribute → State → Stepped
+open_html before_html attributes st = went (start html false attributes ∷ []) (moved st before_head under_html)
+open_html phase attributes st = stops SecondRoot 0
+
+abbrev pub open_head_here : List Attribute → State → Stepped
+open_head_here attributes st = went (start head false attributes ∷ []) (moved st in_head under_head)
+
+abbrev pub open_head : Phase → List Attribute → State → Stepped
+open_head before_html attributes st = make_html (open_head_here attributes) st
+open_head before_head attributes st = open_head_here attributes st
+open_head phase attributes st = stops SecondRoot 0
+
+abbrev pub open_body_here : List Attribute → State → Stepped
+open_body_here attributes st = went (start body false attributes ∷ []) (moved st in_body under_body)
+
+abbrev pub open_body : Phase → List Attribute → State → Stepped
+open_body before_html attributes st = make_html (make_head (close_head (open_body_here attributes))) st
+open_body before_head attributes st = make_head (close_head (open_body_here attributes)) st
+open_body in_head attributes st = if is_in_noscript in_head st.path then stops SecondRoot 0 else close_head (open_body_here attributes) st
+open_body after_head attributes st = open_body_here attributes st
+open_body phase attributes st = stops SecondRoot 0
+
+-- metadata, which doesn't stand between head and body
+unfoldable pub is_metadata : List ℕ → Bool
+is_metadata n = is_among n (words "base link meta script style title")
+
+abbrev pub start_after_head : List ℕ → List Attribute → Bool → State → Stepped
+start_after_head n attributes slash st = if is_metadata n then stops AfterHead 0 else make_body (start_in_body n attributes slash) st
+
+abbrev pub start_in_noscript : List ℕ → List Attribute → State → Stepped
+start_in_noscript n attributes st = if is_among n noscript_children then opened n attributes st else stops WrongParent 0
+
+abbrev pub start_in_head : List ℕ → List Attribute → Bool → State → Stepped
+start_in_head n attributes slash st =
+    if is_in_noscript in_head st.path then start_in_noscript n attributes st
+    else if stands_on n st.path then opened n attributes st
+    else close_head (start_after_head n attributes slash) st
+
+abbrev pub start_inside : Phase → List ℕ → List Attribute → Bool → State → Stepped
+start_inside before_html n attributes slash st = make_html (make_head (start_in_head n attributes slash)) st
+start_inside before_head n attributes slash st = make_head (start_in_head n attributes slash) st
+start_inside in_head n attributes slash st = start_in_head n attributes slash st
+start_inside after_head n attributes slash st = start_after_head n attributes slash st
+start_inside phase n attributes slash st = start_in_body n attributes slash st
+
+-- a start tag that isn't of SVG
+abbrev pub html_start : List ℕ → List Attribute → Bool → State → Stepped
+html_start n attributes slash st =
+    if is_refused n then stops RefusedName 0
+    else if bytes_eq n html then open_html st.phase attributes st
+    else if bytes_eq n head then open_head st.phase attributes st
+    else if bytes_eq n body then open_body st.phase attributes st
+    else start_inside st.phase n attributes slash st
+
+-- before the doctype, or behind body
+abbrev pub is_outside : Phase → Bool
+is_outside initial = true
+is_outside after_body = true
+is_outside after_html = true
+is_outside phase = false
+
+abbrev pub outside_rule : Phase → Rule
+outside_rule initial = NoDoctype
+outside_rule phase = AfterBody
+
+unfoldable pub step_start : List ℕ → List Attribute → Bool → State → Stepped
+step_start n attributes slash st =
+    if is_outside st.phase then stops (outside_rule st.phase) 0
+    else if is_in_svg st.path then start_in_body n attributes slash st
+    else html_start n attributes slash st
+
+-- ---- End tags
+
+abbrev pub after_end_moves : State → Moves → Stepped
+after_end_moves st (moves closed made path) = went (map end_event closed) (record st { path = path })
+after_end_moves st (refuses rule) = stops rule 0
+
+-- the innermost element alone may be ended
+abbrev pub end_current : List ℕ → State → List Element → Stepped
+end_current n st [] = stops StrayEnd 0
+end_current n st (e ∷ path) =
+    if bytes_eq e.name n then went (end_event e ∷ []) (record st { path = path })
+    else if is_open n (e ∷ path) then stops NotCurrent 0
+    else stops StrayEnd 0
+
+abbrev pub end_head : Phase → State → Stepped
+end_head phase st = reach_head phase StrayEnd (λ here. went (end head false ∷ []) (moved here after_head under_html)) st
+
+-- html and body, with at most one p in it
+unfoldable pub is_at_end : List Element → Bool
+is_at_end path = is_frame path
+  where
+    is_named : List ℕ → Element → Bool
+    is_named n e = not e.foreign && bytes_eq e.name n
+
+    is_frame : List Element → Bool
+    is_frame [] = false
+    is_frame (e ∷ []) = false
+    is_frame (e ∷ f ∷ []) = is_named body e && is_named html f
+    is_frame (e ∷ f ∷ g ∷ []) = is_named p e && (is_named body f && is_named html g)
+    is_frame (e ∷ f ∷ g ∷ h ∷ path) = false
+
+abbrev pub leave_body : Phase → State → Stepped
+leave_body phase st = if is_at_end st.path then went [] (record st { phase = phase }) else stops Unclosed 0
+
+abbrev pub end_body : Phase → State → Stepped
+end_body phase st = reach_body phase (leave_body after_body) st
+
+abbrev pub end_html : Phase → State → Stepped
+end_html after_body st = went [] (record st { phase = after_html })
+end_html phase st = reach_body phase (leave_body after_html) st
+
+abbrev pub end_inside : Phase → List ℕ → State → Stepped
+end_inside in_body n st = after_end_moves st (end_moves n st.path)
+end_inside phase n st = stops StrayEnd 0
+
+abbrev pub html_end : List ℕ → State → Stepped
+html_end n st =
+    if bytes_eq n head then end_head st.phase st
+    else if bytes_eq n body then end_body st.phase st
+    else if bytes_eq n html then end_html st.phase st
+    else end_inside st.phase n st
+
+abbrev pub end_outside : Phase → List ℕ → State → Stepped
+end_outside after_body n st = if bytes_eq n html then end_html after_body st else stops AfterBody 0
+end_outside phase n st = stops (outside_rule phase) 0
+
+unfoldable pub step_end : List ℕ → State → Stepped
+step_end n st =
+    if is_in_text st.path then end_current n st st.path
+    else if is_outside st.phase then end_outside st.phase n st
+    else if is_in_svg st.path || is_in_noscript st.phase st.path then end_current n st st.path
+    else html_end n st
+
+-- ---- Comments and doctypes
+
+abbrev pub step_comment : Phase → List ℕ → State → Stepped
+step_comment after_body s st = went [] (record st { behind_body = st.behind_body ++ s ∷ [] })
+step_comment after_html s st = went [] (record st { behind_html = st.behind_html ++ s ∷ [] })
+step_comment phase s st = went (comment s ∷ []) st
+
+abbrev pub step_doctype : Phase → Bool → State → Stepped
+step_doctype initial legacy st = went (doctype legacy ∷ []) (record st { phase = before_html })
+step_doctype phase legacy st = stops SecondDoctype 0
+
+-- ---- A token
+
+unfoldable pub step : State → Seen → Stepped
+step st (tokens.doctype legacy) = step_doctype st.phase legacy (no_drop st)
+step st (tokens.start_tag n attributes slash) = step_start n attributes slash (no_drop st)
+step st (tokens.end_tag n) = step_end n (no_drop st)
+step st (tokens.slice s) = step_bytes s st
+step st (tokens.points ps) = at_front (step_bytes (encode_utf8_all ps) st)
+step st (tokens.comment s) = step_comment st.phase s (no_drop st)
+
+-- ---- The end of the page
+
+-- the ends of the open elements, with the comments behind body before the last of them, and those behind html last
+abbrev pub closing : List Element → List (List ℕ) → List (List ℕ) → List Event
+closing [] inner last = map comment inner ++ map comment last
+closing (e ∷ []) inner last = map comment inner ++ end_event e ∷ map comment last
+closing (e ∷ f ∷ path) inner last = end_event e ∷ closing (f ∷ path) inner last
+
+abbrev pub leave_page : Phase → State → Stepped
+leave_page after_body st = went [] st
+leave_page after_html st = went [] st
+leave_page phase st = if is_in_noscript phase st.path then stops Unclosed 0 else reach_body phase (leave_body after_html) st
+
+-- all is made and closed; a page doesn't end inside title, textarea, style, iframe or script
+unfoldable pub step_over : State → Stepped
+step_over st = if is_in_text st.path then stops Cut 0 else close_all (leave_page st.phase st)
+  where
+    close_all : Stepped → Stepped
+    close_all (went es at_end) = went (es ++ closing at_end.path at_end.behind_body at_end.behind_html) at_end
+    close_all (stops rule n) = stops rule n
+
+-- before the first token
+abbrev pub first_state : State
+first_state = record { phase = initial; path = []; drops_line_feed = false; behind_body = []; behind_html = [] }

@@ -1,0 +1,2 @@
+//! The tree of a page, token by token.
+#![tactic(auto)]

@@ -1,0 +1,48 @@
+//! Laws of the tables of names and of settled walks. No call does anything: each contract is the law.
+ghost use Rattle.hm_elements.specs.Laws.{ParentsHold, NothingIsMade, SvgIsPlain, SvgIsKept, EndsAreOthers, LeftOpenYields, LeftOpenYieldsInside, LeftOpenFollows, LeftOpenInBody, LeftOpenHolds, LeftOutIsMade, OuterIsNotDeep, NamesAreUtf8, SvgNamesAreNames, RawTextsEnd, SettledHasParts, PartsAreSettled, SomeWalkIsSettled};
+
+/// Where an element may stand.
+pub fn elements_in_place()
+    ensures parents_hold { ParentsHold }
+    ensures nothing_is_made { NothingIsMade }
+    ensures ends_are_others { EndsAreOthers }
+    ensures outer_is_not_deep { OuterIsNotDeep }
+{}
+
+/// `svg` in an HTML element.
+pub fn svg_in_place()
+    ensures svg_is_plain { SvgIsPlain }
+    ensures svg_is_kept { SvgIsKept }
+{}
+
+/// Where an end tag may be left out (13.1.2.4), the next tag that is written closes or ends the element.
+pub fn end_tags_left_out()
+    ensures yields { LeftOpenYields }
+    ensures yields_inside { LeftOpenYieldsInside }
+    ensures follows { LeftOpenFollows }
+    ensures in_body { LeftOpenInBody }
+    ensures holds { LeftOpenHolds }
+{}
+
+/// Where a start tag may be left out (13.1.2.4), the next tag that is written makes the element.
+pub fn start_tags_left_out()
+    ensures { LeftOutIsMade }
+{}
+
+/// The names of elements.
+pub fn element_names()
+    ensures utf8 { NamesAreUtf8 }
+    ensures svg { SvgNamesAreNames }
+{}
+
+/// The text of `style`, `iframe` and `script` before a written end tag (13.2.5.9 to 13.2.5.31).
+pub fn raw_texts_end()
+    ensures { RawTextsEnd }
+{}
+
+/// A walk is settled exactly where it is settled part by part, and some walk is.
+pub fn settled_part_by_part()
+    ensures has_parts { SettledHasParts }
+    ensures parts_settle { PartsAreSettled }
+    ensures some_walk { SomeWalkIsSettled }
+{}

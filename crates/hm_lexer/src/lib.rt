@@ -1,0 +1,2 @@
+//! The next token of a text, in a mode.
+#![tactic(auto)]

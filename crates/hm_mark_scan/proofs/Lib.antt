@@ -1,0 +1,14 @@
+pub mod CommentEnds
+pub mod Cuts
+pub mod DoctypeForms
+pub mod Extended
+pub mod Lowered
+pub mod MarkPlaces
+pub mod Places
+pub mod RawTextLaws
+pub mod ScriptLaws
+pub mod Searches
+pub mod Steps
+pub mod TagPlaces
+pub mod WrittenComments
+pub mod WrittenDoctypes

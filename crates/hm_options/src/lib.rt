@@ -1,0 +1,2 @@
+//! The tree that the options ask for.
+#![tactic(auto)]

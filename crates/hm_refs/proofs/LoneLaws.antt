@@ -1,0 +1,50 @@
+-- Names without ';' and their forms with it.
+use Rattle.std.proofs.Common.{◌≡◌, ℕ, Bool, true, false, cond, not, ◌&&◌, eqb, List, [], ◌∷◌, ◌++◌, Option, Some, None, option_map, option_to_list, bytes_eq, refl, sym, ap, ◌∙◌}
+use Rattle.std.specs.Option.{option_eq}
+use Rattle.hm_base.specs.declared.plain.Points.{Points}
+use Rattle.hm_refs.specs.Names.{Entry, points_of, is_closed, is_front, child_of}
+use Rattle.hm_refs.specs.Tables.{names_in, entry_at, points_list}
+use Rattle.hm_refs.specs.Json.{is_lone}
+use Rattle.hm_refs.specs.Nodes.{place}
+use Rattle.hm_refs.proofs.Found.{points_front}
+use Rattle.hm_refs.proofs.Whole.{points_place}
+
+-- the test of two values is that of their lists
+pub points_same : (p q : Points) → bytes_eq (points_list p) (points_list q) ≡ (eqb p.first q.first && option_eq eqb p.second q.second)
+points_same p q = by_second (eqb p.first q.first) p.second q.second
+  where
+    end : (b : Bool) → (b && true) ≡ b
+    end true = refl
+    end false = refl
+
+    by_second : (b : Bool) (r s : Option ℕ) → (b && bytes_eq (option_to_list r) (option_to_list s)) ≡ (b && option_eq eqb r s)
+    by_second b None None = refl
+    by_second b None (Some y) = refl
+    by_second b (Some x) None = refl
+    by_second b (Some x) (Some y) = ap (λ c. b && c) (end (eqb x y))
+
+-- no name with ';' and a name without it
+pub lone_none : (t : List Entry) (e : Entry) → is_closed e.name ≡ false → points_of t (e.name ++ 59 ∷ []) ≡ None → true ≡ is_lone t e
+lone_none t e c p = rw (c, p) refl
+
+pub lone_some : (t : List Entry) (e : Entry) (p q : Points) (b : Bool) → is_closed e.name ≡ false → points_of t (e.name ++ 59 ∷ []) ≡ Some (points_list p) → points_list q ≡ e.points → b ≡ not (eqb p.first q.first && option_eq eqb p.second q.second) → b ≡ is_lone t e
+lone_some t e p q b c h i f = f ∙ rw (c, h, sym i, points_same p q) refl
+
+pub no_child : (t : List Entry) (q : List ℕ) (c : ℕ) → None ≡ child_of t q c → points_of t (q ++ c ∷ []) ≡ None
+unfolding child_of
+no_child t q c h = points_front t (q ++ c ∷ []) (by_test (is_front t (q ++ c ∷ [])) h)
+  where
+    by_test : (b : Bool) → None ≡ cond b (Some (q ++ c ∷ [])) None → b ≡ false
+    by_test true k = absurd (cc)
+    by_test false k = refl
+
+pub child_front : (t : List Entry) (q f : List ℕ) (c : ℕ) → Some f ≡ child_of t q c → f ≡ q ++ c ∷ []
+unfolding child_of
+child_front t q f c h = by_test (is_front t (q ++ c ∷ [])) h
+  where
+    by_test : (b : Bool) → Some f ≡ cond b (Some (q ++ c ∷ [])) None → f ≡ q ++ c ∷ []
+    by_test true k = cc
+    by_test false k = absurd (cc)
+
+pub no_name : (t : List Entry) (q : List ℕ) → None ≡ place q (names_in t) → points_of t q ≡ None
+no_name t q h = points_place t q ∙ ap (λ o. option_map (λ i. (entry_at t i).points) o) (sym h)

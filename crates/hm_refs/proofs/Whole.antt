@@ -1,0 +1,223 @@
+-- What a whole trie tells: children, names, nodes.
+use Rattle.std.proofs.Common.{◌≡◌, ℕ, zero, suc, ◌+◌, ◌<◌, ◌⊎◌, inl, inr, Bool, true, false, cond, ◌==◌, List, [], ◌∷◌, ◌++◌, length, get_or, take, Option, Some, None, option_map, IfSome, refl, sym, ap, ◌∙◌, subst, arith, bytes_eq, is_some, append_assoc, append-nil}
+use Rattle.std.proofs.lemmas.List.{take_all, get_or_read, get_or-map, length-map, length_push}
+use Rattle.std.specs.Ordering.{nat_cmp}
+use Rattle.std.specs.BTreeMap.{get}
+use Rattle.hm_base.specs.Bytes.{is_null}
+use Rattle.hm_refs.specs.Names.{Entry, begins, is_front, child_of, points_of, is_name}
+use Rattle.hm_refs.specs.Tables.{names_in, no_entry, entry_at, TableView, front_at, IsNode, NodeAt, IsTrie}
+use Rattle.hm_refs.specs.Nodes.{front_in, fronts_of, place, AreApart, IsWeb, IsWhole}
+use Rattle.hm_refs.specs.declared.nodes.TrieNode.{TrieNode}
+use Rattle.hm_refs.proofs.Bools.{and_left, and_right, eq_of}
+use Rattle.hm_refs.proofs.Places.{place_stands, apart_same}
+use Rattle.hm_refs.proofs.Webs.{front_at_place, length_fronts}
+
+-- ---- fronts of names by their numbers
+
+pub record FrontOf (t : List Entry) (q : List ℕ) : Type 0 where
+  pub number : ℕ
+  pub inside : number < length t
+  pub begins_so : begins q (entry_at t number).name ≡ true
+
+front_later : (e : Entry) (t : List Entry) (q : List ℕ) → FrontOf t q → FrontOf (e ∷ t) q
+front_later e t q f = record { number = suc f.number; inside = omega (arith, f.inside); begins_so = f.begins_so }
+
+pub front_of : (t : List Entry) (q : List ℕ) → is_front t q ≡ true → FrontOf t q
+front_of [] q h = absurd (cc)
+front_of (e ∷ t) q h = by_test (begins q e.name) refl (front_of t q) h
+  where
+    by_test : (b : Bool) → begins q e.name ≡ b → (is_front t q ≡ true → FrontOf t q) → cond b true (is_front t q) ≡ true → FrontOf (e ∷ t) q
+    by_test true i more k = record { number = 0; inside = omega arith; begins_so = i }
+    by_test false i more k = front_later e t q (more k)
+
+-- what begins so goes on
+pub record Split (q n : List ℕ) : Type 0 where
+  pub more : List ℕ
+  pub whole : n ≡ q ++ more
+
+split_more : (c d : ℕ) (q n : List ℕ) → c ≡ d → Split q n → Split (c ∷ q) (d ∷ n)
+split_more c d q n e s = record { more = s.more; whole = rw (e, s.whole) refl }
+
+pub begins_split : (q n : List ℕ) → begins q n ≡ true → Split q n
+begins_split [] n h = record { more = n; whole = refl }
+begins_split (c ∷ q) [] h = absurd (cc)
+begins_split (c ∷ q) (d ∷ n) h = split_more c d q n (eq_of c d (and_left (c == d) (begins q n) h)) (begins_split q n (and_right (c == d) (begins q n) h))
+
+null_no : (q : List ℕ) (c : ℕ) → is_null (q ++ c ∷ []) ≡ false
+null_no [] c = refl
+null_no (x ∷ q) c = refl
+
+too_short : (q : List ℕ) → is_null q ≡ false → length q + 1 ≡ 1 → ⊥
+too_short [] h e = cc
+too_short (x ∷ q) h e = omega arith
+
+-- a front of a node's bytes is a node
+closed_front : (t : List Entry) (k : ℕ) (nodes : List TrieNode) → IsWeb t k nodes → (q m : List ℕ) → is_null q ≡ false → is_some (place (q ++ m) (fronts_of t nodes)) ≡ true → is_some (place q (fronts_of t nodes)) ≡ true
+closed_front t k nodes w q [] e h = subst (λ n. is_some (place n (fronts_of t nodes)) ≡ true) (append-nil q) h
+closed_front t k nodes w q (c ∷ m) e h =
+    w.closed q c e (closed_front t k nodes w (q ++ c ∷ []) m (null_no q c) (subst (λ n. is_some (place n (fronts_of t nodes)) ≡ true) (sym (append_assoc q (c ∷ []) m)) h))
+
+some_fronts : (t : List Entry) (nodes : List TrieNode) (n : ℕ) → n < length (fronts_of t nodes) → is_null (get_or (fronts_of t nodes) n []) ≡ false
+unfolding front_in
+some_fronts t [] n l = absurd (omega arith)
+some_fronts t (x ∷ nodes) zero l = refl
+some_fronts t (x ∷ nodes) (suc n) l = some_fronts t nodes n (omega arith)
+
+led_fronts : (t : List Entry) (k : ℕ) (all nodes : List TrieNode) (n : ℕ) → n < length nodes → ((x : TrieNode) → get_or nodes n x ≡ x → (front_in t x ≡ 38 ∷ []) ⊎ (is_front (take k t) (front_in t x) ≡ true))
+    → (get_or (fronts_of t nodes) n [] ≡ 38 ∷ []) ⊎ (is_front (take k t) (get_or (fronts_of t nodes) n []) ≡ true)
+led_fronts t k all [] n l h = absurd (omega arith)
+led_fronts t k all (x ∷ nodes) zero l h = h x refl
+led_fronts t k all (x ∷ nodes) (suc n) l h = led_fronts t k all nodes n (omega arith) h
+
+module _ (t : List Entry) (nodes : List TrieNode) (places : List ℕ) (w : IsWhole t nodes places) where
+  -- each front of a name has a node
+  front_placed : (q : List ℕ) → is_null q ≡ false → is_front t q ≡ true → is_some (place q (fronts_of t nodes)) ≡ true
+  front_placed q e h =
+      let f = front_of t q h in
+      let s = begins_split q (entry_at t f.number).name f.begins_so in
+      closed_front t (length t) nodes w.put.grown.web q s.more e (subst (λ n. is_some (place n (fronts_of t nodes)) ≡ true) s.whole (ap is_some (w.put.placed f.number f.inside)))
+
+  node_is : (n : ℕ) → n < length (fronts_of t nodes) → IsNode (record { entries = t; fronts = fronts_of t nodes }) n
+  node_is n l = record { inside = l; only = λ m k e. apart_same (fronts_of t nodes) w.put.grown.web.apart m n k l e }
+
+  node_at : (q : List ℕ) → is_some (place q (fronts_of t nodes)) ≡ true → NodeAt (record { entries = t; fronts = fronts_of t nodes }) q
+  node_at q h = by_place (place q (fronts_of t nodes)) refl h
+    where
+      by_place : (o : Option ℕ) → place q (fronts_of t nodes) ≡ o → is_some o ≡ true → NodeAt (record { entries = t; fronts = fronts_of t nodes }) q
+      by_place None e k = absurd (cc)
+      by_place (Some n) e k = let s = place_stands q (fronts_of t nodes) n e in (n, s.inside, s.is)
+
+  -- a node's bytes are '&' or a front of a name
+  front_led : (n : ℕ) → n < length (fronts_of t nodes) → (get_or (fronts_of t nodes) n [] ≡ 38 ∷ []) ⊎ (is_front t (get_or (fronts_of t nodes) n []) ≡ true)
+  front_led n l =
+      let k : n < length nodes = omega (arith, length_fronts t nodes) in
+      let h = led_fronts t (length t) nodes nodes n k (λ x e. w.put.grown.web.led n x k e) in
+      subst (λ u. (get_or (fronts_of t nodes) n [] ≡ 38 ∷ []) ⊎ (is_front u (get_or (fronts_of t nodes) n []) ≡ true)) (take_all (length t) t (omega arith)) h
+
+  -- what the map of a node gives for a byte
+  module _ (n byte : ℕ) (x : TrieNode) (l : n < length nodes) (is : get_or nodes n x ≡ x) (o : Option ℕ) (found : o ≡ get nat_cmp x.children byte) where
+    abbrev view : TableView
+    view = record { entries = t; fronts = fronts_of t nodes }
+
+    found_place : o ≡ place (front_at view n ++ byte ∷ []) (fronts_of t nodes)
+    found_place = found ∙ w.put.grown.web.linked n byte x l is ∙ ap (λ q. place (q ++ byte ∷ []) (fronts_of t nodes)) (sym (front_at_place t nodes n x l is))
+
+    child_leads : option_map (front_at view) o ≡ child_of t (front_at view n) byte
+    unfolding child_of
+    child_leads = by_place o found_place (is_front t (front_at view n ++ byte ∷ [])) refl
+      where
+        by_led : {q : List ℕ} → (q ≡ 38 ∷ []) ⊎ (is_front t q ≡ true) → q ≡ front_at view n ++ byte ∷ [] → is_front t (front_at view n ++ byte ∷ []) ≡ false → ⊥
+        by_led (inl i) e f = let m = ap length (sym i ∙ e) ∙ length_push (front_at view n) byte in let k = some_fronts t nodes n (omega (arith, length_fronts t nodes)) in too_short (front_at view n) k (omega arith)
+        by_led (inr i) e f = let j : is_front t (front_at view n ++ byte ∷ []) ≡ true = subst (λ p. is_front t p ≡ true) e i in cc
+
+        by_place : (r : Option ℕ) → r ≡ place (front_at view n ++ byte ∷ []) (fronts_of t nodes) → (b : Bool) → is_front t (front_at view n ++ byte ∷ []) ≡ b
+            → option_map (front_at view) r ≡ cond b (Some (front_at view n ++ byte ∷ [])) None
+        by_place (Some m) e true f = let s = place_stands (front_at view n ++ byte ∷ []) (fronts_of t nodes) m (sym e) in ap Some s.is
+        by_place (Some m) e false f =
+            let s = place_stands (front_at view n ++ byte ∷ []) (fronts_of t nodes) m (sym e) in
+            absurd (by_led (front_led m s.inside) s.is f)
+        by_place None e true f = absurd (let h = front_placed (front_at view n ++ byte ∷ []) (null_no (front_at view n) byte) f in let i : is_some (place (front_at view n ++ byte ∷ []) (fronts_of t nodes)) ≡ false = rw (sym e) refl in cc)
+        by_place None e false f = refl
+
+-- ---- names by their places
+
+pub points_place : (t : List Entry) (q : List ℕ) → points_of t q ≡ option_map (λ i. (entry_at t i).points) (place q (names_in t))
+points_place [] q = refl
+points_place (e ∷ t) q = by_test (bytes_eq e.name q) (place q (names_in t)) (points_place t q)
+  where
+    by_test : (b : Bool) (o : Option ℕ) → points_of t q ≡ option_map (λ i. (entry_at t i).points) o
+        → cond b (Some e.points) (points_of t q) ≡ option_map (λ i. (entry_at (e ∷ t) i).points) (cond b (Some 0) (option_map suc o))
+    by_test true o h = refl
+    by_test false None h = h
+    by_test false (Some i) h = h
+
+pub name_place : (t : List Entry) (q : List ℕ) → is_name t q ≡ is_some (place q (names_in t))
+unfolding is_name
+name_place t q = ap is_some (points_place t q) ∙ by_place (place q (names_in t))
+  where
+    by_place : (o : Option ℕ) → is_some (option_map (λ i. (entry_at t i).points) o) ≡ is_some o
+    by_place None = refl
+    by_place (Some i) = refl
+
+-- a name that was found by its place
+pub record NamedAt (t : List Entry) (q : List ℕ) (i : ℕ) : Type 0 where
+  pub inside : i < length t
+  pub is : (entry_at t i).name ≡ q
+  pub own : points_of t q ≡ Some (entry_at t i).points
+
+pub named_at : (t : List Entry) (q : List ℕ) (i : ℕ) → place q (names_in t) ≡ Some i → NamedAt t q i
+named_at t q i h =
+    let s = place_stands q (names_in t) i h in
+    let l : i < length t = omega (arith, s.inside, length-map t (λ (e : Entry). e.name)) in
+    record {
+      inside = l;
+      is = sym (get_or-map (λ (e : Entry). e.name) t i no_entry [] l) ∙ s.is;
+      own = points_place t q ∙ ap (λ o. option_map (λ i. (entry_at t i).points) o) h;
+    }
+
+-- a place among the names tells a name
+pub named_so : (t : List Entry) (q : List ℕ) (o : Option ℕ) → o ≡ place q (names_in t) → (is_some o ≡ is_name t q) × IfSome o (λ i. i < length t) × IfSome o (λ i. (entry_at t i).name ≡ q)
+named_so t q None e = (ap is_some e ∙ sym (name_place t q), tt, tt)
+named_so t q (Some i) e = let m = named_at t q i (sym e) in (ap is_some e ∙ sym (name_place t q), m.inside, m.is)
+
+-- each name is found at its own place
+pub own_place : (t : List Entry) → AreApart (names_in t) → (i : ℕ) → i < length t → place (entry_at t i).name (names_in t) ≡ Some i
+own_place t a i l =
+    subst (λ q. place q (names_in t) ≡ Some i) (get_or-map (λ (e : Entry). e.name) t i no_entry [] l) (a i (omega (arith, length-map t (λ (e : Entry). e.name))))
+
+-- ---- what a trie tells
+
+module _ (t : List Entry) (nodes : List TrieNode) (places : List ℕ) (w : IsWhole t nodes places) where
+  abbrev seen : TableView
+  seen = record { entries = t; fronts = fronts_of t nodes }
+
+  pub is_trie : IsTrie seen
+  is_trie = record {
+    nodes = λ n l. node_is t nodes places w n l;
+    some = λ n l. some_fronts t nodes n l;
+    root = (0, omega (arith, length_fronts t nodes, w.put.grown.web.some), w.put.grown.web.root);
+    all = λ q e h. node_at t nodes places w q (front_placed t nodes places w q e h);
+  }
+
+  pub root_is : IsNode seen 0
+  root_is = node_is t nodes places w 0 (omega (arith, length_fronts t nodes, w.put.grown.web.some))
+
+  pub root_front_is : front_at seen 0 ≡ 38 ∷ []
+  root_front_is = w.put.grown.web.root
+
+  pub node_leads : (n byte : ℕ) (x : TrieNode) (o : Option ℕ) → n < length nodes → x ≡ get_or nodes n x → o ≡ get nat_cmp x.children byte → option_map (front_at seen) o ≡ child_of t (front_at seen n) byte
+  node_leads n byte x o l e f = child_leads t nodes places w n byte x l (sym e) o f
+
+  pub node_child : (n byte : ℕ) (x : TrieNode) (o : Option ℕ) → n < length nodes → x ≡ get_or nodes n x → o ≡ get nat_cmp x.children byte → IfSome o (IsNode seen)
+  node_child n byte x None l e f = tt
+  node_child n byte x (Some m) l e f =
+      let p = found_place t nodes places w n byte x l (sym e) (Some m) f in
+      let s = place_stands (front_at seen n ++ byte ∷ []) (fronts_of t nodes) m (sym p) in
+      node_is t nodes places w m s.inside
+
+  pub node_ends : (n : ℕ) (x : TrieNode) → n < length nodes → x ≡ get_or nodes n x → x.ends ≡ place (front_at seen n) (names_in t)
+  node_ends n x l e =
+      subst (λ u. x.ends ≡ place (front_at seen n) (names_in u)) (take_all (length t) t (omega arith))
+      (w.put.grown.names.ended n x l (sym e) ∙ ap (λ q. place q (names_in (take (length t) t))) (sym (front_at_place t nodes n x l (sym e))))
+
+  pub place_node : (i : ℕ) → i < length t → IsNode seen (get_or places i 0)
+  place_node i l = let s = place_stands (entry_at t i).name (fronts_of t nodes) (get_or places i 0) (w.put.placed i l) in node_is t nodes places w (get_or places i 0) s.inside
+
+  pub place_front : (i : ℕ) → i < length t → front_at seen (get_or places i 0) ≡ (entry_at t i).name
+  place_front i l = let s = place_stands (entry_at t i).name (fronts_of t nodes) (get_or places i 0) (w.put.placed i l) in s.is
+
+-- ---- the same of a table that is seen so
+
+pub leads_of : (t : List Entry) (nodes : List TrieNode) (places : List ℕ) (v : TableView) (n index byte : ℕ) (x : TrieNode) (o : Option ℕ) → IsWhole t nodes places → record { entries = t; fronts = fronts_of t nodes } ≡ v → n < length v.fronts → index ≡ n
+    → x ≡ get_or nodes index x → o ≡ get nat_cmp x.children byte → (option_map (front_at v) o ≡ child_of v.entries (front_at v n) byte) × IfSome o (IsNode v)
+leads_of t nodes places v n index byte x o w is l i e f =
+    let k : n < length nodes = omega (arith, ap (λ (u : TableView). length u.fronts) is, length_fronts t nodes) in
+    let g : x ≡ get_or nodes n x = subst (λ m. x ≡ get_or nodes m x) i e in
+    subst (λ (u : TableView). (option_map (front_at u) o ≡ child_of u.entries (front_at u n) byte) × IfSome o (IsNode u)) is (node_leads t nodes places w n byte x o k g f, node_child t nodes places w n byte x o k g f)
+
+pub place_of : (t : List Entry) (nodes : List TrieNode) (places : List ℕ) (v : TableView) (i index node : ℕ) → IsWhole t nodes places → record { entries = t; fronts = fronts_of t nodes } ≡ v → i < length v.entries → index ≡ i
+    → node ≡ get_or places index node → (front_at v node ≡ (entry_at v.entries i).name) × IsNode v node
+place_of t nodes places v i index node w is l e f =
+    let k : i < length t = omega (arith, ap (λ (u : TableView). length u.entries) is) in
+    let g : node ≡ get_or places i 0 = get_or_read places i node (omega (arith, w.put.as_long)) (subst (λ m. node ≡ get_or places m node) e f) 0 in
+    subst (λ (u : TableView). (front_at u node ≡ (entry_at u.entries i).name) × IsNode u node) is (rw g (place_front t nodes places w i k, place_node t nodes places w i k))

@@ -1,0 +1,20 @@
+-- The names by their first code points, as the code keeps them.
+use Rattle.std.specs.Prelude.{◌≡◌, ℕ, Bool, not, ◌||◌, nat_lt, List, [], length, count_by, Vec}
+use Rattle.std.specs.Ordering.{nat_cmp}
+use Rattle.std.specs.Option.{option_map_or}
+use Rattle.std.specs.BTreeMap.{BTreeMap, get}
+use Rattle.std.specs.declared.alloc.Global.{Global}
+use Rattle.hm_refs.specs.Names.{Entry, is_closed}
+use Rattle.hm_refs.specs.Tables.{places_for, entry_at}
+
+-- the map gives for each code point the places of the names that it begins
+abbrev pub IsIndex : List Entry → BTreeMap ℕ (Vec ℕ Global) → Type 0
+IsIndex t m = (c : ℕ) → option_map_or (λ (v : Vec ℕ Global). v.items) (get nat_cmp m c) [] ≡ places_for c t
+
+-- the name with this number has no ';'
+abbrev pub is_open_at : List Entry → ℕ → Bool
+is_open_at t id = not (is_closed (entry_at t id).name)
+
+-- these are more than 64 names, or more than 4 without ';'
+abbrev pub are_many : List Entry → List ℕ → Bool
+are_many t ids = nat_lt 64 (length ids) || nat_lt 4 (count_by (is_open_at t) ids)

@@ -1,0 +1,96 @@
+//! Names by their first code points.
+ghost use Rattle.std.specs.Prelude.{◌≡◌, ℕ, ◌<◌, ◌≤◌, List, [], ◌∷◌, All, length, IfOk, count_by};
+ghost use Rattle.hm_refs.specs.Names.{is_closed};
+ghost use Rattle.hm_refs.specs.Json.{if_crowded, least_crowded, lesser};
+ghost use Rattle.hm_refs.specs.Nodes.{entries_of};
+ghost use Rattle.hm_refs.specs.Firsts.{IsIndex, are_many, is_open_at};
+
+use crate::ids::NameId;
+use crate::nodes::Name;
+use hm_base::Memory;
+use std::alloc::Global;
+use std::collections::BTreeMap;
+
+/// For each first code point the names that it begins, in order.
+pub(crate) fn firsts_of(
+    alloc: Global,
+    names: &[Name],
+) -> Result<BTreeMap<char, Vec<NameId>>, Memory>
+    requires { length names.now ≤ 4096 }
+    ensures { IfOk result (IsIndex (entries_of names.now)) }
+{
+    let mut firsts = BTreeMap::new(alloc);
+    for (number, name) in names.iter().enumerate() {
+        let ids = firsts.entry(name.points.first)?.or_insert(Vec::new(alloc));
+        ids.push(NameId::new(number as u32))?;
+    }
+    Ok(firsts)
+}
+
+/// The least first code point with more than 64 names, or more than 4 without `;`.
+pub(crate) fn least_crowded(names: &[Name], firsts: &BTreeMap<char, Vec<NameId>>) -> Option<char>
+    requires { IsIndex (entries_of names.now) firsts.now }
+    ensures { result ≡ least_crowded (entries_of names.now) (entries_of names.now) }
+{
+    let mut least = None;
+    for name in names {
+        least = lesser(least, if_crowded(names, firsts, name.points.first));
+    }
+    least
+}
+
+fn lesser(a: Option<char>, b: Option<char>) -> Option<char>
+    ensures { result ≡ lesser a b }
+{
+    match (a, b) {
+        (None, _) => b,
+        (_, None) => a,
+        (Some(c), Some(d)) => Some(c.min(d)),
+    }
+}
+
+/// The code point, where too many names begin with it.
+fn if_crowded(names: &[Name], firsts: &BTreeMap<char, Vec<NameId>>, point: char) -> Option<char>
+    requires { IsIndex (entries_of names.now) firsts.now }
+    ensures { result ≡ if_crowded (entries_of names.now) (point ∷ []) }
+{
+    match firsts.get(&point) {
+        Some(ids) => are_many(names, ids).then_some(point),
+        None => None,
+    }
+}
+
+/// Whether these are more than 64 names, or more than 4 without `;`.
+fn are_many(names: &[Name], ids: &[NameId]) -> bool
+    requires { All (λ id. id < length names.now) ids.now }
+    ensures { result ≡ are_many (entries_of names.now) ids.now }
+{
+    if ids.len() > 64 {
+        return true;
+    }
+    open_names(names, ids) > 4
+}
+
+/// How many of these names have no `;`.
+fn open_names(names: &[Name], ids: &[NameId]) -> usize
+    requires { All (λ id. id < length names.now) ids.now }
+    ensures { result ≡ count_by (is_open_at (entries_of names.now)) ids.now }
+{
+    let mut open = 0;
+    for id in ids {
+        if !is_closed(names[id.index()].text.as_bytes()) {
+            open += 1;
+        }
+    }
+    open
+}
+
+/// Whether a name ends in `;`.
+pub(crate) fn is_closed(text: &[u8]) -> bool
+    ensures { result ≡ is_closed text.now }
+{
+    match text {
+        [.., last] => *last == b';',
+        [] => false,
+    }
+}

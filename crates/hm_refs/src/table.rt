@@ -1,0 +1,165 @@
+//! The table of names of character references (HTML Standard, 13.5).
+ghost use Rattle.std.specs.Prelude.{◌≡◌, ◌≢◌, ℕ, ◌<◌, ◌∷◌, [], List, length, is_some, option_map, Ok, Err, IfOk, IfErr, IfSome};
+ghost use Rattle.hm_refs.specs.Names.{child_of, is_name, longest};
+ghost use Rattle.hm_refs.specs.Tables.{IsGathered, IsNode, IsTable, IsTrie, entry_at, found_at, front_at, places_for, points_list};
+ghost use Rattle.hm_refs.specs.Json.{checked};
+ghost use Rattle.hm_refs.specs.Nodes.{entries_of};
+
+use crate::fault::TableFault;
+use crate::firsts::{firsts_of, least_crowded};
+use crate::ids::{NameId, Node};
+use crate::nodes::Name;
+use crate::trie::Trie;
+use hm_base::{Memory, Points, Word};
+use std::alloc::{AllocError, Global};
+use std::collections::BTreeMap;
+use std::marker::Model;
+
+/// Names of character references, each with its code points, and the trie of the names.
+///
+/// Contracts see it as the names in byte order, and for each node the bytes that lead to it, the `&` included.
+#[derive(Drop)]
+pub struct Table {
+    trie: Trie,
+    firsts: BTreeMap<char, Vec<NameId>>,
+}
+
+impl Model for Table {
+    ghost use Rattle.hm_refs.specs.Tables.{TableView};
+
+    ghost Value = { TableView };
+
+    ghost use Rattle.hm_refs.specs.Tables.{IsTable};
+    ghost use Rattle.hm_refs.specs.Firsts.{IsIndex};
+
+    ghost view = { λ t. t.trie };
+
+    ghost invariant = { λ t. IsTable t.trie.entries × IsIndex t.trie.entries t.firsts };
+}
+
+impl Table {
+    /// A table without names.
+    pub fn empty(alloc: Global) -> Result<Table, Memory>
+        ensures { IfOk result (λ table. table.entries ≡ []) }
+    {
+        let trie = Trie::new(alloc, Vec::new(alloc))?;
+        Ok(Table {
+            trie,
+            firsts: BTreeMap::new(alloc),
+        })
+    }
+
+    /// The table of these names, in byte order, or the first fault that it would have.
+    pub(crate) fn checked(alloc: Global, names: Vec<Name>) -> Result<Table, TableFault>
+        requires { IsGathered (entries_of names.items) }
+        ensures ok { IfOk result (λ table. checked (entries_of names.items) ≡ Ok table.entries) }
+        ensures fault { IfErr result
+            (λ fault. fault ≢ TableFault.Memory → checked (entries_of names.items) ≡ Err fault) }
+    {
+        if names.len() > 4096 {
+            return Err(TableFault::TooMany);
+        }
+        let firsts = firsts_of(alloc, &names)?;
+        if let Some(point) = least_crowded(&names, &firsts) {
+            return Err(TableFault::TooManyFor {
+                point: point as u32,
+            });
+        }
+        let trie = Trie::new(alloc, names)?;
+        if let Some(id) = trie.first_lone() {
+            let key = word_of(alloc, trie.text(id))?;
+            return Err(TableFault::Lone { key });
+        }
+        Ok(Table { trie, firsts })
+    }
+
+    /// The longest name that the text begins with; None where it begins with none.
+    pub fn longest(&self, text: &[u8]) -> Option<NameId>
+        ensures found { option_map (λ id. found_at self.now.entries id text.now) result
+            ≡ longest self.now.entries text.now }
+        ensures inside { IfSome result (λ id. id < length self.now.entries) }
+    {
+        self.trie.longest(text)
+    }
+
+    /// The code points that the name stands for.
+    pub fn points(&self, id: NameId) -> Points
+        requires { id < length self.now.entries }
+        ensures { points_list result ≡ (entry_at self.now.entries id).points }
+    {
+        self.trie.points(id)
+    }
+
+    /// The bytes of the name, the `&` included.
+    pub fn name(&self, id: NameId) -> &[u8]
+        requires { id < length self.now.entries }
+        ensures { result.now ≡ (entry_at self.now.entries id).name }
+    {
+        self.trie.name(id)
+    }
+
+    /// The names whose first code point is `first`, in byte order.
+    pub fn names_for(&self, first: char) -> &[NameId]
+        ensures { result.now ≡ places_for first self.now.entries }
+    {
+        match self.firsts.get(&first) {
+            Some(ids) => ids.as_slice(),
+            None => &[],
+        }
+    }
+
+    /// The node that the `&` leads to.
+    pub fn root(&self) -> Node
+        ensures front { front_at self.now result ≡ 38 ∷ [] }
+        ensures node { IsNode self.now result }
+    {
+        self.trie.root()
+    }
+
+    /// The node that the bytes of `node` and `byte` lead to; None where no name begins so.
+    pub fn child(&self, node: Node, byte: u8) -> Option<Node>
+        requires { node < length self.now.fronts }
+        ensures leads { option_map (front_at self.now) result
+            ≡ child_of self.now.entries (front_at self.now node) byte }
+        ensures node { IfSome result (IsNode self.now) }
+    {
+        self.trie.child(node, byte)
+    }
+
+    /// The name that the bytes of `node` are; None where they are none.
+    pub fn name_at(&self, node: Node) -> Option<NameId>
+        requires { node < length self.now.fronts }
+        ensures exact { is_some result ≡ is_name self.now.entries (front_at self.now node) }
+        ensures inside { IfSome result (λ id. id < length self.now.entries) }
+        ensures name { IfSome result
+            (λ id. (entry_at self.now.entries id).name ≡ front_at self.now node) }
+    {
+        self.trie.name_at(node)
+    }
+
+    /// The node that all bytes of the name lead to.
+    pub fn node_of(&self, id: NameId) -> Node
+        requires { id < length self.now.entries }
+        ensures front { front_at self.now result ≡ (entry_at self.now.entries id).name }
+        ensures node { IsNode self.now result }
+    {
+        self.trie.node_of(id)
+    }
+}
+
+/// What holds of the names and the nodes of every table. The function does nothing.
+pub fn every_table(table: &Table)
+    ensures names { IsTable table.now.entries }
+    ensures trie { IsTrie table.now }
+{
+    let _root = table.trie.root();
+}
+
+/// A copy of a text.
+pub(crate) fn word_of(alloc: Global, text: &str) -> Result<Word, AllocError>
+    ensures { IfOk result (λ word. word ≡ text.now) }
+{
+    Ok(Word {
+        text: String::from_str(alloc, text)?,
+    })
+}

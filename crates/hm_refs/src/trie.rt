@@ -1,0 +1,157 @@
+//! Names with their trie.
+ghost use Rattle.std.specs.Prelude.{◌≡◌, ℕ, ◌<◌, ◌∷◌, [], length, option_map, IfOk, IfSome};
+ghost use Rattle.hm_refs.specs.Names.{child_of, longest};
+ghost use Rattle.hm_refs.specs.Json.{first_lone, is_lone};
+ghost use Rattle.hm_refs.specs.Tables.{IsNode, IsTrie, entry_at, found_at, front_at, names_in, points_list};
+ghost use Rattle.hm_refs.specs.Nodes.{AreNames, entries_of, place};
+
+use crate::firsts::is_closed;
+use crate::ids::{NameId, Node};
+use crate::nodes::{Name, TrieNode, behind_first, grow};
+use hm_base::{Memory, Points};
+use std::alloc::Global;
+use std::marker::Model;
+
+/// Names by number, the nodes of their trie, and the node of each name.
+#[derive(Drop)]
+pub(crate) struct Trie {
+    names: Vec<Name>,
+    nodes: Vec<TrieNode>,
+    places: Vec<Node>,
+}
+
+impl Model for Trie {
+    ghost use Rattle.hm_refs.specs.Tables.{TableView};
+
+    ghost Value = { TableView };
+
+    ghost use Rattle.hm_refs.specs.Nodes.{IsWhole, entries_of, fronts_of};
+
+    ghost view = { λ t. record { entries = entries_of t.names.items; fronts = fronts_of (entries_of t.names.items) t.nodes.items } };
+
+    ghost invariant = { λ t. IsWhole (entries_of t.names.items) t.nodes.items t.places.items };
+}
+
+impl Trie {
+    pub(crate) fn new(alloc: Global, names: Vec<Name>) -> Result<Trie, Memory>
+        requires { AreNames (entries_of names.items) }
+        ensures { IfOk result (λ trie. trie.entries ≡ entries_of names.items) }
+    {
+        let mut nodes = Vec::new(alloc);
+        let places = grow(alloc, &names, &mut nodes)?;
+        Ok(Trie {
+            names,
+            nodes,
+            places,
+        })
+    }
+
+    pub(crate) fn root(&self) -> Node
+        ensures front { front_at self.now result ≡ 38 ∷ [] }
+        ensures node { IsNode self.now result }
+        ensures names { AreNames self.now.entries }
+        ensures trie { IsTrie self.now }
+    {
+        let _nodes = &self.nodes;
+        Node::new(0)
+    }
+
+    pub(crate) fn child(&self, node: Node, byte: u8) -> Option<Node>
+        requires { node < length self.now.fronts }
+        ensures leads { option_map (front_at self.now) result
+            ≡ child_of self.now.entries (front_at self.now node) byte }
+        ensures node { IfSome result (IsNode self.now) }
+    {
+        self.nodes[node.index()].children.get(&byte).copied()
+    }
+
+    pub(crate) fn name_at(&self, node: Node) -> Option<NameId>
+        requires { node < length self.now.fronts }
+        ensures { result ≡ place (front_at self.now node) (names_in self.now.entries) }
+    {
+        self.nodes[node.index()].ends
+    }
+
+    pub(crate) fn node_of(&self, id: NameId) -> Node
+        requires { id < length self.now.entries }
+        ensures front { front_at self.now result ≡ (entry_at self.now.entries id).name }
+        ensures node { IsNode self.now result }
+    {
+        self.places[id.index()]
+    }
+
+    pub(crate) fn points(&self, id: NameId) -> Points
+        requires { id < length self.now.entries }
+        ensures { points_list result ≡ (entry_at self.now.entries id).points }
+    {
+        self.names[id.index()].points
+    }
+
+    pub(crate) fn text(&self, id: NameId) -> &str
+        requires { id < length self.now.entries }
+        ensures { result.now ≡ (entry_at self.now.entries id).name }
+    {
+        self.names[id.index()].text.as_str()
+    }
+
+    pub(crate) fn name(&self, id: NameId) -> &[u8]
+        requires { id < length self.now.entries }
+        ensures { result.now ≡ (entry_at self.now.entries id).name }
+    {
+        self.text(id).as_bytes()
+    }
+
+    pub(crate) fn longest(&self, text: &[u8]) -> Option<NameId>
+        ensures found { option_map (λ id. found_at self.now.entries id text.now) result
+            ≡ longest self.now.entries text.now }
+        ensures inside { IfSome result (λ id. id < length self.now.entries) }
+    {
+        let mut node = self.root();
+        if text.is_empty() {
+            return None;
+        }
+        if text[0] != b'&' {
+            return None;
+        }
+        let mut best = None;
+        for byte in behind_first(text) {
+            let Some(child) = self.child(node, *byte) else {
+                return best;
+            };
+            node = child;
+            best = self.name_at(node).or(best);
+        }
+        best
+    }
+
+    /// The first name without `;` whose form with `;` isn't there with the same code points.
+    pub(crate) fn first_lone(&self) -> Option<NameId>
+        ensures found { option_map (λ id. (entry_at self.now.entries id).name) result
+            ≡ first_lone self.now.entries self.now.entries }
+        ensures inside { IfSome result (λ id. id < length self.now.entries) }
+    {
+        for number in 0..self.names.len() as u32 {
+            let id = NameId::new(number);
+            if self.is_lone(id) {
+                return Some(id);
+            }
+        }
+        None
+    }
+
+    fn is_lone(&self, id: NameId) -> bool
+        requires { id < length self.now.entries }
+        ensures { result ≡ is_lone self.now.entries (entry_at self.now.entries id) }
+    {
+        if is_closed(self.name(id)) {
+            return false;
+        }
+        let Some(node) = self.child(self.node_of(id), b';') else {
+            return true;
+        };
+        match self.name_at(node) {
+            Some(closed) => self.points(closed) != self.points(id),
+            None => true,
+        }
+    }
+}

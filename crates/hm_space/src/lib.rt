@@ -1,0 +1,2 @@
+//! Whitespace of texts, as far as it isn't seen.
+#![tactic(auto)]

@@ -1,0 +1,206 @@
+-- Why a tag is refused.
+use Rattle.std.proofs.Common.{◌≡◌, ◌≢◌, ℕ, ◌+◌, ◌-◌, ◌<◌, ◌≤◌, Bool, true, false, cond, not, ◌&&◌, ◌||◌, ◌==◌, nat_lt, List, [], ◌∷◌, ◌++◌, length, map, drop, get_or, slice_range, codes, Option, Some, None, string_bytes, refl, ap, ap₂, sym, subst, ◌∙◌, arith, length-drop}
+use Rattle.std.specs.Str.{IsUtf8, IsCharBoundary}
+use Rattle.std.proofs.lemmas.Str.{IsCharBoundary-after_ascii}
+use Rattle.std.proofs.lemmas.List.{get_or-drop, drop-drop}
+use Rattle.std.proofs.lemmas.Bool.Decides.{Decides-eqb}
+use Rattle.hm_base.specs.Bytes.{front, behind, strip, head_is, is_letter, lower}
+use Rattle.hm_base.specs.Forms.{is_tag_name}
+use Rattle.hm_base.specs.Walks.{Attribute}
+use Rattle.hm_refs.specs.Names.{Entry}
+use Rattle.hm_tree.specs.Tokens.{Scanned, taken, refused, start_tag, end_tag, Reads}
+use Rattle.hm_tree.specs.declared.tokens.Token.TheVariants as tokens
+use Rattle.hm_tree.specs.declared.tokens.ScanFault.{ScanFault}
+use Rattle.hm_tree.specs.declared.tokens.ScanFault.TheVariants as faults
+use Rattle.hm_tag_scan.specs.Tags.{is_name_byte, Tag, cut_tag}
+use Rattle.hm_tag_scan.specs.Reading.{attribute_limit, has_bad_name, tag_fault, read_attributes, start_of, end_of, tag_name, read_start, read_end, read_by, read_tag, followed_by_letter, begins_tag}
+use Rattle.hm_tag_scan.specs.Collected.{IsCollected, IsTagBody, HasNoBody}
+use Rattle.hm_tag_scan.specs.Wholes.{fault_by, fault_at, IsWhole}
+use Rattle.hm_tag_scan.specs.declared.collected.Collected.{Collected}
+use Rattle.hm_tag_scan.specs.Places.{IsEndOf}
+use Rattle.hm_tag_scan.specs.declared.scan.Whole.{Whole}
+use Rattle.hm_tag_scan.specs.declared.tag_body.TagBody.{TagBody}
+
+pub bad_tag_name : (name : List ℕ) (written : List Attribute) → is_tag_name name ≡ false → tag_fault name written ≡ Some faults.BadName
+unfolding tag_fault
+bad_tag_name name written h = rw h refl
+
+or_true : (a : Bool) → a || true ≡ true
+or_true true = refl
+or_true false = refl
+
+pub bad_attribute : (name : List ℕ) (written : List Attribute) → has_bad_name written ≡ true → tag_fault name written ≡ Some faults.BadName
+unfolding tag_fault
+bad_attribute name written h = rw (h, or_true (not (is_tag_name name))) refl
+
+pub too_many : (name : List ℕ) (written : List Attribute) → is_tag_name name ≡ true → has_bad_name written ≡ false → attribute_limit < length written → tag_fault name written ≡ Some faults.TooManyAttributes
+unfolding tag_fault
+too_many name written n b h = let more : nat_lt 256 (length written) ≡ true = grind arith in rw (n, b, more) refl
+
+pub no_fault : (name : List ℕ) (written : List Attribute) → is_tag_name name ≡ true → has_bad_name written ≡ false → length written ≤ attribute_limit → tag_fault name written ≡ None
+unfolding tag_fault
+no_fault name written n b h = let few : nat_lt 256 (length written) ≡ false = grind arith in rw (n, b, few) refl
+
+-- a refused start tag, and a refused end tag
+start_by : (t : List Entry) (name : List ℕ) (o : Option Tag) (f : ScanFault) → fault_by name o ≡ Some f → start_of t name o ≡ refused f
+start_by t name None f e = let same : faults.Cut ≡ f = cc in ap refused same
+start_by t name (Some g) f e = rw e refl
+
+end_by : (name : List ℕ) (o : Option Tag) (f : ScanFault) → fault_by name o ≡ Some f → end_of name o ≡ refused f
+end_by name None f e = let same : faults.Cut ≡ f = cc in ap refused same
+end_by name (Some g) f e = rw e refl
+
+pub start_refused : (t : List Entry) (s : List ℕ) (f : ScanFault) → fault_at s ≡ Some f → read_start t s ≡ refused f
+unfolding read_start
+start_refused t s f e = start_by t (tag_name s) (cut_tag (behind is_name_byte s)) f e
+
+pub end_refused : (s : List ℕ) (f : ScanFault) → fault_at s ≡ Some f → read_end s ≡ refused f
+unfolding read_end
+end_refused s f e = end_by (tag_name s) (cut_tag (behind is_name_byte s)) f e
+
+-- a tag that is read
+start_taken : (t : List Entry) (name : List ℕ) (o : Option Tag) (g : Tag) → o ≡ Some g → fault_by name o ≡ None → start_of t name o ≡ taken (start_tag name (read_attributes t g.attributes) g.slash) g.rest
+start_taken t name o g e f = let free : tag_fault name g.attributes ≡ None = ap (fault_by name) (sym e) ∙ f in ap (start_of t name) e ∙ rw free refl
+
+end_taken : (name : List ℕ) (o : Option Tag) (g : Tag) → o ≡ Some g → fault_by name o ≡ None → end_of name o ≡ taken (end_tag name) g.rest
+end_taken name o g e f = let free : tag_fault name g.attributes ≡ None = ap (fault_by name) (sym e) ∙ f in ap (end_of name) e ∙ rw free refl
+
+-- no fault tells that no name is bad and that the attributes are few
+free_parts : (name : List ℕ) (written : List Attribute) → tag_fault name written ≡ None → (has_bad_name written ≡ false) × (length written ≤ attribute_limit)
+unfolding tag_fault
+free_parts name written h = parts (not (is_tag_name name)) (has_bad_name written) (nat_lt 256 (length written)) refl h
+  where
+    parts : (a b m : Bool) → nat_lt 256 (length written) ≡ m → cond (a || b) (Some faults.BadName) (cond m (Some faults.TooManyAttributes) None) ≡ None → (b ≡ false) × (length written ≤ attribute_limit)
+    parts true b m e h = absurd (cc)
+    parts false true m e h = absurd (cc)
+    parts false false true e h = absurd (cc)
+    parts false false false e h = (refl, grind arith)
+
+-- a tag that was read behind its name, with its name
+pub whole_is : (t : List Entry) (keeps : Bool) (s : List ℕ) (from name_to : ℕ) (name : List ℕ) (b : TagBody) → IsEndOf is_name_byte s from name_to → IsTagBody t keeps s name_to b
+    → name ≡ map lower (slice_range s from name_to) → ((written : List Attribute) → IsCollected t written b.collected → tag_fault name written ≡ None)
+    → IsWhole t keeps s from (record { name = name; attrs = b.collected.attrs; slash = b.slash; behind = b.behind })
+whole_is t keeps s from name_to name b e k is free =
+    let same : name ≡ tag_name (drop from s) = is ∙ ap (map lower) (sym e.front) in
+    let cut : cut_tag (behind is_name_byte (drop from s)) ≡ Some k.tag = ap cut_tag e.behind ∙ k.is in
+    let accepted : tag_fault name k.tag.attributes ≡ None = free k.tag.attributes k.collected in
+    let parts = free_parts name k.tag.attributes accepted in
+    record {
+      accepted = ap (fault_by (tag_name (drop from s))) cut ∙ ap (λ n. tag_fault n k.tag.attributes) (sym same) ∙ accepted;
+      name = same;
+      tag = k.tag;
+      cut = cut;
+      attrs = λ wanted. k.collected.read (k.kept ∙ wanted) parts.0 parts.1;
+      slash = k.slash;
+      rest = k.rest;
+      forward = let low : from ≤ name_to = e.forward in let next : name_to < b.behind = k.forward in omega arith;
+      boundary = k.boundary;
+    }
+
+-- a fault of a tag whose name was found
+pub whole_refused : (t : List Entry) (keeps : Bool) (s : List ℕ) (from name_to : ℕ) (name : List ℕ) (b : TagBody) (f : ScanFault) → IsEndOf is_name_byte s from name_to → IsTagBody t keeps s name_to b
+    → name ≡ map lower (slice_range s from name_to) → ((written : List Attribute) → IsCollected t written b.collected → tag_fault name written ≡ Some f) → fault_at (drop from s) ≡ Some f
+whole_refused t keeps s from name_to name b f e k is found =
+    let same : name ≡ tag_name (drop from s) = is ∙ ap (map lower) (sym e.front) in
+    ap (fault_by (tag_name (drop from s))) (ap cut_tag e.behind ∙ k.is) ∙ ap (λ n. tag_fault n k.tag.attributes) (sym same) ∙ found k.tag.attributes k.collected
+
+-- no end of the tag
+pub body_refused : (s : List ℕ) (from name_to : ℕ) (f : ScanFault) → IsEndOf is_name_byte s from name_to → HasNoBody s name_to f → (f ≡ faults.Memory → ⊥) → fault_at (drop from s) ≡ Some f
+body_refused s from name_to faults.Cut e none never = ap (fault_by (tag_name (drop from s))) (ap cut_tag e.behind ∙ none)
+body_refused s from name_to faults.Memory e none never = absurd (never refl)
+body_refused s from name_to faults.BadName e none never = absurd none
+body_refused s from name_to faults.TooManyAttributes e none never = absurd none
+body_refused s from name_to faults.BadDoctype e none never = absurd none
+
+pub start_is : (t : List Entry) (s : List ℕ) (from : ℕ) (w : Whole) → IsWhole t true s from w → Reads (read_start t (drop from s)) s (tokens.StartTag w.name w.attrs w.slash) w.behind
+unfolding read_start
+start_is t s from w k = record {
+  is = start_taken t (tag_name (drop from s)) (cut_tag (behind is_name_byte (drop from s))) k.tag k.cut k.accepted
+      ∙ ap₂ taken (ap₂ (λ n a. start_tag n a k.tag.slash) (sym k.name) (sym (k.attrs refl)) ∙ ap (start_tag w.name w.attrs) (sym k.slash)) (sym k.rest);
+  inside = tt;
+  boundary = k.boundary;
+}
+
+pub end_is : (t : List Entry) (s : List ℕ) (from : ℕ) (w : Whole) → IsWhole t false s from w → Reads (read_end (drop from s)) s (tokens.EndTag w.name) w.behind
+unfolding read_end
+end_is t s from w k = record {
+  is = end_taken (tag_name (drop from s)) (cut_tag (behind is_name_byte (drop from s))) k.tag k.cut k.accepted
+      ∙ ap₂ (λ n r. taken (end_tag n) r) (sym k.name) (sym k.rest);
+  inside = tt;
+  boundary = k.boundary;
+}
+
+-- where a tag begins
+
+record Beginning (r : List ℕ) : Type 0 where
+  second : ℕ
+  more : List ℕ
+  is : r ≡ 60 ∷ second ∷ more
+  some : second ≡ 47 → 0 < length more
+
+beginning : (r : List ℕ) → begins_tag r ≡ true → Beginning r
+unfolding begins_tag
+beginning [] h = absurd (cc)
+beginning (c ∷ []) h = by_test (60 == c) h
+  where
+    by_test : (b : Bool) → followed_by_letter (cond b (Some []) None) || followed_by_letter (cond b None None) ≡ true → Beginning (c ∷ [])
+    by_test true h = absurd (cc)
+    by_test false h = absurd (cc)
+beginning (c ∷ d ∷ r) h = by_test (60 == c) refl h
+  where
+    some_of : (q : List ℕ) → head_is is_letter q ≡ true → 0 < length q
+    some_of [] h = absurd (cc)
+    some_of (e ∷ q) h = omega arith
+
+    slash : is_letter 47 ≡ false
+    slash = unfold is_letter in refl
+
+    last : is_letter d || followed_by_letter (cond (47 == d) (Some r) None) ≡ true → d ≡ 47 → 0 < length r
+    last h e =
+        let none : is_letter d ≡ false = ap is_letter e ∙ slash in
+        let same : (47 == d) ≡ true = (Decides-eqb 47 d).1 (sym e) in
+        some_of r (rw (none, same) at h)
+
+    by_test : (b : Bool) → (60 == c) ≡ b → followed_by_letter (cond b (Some (d ∷ r)) None) || followed_by_letter (cond b (cond (47 == d) (Some r) None) None) ≡ true → Beginning (c ∷ d ∷ r)
+    by_test true e h = record { second = d; more = r; is = ap (λ x. x ∷ d ∷ r) (sym ((Decides-eqb 60 c).0 e)); some = last h }
+    by_test false e h = absurd (cc)
+
+-- the bytes of a tag's begin
+pub record Begins (s : List ℕ) (at : ℕ) : Type 0 where
+  pub inside : at + 1 < length s
+  pub first : get_or s at 0 ≡ 60
+  pub some : get_or s (at + 1) 0 ≡ 47 → at + 2 < length s
+
+second_is : (s : List ℕ) (at : ℕ) (b : Beginning (drop at s)) → get_or s (at + 1) 0 ≡ b.second
+second_is s at b = sym (get_or-drop at s 1 0) ∙ ap (λ r. get_or r 1 0) b.is
+
+pub tag_begins : (s : List ℕ) (at : ℕ) → begins_tag (drop at s) ≡ true → Begins s at
+tag_begins s at h =
+    let b : Beginning (drop at s) = beginning (drop at s) h in
+    let long : length (drop at s) ≡ length s - at = length-drop at s in
+    let count : length (drop at s) ≡ length b.more + 2 = ap length b.is ∙ omega arith in
+    let here : at + 0 ≡ at = omega arith in
+    record {
+      inside = omega arith;
+      first = ap (λ n. get_or s n 0) (sym here) ∙ sym (get_or-drop at s 0 0) ∙ ap (λ r. get_or r 0 0) b.is;
+      some = λ e. let some : 0 < length b.more = b.some (sym (second_is s at b) ∙ e) in omega arith;
+    }
+
+behind_first : (s r : List ℕ) (at c : ℕ) → drop at s ≡ c ∷ r → drop (at + 1) s ≡ r
+behind_first s r at c e = sym (drop-drop 1 at s) ∙ ap (drop 1) e
+
+pub end_reads : (t : List Entry) (s : List ℕ) (at : ℕ) → begins_tag (drop at s) ≡ true → get_or s (at + 1) 0 ≡ 47 → read_tag t (drop at s) ≡ read_end (drop (at + 2) s)
+unfolding read_tag
+end_reads t s at h e =
+    let b : Beginning (drop at s) = beginning (drop at s) h in
+    let slash : b.second ≡ 47 = sym (second_is s at b) ∙ e in
+    let rest : drop (at + 2) s ≡ b.more = sym (drop-drop 2 at s) ∙ ap (drop 2) b.is in
+    ap (read_tag t) (b.is ∙ ap (λ d. 60 ∷ d ∷ b.more) slash) ∙ ap read_end (sym rest)
+
+pub start_reads : (t : List Entry) (s : List ℕ) (at : ℕ) → begins_tag (drop at s) ≡ true → (get_or s (at + 1) 0 ≡ 47 → ⊥) → read_tag t (drop at s) ≡ read_start t (drop (at + 1) s)
+unfolding read_tag
+start_reads t s at h never =
+    let b : Beginning (drop at s) = beginning (drop at s) h in
+    let rest : drop (at + 1) s ≡ b.second ∷ b.more = behind_first s (b.second ∷ b.more) at 60 b.is in
+    let other : (47 == b.second) ≡ false = elim (47 == b.second) as (λ x. (47 == b.second) ≡ x → x ≡ false) [ true ↦ λ e. absurd (never (second_is s at b ∙ sym ((Decides-eqb 47 b.second).0 e))) | false ↦ λ e. refl ] refl in
+    ap (read_tag t) b.is ∙ rw other refl ∙ ap (read_start t) (sym rest)

@@ -1,0 +1,58 @@
+-- How a run goes on by one byte, and where it ends.
+use Rattle.std.proofs.Common.{◌≡◌, ℕ, zero, suc, ◌+◌, ◌-◌, ◌<◌, ◌≤◌, Bool, true, false, List, [], ◌∷◌, ◌++◌, length, take, drop, get_or, slice_range, refl, ap, sym, ◌∙◌, arith, drop-cons, drop_of_length-le, add-one, append-nil, append_assoc, length-drop}
+use Rattle.std.proofs.lemmas.List.{take_more, get_or-drop}
+use Rattle.hm_base.specs.Bytes.{front, behind}
+use Rattle.hm_tag_scan.specs.Places.{IsEndOf}
+
+pub range_more : (s : List ℕ) (from at : ℕ) → from ≤ at → at < length s → slice_range s from (at + 1) ≡ slice_range s from at ++ get_or s at 0 ∷ []
+range_more s from at low high =
+    let n : at + 1 - from ≡ (at - from) + 1 = omega arith in
+    let there : from + (at - from) ≡ at = omega arith in
+    let short : at - from < length (drop from s) = simp length-drop (omega arith) in
+    ap (λ m. take m (drop from s)) n ∙ take_more (drop from s) (at - from) 0 short
+    ∙ ap (λ c. take (at - from) (drop from s) ++ c ∷ []) (get_or-drop from s (at - from) 0 ∙ ap (λ m. get_or s m 0) there)
+
+-- the run has come from one place to another
+pub record Runs (p : ℕ → Bool) (s : List ℕ) (from at : ℕ) : Type 0 where
+  pub forward : from ≤ at
+  pub inside : at ≤ length s
+  pub front : front p (drop from s) ≡ slice_range s from at ++ front p (drop at s)
+  pub behind : behind p (drop from s) ≡ behind p (drop at s)
+
+pub run_none : (p : ℕ → Bool) (s : List ℕ) (from : ℕ) → from ≤ length s → Runs p s from from
+run_none p s from h =
+    let none : slice_range s from from ≡ [] = let zero_long : from - from ≡ 0 = omega arith in rw zero_long refl in
+    record { forward = omega arith; inside = h; front = rw none refl; behind = refl }
+
+pub run_more : (p : ℕ → Bool) (s : List ℕ) (from at : ℕ) → Runs p s from at → at < length s → p (get_or s at 0) ≡ true → Runs p s from (at + 1)
+run_more p s from at r h e =
+    let cut : drop at s ≡ get_or s at 0 ∷ drop (at + 1) s = rw add-one (drop-cons s at 0 h) in
+    let longer : slice_range s from (at + 1) ≡ slice_range s from at ++ get_or s at 0 ∷ [] = range_more s from at r.forward h in
+    record {
+      forward = omega (arith, r.forward);
+      inside = omega arith;
+      front = r.front ∙ ap (λ x. slice_range s from at ++ front p x) cut ∙ rw (e, longer) (sym (append_assoc (slice_range s from at) (get_or s at 0 ∷ []) (front p (drop (at + 1) s))));
+      behind = r.behind ∙ ap (behind p) cut ∙ rw e refl;
+    }
+
+pub run_stops : (p : ℕ → Bool) (s : List ℕ) (from at : ℕ) → Runs p s from at → at < length s → p (get_or s at 0) ≡ false → IsEndOf p s from at
+run_stops p s from at r h e =
+    let cut : drop at s ≡ get_or s at 0 ∷ drop (at + 1) s = rw add-one (drop-cons s at 0 h) in
+    record {
+      forward = r.forward;
+      inside = r.inside;
+      front = r.front ∙ ap (λ x. slice_range s from at ++ front p x) cut ∙ rw e (append-nil (slice_range s from at));
+      behind = r.behind ∙ ap (behind p) cut ∙ rw e (sym cut);
+      stops = λ l. e;
+    }
+
+pub run_ends : (p : ℕ → Bool) (s : List ℕ) (from at : ℕ) → Runs p s from at → length s ≤ at → IsEndOf p s from at
+run_ends p s from at r h =
+    let none : drop at s ≡ [] = drop_of_length-le s h in
+    record {
+      forward = r.forward;
+      inside = r.inside;
+      front = r.front ∙ ap (λ x. slice_range s from at ++ front p x) none ∙ append-nil (slice_range s from at);
+      behind = r.behind ∙ ap (behind p) none ∙ sym none;
+      stops = λ l. absurd (omega arith);
+    }

@@ -1,0 +1,11 @@
+pub mod Values
+pub mod Tags
+pub mod Reading
+pub mod Spellings
+pub mod Laws
+pub mod Reads
+pub mod Places
+pub mod Parts
+pub mod Collected
+pub mod Wholes
+pub mod Examples

@@ -1,0 +1,49 @@
+-- Places in a text at which parts of it end.
+use Rattle.std.specs.Prelude.{◌≡◌, ℕ, ◌+◌, ◌≤◌, ◌<◌, Bool, false, ◌||◌, ◌==◌, List, drop, length, slice_index, slice_range, IsCharBoundary}
+use Rattle.hm_base.specs.Bytes.{Cut, front, behind, is_space}
+use Rattle.hm_tag_scan.specs.Tags.{is_name_byte, is_later_byte, is_unquoted_byte, attribute_at}
+use Rattle.hm_tag_scan.specs.declared.attribute.Attribute.{Attribute}
+use Rattle.hm_tag_scan.specs.declared.attribute.Value.{Value}
+use Rattle.hm_tag_scan.specs.declared.runs.Run.{Run}
+use Rattle.hm_tag_scan.specs.declared.runs.Run.TheVariants.{Space, Gap, TagName, AttributeName, Unquoted}
+
+-- whitespace or '/'
+unfoldable pub is_gap_byte : ℕ → Bool
+is_gap_byte c = is_space c || c == 47
+
+-- the test that a run's bytes pass
+abbrev pub test_of : Run → ℕ → Bool
+test_of Space = is_space
+test_of Gap = is_gap_byte
+test_of TagName = is_name_byte
+test_of AttributeName = is_later_byte
+test_of Unquoted = is_unquoted_byte
+
+-- the longest front of what begins at from whose bytes pass ends at to
+pub record IsEndOf (p : ℕ → Bool) (s : List ℕ) (from to : ℕ) : Type 0 where
+  pub forward : from ≤ to
+  pub inside : to ≤ length s
+  pub front : front p (drop from s) ≡ slice_range s from to
+  pub behind : behind p (drop from s) ≡ drop to s
+  pub stops : to < length s → p (slice_index s to) ≡ false
+
+-- a cut of the rest of the text: what is before it stands between two places, and what is behind it begins at a third
+pub record IsCutAt (k : Cut) (s : List ℕ) (v : Value) : Type 0 where
+  pub before : k.before ≡ slice_range s v.from v.to
+  pub behind : k.behind ≡ drop v.behind s
+  pub ordered : v.from ≤ v.to
+  pub forward : v.to ≤ v.behind
+  pub starts : IsCharBoundary s v.from
+  pub ends : IsCharBoundary s v.to
+  pub rest : IsCharBoundary s v.behind
+
+-- the attribute that begins at a place
+pub record IsAttributeAt (s : List ℕ) (at : ℕ) (a : Attribute) : Type 0 where
+  pub is : attribute_at (slice_index s at) (drop (at + 1) s) ≡ record { attribute = record { name = slice_range s at a.name_to; value = slice_range s a.value.from a.value.to }; rest = drop a.value.behind s }
+  pub forward : at < a.name_to
+  pub behind : a.name_to ≤ a.value.behind
+  pub ordered : a.value.from ≤ a.value.to
+  pub name_ends : IsCharBoundary s a.name_to
+  pub value_starts : IsCharBoundary s a.value.from
+  pub value_ends : IsCharBoundary s a.value.to
+  pub rest : IsCharBoundary s a.value.behind

@@ -1,0 +1,116 @@
+//! The parts of an attribute as it is written, by their places in the text.
+ghost use Rattle.std.specs.Prelude.{◌≡◌, ◌≤◌, ◌<◌, length, drop, true, IsUtf8, IsCharBoundary};
+ghost use Rattle.hm_base.specs.Bytes.{behind, is_space};
+ghost use Rattle.hm_tag_scan.specs.Tags as tags;
+ghost use Rattle.hm_tag_scan.specs.Tags.{cut_assigned, cut_quoted, cut_value};
+ghost use Rattle.hm_tag_scan.specs.Places.{IsAttributeAt, IsCutAt};
+
+use crate::runs::{Run, run_end};
+use memchr::memchr;
+
+/// A value from `from` up to `to`. What is behind it, and behind its quote, begins at `behind`.
+#[derive(Clone, Copy)]
+pub(crate) struct Value {
+    pub(crate) from: usize,
+    pub(crate) to: usize,
+    pub(crate) behind: usize,
+}
+
+/// An attribute whose name ends at `name_to`.
+#[derive(Clone, Copy)]
+pub(crate) struct Attribute {
+    pub(crate) name_to: usize,
+    pub(crate) value: Value,
+}
+
+/// An empty value at a place.
+fn empty(at: usize) -> Value
+    ensures { result ≡ record { from = at; to = at; behind = at } }
+{
+    Value {
+        from: at,
+        to: at,
+        behind: at,
+    }
+}
+
+#[tactic(auto, unfolding(crate::specs::Tags::is_quote))]
+fn is_quote(byte: u8) -> bool
+    ensures { result ≡ tags.is_quote byte }
+{
+    byte == b'"' || byte == b'\''
+}
+
+/// The value that begins behind a quote.
+fn quoted_value(bytes: &[u8], from: usize, quote: u8) -> Value
+    requires utf8 { IsUtf8 bytes.now }
+    requires quote { tags.is_quote quote ≡ true }
+    requires boundary { IsCharBoundary bytes.now from }
+    ensures cut { IsCutAt (cut_quoted quote (drop from bytes.now)) bytes.now result }
+    ensures forward { from ≤ result.behind }
+{
+    match memchr(quote, &bytes[from..]) {
+        Some(len) => Value {
+            from,
+            to: from + len,
+            behind: from + len + 1,
+        },
+        None => Value {
+            from,
+            to: bytes.len(),
+            behind: bytes.len(),
+        },
+    }
+}
+
+/// The value that begins behind `=` and whitespace (13.2.5.35 to 13.2.5.38).
+fn value_at(bytes: &[u8], from: usize) -> Value
+    requires utf8 { IsUtf8 bytes.now }
+    requires boundary { IsCharBoundary bytes.now from }
+    ensures cut { IsCutAt (cut_value (drop from bytes.now)) bytes.now result }
+    ensures forward { from ≤ result.behind }
+{
+    if from == bytes.len() {
+        return empty(from);
+    }
+    let quote = bytes[from];
+    if is_quote(quote) {
+        return quoted_value(bytes, from + 1, quote);
+    }
+    let to = run_end(bytes, from, Run::Unquoted);
+    Value {
+        from,
+        to,
+        behind: to,
+    }
+}
+
+/// The value of an attribute whose name ends at `from` (13.2.5.34).
+fn assigned_value(bytes: &[u8], from: usize) -> Value
+    requires utf8 { IsUtf8 bytes.now }
+    requires boundary { IsCharBoundary bytes.now from }
+    ensures cut { IsCutAt (cut_assigned (drop from bytes.now) (behind is_space (drop from bytes.now))) bytes.now result }
+    ensures forward { from ≤ result.behind }
+{
+    let equals = run_end(bytes, from, Run::Space);
+    if equals == bytes.len() {
+        return empty(equals);
+    }
+    if bytes[equals] != b'=' {
+        return empty(from);
+    }
+    value_at(bytes, run_end(bytes, equals + 1, Run::Space))
+}
+
+/// The attribute that begins at `at` (13.2.5.33).
+pub(crate) fn attribute_at(bytes: &[u8], at: usize) -> Attribute
+    requires utf8 { IsUtf8 bytes.now }
+    requires inside { at < length bytes.now }
+    ensures { IsAttributeAt bytes.now at result }
+{
+    let name_to = run_end(bytes, at + 1, Run::AttributeName);
+    Attribute {
+        name_to,
+        value: assigned_value(bytes, name_to),
+    }
+}

@@ -1,0 +1,87 @@
+//! The attributes that were read of a tag.
+ghost use Rattle.std.specs.Prelude.{◌≡◌, ◌+◌, ◌^◌, ◌<◌, ◌≤◌, ◌&&◌, nat_le, not, false, [], ◌∷◌, ◌++◌, List, length, OnOk};
+ghost use Rattle.hm_base.specs.Walks.{Attribute};
+ghost use Rattle.hm_tag_scan.specs.Collected.{IsCollected, added};
+ghost use Rattle.hm_tag_scan.specs.Reading as reading;
+
+use crate::names::{is_bad_name, lowered};
+use crate::values::read_value;
+use hm_base::Memory;
+use hm_refs::Table;
+use hm_tree::Attrs;
+use std::alloc::Global;
+
+/// The most attributes that may be written in one tag.
+pub(crate) const ATTRIBUTE_LIMIT: u32 = 256;
+
+/// How many attributes were written, whether one of them has a name that isn't read, and the first attribute of each
+/// name, unless the tag is refused anyway. An end tag keeps none.
+#[derive(Drop)]
+pub(crate) struct Collected {
+    pub(crate) keeps: bool,
+    pub(crate) count: u32,
+    pub(crate) has_bad_name: bool,
+    pub(crate) attrs: Attrs,
+}
+
+impl Collected {
+    pub(crate) fn new(alloc: Global, keeps: bool) -> Collected
+        ensures { result ≡ record { keeps = keeps; count = 0; has_bad_name = false; attrs = [] } }
+    {
+        Collected {
+            keeps,
+            count: 0,
+            has_bad_name: false,
+            attrs: Attrs::new(alloc),
+        }
+    }
+
+    /// Whether the attribute that is read next is wanted.
+    fn wants(&self) -> bool
+        ensures { result
+            ≡ (self.now.keeps && not self.now.has_bad_name && nat_le self.now.count ATTRIBUTE_LIMIT) }
+    {
+        self.keeps && !self.has_bad_name && self.count <= ATTRIBUTE_LIMIT
+    }
+
+    /// Takes one more attribute, name and value as they are written.
+    pub(crate) fn take(
+        &mut self,
+        alloc: Global,
+        name: &str,
+        value: &str,
+        table: &Table,
+    ) -> Result<(), Memory>
+        requires room { self.old.count + 1 < 2 ^ 32 }
+        requires few { length self.old.attrs ≤ self.old.count }
+        ensures taken { OnOk result
+            ((written : List Attribute) → IsCollected table.now.entries written self.old
+            → IsCollected table.now.entries (written ++ record { name = name.now; value = value.now } ∷ []) self.new) }
+        ensures keeps { self.new.keeps ≡ self.old.keeps }
+    {
+        self.count += 1;
+        self.has_bad_name = self.has_bad_name || is_bad_name(name.as_bytes());
+        if self.wants() {
+            keep(&mut self.attrs, alloc, name, value, table)?;
+        }
+        Ok(())
+    }
+}
+
+/// Adds an attribute as it is read, unless its name is there.
+fn keep(
+    attrs: &mut Attrs,
+    alloc: Global,
+    name: &str,
+    value: &str,
+    table: &Table,
+) -> Result<(), Memory>
+    requires { length attrs.old + 1 < 2 ^ 32 }
+    ensures { OnOk result
+        (attrs.new ≡ added attrs.old (reading.read_attribute table.now.entries (record { name = name.now; value = value.now }))) }
+{
+    let name = lowered(alloc, name)?;
+    let value = read_value(alloc, value, table)?;
+    attrs.add(name, value)?;
+    Ok(())
+}

@@ -1,0 +1,15 @@
+//! Tags: the start or end tag at a place of a text, as a token.
+#![tactic(auto)]
+
+mod attribute;
+mod collected;
+pub mod laws;
+mod names;
+mod parts;
+mod references;
+mod runs;
+mod scan;
+mod tag_body;
+mod values;
+
+pub use scan::scan_tag;

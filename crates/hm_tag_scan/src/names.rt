@@ -1,0 +1,96 @@
+//! Names of tags and attributes.
+ghost use Rattle.std.specs.Prelude.{◌≡◌, map, string_bytes, IfOk};
+ghost use Rattle.hm_base.specs.Bytes.{lower, all_pass, some_passes, is_digit};
+ghost use Rattle.hm_base.specs.Forms as forms;
+ghost use Rattle.hm_tag_scan.specs.Reading as reading;
+
+use hm_base::Memory;
+use std::alloc::Global;
+
+/// The name with its ASCII capitals as small letters.
+#[tactic(auto, using(crate::proofs::NameReads::lowercase_is))]
+pub(crate) fn lowered(alloc: Global, name: &str) -> Result<String, Memory>
+    ensures { IfOk result (λ text. string_bytes text ≡ map lower name.now) }
+{
+    let mut text = String::from_str(alloc, name)?;
+    text.make_ascii_lowercase();
+    Ok(text)
+}
+
+/// Whether the byte is an ASCII small letter.
+#[tactic(auto, unfolding(hm_base::specs::Forms::is_small))]
+fn is_small(byte: u8) -> bool
+    ensures { result ≡ forms.is_small byte }
+{
+    byte >= b'a' && byte <= b'z'
+}
+
+/// Whether the byte is an ASCII digit.
+#[tactic(auto, using(crate::proofs::Digits::digit_is))]
+fn is_digit(byte: u8) -> bool
+    ensures { result ≡ is_digit byte }
+{
+    byte.is_ascii_digit()
+}
+
+/// Whether the byte may stand in the name of an element.
+#[tactic(auto, unfolding(hm_base::specs::Forms::is_tag_byte))]
+fn is_tag_byte(byte: u8) -> bool
+    ensures { result ≡ forms.is_tag_byte byte }
+{
+    is_small(byte) || is_digit(byte) || byte == b'.' || byte == b'_' || byte == b':' || byte == b'-'
+}
+
+/// Whether the bytes may stand in the name of an element.
+fn are_tag_bytes(name: &[u8]) -> bool
+    ensures { result ≡ all_pass forms.is_tag_byte name.now }
+{
+    for byte in name {
+        if !is_tag_byte(*byte) {
+            return false;
+        }
+    }
+    true
+}
+
+/// Whether this is a name of an element that is read: a small letter, and small letters, digits, `.`, `_`, `:` and
+/// `-` behind it.
+#[tactic(auto, unfolding(hm_base::specs::Forms::is_tag_name))]
+pub(crate) fn is_tag_name(name: &[u8]) -> bool
+    ensures { result ≡ forms.is_tag_name name.now }
+{
+    match name {
+        [first, rest @ ..] => is_small(*first) && are_tag_bytes(rest),
+        [] => false,
+    }
+}
+
+/// Whether the byte is a quote or `<`.
+#[tactic(auto, unfolding(crate::specs::Reading::is_bad_byte))]
+fn is_bad_byte(byte: u8) -> bool
+    ensures { result ≡ reading.is_bad_byte byte }
+{
+    byte == b'"' || byte == b'\'' || byte == b'<'
+}
+
+/// Whether a quote or `<` is among the bytes.
+fn has_bad_byte(name: &[u8]) -> bool
+    ensures { result ≡ some_passes reading.is_bad_byte name.now }
+{
+    for byte in name {
+        if is_bad_byte(*byte) {
+            return true;
+        }
+    }
+    false
+}
+
+/// Whether this name of an attribute isn't read: it begins with `=`, or holds a quote or `<`.
+pub(crate) fn is_bad_name(name: &[u8]) -> bool
+    ensures { result ≡ reading.is_bad_name name.now }
+{
+    match name {
+        [first, ..] => *first == b'=' || has_bad_byte(name),
+        [] => false,
+    }
+}

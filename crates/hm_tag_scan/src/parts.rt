@@ -1,0 +1,47 @@
+//! The parts of a tag behind its name: attributes and the end.
+ghost use Rattle.std.specs.Prelude.{◌≡◌, ◌≤◌, ◌<◌, ◌-◌, ◌&&◌, ◌==◌, nat_lt, length, slice_index, IsUtf8, IsCharBoundary};
+ghost use Rattle.hm_tag_scan.specs.Parts.{IsPart};
+
+use crate::attribute::{Attribute, attribute_at};
+use crate::runs::{Run, run_end};
+
+/// What comes next in a tag, behind whitespace and `/`.
+#[derive(Clone, Copy)]
+pub(crate) enum Part {
+    /// Nothing: the text ends.
+    Nothing,
+    /// The tag's `>`, and whether a `/` stands directly before it. What is behind it begins at `behind`.
+    TagEnd { slash: bool, behind: usize },
+    /// An attribute that begins at `at`.
+    Pair { at: usize, attribute: Attribute },
+}
+
+/// Whether the bytes up to `at` end in a `/`.
+fn ends_in_slash(bytes: &[u8], from: usize, at: usize) -> bool
+    requires { at ≤ length bytes.now }
+    ensures { result ≡ nat_lt from at && (slice_index bytes.now (at - 1) == 47) }
+{
+    from < at && bytes[at - 1] == b'/'
+}
+
+/// The part of a tag that comes next (13.2.5.32, 13.2.5.34, 13.2.5.39 and 13.2.5.40).
+pub(crate) fn next_part(bytes: &[u8], from: usize) -> Part
+    requires utf8 { IsUtf8 bytes.now }
+    requires boundary { IsCharBoundary bytes.now from }
+    ensures { IsPart bytes.now from result }
+{
+    let at = run_end(bytes, from, Run::Gap);
+    if at == bytes.len() {
+        return Part::Nothing;
+    }
+    if bytes[at] == b'>' {
+        return Part::TagEnd {
+            slash: ends_in_slash(bytes, from, at),
+            behind: at + 1,
+        };
+    }
+    Part::Pair {
+        at,
+        attribute: attribute_at(bytes, at),
+    }
+}

@@ -1,0 +1,153 @@
+//! The tag at a place of a text.
+ghost use Rattle.std.specs.Prelude.{◌≡◌, ◌≢◌, ◌^◌, ◌<◌, List, drop, length, true, Some, IfOk, IfErr, IsCharBoundary};
+ghost use Rattle.hm_base.specs.Walks.{Attribute};
+ghost use Rattle.hm_refs.specs.Names.{Entry};
+ghost use Rattle.hm_tree.specs.Tokens.{Reads, refused};
+ghost use Rattle.hm_tag_scan.specs.Collected.{IsCollected};
+ghost use Rattle.hm_tag_scan.specs.Places.{IsEndOf};
+ghost use Rattle.hm_tag_scan.specs.Tags.{is_name_byte};
+ghost use Rattle.hm_tag_scan.specs.Wholes.{IsWhole, fault_at};
+ghost use Rattle.hm_tag_scan.specs.Reading.{begins_tag, read_end, read_start, read_tag, tag_fault};
+
+use crate::collected::{ATTRIBUTE_LIMIT, Collected};
+use crate::names::{is_tag_name, lowered};
+use crate::runs::{Run, run_end};
+use crate::tag_body::read_body;
+use hm_base::Word;
+use hm_refs::Table;
+use hm_tree::{Attrs, ScanFault, Token};
+use std::alloc::Global;
+
+/// A tag with its name in small letters. What is behind it begins at `behind`.
+#[derive(Drop)]
+struct Whole {
+    name: Word,
+    attrs: Attrs,
+    slash: bool,
+    behind: u32,
+}
+
+/// Why a tag with this name, in small letters, and these attributes is refused; None where it isn't.
+fn fault_of(name: &str, collected: &Collected) -> Option<ScanFault>
+    ensures { (t : List Entry) (written : List Attribute) → IsCollected t written collected.now
+        → result ≡ tag_fault name.now written }
+{
+    if !is_tag_name(name.as_bytes()) {
+        return Some(ScanFault::BadName);
+    }
+    if collected.has_bad_name {
+        return Some(ScanFault::BadName);
+    }
+    if collected.count > ATTRIBUTE_LIMIT {
+        return Some(ScanFault::TooManyAttributes);
+    }
+    None
+}
+
+/// Where the name of a tag ends that begins at `from`.
+fn name_end(text: &str, from: usize) -> usize
+    requires { IsCharBoundary text.now from }
+    ensures end { IsEndOf is_name_byte text.now from result }
+    ensures boundary { IsCharBoundary text.now result }
+{
+    run_end(text.as_bytes(), from, Run::TagName)
+}
+
+/// Reads the tag whose name begins at `from`; `keeps` tells whether its attributes are wanted.
+fn read_whole(
+    alloc: Global,
+    text: &str,
+    from: usize,
+    table: &Table,
+    keeps: bool,
+) -> Result<Whole, ScanFault>
+    requires boundary { IsCharBoundary text.now from }
+    requires size { length text.now < 2 ^ 32 }
+    ensures ok { IfOk result (IsWhole table.now.entries keeps text.now from) }
+    ensures err { IfErr result
+        (λ fault. fault ≢ ScanFault.Memory → fault_at (drop from text.now) ≡ Some fault) }
+{
+    let name_to = name_end(text, from);
+    let body = read_body(alloc, text, name_to, table, keeps)?;
+    let name = lowered(alloc, &text[from..name_to])?;
+    match fault_of(&name, &body.collected) {
+        Some(fault) => Err(fault),
+        None => Ok(Whole {
+            name: Word { text: name },
+            attrs: body.collected.attrs,
+            slash: body.slash,
+            behind: body.behind as u32,
+        }),
+    }
+}
+
+/// Reads the start tag whose name begins at `from`.
+fn scan_start(
+    alloc: Global,
+    text: &str,
+    from: usize,
+    table: &Table,
+) -> Result<(Token, u32), ScanFault>
+    requires boundary { IsCharBoundary text.now from }
+    requires size { length text.now < 2 ^ 32 }
+    ensures ok { IfOk result
+        (λ r. Reads (read_start table.now.entries (drop from text.now)) text.now r.0 r.1) }
+    ensures err { IfErr result
+        (λ fault. fault ≢ ScanFault.Memory → read_start table.now.entries (drop from text.now) ≡ refused fault) }
+    ensures forward { IfOk result (λ r. from < r.1) }
+{
+    let whole = read_whole(alloc, text, from, table, true)?;
+    let token = Token::StartTag {
+        name: whole.name,
+        attrs: whole.attrs,
+        slash: whole.slash,
+    };
+    Ok((token, whole.behind))
+}
+
+/// Reads the end tag whose name begins at `from`. Its attributes are judged, and dropped with its `/`.
+fn scan_end(
+    alloc: Global,
+    text: &str,
+    from: usize,
+    table: &Table,
+) -> Result<(Token, u32), ScanFault>
+    requires boundary { IsCharBoundary text.now from }
+    requires size { length text.now < 2 ^ 32 }
+    ensures ok { IfOk result (λ r. Reads (read_end (drop from text.now)) text.now r.0 r.1) }
+    ensures err { IfErr result
+        (λ fault. fault ≢ ScanFault.Memory → read_end (drop from text.now) ≡ refused fault) }
+    ensures forward { IfOk result (λ r. from < r.1) }
+{
+    let whole = read_whole(alloc, text, from, table, false)?;
+    Ok((Token::EndTag { name: whole.name }, whole.behind))
+}
+
+/// Reads the start or end tag that begins at byte `at` of the text (13.2.5.8 and 13.2.5.32 to 13.2.5.40), and tells
+/// where what is behind it begins. Names are in small letters, of attributes with one name the first is kept, and
+/// character references in values are read.
+///
+/// `Cut` comes where the text ends before the tag's `>`; else `BadName` where its name isn't a small letter, in any
+/// case, with letters, digits, `.`, `_`, `:` and `-` behind it, or an attribute's name begins with `=` or holds a
+/// quote or `<`; else `TooManyAttributes` where more than 256 attributes are written. End tags are judged alike.
+pub fn scan_tag(
+    alloc: Global,
+    text: &str,
+    at: u32,
+    table: &Table,
+) -> Result<(Token, u32), ScanFault>
+    requires begins { begins_tag (drop at text.now) ≡ true }
+    requires size { length text.now < 2 ^ 32 }
+    ensures ok { IfOk result
+        (λ r. Reads (read_tag table.now.entries (drop at text.now)) text.now r.0 r.1) }
+    ensures err { IfErr result
+        (λ fault. fault ≢ ScanFault.Memory → read_tag table.now.entries (drop at text.now) ≡ refused fault) }
+    ensures forward { IfOk result (λ r. at < r.1) }
+{
+    let start = at as usize;
+    if text.as_bytes()[start + 1] == b'/' {
+        scan_end(alloc, text, start + 2, table)
+    } else {
+        scan_start(alloc, text, start + 1, table)
+    }
+}

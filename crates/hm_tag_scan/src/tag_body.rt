@@ -1,0 +1,56 @@
+//! A tag behind its name.
+ghost use Rattle.std.specs.Prelude.{◌^◌, ◌<◌, length, IsCharBoundary, IfOk, IfErr};
+ghost use Rattle.hm_tag_scan.specs.Collected.{HasNoBody, IsTagBody};
+
+use crate::collected::Collected;
+use crate::parts::{Part, next_part};
+use hm_refs::Table;
+use hm_tree::ScanFault;
+use std::alloc::Global;
+
+/// The attributes of a tag, whether a `/` stands directly before its `>`, and where what is behind it begins.
+#[derive(Drop)]
+pub(crate) struct TagBody {
+    pub(crate) collected: Collected,
+    pub(crate) slash: bool,
+    pub(crate) behind: usize,
+}
+
+/// Reads the tag whose name ends at `from`; `keeps` tells whether its attributes are wanted.
+pub(crate) fn read_body(
+    alloc: Global,
+    text: &str,
+    from: usize,
+    table: &Table,
+    keeps: bool,
+) -> Result<TagBody, ScanFault>
+    requires boundary { IsCharBoundary text.now from }
+    requires size { length text.now < 2 ^ 32 }
+    ensures ok { IfOk result (IsTagBody table.now.entries keeps text.now from) }
+    ensures err { IfErr result (HasNoBody text.now from) }
+{
+    let bytes = text.as_bytes();
+    let mut collected = Collected::new(alloc, keeps);
+    let mut at = from;
+    loop {
+        match next_part(bytes, at) {
+            Part::Nothing => return Err(ScanFault::Cut),
+            Part::TagEnd { slash, behind } => {
+                return Ok(TagBody {
+                    collected,
+                    slash,
+                    behind,
+                });
+            }
+            Part::Pair {
+                at: start,
+                attribute,
+            } => {
+                let name = &text[start..attribute.name_to];
+                let value = &text[attribute.value.from..attribute.value.to];
+                collected.take(alloc, name, value, table)?;
+                at = attribute.value.behind;
+            }
+        }
+    }
+}

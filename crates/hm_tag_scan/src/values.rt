@@ -1,0 +1,65 @@
+//! Values of attributes as they are read.
+ghost use Rattle.std.specs.Prelude.{◌≡◌, ◌++◌, ◌≤◌, length, drop, string_bytes, encode_utf8_all, IfOk, OnOk, MatchOption, IsUtf8};
+ghost use Rattle.hm_refs.specs.Tables.{points_list};
+ghost use Rattle.hm_tag_scan.specs.Reads.{IsNext};
+ghost use Rattle.hm_tag_scan.specs.Values as values;
+
+use crate::references::{Reference, read_reference};
+use hm_base::{Memory, Points};
+use hm_refs::Table;
+use memchr::memchr;
+use std::alloc::Global;
+
+/// A reference that begins at `at`.
+#[derive(Clone, Copy)]
+pub(crate) struct Placed {
+    pub(crate) at: usize,
+    pub(crate) reference: Reference,
+}
+
+/// The first reference of a value at or behind `from`.
+fn next_reference(table: &Table, bytes: &[u8], from: usize) -> Option<Placed>
+    requires utf8 { IsUtf8 bytes.now }
+    requires inside { from ≤ length bytes.now }
+    ensures { MatchOption result
+        (values.read_value table.now.entries (drop from bytes.now) ≡ drop from bytes.now)
+        (IsNext table.now.entries bytes.now from) }
+{
+    let mut at = from;
+    while let Some(len) = memchr(b'&', &bytes[at..]) {
+        let amp = at + len;
+        if let Some(reference) = read_reference(table, &bytes[amp..], true) {
+            return Some(Placed { at: amp, reference });
+        }
+        at = amp + 1;
+    }
+    None
+}
+
+/// Puts the code points of a reference behind a text.
+fn push_points(text: &mut String, points: Points) -> Result<(), Memory>
+    ensures { OnOk result
+        (string_bytes text.new ≡ string_bytes text.old ++ encode_utf8_all (points_list points)) }
+{
+    text.push(points.first)?;
+    if let Some(second) = points.second {
+        text.push(second)?;
+    }
+    Ok(())
+}
+
+/// The value that is written so: its character references are read (13.2.5.72).
+pub(crate) fn read_value(alloc: Global, written: &str, table: &Table) -> Result<String, Memory>
+    ensures { IfOk result
+        (λ value. string_bytes value ≡ values.read_value table.now.entries written.now) }
+{
+    let mut value = String::new(alloc);
+    let mut at = 0;
+    while let Some(placed) = next_reference(table, written.as_bytes(), at) {
+        value.push_str(&written[at..placed.at])?;
+        push_points(&mut value, placed.reference.points)?;
+        at = placed.at + placed.reference.len;
+    }
+    value.push_str(&written[at..])?;
+    Ok(value)
+}

@@ -1,0 +1,2 @@
+//! Text and character references.
+#![tactic(auto)]

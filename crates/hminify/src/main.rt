@@ -1,0 +1,48 @@
+//! The program: `hminify minify none PAGE OUT CERT --omit --unquote`.
+#![tactic(auto)]
+
+use hm_base::Word;
+use hm_minify::run;
+use hm_store::{FileStore, WriteSink};
+use std::process::ExitCode;
+use std::rt::Env;
+use std::{env, io};
+
+/// Why there are no words.
+enum NoWords {
+    Unknown,
+    Memory,
+}
+
+/// The words behind the program's name.
+fn words<R: Env + AllocGlobal>(rt: &R) -> Result<Vec<Word>, NoWords> {
+    let mut words = Vec::new(rt.alloc());
+    match env::args(rt) {
+        Ok(args) => {
+            for text in args.skip(1) {
+                match words.push(Word { text }) {
+                    Ok(()) => {}
+                    Err(_) => return Err(NoWords::Memory),
+                }
+            }
+            Ok(words)
+        }
+        Err(_) => Err(NoWords::Unknown),
+    }
+}
+
+fn main(rt: HostRuntime) -> ExitCode {
+    match words(&rt) {
+        Ok(words) => {
+            let mut store = FileStore::new(&rt);
+            let mut sink = WriteSink::new(io::writer(&rt));
+            let status = run(rt.alloc(), words.as_slice(), &mut store, &mut sink);
+            ExitCode::from(status.code())
+        }
+        Err(NoWords::Unknown) => ExitCode::from(2),
+        Err(NoWords::Memory) => ExitCode::from(7),
+    }
+}
+
+#[cfg(test)]
+mod tests;

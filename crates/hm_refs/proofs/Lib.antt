@@ -5,8 +5,10 @@ pub mod Gathered
 pub mod Growing
 pub mod LoneLaws
 pub mod Members
+pub mod NameForms
 pub mod NumberLaws
 pub mod Places
+pub mod ReadingLaws
 pub mod References
 pub mod Seeking
 pub mod Webs

@@ -3,6 +3,7 @@ pub mod Numbers
 pub mod References
 pub mod Tables
 pub mod Json
+pub mod Faults
 pub mod Examples
 pub mod JsonExamples
 pub mod Nodes

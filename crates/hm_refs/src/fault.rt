@@ -1,6 +1,9 @@
 //! Why bytes are no table.
+ghost use Rattle.std.specs.Prelude.{◌≡◌};
+ghost use Rattle.hm_refs.specs.Faults.{fault_name};
+
 use hm_base::{Memory, Word};
-use std::alloc::AllocError;
+use std::alloc::{AllocError, AllocFailed};
 use thiserror::Error;
 
 /// The first fault of a table's bytes, in the order of these cases. A key is the least one, in byte order, that has the fault.
@@ -35,6 +38,25 @@ pub enum TableFault {
     Memory,
 }
 
+impl TableFault {
+    /// The name of the fault, as the program prints it.
+    pub fn name(&self) -> &'static str
+        ensures { result.now ≡ fault_name self.now }
+    {
+        match self {
+            TableFault::TooLong => "TooLong",
+            TableFault::NotJson => "NotJson",
+            TableFault::NotObject => "NotObject",
+            TableFault::BadName { key: _ } => "BadName",
+            TableFault::BadPoints { key: _ } => "BadPoints",
+            TableFault::TooMany => "TooMany",
+            TableFault::TooManyFor { point: _ } => "TooManyFor",
+            TableFault::Lone { key: _ } => "Lone",
+            TableFault::Memory => "Memory",
+        }
+    }
+}
+
 impl From<Memory> for TableFault {
     ghost use Rattle.std.specs.Prelude.{◌≡◌};
     ghost use Rattle.hm_refs.specs.declared.fault.TableFault.TheVariants as faults;
@@ -53,6 +75,17 @@ impl From<AllocError> for TableFault {
     ghost from_gives = { λ _ fault. fault ≡ faults.Memory };
 
     fn from(_refused: AllocError) -> TableFault {
+        TableFault::Memory
+    }
+}
+
+impl<T: Drop> From<AllocFailed<T>> for TableFault {
+    ghost use Rattle.std.specs.Prelude.{◌≡◌};
+    ghost use Rattle.hm_refs.specs.declared.fault.TableFault.TheVariants as faults;
+
+    ghost from_gives = { λ _ fault. fault ≡ faults.Memory };
+
+    fn from(_refused: AllocFailed<T>) -> TableFault {
         TableFault::Memory
     }
 }

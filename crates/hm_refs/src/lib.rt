@@ -7,7 +7,10 @@ mod ids;
 pub mod laws;
 mod nodes;
 mod numbers;
+mod reading;
 mod table;
+#[cfg(test)]
+mod tests;
 mod trie;
 
 pub use fault::TableFault;

@@ -1,0 +1,77 @@
+-- What was read of a table, beside the definitions.
+use Rattle.std.proofs.Common.{◌≡◌, ℕ, ◌<◌, ◌≤◌, nat_lt, length, arith, option_map, Result, Err, Bool, true, false, cond, List, [], ◌∷◌, Option, Some, None, IsUtf8, refl, sym, ap, ◌∙◌}
+use Rattle.std.proofs.lemmas.Str.{IsUtf8-from_is_utf8, is_utf8-from_IsUtf8}
+use Rattle.std.specs.Str.{is_utf8}
+use Rattle.serde_json.specs.Data.{Data, Members}
+use Rattle.serde_json.specs.Read.{read}
+use Rattle.serde_json.specs.Find.{as_object}
+use Rattle.serde_json.specs.View.{items_view}
+use Rattle.serde_json.specs.declared.value.Value.{Value}
+use Rattle.hm_refs.specs.Names.{Entry}
+use Rattle.hm_refs.specs.Json.{json, points_in, entries_in, first_bad_name, first_bad_points, unless, checked, names_of_members, names_of_object, names_of_data, names}
+use Rattle.hm_refs.specs.declared.fault.TableFault.{TableFault}
+use Rattle.hm_refs.specs.declared.fault.TableFault.TheVariants.{TooLong, NotJson, NotObject, BadName, BadPoints}
+
+pub json_read : (bytes : List ℕ) (d : Data) → IsUtf8 bytes → read bytes ≡ Some d → json bytes ≡ Some d
+unfolding json
+json_read bytes d u h = rw (is_utf8-from_IsUtf8 bytes u) h
+
+pub json_none : (bytes : List ℕ) → (IsUtf8 bytes → read bytes ≡ None) → json bytes ≡ None
+unfolding json
+json_none bytes h = by_test (is_utf8 bytes) refl
+  where
+    by_test : (b : Bool) → is_utf8 bytes ≡ b → cond b (read bytes) None ≡ None
+    by_test true e = h (IsUtf8-from_is_utf8 bytes e)
+    by_test false e = refl
+
+pub many_points : (vs : List Value) → 3 ≤ length vs → None ≡ points_in (items_view vs)
+many_points [] l = absurd (omega arith)
+many_points (a ∷ []) l = absurd (omega arith)
+many_points (a ∷ b ∷ []) l = absurd (omega arith)
+many_points (a ∷ b ∷ c ∷ vs) l = refl
+
+-- ---- the faults of members
+
+pub bad_name : (ms : Members) (f : TableFault) → option_map BadName (first_bad_name ms) ≡ Some f → names_of_members ms ≡ Err f
+bad_name ms f h = by_name (first_bad_name ms) h
+  where
+    by_name : (o : Option (List ℕ)) → option_map BadName o ≡ Some f → unless o BadName (unless (first_bad_points ms) BadPoints (checked (entries_in ms))) ≡ Err f
+    by_name None k = absurd (cc)
+    by_name (Some n) k = cc
+
+pub bad_points : (ms : Members) (f : TableFault) → first_bad_name ms ≡ None → option_map BadPoints (first_bad_points ms) ≡ Some f → names_of_members ms ≡ Err f
+bad_points ms f n h = rw n (by_points (first_bad_points ms) h)
+  where
+    by_points : (o : Option (List ℕ)) → option_map BadPoints o ≡ Some f → unless o BadPoints (checked (entries_in ms)) ≡ Err f
+    by_points None k = absurd (cc)
+    by_points (Some p) k = cc
+
+pub all_passed : (ms : Members) (t : List Entry) (r : Result (List Entry) TableFault) → first_bad_name ms ≡ None → first_bad_points ms ≡ None → t ≡ entries_in ms → checked t ≡ r → names_of_members ms ≡ r
+all_passed ms t r n p e h = rw (n, p) (ap checked (sym e) ∙ h)
+
+-- ---- the faults of bytes
+
+pub too_long : (bytes : List ℕ) → 1048576 < length bytes → names bytes ≡ Err TooLong
+unfolding names
+too_long bytes l = by_test (nat_lt 1048576 (length bytes)) (grind arith)
+  where
+    by_test : (b : Bool) → b ≡ true → cond b (Err TooLong) (names_of_data (json bytes)) ≡ Err TooLong
+    by_test true e = refl
+    by_test false e = absurd (cc)
+
+pub names_by_json : (bytes : List ℕ) (o : Option Data) (r : Result (List Entry) TableFault) → length bytes ≤ 1048576 → json bytes ≡ o → names_of_data o ≡ r → names bytes ≡ r
+unfolding names
+names_by_json bytes o r l e h = by_test (nat_lt 1048576 (length bytes)) (grind arith)
+  where
+    by_test : (b : Bool) → b ≡ false → cond b (Err TooLong) (names_of_data (json bytes)) ≡ r
+    by_test true i = absurd (cc)
+    by_test false i = ap names_of_data e ∙ h
+
+pub names_by_members : (bytes : List ℕ) (d : Data) (ms : Members) (r : Result (List Entry) TableFault) → length bytes ≤ 1048576 → json bytes ≡ Some d → Some ms ≡ as_object d → names_of_members ms ≡ r → names bytes ≡ r
+names_by_members bytes d ms r l e o h = names_by_json bytes (Some d) r l e (ap names_of_object (sym o) ∙ h)
+
+pub no_object : (bytes : List ℕ) (d : Data) → length bytes ≤ 1048576 → json bytes ≡ Some d → None ≡ as_object d → names bytes ≡ Err NotObject
+no_object bytes d l e o = names_by_json bytes (Some d) (Err NotObject) l e (ap names_of_object (sym o))
+
+pub no_json : (bytes : List ℕ) (f : TableFault) → length bytes ≤ 1048576 → f ≡ NotJson → json bytes ≡ None → names bytes ≡ Err f
+no_json bytes f l i e = names_by_json bytes None (Err f) l e (ap Err (sym i))

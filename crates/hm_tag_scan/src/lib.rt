@@ -2,6 +2,7 @@
 #![tactic(auto)]
 
 mod attribute;
+mod begins;
 mod collected;
 pub mod laws;
 mod names;
@@ -12,4 +13,5 @@ mod scan;
 mod tag_body;
 mod values;
 
+pub use begins::begins_tag;
 pub use scan::scan_tag;

@@ -14,4 +14,5 @@ mod tag_body;
 mod values;
 
 pub use begins::begins_tag;
+pub use references::{Reference, read_reference};
 pub use scan::scan_tag;

@@ -15,9 +15,9 @@ use hm_refs::{Table, number_value};
 
 /// The code points that a reference gives, and how many bytes it has.
 #[derive(Clone, Copy)]
-pub(crate) struct Reference {
-    pub(crate) points: Points,
-    pub(crate) len: usize,
+pub struct Reference {
+    pub points: Points,
+    pub len: usize,
 }
 
 /// Whether the byte is a digit of the base.
@@ -175,7 +175,7 @@ fn named_reference(table: &Table, text: &[u8], in_value: bool) -> Option<Referen
 
 /// The reference at the front of a text that begins with `&` (13.2.5.72); `in_value` tells that it stands in an
 /// attribute value.
-pub(crate) fn read_reference(table: &Table, text: &[u8], in_value: bool) -> Option<Reference>
+pub fn read_reference(table: &Table, text: &[u8], in_value: bool) -> Option<Reference>
     requires some { 0 < length text.now }
     requires amp { slice_index text.now 0 ≡ 38 }
     ensures { let read = refs.reference table.now.entries in_value text.now in

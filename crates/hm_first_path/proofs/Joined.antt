@@ -1,8 +1,9 @@
 -- Events put behind a walk: how long it grows, what is open behind it, and what it becomes in front of others.
-use Rattle.std.proofs.Common.{◌≡◌, ◌<◌, ◌≤◌, ◌+◌, ◌^◌, ℕ, Bool, true, false, not, ◌&&◌, List, [], ◌∷◌, ◌++◌, length, refl, sym, ap, ◌∙◌, subst, arith, length-append, append_assoc}
+use Rattle.std.proofs.Common.{◌≡◌, ◌<◌, ◌+◌, ◌^◌, ℕ, Bool, true, false, not, ◌&&◌, List, [], ◌∷◌, ◌++◌, length, refl, sym, ap, ◌∙◌, subst, arith, length-append, append_assoc}
 use Rattle.hm_base.specs.Walks.{Event, doctype, start, text, comment, end, Element, Attribute, path_behind, path_after, walk_size, with_text, text_before, pushed, pushes}
-use Rattle.hm_tree.specs.Trees.{HasRoom, last_agrees}
-use Rattle.hm_first_path.specs.Page.{Outcome, built, refused, behind_events, begins_text, is_text, p, end_of_p}
+use Rattle.hm_tree.specs.Trees.{HasRoom}
+use Rattle.hm_tree.proofs.RoomLemmas.{HasRoom-text}
+use Rattle.hm_first_path.specs.Page.{Outcome, built, refused, behind_events, begins_text, p, end_of_p}
 use Rattle.hm_first_path.specs.Reading.{open_path, are_joined}
 use Rattle.hm_first_path.proofs.EdgeCases.{and_true}
 
@@ -45,72 +46,6 @@ pushes_with_text (end n foreign ∷ w) c s raw v = ap (pushed (end n foreign)) (
 pub behind_with_text : (w : List Event) (c : ℕ) (s : List ℕ) (raw : Bool) (o : Outcome) → behind_events (with_text w (c ∷ s) raw) o ≡ behind_events w (behind_events (text (c ∷ s) raw ∷ []) o)
 behind_with_text w c s raw (built v) = ap built (pushes_with_text w c s raw v)
 behind_with_text w c s raw (refused rule at) = refl
-
-pub length-with_text : (w : List Event) (c : ℕ) (s : List ℕ) (raw : Bool) → length (with_text w (c ∷ s) raw) ≤ length w + 1
-length-with_text [] c s raw = omega arith
-length-with_text (doctype legacy ∷ w) c s raw = omega (arith, length-with_text w c s raw)
-length-with_text (start n foreign attributes ∷ w) c s raw = omega (arith, length-with_text w c s raw)
-length-with_text (text t last_raw ∷ []) c s raw = omega arith
-length-with_text (text t last_raw ∷ e ∷ w) c s raw = omega (arith, length-with_text (e ∷ w) c s raw)
-length-with_text (comment t ∷ w) c s raw = omega (arith, length-with_text w c s raw)
-length-with_text (end n foreign ∷ w) c s raw = omega (arith, length-with_text w c s raw)
-
-pub walk_size-with_text : (w : List Event) (c : ℕ) (s : List ℕ) (raw : Bool) → walk_size (with_text w (c ∷ s) raw) ≡ walk_size w + length (c ∷ s)
-walk_size-with_text [] c s raw = omega arith
-walk_size-with_text (doctype legacy ∷ w) c s raw = omega (arith, walk_size-with_text w c s raw)
-walk_size-with_text (start n foreign attributes ∷ w) c s raw = omega (arith, walk_size-with_text w c s raw)
-walk_size-with_text (text t last_raw ∷ []) c s raw = omega (arith, length-append t (c ∷ s))
-walk_size-with_text (text t last_raw ∷ e ∷ w) c s raw = omega (arith, walk_size-with_text (e ∷ w) c s raw)
-walk_size-with_text (comment t ∷ w) c s raw = omega (arith, walk_size-with_text w c s raw)
-walk_size-with_text (end n foreign ∷ w) c s raw = omega (arith, walk_size-with_text w c s raw)
-
-pub path_after-with_text : (path : List Element) (w : List Event) (c : ℕ) (s : List ℕ) (raw : Bool) → path_after path (with_text w (c ∷ s) raw) ≡ path_after path w
-path_after-with_text path [] c s raw = refl
-path_after-with_text path (doctype legacy ∷ w) c s raw = path_after-with_text path w c s raw
-path_after-with_text path (start n foreign attributes ∷ w) c s raw = path_after-with_text (path_behind path (start n foreign attributes)) w c s raw
-path_after-with_text path (text t last_raw ∷ []) c s raw = refl
-path_after-with_text path (text t last_raw ∷ e ∷ w) c s raw = path_after-with_text path (e ∷ w) c s raw
-path_after-with_text path (comment t ∷ w) c s raw = path_after-with_text path w c s raw
-path_after-with_text path (end n foreign ∷ w) c s raw = path_after-with_text (path_behind path (end n foreign)) w c s raw
-
--- Which texts may follow
-
-pub agrees_start : (w : List Event) (n : List ℕ) (foreign : Bool) (attributes : List Attribute) → last_agrees (w ++ start n foreign attributes ∷ []) false ≡ true
-agrees_start [] n foreign attributes = refl
-agrees_start (doctype legacy ∷ w) n foreign attributes = agrees_start w n foreign attributes
-agrees_start (start m inner others ∷ w) n foreign attributes = agrees_start w n foreign attributes
-agrees_start (text t raw ∷ []) n foreign attributes = refl
-agrees_start (text t raw ∷ e ∷ w) n foreign attributes = agrees_start (e ∷ w) n foreign attributes
-agrees_start (comment t ∷ w) n foreign attributes = agrees_start w n foreign attributes
-agrees_start (end m inner ∷ w) n foreign attributes = agrees_start w n foreign attributes
-
-pub agrees_end : (w : List Event) (n : List ℕ) (foreign : Bool) → last_agrees (w ++ end n foreign ∷ []) false ≡ true
-agrees_end [] n foreign = refl
-agrees_end (doctype legacy ∷ w) n foreign = agrees_end w n foreign
-agrees_end (start m inner others ∷ w) n foreign = agrees_end w n foreign
-agrees_end (text t raw ∷ []) n foreign = refl
-agrees_end (text t raw ∷ e ∷ w) n foreign = agrees_end (e ∷ w) n foreign
-agrees_end (comment t ∷ w) n foreign = agrees_end w n foreign
-agrees_end (end m inner ∷ w) n foreign = agrees_end w n foreign
-
--- a text that isn't the last event matters not
-earlier_text : (t : List ℕ) (raw : Bool) (e : Event) (w : List Event) (c : ℕ) (s : List ℕ) → last_agrees (text t raw ∷ with_text (e ∷ w) (c ∷ s) false) false ≡ last_agrees (with_text (e ∷ w) (c ∷ s) false) false
-earlier_text t raw (doctype legacy) w c s = refl
-earlier_text t raw (start n foreign attributes) w c s = refl
-earlier_text t raw (text u next_raw) [] c s = refl
-earlier_text t raw (text u next_raw) (e ∷ w) c s = refl
-earlier_text t raw (comment u) w c s = refl
-earlier_text t raw (end n foreign) w c s = refl
-
-pub agrees_text : (w : List Event) (c : ℕ) (s : List ℕ) → last_agrees w false ≡ true → last_agrees (with_text w (c ∷ s) false) false ≡ true
-agrees_text [] c s h = refl
-agrees_text (doctype legacy ∷ w) c s h = agrees_text w c s h
-agrees_text (start n foreign attributes ∷ w) c s h = agrees_text w c s h
-agrees_text (text t true ∷ []) c s h = h
-agrees_text (text t false ∷ []) c s h = refl
-agrees_text (text t raw ∷ e ∷ w) c s h = earlier_text t raw e w c s ∙ agrees_text (e ∷ w) c s h
-agrees_text (comment t ∷ w) c s h = agrees_text w c s h
-agrees_text (end n foreign ∷ w) c s h = agrees_text w c s h
 
 -- Texts that don't touch
 
@@ -201,19 +136,11 @@ room_for_p w v false path events bytes is =
     subst HasRoom (ap (λ x. x ++ start p false [] ∷ []) (sym is)) (subst HasRoom (sym (append_assoc w [] (start p false [] ∷ [])))
     (room_more w (start p false [] ∷ []) (open_path false) path events bytes (omega arith) (omega arith)))
 
--- there is room for a text
-pub room_for_text : (w : List Event) (c : ℕ) (s : List ℕ) (path : List Element) → path_after [] w ≡ path → length path < 100 → length w < 2 ^ 28 → walk_size w < 2 ^ 28 → length (c ∷ s) < 2 ^ 28 → HasRoom (with_text w (c ∷ s) false)
-room_for_text w c s path is few events bytes size = record {
-  events = omega (arith, length-with_text w c s false, ap length (path_after-with_text [] w c s false ∙ is));
-  bytes = omega (arith, walk_size-with_text w c s false);
-}
-
 few_open : (inside : Bool) → length (open_path inside) < 100
 few_open true = omega arith
 few_open false = omega arith
 
 -- there is room for plain bytes
-pub room_for_plain : (w : List Event) (s t : List ℕ) (inside : Bool) → is_text s ≡ true → t ≡ s → path_after [] w ≡ open_path inside → length w < 2 ^ 28 → walk_size w < 2 ^ 28 → length s < 2 ^ 28 → HasRoom (with_text w t false)
-room_for_plain w [] t inside plain same is events bytes size = absurd (cc)
-room_for_plain w (c ∷ s) t inside plain same is events bytes size =
-    subst (λ x. HasRoom (with_text w x false)) (sym same) (room_for_text w c s (open_path inside) is (few_open inside) events bytes size)
+pub room_for_plain : (w : List Event) (s t : List ℕ) (inside : Bool) → t ≡ s → path_after [] w ≡ open_path inside → length w < 2 ^ 28 → walk_size w < 2 ^ 28 → length s < 2 ^ 28 → HasRoom (with_text w t false)
+room_for_plain w s t inside same is events bytes size =
+    subst (λ x. HasRoom (with_text w x false)) (sym same) (HasRoom-text w s false (omega (arith, ap length is, few_open inside)) (omega arith))

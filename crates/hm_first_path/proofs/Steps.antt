@@ -13,7 +13,8 @@ use Rattle.hm_first_path.specs.Page.{Outcome, built, refused, behind_events, rea
 use Rattle.hm_first_path.specs.Spellings.{start_tag, end_tag}
 use Rattle.hm_first_path.specs.Reading.{IsReadTo, are_joined, open_path}
 use Rattle.hm_first_path.proofs.EdgeCases.{and_true}
-use Rattle.hm_first_path.proofs.Joined.{text_twice, behind-append, behind_with_text, path_after-append, walk_size-append, length-with_text, walk_size-with_text, path_after-with_text, agrees_start, agrees_end, agrees_text, joined_start, joined_end, joined_text}
+use Rattle.hm_tree.proofs.RoomLemmas.{length-with_text, walk_size-with_text, path_after-with_text, last_agrees-push, last_agrees-with_text}
+use Rattle.hm_first_path.proofs.Joined.{text_twice, behind-append, behind_with_text, path_after-append, walk_size-append, joined_start, joined_end, joined_text}
 use Rattle.hm_first_path.proofs.Spelled.{read_start, read_end, read_plain}
 use Rattle.hm_first_path.proofs.PlainBytes.{run_plain, run_within}
 
@@ -130,7 +131,7 @@ module _ (page : List ℕ) (at : ℕ) (inside : Bool) (w : List Event) (read : I
     path = ap (path_after []) (is ∙ append_assoc w (end_of_p inside) (start p false [] ∷ [])) ∙ path_after-append [] w (end_of_p inside ++ start p false [] ∷ []) ∙ ap (λ x. path_after x (end_of_p inside ++ start p false [] ∷ [])) read.path ∙ open_after inside;
     events = let e : length w ≤ 2 * at = read.events in omega (arith, ap length is, length-append (w ++ end_of_p inside) (start p false [] ∷ []), length-append w (end_of_p inside), end_few inside);
     bytes = let e : walk_size w ≤ at = read.bytes in omega (arith, ap walk_size is, walk_size-append (w ++ end_of_p inside) (start p false [] ∷ []), walk_size-append w (end_of_p inside), end_small inside);
-    texts = ap (λ x. last_agrees x false) is ∙ agrees_start (w ++ end_of_p inside) p false [];
+    texts = ap (λ x. last_agrees x false) is ∙ last_agrees-push (w ++ end_of_p inside) (start p false []) false;
     joined = ap are_joined is ∙ joined_start (w ++ end_of_p inside) p false [] (joined_close w inside read.joined);
     within = front_within page (start_tag p) at read.within h;
   }
@@ -152,7 +153,7 @@ module _ (page : List ℕ) (at : ℕ) (inside : Bool) (w : List Event) (read : I
     path = ap (path_after []) is ∙ path_after-append [] w (end p false ∷ []) ∙ ap (λ x. path_after x (end p false ∷ [])) (read.path ∙ ap open_path opened);
     events = let e : length w ≤ 2 * at = read.events in omega (arith, ap length is, length-append w (end p false ∷ []));
     bytes = let e : walk_size w ≤ at = read.bytes in omega (arith, ap walk_size is, walk_size-append w (end p false ∷ []));
-    texts = ap (λ x. last_agrees x false) is ∙ agrees_end w p false;
+    texts = ap (λ x. last_agrees x false) is ∙ last_agrees-push w (end p false) false;
     joined = ap are_joined is ∙ joined_end w p false read.joined;
     within = front_within page (end_tag p) at read.within h;
   }
@@ -176,10 +177,10 @@ module _ (page : List ℕ) (at : ℕ) (inside : Bool) (w : List Event) (read : I
       let o : Outcome = read_items inside (at + length (c ∷ s)) 0 rest in
       record {
         whole = ap (λ x. behind_events x o) is ∙ behind_with_text w c s false o ∙ ap (behind_events w) (sym (ap (read_items inside at 0) cut ∙ read_run inside at c s rest plain_run)) ∙ read.whole;
-        path = ap (path_after []) is ∙ path_after-with_text [] w c s false ∙ read.path;
-        events = let e : length w ≤ 2 * at = read.events in omega (arith, ap length is, length-with_text w c s false);
-        bytes = let e : walk_size w ≤ at = read.bytes in omega (arith, ap walk_size is, walk_size-with_text w c s false);
-        texts = ap (λ x. last_agrees x false) is ∙ agrees_text w c s read.texts;
+        path = ap (path_after []) is ∙ path_after-with_text [] w (c ∷ s) false ∙ read.path;
+        events = let e : length w ≤ 2 * at = read.events in omega (arith, ap length is, length-with_text w (c ∷ s) false);
+        bytes = let e : walk_size w ≤ at = read.bytes in omega (arith, ap walk_size is, walk_size-with_text w (c ∷ s) false);
+        texts = ap (λ x. last_agrees x false) is ∙ last_agrees-with_text w (c ∷ s) false read.texts;
         joined = ap are_joined is ∙ joined_text w c s false read.joined;
         within = within;
       }

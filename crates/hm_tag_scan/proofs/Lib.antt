@@ -14,3 +14,4 @@ pub mod NameReads
 pub mod Kept
 pub mod TagBodies
 pub mod Faults
+pub mod TagStarts

@@ -2,6 +2,7 @@
 #![tactic(auto)]
 
 mod attribute;
+mod begins;
 mod collected;
 pub mod laws;
 mod names;
@@ -12,5 +13,6 @@ mod scan;
 mod tag_body;
 mod values;
 
+pub use begins::begins_tag;
 pub use references::{Reference, read_reference};
 pub use scan::scan_tag;

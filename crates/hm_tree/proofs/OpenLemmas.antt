@@ -1,9 +1,9 @@
 -- The open starts of a walk are the open elements: each index is that of the start, and the starts before it are those open there.
-use Rattle.std.proofs.Common.{◌≡◌, ℕ, ◌<◌, List, [], ◌∷◌, ◌++◌, length, take, slice_get, Some, IsSome, ap, subst, ◌∙◌, refl, arith, append_assoc}
-use Rattle.std.proofs.lemmas.List.{take-append-le, take_at, append-nil}
+use Rattle.std.proofs.Common.{◌≡◌, ℕ, ◌<◌, ◌≤◌, List, [], ◌∷◌, ◌++◌, length, take, drop, slice_get, Option, Some, None, IsSome, MatchOption, ap, subst, ◌∙◌, refl, arith, append_assoc, length-take}
+use Rattle.std.proofs.lemmas.List.{take-append-le, take-append-drop, take_at, append-nil}
 use Rattle.std.proofs.lemmas.Option.{slice_get_within}
 use Rattle.hm_base.specs.Walks.{Event, doctype, start, text, comment, end, Attribute, Element, path_behind, path_after}
-use Rattle.hm_tree.specs.Trees.{open_behind, open_after, innermost, parent_of}
+use Rattle.hm_tree.specs.Trees.{IsStartAt, open_behind, open_after, innermost, parent_of}
 use Rattle.hm_tree.proofs.ListLemmas.{slice_get-append, slice_get_at}
 use Rattle.hm_tree.proofs.WalkLemmas.{path_after-push, open_after-push}
 
@@ -96,3 +96,25 @@ IsSome-innermost w some = start_by w (open_after [] 0 w) (path_after [] w) (all_
 
 pub innermost_within : (w : List Event) (k : ℕ) → Some k ≡ innermost w → k < length w
 innermost_within w k e = slice_get_within w k _ (innermost-IsInnermost w k e).start.at
+
+tells : (w : List Event) (ks : List ℕ) (path : List Element) → AreOpen w ks path → MatchOption (slice_get ks 0) (path ≡ []) (λ k. (k < length w) × IsStartAt w k path)
+tells w [] [] h = refl
+tells w [] (e ∷ path) h = absurd h
+tells w (k ∷ ks) [] h = absurd h
+tells w (k ∷ ks) (e ∷ path) (s, before, rest) = (slice_get_within w k _ s.at, (s.attributes, s.at))
+
+in_front : (w v : List Event) (k : ℕ) (path : List Element) → k < length w → IsStartAt w k path → IsStartAt (w ++ v) k path
+in_front w v k [] within h = h
+in_front w v k (e ∷ path) within (attributes, at) = (attributes, slice_get-append w v k within ∙ at)
+
+widen : (w v : List Event) (i : ℕ) (path : List Element) (o : Option ℕ) → length w ≤ i → MatchOption o (path ≡ []) (λ k. (k < length w) × IsStartAt w k path)
+    → MatchOption o (path ≡ []) (λ k. (k < i) × IsStartAt (w ++ v) k path)
+widen w v i path None le h = h
+widen w v i path (Some k) le h = (omega (arith, h.0), in_front w v k path h.0 h.1)
+
+-- the parent of an event is the start of the innermost element that is open before it
+pub parent_of-IsStartAt : (w : List Event) (i : ℕ) → MatchOption (parent_of w i) (path_after [] (take i w) ≡ []) (λ k. (k < i) × IsStartAt w k (path_after [] (take i w)))
+parent_of-IsStartAt w i =
+    let v = take i w in
+    let there = widen v (drop i w) i (path_after [] v) (parent_of w i) (omega (arith, length-take i w)) (tells v (open_after [] 0 v) (path_after [] v) (all_open v)) in
+    subst (λ u. MatchOption (parent_of w i) (path_after [] v ≡ []) (λ k. (k < i) × IsStartAt u k (path_after [] v))) (take-append-drop i w) there

@@ -1,7 +1,7 @@
 -- What is true of the walk of a tree, which starts are open in it, and where two walks differ.
-use Rattle.std.specs.Prelude.{◌≡◌, ◌≢◌, ℕ, ◌+◌, ◌^◌, ◌<◌, Bool, true, ◌&&◌, List, [], ◌∷◌, length, take, slice_get, Option}
+use Rattle.std.specs.Prelude.{◌≡◌, ◌≢◌, ℕ, ◌+◌, ◌^◌, ◌<◌, Bool, true, ◌&&◌, List, [], ◌∷◌, length, take, slice_get, Option, Some}
 use Rattle.std.specs.Str.{is_utf8}
-use Rattle.hm_base.specs.Walks.{Event, doctype, start, text, comment, end, Element, path_after, ends_match, same_flag, has_distinct_names, walk_size}
+use Rattle.hm_base.specs.Walks.{Attribute, Event, doctype, start, text, comment, end, Element, path_after, ends_match, same_flag, has_distinct_names, walk_size}
 use Rattle.hm_tree.specs.Attributes.{are_texts}
 
 -- names, values, texts and comments are UTF-8, and the names of a start's attributes are distinct
@@ -81,6 +81,11 @@ innermost w = slice_get (open_after [] 0 w) 0
 -- the last start that is open directly before event i; for an end this is its own start
 abbrev pub parent_of : List Event → ℕ → Option ℕ
 parent_of w i = innermost (take i w)
+
+-- event k is the start of the innermost element of the path
+abbrev pub IsStartAt : List Event → ℕ → List Element → Type 0
+IsStartAt w k [] = ⊥
+IsStartAt w k (e ∷ path) = (attributes : List Attribute) × (slice_get w k ≡ Some (start e.name e.foreign attributes))
 
 -- i is the least index at which the walks differ or one of them has ended
 pub record DifferFirstAt (w v : List Event) (i : ℕ) : Type 0 where

@@ -103,19 +103,19 @@ impl Rows {
                 foreign,
                 attrs,
             } => EventView::Start {
-                name: cut(&self.text, name),
+                name: cut(self.text.as_str(), name),
                 foreign,
-                attrs: list_at(&self.lists, &self.none, attrs),
+                attrs: list_at(self.lists.as_slice(), &self.none, attrs),
             },
             Part::Text { text, raw } => EventView::Text {
-                text: cut(&self.text, text),
+                text: cut(self.text.as_str(), text),
                 raw,
             },
             Part::Comment { text } => EventView::Comment {
-                text: cut(&self.text, text),
+                text: cut(self.text.as_str(), text),
             },
             Part::End { name, foreign } => EventView::End {
-                name: cut(&self.text, name),
+                name: cut(self.text.as_str(), name),
                 foreign,
             },
         }
@@ -279,18 +279,18 @@ impl Rows {
 }
 
 // The bytes of a piece.
-fn cut(text: &String, piece: Piece) -> &str
-    requires { IsPiece (string_bytes text.now) piece }
-    ensures { result.now ≡ bytes_of (string_bytes text.now) piece }
+fn cut(text: &str, piece: Piece) -> &str
+    requires { IsPiece text.now piece }
+    ensures { result.now ≡ bytes_of text.now piece }
 {
-    &text.as_str()[piece.from as usize..piece.to as usize]
+    &text[piece.from as usize..piece.to as usize]
 }
 
 // The attributes at an index, or none.
-fn list_at<'t>(lists: &'t Vec<Attrs>, none: &'t Attrs, attrs: Option<u32>) -> &'t Attrs
-    requires within { IsBelow (length lists.now.items) attrs }
+fn list_at<'t>(lists: &'t [Attrs], none: &'t Attrs, attrs: Option<u32>) -> &'t Attrs
+    requires within { IsBelow (length lists.now) attrs }
     requires none { none.now ≡ [] }
-    ensures { result.now ≡ attributes_at lists.now.items attrs }
+    ensures { result.now ≡ attributes_at lists.now attrs }
 {
     match attrs {
         Some(k) => &lists[k as usize],

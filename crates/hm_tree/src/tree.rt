@@ -1,7 +1,7 @@
 //! A tree as its walk.
-ghost use Rattle.std.specs.Prelude.{◌≡◌, ◌<◌, ◌↔◌, [], length, slice_get, true, Some, IsTrue, MatchOption};
+ghost use Rattle.std.specs.Prelude.{◌≡◌, ◌<◌, ◌↔◌, [], length, slice_get, take, true, Some, IsTrue, MatchOption};
 ghost use Rattle.hm_base.specs.Walks.{path_after, ends_match};
-ghost use Rattle.hm_tree.specs.Trees.{DifferFirstAt, IsWalk, parent_of};
+ghost use Rattle.hm_tree.specs.Trees.{DifferFirstAt, IsStartAt, IsWalk, parent_of};
 ghost use Rattle.hm_tree.specs.Views.{event_of};
 
 use crate::rows::Rows;
@@ -63,7 +63,11 @@ impl Tree {
     /// The last start that is open directly before event `i`; for an end this is its own start.
     pub fn parent(&self, i: u32) -> Option<u32>
         requires { i < length self.now }
-        ensures { result ≡ parent_of self.now i }
+        ensures value { result ≡ parent_of self.now i }
+
+        // Where no element is open there, none is answered, and else an earlier event, the start of the innermost one.
+        ensures element { MatchOption result (path_after [] (take i self.now) ≡ [])
+            (λ k. (k < i) × IsStartAt self.now k (path_after [] (take i self.now))) }
     {
         self.rows.parent(i)
     }

@@ -1,6 +1,6 @@
 use Rattle.std.proofs.Common.{◌≡◌, ◌+◌, get_or, sym, ap, ◌∙◌, arith}
 use Rattle.std.proofs.lemmas.Str.{IsCharBoundary-after_ascii}
-use Rattle.hm_tag_scan.proofs.Faults.{Begins, tag_begins, end_reads, start_reads}
+use Rattle.hm_tag_scan.proofs.TagStarts.{Begins, tag_begins, end_reads, start_reads}
 use Rattle.hm_tag_scan.proofs.scan.scan_tag.Goals as goal
 
 pub bounds-as_bytes-start : goal.bounds-as_bytes-start

@@ -61,6 +61,3 @@ pub fn run<S: Store, O: Sink>(alloc: Global, words: &[Word], store: &mut S, out:
         },
     }
 }
-
-#[cfg(test)]
-mod tests;

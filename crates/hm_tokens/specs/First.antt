@@ -2,8 +2,11 @@
 use Rattle.std.specs.Prelude.{ℕ, zero, suc, ◌+◌, Bool, true, false, not, ◌&&◌, ◌||◌, ◌==◌, List, [], ◌∷◌, ◌++◌, take, drop, Option, Some, None, if◌then◌else◌, codes}
 use Rattle.hm_base.specs.Bytes.{is_null}
 use Rattle.hm_base.specs.RawText.{raw_end, script_end}
+use Rattle.hm_base.specs.declared.rules.Rule.{Rule}
+use Rattle.hm_base.specs.declared.rules.Rule.TheVariants as rules
 use Rattle.hm_refs.specs.Names.{Entry}
 use Rattle.hm_tree.specs.Tokens.{Scanned, taken, refused, slice}
+use Rattle.hm_tree.specs.declared.tokens.ScanFault.{ScanFault}
 use Rattle.hm_tree.specs.declared.tokens.ScanFault.TheVariants as faults
 use Rattle.hm_tag_scan.specs.Reading.{read_tag, begins_tag}
 use Rattle.hm_text_scan.specs.Texts.{begins_markup, read_text}
@@ -86,3 +89,13 @@ first t in_svg s = next_here t true (behind_empty_tags s)
 first t (rcdata name) s = unless_end s (read_inside t s (raw_end name s) (read_references t))
 first t (raw name) s = unless_end s (read_inside t s (raw_end name s) read_nothing)
 first t script s = unless_end s (read_inside t s (script_end s) read_nothing)
+
+-- ---- What a fault is called
+
+-- the rule of a fault of a scan (want of memory is none of a text)
+abbrev pub rule_of : ScanFault → Rule
+rule_of faults.Cut = rules.Cut
+rule_of faults.BadName = rules.BadName
+rule_of faults.TooManyAttributes = rules.TooManyAttributes
+rule_of faults.BadDoctype = rules.BadDoctype
+rule_of faults.Memory = rules.Cut

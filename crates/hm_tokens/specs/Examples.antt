@@ -12,7 +12,7 @@ use Rattle.hm_tag_scan.specs.Values.{reference_at}
 use Rattle.hm_text_scan.specs.Texts.{read_text, begins_markup, reference_in}
 use Rattle.hm_mark_scan.specs.Comments.{read_comment, begins_comment, begins_cdata, read_cdata}
 use Rattle.hm_mark_scan.specs.Doctypes.{read_doctype, doctype_form, begins_doctype}
-use Rattle.hm_lexer.specs.First.{ordinary, in_svg, rcdata, raw, script, at_end, behind_bytes, first}
+use Rattle.hm_tokens.specs.First.{ordinary, in_svg, rcdata, raw, script, at_end, behind_bytes, first}
 
 empty_tags : first [] ordinary (codes "</></></b>x") ≡ behind_bytes 6 (taken (end_tag (codes "b")) (codes "x"))
 unfolding first begins_markup is_letter begins_tag read_tag read_end is_name_byte is_name_end is_space lower is_tag_end tag_fault is_tag_name is_small is_tag_byte

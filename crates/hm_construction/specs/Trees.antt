@@ -1,18 +1,15 @@
 -- The tree of a page, or its first refusal with its rule and the byte of the page where it comes.
 use Rattle.std.specs.Prelude.{ℕ, zero, suc, pred, ◌+◌, ◌-◌, Bool, true, false, List, [], ◌∷◌, ◌++◌, length, map, Option, Some, None, if◌then◌else◌, bytes_eq}
-use Rattle.hm_base.specs.Source.{Refusal, text_fault, byte_of, placed_text, place_in}
+use Rattle.hm_base.specs.Source.{Source, Refusal, text_fault, byte_of, source_of, place_in}
 use Rattle.hm_base.specs.Walks.{Event, Element, pushes}
 use Rattle.hm_base.specs.declared.rules.Rule.{Rule}
-use Rattle.hm_base.specs.declared.rules.Rule.TheVariants as rules
 use Rattle.hm_elements.specs.Names.{script as script_name}
 use Rattle.hm_elements.specs.Tables.{is_rcdata, is_raw}
 use Rattle.hm_elements.specs.Paths.{current, is_in_svg}
 use Rattle.hm_refs.specs.Names.{Entry}
 use Rattle.hm_tree.specs.Tokens.{Scanned, taken, refused}
-use Rattle.hm_tree.specs.declared.tokens.ScanFault.{ScanFault}
-use Rattle.hm_tree.specs.declared.tokens.ScanFault.TheVariants as faults
-use Rattle.hm_lexer.specs.First.{Mode, ordinary, in_svg, rcdata, raw, script, Next, at_end, behind_bytes, first}
-use Rattle.hm_build.specs.Steps.{State, Stepped, went, stops, step, step_over, first_state}
+use Rattle.hm_tokens.specs.First.{Mode, ordinary, in_svg, rcdata, raw, script, Next, at_end, behind_bytes, first, rule_of}
+use Rattle.hm_construction.specs.Steps.{State, Stepped, went, stops, step, step_over, first_state}
 
 -- a walk, or the rule that refuses the page and the byte of the page where it does
 pub data Outcome : Type 0 where
@@ -30,14 +27,6 @@ mode_of_name n = if is_rcdata n then rcdata n else if bytes_eq n script_name the
 -- how the text under the innermost element is read
 abbrev pub mode_of : List Element → Mode
 mode_of path = if is_in_svg path then in_svg else mode_of_name (current path)
-
--- the rule of a fault of a scan (want of memory is none of a text)
-abbrev pub rule_of : ScanFault → Rule
-rule_of faults.Cut = rules.Cut
-rule_of faults.BadName = rules.BadName
-rule_of faults.TooManyAttributes = rules.TooManyAttributes
-rule_of faults.BadDoctype = rules.BadDoctype
-rule_of faults.Memory = rules.Cut
 
 -- a step of a token that begins at an index of the text
 abbrev pub stepped : (ℕ → ℕ) → ℕ → Stepped → (State → Outcome) → Outcome
@@ -59,9 +48,13 @@ tree_from t place skip at st [] = over place at st
 tree_from t place (suc skip) at st (c ∷ s) = tree_from t place skip (at + 1) st s
 tree_from t place zero at st (c ∷ s) = next_step place at st (c ∷ s) (first t (mode_of st.path) (c ∷ s)) (λ skip next. tree_from t place skip (at + 1) next s)
 
+-- the tree of a text with its places
+unfoldable pub tree_of_source : List Entry → Source → Outcome
+tree_of_source t page = tree_from t (place_in page.placed page.end) 0 0 first_state (map byte_of page.placed)
+
 -- the tree of the text of a page
 abbrev pub tree_of_text : List Entry → List ℕ → Outcome
-tree_of_text t page = tree_from t (place_in (placed_text page) (length page)) 0 0 first_state (map byte_of (placed_text page))
+tree_of_text t page = tree_of_source t (source_of page)
 
 abbrev pub unless_faulty : Option Refusal → Outcome → Outcome
 unless_faulty None o = o

@@ -1,2 +1,0 @@
-//! The tree of a page, token by token.
-#![tactic(auto)]

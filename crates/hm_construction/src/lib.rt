@@ -1,0 +1,2 @@
+//! How a tree is built, token by token, what the tree of a page is, and laws about it.
+#![tactic(auto)]

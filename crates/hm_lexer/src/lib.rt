@@ -1,2 +1,0 @@
-//! The next token of a text, in a mode.
-#![tactic(auto)]

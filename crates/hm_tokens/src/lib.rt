@@ -1,0 +1,2 @@
+//! What the next token of a text is, in a mode, and laws about it.
+#![tactic(auto)]

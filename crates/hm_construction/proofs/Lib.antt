@@ -1,0 +1,3 @@
+pub mod Standing
+pub mod Texts
+pub mod Bytes

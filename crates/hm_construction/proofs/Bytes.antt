@@ -62,7 +62,7 @@ text_not_blank (e ∷ path) h =
     by true false false k = refl
     by false false false k = refl
 
-space_low : (c : ℕ) → is_space c ≡ true → c < 128
+pub space_low : (c : ℕ) → is_space c ≡ true → c < 128
 unfolding is_space
 space_low c h = grind arith
 
@@ -76,14 +76,14 @@ low_alone c s low u =
     let v = IsUtf8-from_is_utf8 (c ∷ s) u in
     is_utf8-from_IsUtf8 (c ∷ []) (IsUtf8-take (c ∷ s) 1 v (IsCharBoundary-after_ascii (c ∷ s) 0 v (omega arith) low))
 
-no_byte_behind : (d c : ℕ) (s : List ℕ) → has_byte d (c ∷ s) ≡ false → has_byte d s ≡ false
+pub no_byte_behind : (d c : ℕ) (s : List ℕ) → has_byte d (c ∷ s) ≡ false → has_byte d s ≡ false
 no_byte_behind d c s h = by (is_byte d c) h
   where
     by : (k : Bool) → k || has_byte d s ≡ false → has_byte d s ≡ false
     by true e = cc
     by false e = e
 
-no_byte_first : (d c : ℕ) (s : List ℕ) → has_byte d (c ∷ s) ≡ false → has_byte d (c ∷ []) ≡ false
+pub no_byte_first : (d c : ℕ) (s : List ℕ) → has_byte d (c ∷ s) ≡ false → has_byte d (c ∷ []) ≡ false
 no_byte_first d c s h = by (is_byte d c) h
   where
     by : (k : Bool) → k || has_byte d s ≡ false → k || false ≡ false
@@ -118,7 +118,7 @@ pub keeps_in_text : (st : State) → is_in_text st.path ≡ true → Keeps st
 keeps_in_text st h c = rw h (ran (λ k. absurd (both_ways (is_in_blank st.path) (text_not_blank st.path h) k)))
 
 -- a byte in a phase
-abbrev kept_in : Phase → ℕ → State → Stepped
+abbrev pub kept_in : Phase → ℕ → State → Stepped
 kept_in phase c st =
     if is_in_text st.path then keep_byte c st
     else if is_space c then space_byte phase c st
@@ -170,7 +170,7 @@ body_keeps phase p st t c = rw t (by (is_space c) refl)
     by false e = body_keeps_other phase p st c
 
 -- in noscript in head
-noscript_keeps : (phase : Phase) (st : State) → is_in_text st.path ≡ false → is_in_noscript phase st.path ≡ true → (c : ℕ) → Ran st (c ∷ []) (kept_in phase c st)
+pub noscript_keeps : (phase : Phase) (st : State) → is_in_text st.path ≡ false → is_in_noscript phase st.path ≡ true → (c : ℕ) → Ran st (c ∷ []) (kept_in phase c st)
 noscript_keeps initial st t n c = cc
 noscript_keeps before_html st t n c = cc
 noscript_keeps before_head st t n c = cc
@@ -204,11 +204,11 @@ put_text in_body path s w p no_raw piece h = text_inside body SettledBehindBody 
 put_text after_body path s w p no_raw piece h = text_inside body SettledBehindBody path s w no_raw piece h
 put_text after_html path s w p no_raw piece h = text_inside body SettledBehindBody path s w no_raw piece h
 
-ran_puts : (phase : Phase) (path : List Element) (raw : Bool) (s : List ℕ) (w : List Event) → holds_texts phase ≡ true → is_in_raw path ≡ raw → raw ≡ false → has_byte 0 s ≡ false → is_utf8 s ≡ true → (is_in_blank path ≡ true → is_blank s ≡ true) → SettledAt phase path w → SettledAt phase path (pushes (texts raw s) w)
+pub ran_puts : (phase : Phase) (path : List Element) (raw : Bool) (s : List ℕ) (w : List Event) → holds_texts phase ≡ true → is_in_raw path ≡ raw → raw ≡ false → has_byte 0 s ≡ false → is_utf8 s ≡ true → (is_in_blank path ≡ true → is_blank s ≡ true) → SettledAt phase path w → SettledAt phase path (pushes (texts raw s) w)
 ran_puts phase path raw [] w p r e zero utf8 blank h = h
 ran_puts phase path raw (c ∷ s) w p r e zero utf8 blank h = rw (texts_join raw c s w, e) (put_text phase path (c ∷ s) w p (r ∙ e) (record { not_empty = refl; no_zero = zero; blank = blank; utf8 = utf8 }) h)
 
-good_still : (st : State) → Good st → Good (no_drop st)
+pub good_still : (st : State) → Good st → Good (no_drop st)
 good_still st g = record { shape = g.shape; inner_comments = g.inner_comments; last_comments = g.last_comments; keeps = λ h. refl }
 
 ran_leads : (st : State) (s : List ℕ) (x : Stepped) → holds_texts st.phase ≡ true → is_in_raw st.path ≡ false → Good st → has_byte 0 s ≡ false → is_utf8 s ≡ true → Ran (no_drop st) s x → Leads st.phase st.path x

@@ -1,3 +1,4 @@
 pub mod Standing
 pub mod Texts
 pub mod Bytes
+pub mod Fronts

@@ -2,3 +2,5 @@ pub mod Standing
 pub mod Texts
 pub mod Bytes
 pub mod Fronts
+pub mod Made
+pub mod Starts

@@ -4,3 +4,4 @@ pub mod Bytes
 pub mod Fronts
 pub mod Made
 pub mod Starts
+pub mod Ends

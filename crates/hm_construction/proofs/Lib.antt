@@ -5,3 +5,4 @@ pub mod Fronts
 pub mod Made
 pub mod Starts
 pub mod Ends
+pub mod Heads

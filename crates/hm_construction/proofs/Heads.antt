@@ -131,7 +131,7 @@ opened_leads n attributes st path c form allowed known o = by (is_void n) refl
 
 -- ---- A start tag before body
 
-after_head_leads : (n : List ℕ) (attributes : List Attribute) (slash : Bool) (st : State) (path : List Element) → CommentsGood st → is_tag_name n ≡ true → AttributesAllowed attributes
+pub after_head_leads : (n : List ℕ) (attributes : List Attribute) (slash : Bool) (st : State) (path : List Element) → CommentsGood st → is_tag_name n ≡ true → AttributesAllowed attributes
     → Leads after_head path (start_after_head n attributes slash (before_tag st after_head path))
 after_head_leads n attributes slash st path c form allowed = by (is_metadata n)
   where
@@ -164,7 +164,7 @@ noscript_is path (outside_text path' o) t n = by path o n
     by q at_noscript k = refl
 noscript_is path (inside_text m path' h o) t n = absurd (both_ways (holds_text m) t h)
 
-in_head_leads : (n : List ℕ) (attributes : List Attribute) (slash : Bool) (st : State) (path : List Element) → CommentsGood st → is_tag_name n ≡ true → AttributesAllowed attributes → is_refused n ≡ false → HeadPath path → is_in_text path ≡ false
+pub in_head_leads : (n : List ℕ) (attributes : List Attribute) (slash : Bool) (st : State) (path : List Element) → CommentsGood st → is_tag_name n ≡ true → AttributesAllowed attributes → is_refused n ≡ false → HeadPath path → is_in_text path ≡ false
     → Leads in_head path (start_in_head n attributes slash (before_tag st in_head path))
 in_head_leads n attributes slash st path c form allowed known on_path t = by (is_in_noscript in_head path) refl
   where

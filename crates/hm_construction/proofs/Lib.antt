@@ -6,3 +6,4 @@ pub mod Made
 pub mod Starts
 pub mod Ends
 pub mod Heads
+pub mod Tags

@@ -7,3 +7,6 @@ pub mod Starts
 pub mod Ends
 pub mod Heads
 pub mod Tags
+pub mod Overs
+pub mod Modes
+pub mod Rests

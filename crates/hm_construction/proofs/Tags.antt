@@ -19,7 +19,7 @@ use Rattle.hm_construction.proofs.Heads.{after_head_leads, in_head_leads}
 
 -- ---- Start tags
 
-frame_text : (is_in_text under_head ≡ false) × ((is_in_text under_html ≡ false) × (is_in_text under_body ≡ false))
+pub frame_text : (is_in_text under_head ≡ false) × ((is_in_text under_html ≡ false) × (is_in_text under_body ≡ false))
 unfolding holds_text is_raw raw_names is_rcdata rcdata_names is_among
 frame_text = (refl, (refl, refl))
 

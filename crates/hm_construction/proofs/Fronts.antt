@@ -121,7 +121,7 @@ front_leads (c ∷ s) st g b t n zero utf8 = front_byte st.phase st c s g.shape 
 -- ---- A text token that isn't raw
 
 -- phases whose paths may be those of texts
-text_phase : (phase : Phase) (path : List Element) → Shape phase path → is_in_text path ≡ true → holds_texts phase ≡ true
+pub text_phase : (phase : Phase) (path : List Element) → Shape phase path → is_in_text path ≡ true → holds_texts phase ≡ true
 unfolding holds_text is_raw raw_names is_rcdata rcdata_names is_among
 text_phase initial path s t = let k : is_in_text [] ≡ true = rw s at t in cc
 text_phase before_html path s t = let k : is_in_text [] ≡ true = rw s at t in cc

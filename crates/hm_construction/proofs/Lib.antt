@@ -10,3 +10,5 @@ pub mod Tags
 pub mod Overs
 pub mod Modes
 pub mod Rests
+pub mod RawTexts
+pub mod Built

@@ -157,9 +157,6 @@ tag_ends t s = by (strip (codes "</") s) (ends_strip (codes "</") s)
 comment_cut_ends : (s : List ℕ) → EndsCut s (cut_comment s)
 comment_cut_ends s = by (option_or (strip (codes ">") s) (strip (codes "->") s)) (ends_either s (strip (codes ">") s) (strip (codes "->") s) (ends_strip (codes ">") s) (ends_strip (codes "->") s))
   where
-    ends : (r : List ℕ) → EndsFound r (behind_end r)
-    ends r = ends_either r (strip (codes "-->") r) (strip (codes "--!>") r) (ends_strip (codes "-->") r) (ends_strip (codes "--!>") r)
-
     by : (o : Option (List ℕ)) → EndsFound s o → EndsCut s (at_once o (cut_where behind_end s))
     by None e = ends_cut_where behind_end (λ r. ends_either r (strip (codes "-->") r) (strip (codes "--!>") r) (ends_strip (codes "-->") r) (ends_strip (codes "--!>") r)) s
     by (Some rest) e = e

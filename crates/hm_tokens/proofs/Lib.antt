@@ -1,2 +1,3 @@
 pub mod Plain
 pub mod TagParts
+pub mod References

@@ -1,3 +1,5 @@
 pub mod Plain
 pub mod TagParts
 pub mod References
+pub mod Values
+pub mod Attributes

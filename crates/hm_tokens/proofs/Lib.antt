@@ -3,3 +3,4 @@ pub mod TagParts
 pub mod References
 pub mod Values
 pub mod Attributes
+pub mod Tags

@@ -4,3 +4,4 @@ pub mod References
 pub mod Values
 pub mod Attributes
 pub mod Tags
+pub mod Marks

@@ -193,12 +193,12 @@ tag_takes t s token rest names begins h = by_beginning (read_tag t s) (beginning
 
 -- ---- the end tag of an element with text
 
-record WordCut (w s rest : List ℕ) : Type 0 where
-  written : List ℕ
-  is : s ≡ written ++ rest
-  lowered : map lower written ≡ w
+pub record WordCut (w s rest : List ℕ) : Type 0 where
+  pub written : List ℕ
+  pub is : s ≡ written ++ rest
+  pub lowered : map lower written ≡ w
 
-word_cut : (w s rest : List ℕ) → strip_word w s ≡ Some rest → WordCut w s rest
+pub word_cut : (w s rest : List ℕ) → strip_word w s ≡ Some rest → WordCut w s rest
 word_cut [] s rest h = let same : s ≡ rest = cc in record { written = []; is = same; lowered = refl }
 word_cut (c ∷ w) [] rest h = absurd (cc)
 word_cut (c ∷ w) (d ∷ s) rest h = by_test (c == lower d) refl h (word_cut w s rest)

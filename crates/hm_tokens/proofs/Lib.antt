@@ -5,3 +5,6 @@ pub mod Values
 pub mod Attributes
 pub mod Tags
 pub mod Marks
+pub mod Texts
+pub mod Elements
+pub mod Firsts

@@ -99,13 +99,13 @@ assigned_fits s [] size f = record { before = s; is = sym (append-nil s); room =
 assigned_fits s (c ∷ r) size f =
     cond_both (c == 61) (cut_value (behind is_space r)) (record { before = []; behind = s }) (CutFits s)
     (λ e. let v = value_fits (behind is_space r) in
-        let k = cut_value (behind is_space r) in
-        fits_same s (f.before ++ c ∷ r) (length k.before) k.behind f.is
-        (fits_less (f.before ++ c ∷ r) _ (length k.before) k.behind (omega arith)
-        (fits_more f.before (c ∷ r) _ k.behind
-        (fits_more (c ∷ []) r _ k.behind
-        (fits_same r (front is_space r ++ behind is_space r) _ k.behind (front_and_behind is_space r)
-        (fits_more (front is_space r) (behind is_space r) (length k.before) k.behind v))))))
+    let k = cut_value (behind is_space r) in
+    fits_same s (f.before ++ c ∷ r) (length k.before) k.behind f.is
+    (fits_less (f.before ++ c ∷ r) _ (length k.before) k.behind (omega arith)
+    (fits_more f.before (c ∷ r) _ k.behind
+    (fits_more (c ∷ []) r _ k.behind
+    (fits_same r (front is_space r ++ behind is_space r) _ k.behind (front_and_behind is_space r)
+    (fits_more (front is_space r) (behind is_space r) (length k.before) k.behind v))))))
     (λ e. record { before = []; is = refl; room = omega arith })
 
 pub attribute_fits : (c : ℕ) (s : List ℕ) → Fits (c ∷ s) (length (attribute_at c s).attribute.name + length (attribute_at c s).attribute.value) (attribute_at c s).rest

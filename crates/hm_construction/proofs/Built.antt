@@ -1,13 +1,9 @@
 -- What is built is settled: token by token, along the text.
-use Rattle.std.proofs.Common.{◌≡◌, ℕ, zero, suc, pred, ◌+◌, ◌-◌, ◌<◌, ◌≤◌, Bool, true, false, cond, ◌||◌, ◌&&◌, if◌then◌else◌, List, [], ◌∷◌, ◌++◌, length, take, drop, map, Option, Some, None, refl, sym, ◌∙◌, ap, subst, ◌⊎◌, inl, inr, arith, encode_utf8_all, bytes_eq}
-use Rattle.std.proofs.lemmas.Bool.{both_ways, and_parts}
-use Rattle.std.specs.Str.{is_utf8}
-use Rattle.hm_base.specs.Bytes.{is_null}
-use Rattle.hm_base.specs.Forms.{has_byte}
+use Rattle.std.proofs.Common.{◌≡◌, ℕ, zero, suc, pred, ◌+◌, ◌-◌, ◌<◌, ◌≤◌, Bool, true, false, cond, List, [], ◌∷◌, length, drop, map, refl, sym, ap, subst, arith, encode_utf8_all, bytes_eq}
+use Rattle.std.proofs.lemmas.Bool.{both_ways}
 use Rattle.hm_base.specs.Source.{Source, byte_of, place_in}
-use Rattle.hm_base.specs.Walks.{Event, start, text, end, comment, doctype, Element, text_before, pushes}
+use Rattle.hm_base.specs.Walks.{Event, Element, text_before, pushes}
 use Rattle.hm_tokens.proofs.References.{point_bytes}
-use Rattle.hm_base.specs.declared.rules.Rule.{Rule}
 use Rattle.hm_base.specs.declared.rules.Rule.TheVariants.{StrayEnd, NotCurrent, Cut}
 use Rattle.hm_refs.specs.Names.{Entry}
 use Rattle.hm_tree.specs.Tokens.{Seen, Scanned, taken, refused}
@@ -15,16 +11,15 @@ use Rattle.hm_tree.specs.Tokens as tokens
 use Rattle.hm_elements.specs.Names.{head, body}
 use Rattle.hm_elements.specs.Paths.{is_in_raw, is_in_text, current, is_open}
 use Rattle.hm_elements.specs.Settled.{begins_text, Settled}
-use Rattle.hm_elements.specs.Places.{CommentAllowed, SettledBehindBody, SettledBeforeBody, SettledPage}
+use Rattle.hm_elements.specs.Places.{CommentAllowed, SettledBehindBody, SettledBeforeBody}
 use Rattle.hm_elements.proofs.Gathered.{page_settles}
-use Rattle.hm_tokens.specs.First.{Mode, Next, at_end, behind_bytes, unless_end, first, rule_of}
-use Rattle.hm_tokens.specs.Laws.{IsPlain, SoundNames, IsText, SoundToken, TakesBytes, least_size}
+use Rattle.hm_tokens.specs.First.{Mode, Next, at_end, behind_bytes, first}
+use Rattle.hm_tokens.specs.Laws.{IsPlain, SoundNames, IsText, SoundToken, least_size}
 use Rattle.hm_tokens.proofs.Firsts.{tokens_are_sound, tokens_are_small}
 use Rattle.hm_tag_scan.specs.Reading.{read_tag}
-use Rattle.hm_construction.specs.Steps as steps
-use Rattle.hm_construction.specs.Steps.{Phase, initial, before_html, before_head, in_head, after_head, in_body, after_body, after_html, State, Stepped, went, stops, no_drop, step_bytes, at_front, step, step_start, step_end, step_over, end_current, end_event, first_state}
-use Rattle.hm_construction.specs.Trees.{Outcome, built, refused_by, after_events, mode_of, stepped, over, next_step, tree_from, tree_of_source}
-use Rattle.hm_construction.proofs.Standing.{Shape, SettledAt, Good, Leads}
+use Rattle.hm_construction.specs.Steps.{Phase, initial, before_html, before_head, in_head, after_head, in_body, after_body, after_html, State, Stepped, went, stops, no_drop, step_bytes, step, step_end, step_over, end_current, end_event, first_state}
+use Rattle.hm_construction.specs.Trees.{Outcome, built, refused_by, after_events, mode_of, stepped, next_step, tree_from, tree_of_source}
+use Rattle.hm_construction.proofs.Standing.{SettledAt, Good, Leads}
 use Rattle.hm_construction.proofs.Texts.{RawPiece, raw_inside, texts, texts_join}
 use Rattle.hm_construction.proofs.Bytes.{Ran, ran, halted, all_ran, keeps_in_text, good_still, holds_texts}
 use Rattle.hm_construction.proofs.Fronts.{text_leads, front_stands, text_phase}

@@ -1,23 +1,23 @@
 -- Text tokens: each byte is kept, dropped or refused, or the first that isn't whitespace makes body.
-use Rattle.std.proofs.Common.{◌≡◌, ℕ, ◌+◌, ◌<◌, bytes_eq, codes, inl, inr, Bool, true, false, cond, ◌&&◌, ◌||◌, ◌==◌, not, if◌then◌else◌, List, [], ◌∷◌, ◌++◌, refl, sym, ◌∙◌, ap, subst, arith}
-use Rattle.std.proofs.lemmas.Bool.{both_ways, and_parts, and_from, or_cases, or_right, eqb-true, false_from_ne_true, not-true}
-use Rattle.std.specs.Str.{IsUtf8, is_utf8}
+use Rattle.std.proofs.Common.{◌≡◌, ℕ, ◌+◌, ◌<◌, bytes_eq, codes, inl, inr, Bool, true, false, cond, ◌&&◌, ◌||◌, not, if◌then◌else◌, List, [], ◌∷◌, ◌++◌, refl, ◌∙◌, arith}
+use Rattle.std.proofs.lemmas.Bool.{both_ways, and_parts, and_from, or_cases, not-true}
+use Rattle.std.specs.Str.{is_utf8}
 use Rattle.std.proofs.lemmas.Str.{IsUtf8-drop, IsUtf8-take, IsCharBoundary-after_ascii, IsUtf8-from_is_utf8, is_utf8-from_IsUtf8}
 use Rattle.std.specs.List.{list_all}
-use Rattle.hm_base.specs.Bytes.{is_space, is_null, all_pass}
+use Rattle.hm_base.specs.Bytes.{is_space}
 use Rattle.hm_base.specs.Forms.{has_byte, is_byte, is_blank}
-use Rattle.hm_base.specs.Walks.{Event, text, Element, text_before, pushed, pushes}
+use Rattle.hm_base.specs.Walks.{Event, Element, text_before, pushes}
 use Rattle.hm_base.specs.declared.rules.Rule.{Rule}
-use Rattle.hm_base.specs.declared.rules.Rule.TheVariants.{TextHere, NoDoctype, AfterBody}
-use Rattle.hm_elements.specs.Names.{words, is_among, html, head, body, noscript}
+use Rattle.hm_base.specs.declared.rules.Rule.TheVariants.{TextHere, AfterBody}
+use Rattle.hm_elements.specs.Names.{is_among, head, body, noscript}
 use Rattle.hm_elements.specs.Tables.{is_raw, raw_names, is_rcdata, rcdata_names, holds_text}
 use Rattle.hm_elements.specs.Nesting.{is_name}
-use Rattle.hm_elements.specs.Paths.{html_element, current, current_name, is_in_raw, is_in_text, is_in_blank, blank_parents}
-use Rattle.hm_elements.specs.Places.{SettledBody, SettledBehindBody, SettledBeforeBody}
-use Rattle.hm_elements.proofs.TableTools.{same_bytes, entry_passes}
-use Rattle.hm_construction.specs.Steps.{Phase, initial, before_html, before_head, in_head, after_head, in_body, after_body, after_html, State, Stepped, went, stops, behind_events, behind_bytes, then_step, moved, under_html, under_head, under_body, make_html, make_head, close_head, make_body, reach_body, is_in_noscript, keep_byte, space_byte, body_byte, other_byte, kept_byte, no_drop, step_byte, step_bytes}
-use Rattle.hm_construction.proofs.Standing.{Shape, SettledAt, Good, Leads, AtEnd, BodyPath, at_body, behind_leads, later_leads, reach_body_leads}
-use Rattle.hm_construction.proofs.Texts.{Piece, text_inside, text_before_body, texts, texts_join}
+use Rattle.hm_elements.specs.Paths.{current_name, is_in_raw, is_in_text, is_in_blank, blank_parents}
+use Rattle.hm_elements.specs.Places.{SettledBehindBody, SettledBeforeBody}
+use Rattle.hm_elements.proofs.TableTools.{entry_passes}
+use Rattle.hm_construction.specs.Steps.{Phase, initial, before_html, before_head, in_head, after_head, in_body, after_body, after_html, State, Stepped, went, stops, behind_events, behind_bytes, then_step, reach_body, is_in_noscript, keep_byte, space_byte, body_byte, kept_byte, no_drop, step_byte, step_bytes}
+use Rattle.hm_construction.proofs.Standing.{SettledAt, Good, Leads}
+use Rattle.hm_construction.proofs.Texts.{Piece, text_inside, texts, texts_join}
 
 -- ---- Facts
 

@@ -1,18 +1,17 @@
 -- End tags inside head and body.
-use Rattle.std.proofs.Common.{◌≡◌, ℕ, Bool, true, false, cond, ◌||◌, ◌&&◌, not, if◌then◌else◌, List, [], ◌∷◌, ◌++◌, map, bytes_eq, refl, sym, ◌∙◌, ap, subst, ◌⊎◌, inl, inr, codes}
-use Rattle.std.proofs.lemmas.Bool.{and_parts, or_cases, not-true, both_ways, false_from_ne_true}
+use Rattle.std.proofs.Common.{◌≡◌, ℕ, Bool, true, false, cond, ◌&&◌, not, if◌then◌else◌, List, [], ◌∷◌, ◌++◌, map, bytes_eq, refl, ap, ◌⊎◌, inl, inr, codes}
+use Rattle.std.proofs.lemmas.Bool.{and_parts, or_cases, not-true}
 use Rattle.std.specs.List.{list_all}
-use Rattle.hm_base.specs.Walks.{Event, start, end, Element, pushed, pushes}
+use Rattle.hm_base.specs.Walks.{Event, Element, pushed, pushes}
 use Rattle.hm_base.specs.declared.rules.Rule.TheVariants.{StrayEnd, NotCurrent}
-use Rattle.hm_elements.specs.Names.{words, is_among, html, head, body, noscript, p}
+use Rattle.hm_elements.specs.Names.{is_among, head, body, noscript, p}
 use Rattle.hm_elements.specs.Tables.{is_raw, raw_names, is_rcdata, rcdata_names, holds_text}
 use Rattle.hm_elements.specs.Nesting.{ends_with, end_rows}
-use Rattle.hm_elements.specs.Paths.{html_element, is_in_svg, is_in_raw, is_in_text, is_open, front, behind, falls_to}
+use Rattle.hm_elements.specs.Paths.{html_element, is_in_svg, is_in_text, is_open, front, behind, falls_to}
 use Rattle.hm_elements.specs.Settled.{is_html}
-use Rattle.hm_elements.specs.Places.{SettledBody, SettledHead}
 use Rattle.hm_elements.proofs.TableTools.{same_bytes, entry_passes}
-use Rattle.hm_settle.specs.Moves.{Moves, moves, refuses, ends_nothing, end_on, html_end_moves, end_moves}
-use Rattle.hm_construction.specs.Steps.{Phase, initial, before_html, before_head, in_head, after_head, in_body, after_body, after_html, State, Stepped, went, stops, moved, no_drop, under_html, under_head, under_body, end_event, after_end_moves, end_current, is_in_noscript}
+use Rattle.hm_settle.specs.Moves.{moves, ends_nothing, end_on, html_end_moves, end_moves}
+use Rattle.hm_construction.specs.Steps.{Phase, initial, before_html, before_head, in_head, after_head, in_body, after_body, after_html, State, went, stops, moved, no_drop, under_html, under_head, under_body, end_event, after_end_moves, end_current, is_in_noscript}
 use Rattle.hm_construction.proofs.Standing.{HeadOuter, at_head, at_noscript, HeadPath, outside_text, inside_text, BodyPath, at_body, inner, Shape, AtEnd, Good, Leads}
 use Rattle.hm_construction.proofs.Made.{OpensTo}
 use Rattle.hm_construction.proofs.Starts.{CommentsGood, front_leads, front_path}

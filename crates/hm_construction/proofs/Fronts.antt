@@ -1,19 +1,17 @@
 -- Text tokens in every phase.
-use Rattle.std.proofs.Common.{◌≡◌, ℕ, ◌+◌, ◌<◌, bytes_eq, codes, inl, inr, Bool, true, false, cond, ◌&&◌, ◌||◌, ◌==◌, not, if◌then◌else◌, List, [], ◌∷◌, ◌++◌, refl, sym, ◌∙◌, ap, subst, arith, append_assoc, encode_utf8_all}
-use Rattle.std.proofs.lemmas.Bool.{both_ways, and_parts, and_from, eqb-true}
+use Rattle.std.proofs.Common.{◌≡◌, ℕ, ◌<◌, Bool, true, false, cond, ◌&&◌, ◌==◌, List, [], ◌∷◌, ◌++◌, refl, ◌∙◌, ap, subst, arith, append_assoc}
+use Rattle.std.proofs.lemmas.Bool.{both_ways, and_from}
 use Rattle.std.specs.Str.{is_utf8}
-use Rattle.hm_base.specs.Bytes.{is_space, is_null, all_pass}
-use Rattle.hm_base.specs.Forms.{has_byte, is_byte, is_blank}
-use Rattle.hm_base.specs.Walks.{Event, start, end, text, Element, text_before, pushed, pushes}
-use Rattle.hm_base.specs.declared.rules.Rule.{Rule}
-use Rattle.hm_base.specs.declared.rules.Rule.TheVariants.{TextHere, NoDoctype, AfterBody}
-use Rattle.hm_elements.specs.Names.{is_among, html, head, body, noscript}
+use Rattle.hm_base.specs.Bytes.{is_space}
+use Rattle.hm_base.specs.Forms.{has_byte}
+use Rattle.hm_base.specs.Walks.{Event, start, end, Element, text_before}
+use Rattle.hm_elements.specs.Names.{is_among, html, head, body}
 use Rattle.hm_elements.specs.Tables.{is_raw, raw_names, is_rcdata, rcdata_names, holds_text}
-use Rattle.hm_elements.specs.Paths.{html_element, is_in_raw, is_in_text, is_in_blank}
-use Rattle.hm_elements.specs.Places.{html_path, SettledBeforeBody}
-use Rattle.hm_construction.specs.Steps.{Phase, initial, before_html, before_head, in_head, after_head, in_body, after_body, after_html, State, Stepped, went, stops, behind_events, behind_bytes, then_step, moved, under_html, under_head, under_body, make_html, make_head, close_head, make_body, reach_body, is_in_noscript, keep_byte, space_byte, body_byte, no_drop, step_byte, step_bytes, at_front}
-use Rattle.hm_construction.proofs.Standing.{Shape, SettledAt, AllComments, Good, Leads, BodyPath, at_body, behind_leads, later_leads, reach_body_leads, HeadPath}
-use Rattle.hm_construction.proofs.Texts.{Piece, text_before_body, texts, texts_join}
+use Rattle.hm_elements.specs.Paths.{is_in_raw, is_in_text}
+use Rattle.hm_elements.specs.Places.{SettledBeforeBody}
+use Rattle.hm_construction.specs.Steps.{Phase, initial, before_html, before_head, in_head, after_head, in_body, after_body, after_html, State, Stepped, went, stops, behind_events, behind_bytes, then_step, moved, under_html, under_head, under_body, make_html, make_head, close_head, make_body, reach_body, is_in_noscript, space_byte, body_byte, no_drop, step_byte, step_bytes, at_front}
+use Rattle.hm_construction.proofs.Standing.{Shape, AllComments, Good, Leads, at_body, behind_leads, later_leads, reach_body_leads}
+use Rattle.hm_construction.proofs.Texts.{text_before_body, texts}
 use Rattle.hm_construction.proofs.Bytes.{no_text_no_raw, space_low, low_behind, low_alone, no_byte_behind, no_byte_first, kept_in, is_body_phase, holds_texts, body_keeps, noscript_keeps, keeps_in_text, ran_puts, good_still, kept_leads}
 
 -- ---- A step behind made elements

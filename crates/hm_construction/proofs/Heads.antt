@@ -1,20 +1,19 @@
 -- Start tags in head: the element stands there, or head is closed and body made.
-use Rattle.std.proofs.Common.{◌≡◌, ℕ, Bool, true, false, cond, ◌||◌, ◌&&◌, not, if◌then◌else◌, List, [], ◌∷◌, ◌++◌, map, bytes_eq, refl, sym, ◌∙◌, ap, subst, ◌⊎◌, inl, inr, codes}
-use Rattle.std.proofs.lemmas.Bool.{and_parts, or_cases, not-true, both_ways, false_from_ne_true}
+use Rattle.std.proofs.Common.{◌≡◌, ℕ, Bool, true, false, cond, ◌||◌, ◌&&◌, not, if◌then◌else◌, List, [], ◌∷◌, bytes_eq, refl, sym, ◌∙◌, inl, inr}
+use Rattle.std.proofs.lemmas.Bool.{and_parts, or_cases, not-true, both_ways}
 use Rattle.std.specs.List.{list_all}
 use Rattle.hm_base.specs.Forms.{is_tag_name}
-use Rattle.hm_base.specs.Walks.{Event, start, end, Attribute, Element, pushes}
-use Rattle.hm_base.specs.declared.rules.Rule.TheVariants.{WrongParent, AfterHead, SecondRoot}
-use Rattle.hm_elements.specs.Names.{words, is_among, html, head, body, noscript, svg}
-use Rattle.hm_elements.specs.Tables.{is_void, voids, is_refused, is_raw, raw_names, is_rcdata, rcdata_names, holds_text, closes_p, paragraph_ends, blocks, headings, is_unnested, unnested_names, is_heading, parts, is_root}
-use Rattle.hm_elements.specs.Nesting.{may_stand, children, noscript_children, is_name, yields, yield_rows}
-use Rattle.hm_elements.specs.Paths.{html_element, current, current_name, is_in_svg, is_in_raw, is_in_text, stands_on, head_yields, is_block_in_p, is_nested, is_deep}
-use Rattle.hm_elements.specs.Settled.{is_html, begins_end}
-use Rattle.hm_elements.specs.Places.{AttributesAllowed, RootAllowed, StartAllowed, SettledHead}
+use Rattle.hm_base.specs.Walks.{Event, start, end, Attribute, Element}
+use Rattle.hm_base.specs.declared.rules.Rule.TheVariants.{WrongParent, AfterHead}
+use Rattle.hm_elements.specs.Names.{words, is_among, head, noscript, svg}
+use Rattle.hm_elements.specs.Tables.{is_void, voids, is_refused, is_raw, raw_names, is_rcdata, rcdata_names, holds_text, closes_p, paragraph_ends, blocks, headings, is_unnested, unnested_names, is_heading, parts}
+use Rattle.hm_elements.specs.Nesting.{may_stand, children, noscript_children, yields, yield_rows}
+use Rattle.hm_elements.specs.Paths.{html_element, is_in_svg, is_in_text, stands_on, head_yields, is_block_in_p, is_nested, is_deep}
+use Rattle.hm_elements.specs.Settled.{begins_end}
+use Rattle.hm_elements.specs.Places.{AttributesAllowed, StartAllowed}
 use Rattle.hm_elements.proofs.TableTools.{same_bytes, entry_passes}
-use Rattle.hm_settle.specs.Moves.{is_void_open}
-use Rattle.hm_construction.specs.Steps.{Phase, initial, before_html, before_head, in_head, after_head, in_body, after_body, after_html, State, Stepped, went, stops, behind_events, moved, no_drop, under_html, under_head, under_body, make_html, make_head, close_head, make_body, is_in_noscript, drops_behind, closes_at_once, entered, opened, is_metadata, start_in_body, start_after_head, start_in_noscript, start_in_head, start_inside, open_html, open_head_here, open_head, open_body_here, open_body, html_start}
-use Rattle.hm_construction.proofs.Standing.{HeadOuter, at_head, at_noscript, HeadPath, outside_text, inside_text, BodyPath, at_body, Shape, Good, Leads, behind_leads, html_leads, head_leads, closed_leads, body_leads, head_is, head_closes}
+use Rattle.hm_construction.specs.Steps.{in_head, after_head, State, went, stops, under_html, under_head, under_body, close_head, make_body, is_in_noscript, drops_behind, opened, is_metadata, start_in_body, start_after_head, start_in_noscript, start_in_head}
+use Rattle.hm_construction.proofs.Standing.{HeadOuter, at_head, at_noscript, HeadPath, outside_text, inside_text, at_body, Leads, closed_leads, body_leads, head_is}
 use Rattle.hm_construction.proofs.Starts.{CommentsGood, raw_keeps, start_leads}
 use Rattle.hm_construction.proofs.Ends.{before_tag}
 

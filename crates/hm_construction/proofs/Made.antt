@@ -1,20 +1,19 @@
 -- Elements that are made before another opens may stand where they are made.
-use Rattle.std.proofs.Common.{◌≡◌, ℕ, Bool, true, false, cond, ◌||◌, ◌&&◌, not, if◌then◌else◌, List, [], ◌∷◌, ◌++◌, map, bytes_eq, refl, sym, ◌∙◌, ap, subst, inl, inr, codes, Option, Some, None}
-use Rattle.std.proofs.lemmas.Bool.{and_parts, or_cases, not-true, both_ways, false_from_ne_true}
+use Rattle.std.proofs.Common.{◌≡◌, ℕ, Bool, true, false, cond, ◌&&◌, not, if◌then◌else◌, List, [], ◌∷◌, ◌++◌, map, bytes_eq, refl, sym, inr, Option, Some, None}
+use Rattle.std.proofs.lemmas.Bool.{and_parts, not-true, both_ways}
 use Rattle.std.specs.List.{list_all}
 use Rattle.hm_base.specs.Bytes.{is_digit_of}
 use Rattle.hm_base.specs.Forms.{is_small, is_tag_byte, is_tag_name}
-use Rattle.hm_base.specs.Walks.{Event, start, end, Element, pushes}
-use Rattle.hm_elements.specs.Names.{words, is_among, find, is_pair, is_among_found, body, noscript, p, table, tbody, tr, td, th, col, colgroup, svg}
-use Rattle.hm_elements.specs.Tables.{is_void, voids, is_refused, refused_names, is_section, sections, is_heading, headings, is_unnested, unnested_names, closes_p, paragraph_ends, blocks, parts, is_raw, raw_names, is_rcdata, rcdata_names}
-use Rattle.hm_elements.specs.Nesting.{may_stand, children, stands_by_children, stands_by_parents, own_parents, is_name, yields, yield_rows, made_under}
-use Rattle.hm_elements.specs.Paths.{html_element, current, current_name, is_in_svg, stands_on, head_yields, is_block_in_p, is_nested, is_deep}
-use Rattle.hm_elements.specs.Settled.{is_html, begins_end}
-use Rattle.hm_elements.specs.Places.{HtmlAllowed, StartAllowed, SettledBody}
+use Rattle.hm_base.specs.Walks.{Event, start, Element, pushes}
+use Rattle.hm_elements.specs.Names.{is_among, find, is_among_found, noscript, table, tbody, tr, td, th, col, colgroup, svg}
+use Rattle.hm_elements.specs.Tables.{is_void, voids, is_refused, refused_names, is_section, sections, is_heading, headings, is_unnested, unnested_names, closes_p, paragraph_ends, blocks, parts}
+use Rattle.hm_elements.specs.Nesting.{may_stand, children, stands_by_children, yields, yield_rows, made_under}
+use Rattle.hm_elements.specs.Paths.{html_element, current_name, is_in_svg, stands_on, head_yields, is_block_in_p, is_nested, is_deep}
+use Rattle.hm_elements.specs.Places.{StartAllowed, SettledBody}
 use Rattle.hm_elements.proofs.TableTools.{same_bytes, entry_passes}
 use Rattle.hm_elements.proofs.TableFacts.{outer_is_not_deep}
-use Rattle.hm_construction.specs.Steps.{starts, under_body}
-use Rattle.hm_construction.proofs.Standing.{BodyPath, at_body, inner, no_attributes}
+use Rattle.hm_construction.specs.Steps.{starts}
+use Rattle.hm_construction.proofs.Standing.{BodyPath, inner, no_attributes}
 
 -- what is settled behind events is settled with them in front
 abbrev pub OpensTo : List Element → List Event → List Element → Type 0

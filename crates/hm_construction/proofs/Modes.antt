@@ -1,20 +1,19 @@
 -- What a mode says of the innermost element.
-use Rattle.std.proofs.Common.{◌≡◌, ℕ, Bool, true, false, cond, ◌||◌, ◌&&◌, not, if◌then◌else◌, List, [], ◌∷◌, ◌++◌, length, bytes_eq, Some, refl, sym, ◌∙◌, ap, subst, inl, inr, codes}
-use Rattle.std.proofs.lemmas.Bool.{and_parts, or_cases, not-true, both_ways, false_from_ne_true}
+use Rattle.std.proofs.Common.{◌≡◌, ℕ, Bool, true, false, cond, ◌||◌, ◌&&◌, not, List, [], ◌∷◌, ◌++◌, length, bytes_eq, Some, refl}
+use Rattle.std.proofs.lemmas.Bool.{not-true, both_ways}
 use Rattle.std.specs.List.{list_all}
 use Rattle.hm_base.specs.Bytes.{is_null, is_digit_of}
-use Rattle.hm_base.specs.Forms.{has_byte, is_small, is_tag_byte, is_tag_name}
-use Rattle.hm_base.specs.RawText.{raw_end, script_end}
+use Rattle.hm_base.specs.Forms.{is_small, is_tag_byte, is_tag_name}
 use Rattle.hm_base.specs.Walks.{Element}
 use Rattle.hm_elements.specs.Names.{is_among, script as script_name}
 use Rattle.hm_elements.specs.Tables.{is_raw, raw_names, is_rcdata, rcdata_names, holds_text}
-use Rattle.hm_elements.specs.Paths.{current, is_in_svg, is_in_raw, is_in_text, is_in_blank}
+use Rattle.hm_elements.specs.Paths.{current, is_in_raw, is_in_text, is_in_blank}
 use Rattle.hm_elements.specs.Settled.{raw_text_end, end_tag}
-use Rattle.hm_elements.proofs.TableTools.{same_bytes, entry_passes, eq_self}
+use Rattle.hm_elements.proofs.TableTools.{same_bytes, entry_passes}
 use Rattle.hm_tokens.specs.First.{Mode, ordinary, in_svg, rcdata, raw, script}
 use Rattle.hm_tokens.specs.Laws.{IsMode, reads_markup, reads_references, IsWhole, IsText}
 use Rattle.hm_construction.specs.Trees.{mode_of_name, mode_of}
-use Rattle.hm_construction.proofs.Texts.{Piece, RawPiece}
+use Rattle.hm_construction.proofs.Texts.{RawPiece}
 use Rattle.hm_construction.proofs.Bytes.{text_not_blank}
 
 -- ---- By name

@@ -1,14 +1,12 @@
 -- The end of a page: what is still open is closed, and the kept comments stand behind body and html.
-use Rattle.std.proofs.Common.{◌≡◌, ℕ, Bool, true, false, cond, ◌||◌, ◌&&◌, not, if◌then◌else◌, List, [], ◌∷◌, ◌++◌, map, refl, sym, ◌∙◌, ap, subst, inl, inr}
-use Rattle.std.proofs.lemmas.Bool.{both_ways}
+use Rattle.std.proofs.Common.{◌≡◌, ℕ, Bool, true, false, cond, if◌then◌else◌, List, [], ◌∷◌, ◌++◌, map, refl, sym, ap, subst, inl, inr}
 use Rattle.hm_base.specs.Walks.{Event, start, comment, end, Element, pushes}
-use Rattle.hm_base.specs.declared.rules.Rule.TheVariants.{Cut, Unclosed, NoDoctype, AfterBody}
-use Rattle.hm_elements.specs.Names.{html, head, body, p}
+use Rattle.hm_base.specs.declared.rules.Rule.TheVariants.{Unclosed}
+use Rattle.hm_elements.specs.Names.{html, head, body}
 use Rattle.hm_elements.specs.Paths.{html_element, is_in_text}
-use Rattle.hm_elements.specs.Places.{CommentAllowed, SettledLast, SettledBehindBody, SettledBody, html_path}
-use Rattle.hm_construction.specs.Steps.{Phase, initial, before_html, before_head, in_head, after_head, in_body, after_body, after_html, State, Stepped, went, stops, behind_events, moved, under_html, under_body, make_html, make_head, close_head, make_body, reach_body, is_in_noscript, is_at_end, leave_body, end_event, closing, leave_page, step_over}
+use Rattle.hm_elements.specs.Places.{SettledLast, SettledBehindBody, SettledBody, html_path}
+use Rattle.hm_construction.specs.Steps.{Phase, initial, before_html, before_head, in_head, after_head, in_body, after_body, after_html, State, Stepped, went, stops, behind_events, moved, under_html, under_body, make_head, close_head, make_body, reach_body, is_in_noscript, is_at_end, leave_body, closing, leave_page, step_over}
 use Rattle.hm_construction.proofs.Standing.{Shape, SettledAt, AtEnd, AllComments, Good, Leads, pushes_append}
-use Rattle.hm_construction.proofs.Starts.{CommentsGood}
 use Rattle.hm_construction.proofs.Tags.{is_behind, reaches, allowed_on, frame_text}
 
 -- ---- What closes

@@ -1,15 +1,15 @@
 -- A raw text is read as one piece, and behind it stands its end tag.
-use Rattle.std.proofs.Common.{◌≡◌, ℕ, zero, suc, ◌+◌, Bool, true, false, cond, ◌||◌, ◌&&◌, if◌then◌else◌, List, [], ◌∷◌, ◌++◌, take, drop, Option, Some, None, refl, sym, ◌∙◌, ap, subst, codes, arith}
+use Rattle.std.proofs.Common.{◌≡◌, ℕ, zero, suc, ◌+◌, Bool, true, false, cond, List, [], ◌∷◌, drop, Option, Some, None, refl, codes, arith}
 use Rattle.std.proofs.lemmas.Bool.{both_ways}
 use Rattle.hm_base.specs.Bytes.{is_null, strip, strip_word}
-use Rattle.hm_base.specs.RawText.{begins_end_tag, is_found_whole, place_from, raw_end, Mark, opens_comment, closes_comment, opens_script, closes_script, mark_at, Marked, with_mark, marks_from, ScriptState, unescaped, escaped, double_escaped, state_behind, ends_script, first_end, script_end}
+use Rattle.hm_base.specs.RawText.{begins_end_tag, place_from, raw_end, Mark, opens_comment, closes_comment, opens_script, closes_script, mark_at, with_mark, marks_from, ScriptState, unescaped, escaped, double_escaped, state_behind, ends_script, first_end, script_end}
 use Rattle.hm_refs.specs.Names.{Entry}
-use Rattle.hm_tree.specs.Tokens.{Seen, doctype, start_tag, end_tag, slice, points, comment, Scanned, taken, refused}
+use Rattle.hm_tree.specs.Tokens.{doctype, start_tag, end_tag, slice, points, comment, Scanned, taken, refused}
 use Rattle.hm_tree.specs.declared.tokens.ScanFault.{ScanFault}
 use Rattle.hm_tag_scan.specs.Tags.{Tag, cut_tag, is_name_byte}
 use Rattle.hm_base.specs.Bytes as bytes
 use Rattle.hm_tag_scan.specs.Reading.{read_tag, read_by, read_start, read_end, start_of, end_of, tag_name, tag_fault, unless_fault, read_attributes}
-use Rattle.hm_tokens.specs.First.{Mode, raw, script, Next, at_end, behind_bytes, read_inside, read_nothing, unless_end, first}
+use Rattle.hm_tokens.specs.First.{Mode, behind_bytes, read_inside, read_nothing, unless_end, first}
 use Rattle.hm_construction.proofs.Modes.{RawMode, of_script, of_raw}
 
 -- ---- Where a text ends, its end tag stands

@@ -1,13 +1,13 @@
 -- What is behind a token is the end of the text.
-use Rattle.std.proofs.Common.{◌≡◌, ℕ, zero, suc, ◌-◌, ◌<◌, ◌≤◌, ◌+◌, Bool, true, false, cond, ◌||◌, ◌&&◌, ◌==◌, if◌then◌else◌, List, [], ◌∷◌, ◌++◌, length, take, drop, Option, Some, None, refl, sym, ◌∙◌, ap, subst, codes, append_assoc, arith, length-append}
+use Rattle.std.proofs.Common.{◌≡◌, ℕ, zero, suc, ◌-◌, ◌+◌, Bool, true, false, cond, ◌&&◌, ◌==◌, List, [], ◌∷◌, ◌++◌, length, take, drop, Option, Some, None, refl, sym, ◌∙◌, ap, subst, codes, append_assoc, arith, length-append}
 use Rattle.std.specs.Option.{option_or}
 use Rattle.std.proofs.lemmas.List.{take-append-drop}
-use Rattle.hm_base.specs.Bytes.{Cut, front, behind, strip, head_is, is_space, is_null, cut_at, or_go_on, with_first}
+use Rattle.hm_base.specs.Bytes.{Cut, behind, strip, head_is, is_space, is_null, cut_at, or_go_on}
 use Rattle.hm_base.specs.RawText.{raw_end, script_end}
 use Rattle.hm_base.specs.Walks.{Attribute}
 use Rattle.hm_refs.specs.Names.{Entry}
 use Rattle.hm_refs.specs.References.{Reference}
-use Rattle.hm_tree.specs.Tokens.{Seen, doctype, start_tag, end_tag, slice, points, comment, Scanned, taken, refused}
+use Rattle.hm_tree.specs.Tokens.{Seen, start_tag, end_tag, Scanned, taken, refused}
 use Rattle.hm_tree.specs.declared.tokens.ScanFault.{ScanFault}
 use Rattle.hm_tag_scan.specs.Tags.{Tag, tag_from, cut_tag, is_name_byte, is_tag_end, attribute_at, with_attribute, with_slash, attribute_then, Written}
 use Rattle.hm_tag_scan.specs.Reading.{read_tag, read_by, read_start, read_end, start_of, end_of, tag_name, tag_fault, unless_fault, begins_tag, read_attributes}
@@ -16,7 +16,7 @@ use Rattle.hm_text_scan.specs.Texts as texts
 use Rattle.hm_mark_scan.specs.Comments.{read_comment, comment_at, cut_comment, cut_where, behind_end, at_once, begins, read_cdata, begins_cdata}
 use Rattle.hm_mark_scan.specs.Doctypes.{read_doctype, begins_doctype, as_doctype, by_form, doctype_form}
 use Rattle.hm_mark_scan.specs.Pieces.{as_comment, as_slice}
-use Rattle.hm_tokens.specs.First.{Mode, ordinary, in_svg, rcdata, raw, script, Next, at_end, behind_bytes, read_markup, read_here, Behind, three_more, behind_none, behind_empty_tags, next_here, before_rest, read_inside, read_references, read_nothing, unless_end, first}
+use Rattle.hm_tokens.specs.First.{Mode, ordinary, in_svg, rcdata, raw, script, Next, at_end, behind_bytes, read_markup, read_here, three_more, behind_none, behind_empty_tags, next_here, before_rest, read_inside, read_references, read_nothing, unless_end, first}
 
 -- rest is the end of s
 abbrev pub Ends : List ℕ → List ℕ → Type 0

@@ -1,14 +1,13 @@
 -- What is built from a state on is settled at the place of that state: the statement, and how it is put together.
-use Rattle.std.proofs.Common.{◌≡◌, ℕ, Bool, true, false, ◌⊎◌, List, [], ◌∷◌, ◌++◌, refl, ap}
+use Rattle.std.proofs.Common.{◌≡◌, ℕ, true, false, ◌⊎◌, List, [], ◌∷◌, ◌++◌, refl, ap}
 use Rattle.std.proofs.lemmas.Bool.{both_ways}
-use Rattle.hm_base.specs.Walks.{Event, start, text, end, Element, pushed, pushes}
+use Rattle.hm_base.specs.Walks.{Event, start, end, Element, pushed, pushes}
 use Rattle.hm_elements.specs.Names.{html, head, body, noscript, p}
 use Rattle.hm_elements.specs.Tables.{holds_text}
 use Rattle.hm_elements.specs.Paths.{html_element, is_in_svg, is_in_raw, is_in_text}
 use Rattle.hm_elements.specs.Settled.{is_html}
-use Rattle.hm_elements.specs.Places.{AttributesAllowed, RootAllowed, CommentAllowed, SettledInside, SettledBody, SettledBeforeBody, SettledHead, SettledBeforeHead, SettledBeforeHtml, SettledPage}
-use Rattle.hm_construction.specs.Steps.{Phase, initial, before_html, before_head, in_head, after_head, in_body, after_body, after_html, State, Stepped, went, stops, behind_events, behind_bytes, moved, under_html, under_head, under_body, make_html, make_head, close_head, make_body, reach_head, reach_body, is_in_noscript}
-use Rattle.hm_base.specs.declared.rules.Rule.{Rule}
+use Rattle.hm_elements.specs.Places.{AttributesAllowed, RootAllowed, CommentAllowed, SettledBody, SettledBeforeBody, SettledHead, SettledBeforeHead, SettledBeforeHtml, SettledPage}
+use Rattle.hm_construction.specs.Steps.{Phase, initial, before_html, before_head, in_head, after_head, in_body, after_body, after_html, State, Stepped, went, stops, behind_events, behind_bytes, moved, under_html, under_head, under_body, make_html, make_head, close_head, make_body, reach_body, is_in_noscript}
 
 -- head, or noscript in it
 pub data HeadOuter : List Element → Type 0 where

@@ -1,21 +1,21 @@
 -- Start tags in body: what closes, what is made and what opens is settled.
-use Rattle.std.proofs.Common.{◌≡◌, ℕ, Bool, true, false, cond, ◌||◌, ◌&&◌, not, if◌then◌else◌, List, [], ◌∷◌, ◌++◌, map, bytes_eq, refl, sym, ◌∙◌, ap, subst, inl, inr, codes}
-use Rattle.std.proofs.lemmas.Bool.{and_parts, and_from, or_cases, not-true, both_ways, false_from_ne_true}
+use Rattle.std.proofs.Common.{◌≡◌, ℕ, Bool, true, false, cond, ◌||◌, ◌&&◌, not, if◌then◌else◌, List, [], ◌∷◌, ◌++◌, map, bytes_eq, refl, sym, ap, subst, inl, inr, codes}
+use Rattle.std.proofs.lemmas.Bool.{and_parts, not-true, both_ways, false_from_ne_true}
 use Rattle.std.specs.List.{list_all}
 use Rattle.hm_base.specs.Forms.{is_tag_name}
 use Rattle.hm_base.specs.Walks.{Event, start, end, Attribute, Element, pushes}
 use Rattle.hm_base.specs.declared.rules.Rule.TheVariants.{RefusedName, SecondRoot, BlockInParagraph, Nested, WrongParent, TooDeep, ForeignName}
-use Rattle.hm_elements.specs.Names.{words, is_among, body, svg, html, colgroup, col}
+use Rattle.hm_elements.specs.Names.{words, is_among, body, svg, html}
 use Rattle.hm_elements.specs.Tables.{is_root, roots, is_void, is_refused, is_svg_name, holds_svg_text, is_raw, raw_names}
 use Rattle.hm_elements.specs.Nesting.{yields, yield_rows, made_under}
 use Rattle.hm_elements.specs.Paths.{html_element, current, is_in_svg, is_in_raw, stands_on, head_yields, is_block_in_p, is_nested, is_deep, front, behind, yields_to, made_on}
 use Rattle.hm_elements.specs.Settled.{is_html, begins_end}
-use Rattle.hm_elements.specs.Places.{AttributesAllowed, HtmlAllowed, SvgAllowed, ElementAllowed, StartAllowed, SettledBody}
-use Rattle.hm_elements.proofs.TableTools.{same_bytes, entry_passes, eq_self}
-use Rattle.hm_elements.proofs.TableFacts.{outer_is_not_deep, svg_is_plain, stands_parent}
-use Rattle.hm_settle.specs.Moves.{Moves, moves, refuses, element, opens, opens_in_place, start_on, svg_start_moves, html_start_moves, start_moves, is_void_open}
-use Rattle.hm_construction.specs.Steps.{Phase, in_body, State, Stepped, went, stops, behind_events, moved, no_drop, under_body, drops_behind, closes_at_once, entered, end_event, start_event, starts, after_moves, start_in_body}
-use Rattle.hm_construction.proofs.Standing.{BodyPath, at_body, inner, AllComments, Good, Leads, behind_leads, pushes_append}
+use Rattle.hm_elements.specs.Places.{AttributesAllowed, StartAllowed, SettledBody}
+use Rattle.hm_elements.proofs.TableTools.{same_bytes, entry_passes}
+use Rattle.hm_elements.proofs.TableFacts.{svg_is_plain}
+use Rattle.hm_settle.specs.Moves.{moves, refuses, element, opens, opens_in_place, start_on, svg_start_moves, html_start_moves, start_moves, is_void_open}
+use Rattle.hm_construction.specs.Steps.{in_body, State, went, behind_events, moved, no_drop, under_body, drops_behind, closes_at_once, entered, end_event, starts, after_moves, start_in_body}
+use Rattle.hm_construction.proofs.Standing.{BodyPath, at_body, inner, AllComments, Leads, behind_leads, pushes_append}
 use Rattle.hm_construction.proofs.Made.{OpensTo, Made, made_cases, made_leads, Free, made_free, made_path}
 
 -- ---- The element opens

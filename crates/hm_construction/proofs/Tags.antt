@@ -1,20 +1,18 @@
 -- Tags, comments and doctypes in every phase.
-use Rattle.std.proofs.Common.{◌≡◌, ℕ, Bool, true, false, cond, ◌||◌, ◌&&◌, not, if◌then◌else◌, List, [], ◌∷◌, ◌++◌, map, bytes_eq, refl, sym, ◌∙◌, ap, subst, ◌⊎◌, inl, inr, codes}
-use Rattle.std.proofs.lemmas.Bool.{and_parts, or_cases, not-true, both_ways, false_from_ne_true}
+use Rattle.std.proofs.Common.{◌≡◌, ℕ, Bool, true, false, cond, ◌||◌, ◌&&◌, not, if◌then◌else◌, List, [], ◌∷◌, ◌++◌, bytes_eq, refl, sym, ◌∙◌, ap, subst, inl, inr}
+use Rattle.std.proofs.lemmas.Bool.{and_parts, not-true, both_ways}
 use Rattle.hm_base.specs.Forms.{is_tag_name}
-use Rattle.hm_base.specs.Walks.{Event, start, end, comment, doctype, Attribute, Element, pushes}
-use Rattle.hm_base.specs.declared.rules.Rule.TheVariants.{RefusedName, SecondRoot, StrayEnd, AfterBody, SecondDoctype, Unclosed}
-use Rattle.hm_elements.specs.Names.{is_among, html, head, body, noscript, p}
+use Rattle.hm_base.specs.Walks.{Event, end, Attribute, Element}
+use Rattle.hm_base.specs.declared.rules.Rule.TheVariants.{RefusedName, SecondRoot, AfterBody, Unclosed}
+use Rattle.hm_elements.specs.Names.{is_among, html, head, body, p}
 use Rattle.hm_elements.specs.Tables.{is_refused, is_raw, raw_names, is_rcdata, rcdata_names, holds_text}
 use Rattle.hm_elements.specs.Paths.{html_element, is_in_svg, is_in_raw, is_in_text}
-use Rattle.hm_elements.specs.Settled.{is_html}
-use Rattle.hm_elements.specs.Places.{AttributesAllowed, RootAllowed, CommentAllowed, SettledInside}
+use Rattle.hm_elements.specs.Places.{AttributesAllowed, RootAllowed, CommentAllowed}
 use Rattle.hm_elements.proofs.TableTools.{same_bytes}
-use Rattle.hm_settle.specs.Moves.{end_moves}
-use Rattle.hm_construction.specs.Steps.{Phase, initial, before_html, before_head, in_head, after_head, in_body, after_body, after_html, State, Stepped, went, stops, moved, no_drop, under_html, under_head, under_body, make_html, make_head, close_head, make_body, reach_head, reach_body, is_in_noscript, start_in_body, start_in_head, start_after_head, start_inside, open_html, open_head_here, open_head, open_body_here, open_body, html_start, is_outside, outside_rule, step_start, end_current, end_head, is_at_end, leave_body, end_body, end_html, end_inside, html_end, end_outside, step_end, step_comment, step_doctype, after_end_moves}
-use Rattle.hm_construction.proofs.Standing.{HeadOuter, at_head, at_noscript, HeadPath, outside_text, inside_text, BodyPath, at_body, inner, Shape, SettledAt, AtEnd, AllComments, Good, Leads, html_leads, head_leads, closed_leads, body_leads, head_is, head_closes, reach_body_leads}
+use Rattle.hm_construction.specs.Steps.{Phase, initial, before_html, before_head, in_head, after_head, in_body, after_body, after_html, State, Stepped, went, stops, moved, no_drop, under_html, under_head, under_body, make_head, close_head, reach_body, is_in_noscript, start_in_body, start_in_head, start_inside, open_html, open_head_here, open_head, open_body_here, open_body, html_start, is_outside, outside_rule, step_start, end_current, end_head, is_at_end, leave_body, end_body, end_html, end_inside, html_end, end_outside, step_end, step_comment, step_doctype}
+use Rattle.hm_construction.proofs.Standing.{HeadOuter, at_head, at_noscript, HeadPath, outside_text, inside_text, at_body, Shape, SettledAt, AtEnd, AllComments, Good, Leads, html_leads, head_leads, closed_leads, head_is, head_closes, reach_body_leads}
 use Rattle.hm_construction.proofs.Starts.{CommentsGood, start_leads}
-use Rattle.hm_construction.proofs.Ends.{before_tag, good_on, end_leads, StandsAlone, current_leads}
+use Rattle.hm_construction.proofs.Ends.{before_tag, good_on, end_leads, current_leads}
 use Rattle.hm_construction.proofs.Heads.{after_head_leads, in_head_leads}
 
 -- ---- Start tags

@@ -1,18 +1,16 @@
 -- Texts: what a step keeps of them stands in front of what is settled behind it.
-use Rattle.std.proofs.Common.{◌≡◌, ℕ, ◌<◌, Bool, true, false, cond, ◌&&◌, ◌||◌, ◌==◌, not, List, [], ◌∷◌, ◌++◌, map, refl, sym, ◌∙◌, ap, subst, Some, length, arith}
-use Rattle.std.proofs.lemmas.Bool.{both_ways, and_parts, and_from, or_cases, eqb-true}
-use Rattle.std.specs.Str.{IsUtf8, is_utf8}
-use Rattle.std.proofs.lemmas.Str.{IsUtf8-append, IsUtf8-from_is_utf8, is_utf8-from_IsUtf8, IsUtf8-past_char, IsUtf8-from_ascii}
-use Rattle.hm_base.specs.Bytes.{is_space, is_null, all_pass, some_passes}
+use Rattle.std.proofs.Common.{◌≡◌, ℕ, Bool, true, false, ◌||◌, List, [], ◌∷◌, ◌++◌, refl, sym, ◌∙◌, ap, Some, length}
+use Rattle.std.proofs.lemmas.Bool.{both_ways, and_parts, and_from}
+use Rattle.std.specs.Str.{is_utf8}
+use Rattle.std.proofs.lemmas.Str.{IsUtf8-append, IsUtf8-from_is_utf8, is_utf8-from_IsUtf8}
+use Rattle.hm_base.specs.Bytes.{is_space, is_null}
 use Rattle.hm_base.specs.Forms.{has_byte, is_byte, is_blank}
-use Rattle.hm_base.specs.Walks.{Event, start, text, end, comment, doctype, Element, text_before, pushed, pushes}
-use Rattle.hm_base.specs.declared.rules.Rule.{Rule}
+use Rattle.hm_base.specs.Walks.{Event, start, text, end, comment, doctype, Element, text_before, pushes}
 use Rattle.hm_elements.specs.Names.{is_among}
-use Rattle.hm_elements.specs.Tables.{is_raw, raw_names, is_rcdata, rcdata_names, holds_text}
-use Rattle.hm_elements.specs.Paths.{is_in_raw, is_in_text, is_in_blank, current}
+use Rattle.hm_elements.specs.Tables.{is_raw, raw_names}
+use Rattle.hm_elements.specs.Paths.{is_in_raw, is_in_blank, current}
 use Rattle.hm_elements.specs.Settled.{begins_text, end_tag, raw_text_end}
 use Rattle.hm_elements.specs.Places.{TextAllowed, SettledInside, SettledBeforeBody, html_path}
-use Rattle.hm_construction.specs.Steps.{Stepped, went, stops}
 
 -- ---- UTF-8, zero bytes and whitespace of texts that touch
 

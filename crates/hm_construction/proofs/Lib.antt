@@ -14,3 +14,4 @@ pub mod RawTexts
 pub mod Built
 pub mod Growth
 pub mod TagGrowth
+pub mod Rooms

@@ -38,7 +38,7 @@ behind_closes after_html path ss last k s a b = closing_settled path ss last s a
 
 -- ---- Where it leads
 
-abbrev LeavesBehind : Stepped → Type 0
+abbrev pub LeavesBehind : Stepped → Type 0
 LeavesBehind (went es st) = is_behind st.phase ≡ true
 LeavesBehind (stops rule n) = Unit {0}
 
@@ -62,7 +62,7 @@ closed_behind st = events_behind (end head false ∷ []) (make_body (leave_body 
 head_behind : (st : State) → LeavesBehind (make_head (close_head (make_body (leave_body after_html))) st)
 head_behind st = let next = moved st in_head (html_element head ∷ under_html) in events_behind (start head false [] ∷ []) (close_head (make_body (leave_body after_html)) next) (closed_behind next)
 
-reached_behind : (phase : Phase) (st : State) → LeavesBehind (reach_body phase (leave_body after_html) st)
+pub reached_behind : (phase : Phase) (st : State) → LeavesBehind (reach_body phase (leave_body after_html) st)
 reached_behind initial st = tt
 reached_behind before_html st = let next = moved st before_head under_html in events_behind (start html false [] ∷ []) (make_head (close_head (make_body (leave_body after_html))) next) (head_behind next)
 reached_behind before_head st = head_behind st

@@ -1,13 +1,12 @@
 -- How much a step makes, against what was still to come.
-use Rattle.std.proofs.Common.{◌≡◌, ℕ, suc, ◌+◌, ◌-◌, ◌*◌, ◌<◌, ◌≤◌, Bool, true, false, cond, not, ◌&&◌, ◌||◌, ◌==◌, if◌then◌else◌, List, [], ◌∷◌, ◌++◌, length, map, refl, sym, ◌∙◌, ap, subst, arith, length-append, encode_utf8_all, bytes_eq}
+use Rattle.std.proofs.Common.{◌≡◌, ℕ, ◌+◌, ◌≤◌, Bool, true, false, cond, ◌&&◌, ◌==◌, if◌then◌else◌, List, [], ◌∷◌, ◌++◌, length, arith, length-append}
 use Rattle.hm_base.specs.Bytes.{is_space}
-use Rattle.hm_base.specs.Walks.{Event, start, text, end, comment, doctype, Element, Attribute, attributes_size, event_size, walk_size, text_before, pushed, pushes}
-use Rattle.hm_base.specs.declared.rules.Rule.{Rule}
+use Rattle.hm_base.specs.Walks.{Event, start, end, comment, Element, walk_size}
 use Rattle.hm_base.specs.declared.rules.Rule.TheVariants.{TextHere}
 use Rattle.hm_elements.specs.Names.{html, head, body}
-use Rattle.hm_elements.specs.Paths.{html_element, is_in_text, is_in_raw, is_in_blank}
+use Rattle.hm_elements.specs.Paths.{is_in_text, is_in_blank}
 use Rattle.hm_construction.specs.Steps.{Phase, initial, before_html, before_head, in_head, after_head, in_body, after_body, after_html, State, Stepped, went, stops, behind_events, behind_bytes, moved, under_html, under_head, under_body, make_html, make_head, close_head, make_body, reach_body, is_in_noscript, keep_byte, space_byte, body_byte, other_byte, kept_byte, no_drop, step_byte, then_step, step_bytes, at_front, step_comment, step_doctype}
-use Rattle.hm_construction.specs.Room.{frame_events, frame_bytes, bytes_in, events_ahead, bytes_ahead}
+use Rattle.hm_construction.specs.Room.{bytes_in, events_ahead, bytes_ahead}
 
 -- a step makes at most so many events and bytes more than what was still to come
 abbrev pub Grows : ℕ → ℕ → State → Stepped → Type 0

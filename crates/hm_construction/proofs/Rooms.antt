@@ -1,6 +1,6 @@
 -- A walk that is being built stays within what the text that was read allows, and so it fits a tree.
-use Rattle.std.proofs.Common.{◌≡◌, ℕ, suc, ◌+◌, ◌-◌, ◌*◌, ◌^◌, ◌<◌, ◌≤◌, Bool, true, false, cond, if◌then◌else◌, List, [], ◌∷◌, ◌++◌, length, map, refl, sym, ◌∙◌, ap, subst, arith, length-append, encode_utf8_all}
-use Rattle.hm_base.specs.Walks.{Event, start, text, comment, end, doctype, Element, path_behind, path_after, walk_size, text_before, pushed, pushes}
+use Rattle.std.proofs.Common.{◌≡◌, ℕ, suc, ◌+◌, ◌-◌, ◌*◌, ◌^◌, ◌<◌, ◌≤◌, Bool, true, false, cond, if◌then◌else◌, List, [], ◌∷◌, ◌++◌, length, map, refl, ap, subst, arith, length-append, encode_utf8_all}
+use Rattle.hm_base.specs.Walks.{Event, start, text, comment, end, doctype, Element, path_behind, path_after, walk_size, pushed, pushes}
 use Rattle.hm_base.specs.declared.source.TheConstants.{LONGEST_PAGE}
 use Rattle.hm_base.specs.declared.rules.Rule.TheVariants.{Unclosed}
 use Rattle.hm_elements.specs.Paths.{is_in_text}
@@ -13,7 +13,7 @@ use Rattle.hm_tokens.specs.Laws.{SoundNames, TakesBytes}
 use Rattle.hm_tokens.proofs.Firsts.{tokens_are_small}
 use Rattle.hm_construction.specs.Steps.{Phase, initial, before_html, before_head, in_head, after_head, in_body, after_body, after_html, State, Stepped, went, stops, no_drop, moved, step, step_bytes, step_start, step_end, step_comment, step_doctype, reach_body, is_in_noscript, leave_body, closing, end_event, leave_page, step_over, first_state}
 use Rattle.hm_construction.specs.Trees.{mode_of}
-use Rattle.hm_construction.specs.Room.{frame_events, frame_bytes, bytes_in, events_ahead, bytes_ahead, IsWithin}
+use Rattle.hm_construction.specs.Room.{frame_events, bytes_in, events_ahead, bytes_ahead, IsWithin}
 use Rattle.hm_construction.proofs.Modes.{is_mode}
 use Rattle.hm_construction.proofs.Overs.{LeavesBehind, reached_behind}
 use Rattle.hm_construction.proofs.Tags.{is_behind}

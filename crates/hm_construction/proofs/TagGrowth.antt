@@ -1,15 +1,14 @@
 -- How much a tag makes, against what was still to come.
-use Rattle.std.proofs.Common.{◌≡◌, ℕ, suc, ◌+◌, ◌-◌, ◌*◌, ◌<◌, ◌≤◌, Bool, true, false, cond, not, ◌&&◌, ◌||◌, if◌then◌else◌, List, [], ◌∷◌, ◌++◌, length, map, refl, sym, ◌∙◌, ap, subst, arith, length-append, bytes_eq}
-use Rattle.hm_base.specs.Walks.{Event, start, end, Element, Attribute, attributes_size, walk_size}
-use Rattle.hm_base.specs.declared.rules.Rule.{Rule}
+use Rattle.std.proofs.Common.{◌≡◌, ℕ, suc, ◌+◌, ◌≤◌, Bool, true, false, cond, not, ◌||◌, if◌then◌else◌, List, [], ◌∷◌, ◌++◌, length, map, refl, ap, arith, length-append, bytes_eq}
+use Rattle.hm_base.specs.Walks.{start, end, Element, Attribute, attributes_size, walk_size}
 use Rattle.hm_base.specs.declared.rules.Rule.TheVariants.{RefusedName, SecondRoot, StrayEnd, NotCurrent, BlockInParagraph, Nested, WrongParent, TooDeep, ForeignName, AfterHead, AfterBody, Unclosed}
 use Rattle.hm_elements.specs.Names.{is_among, html, head, body, svg}
 use Rattle.hm_elements.specs.Tables.{is_root, is_refused, is_svg_name, holds_svg_text}
 use Rattle.hm_elements.specs.Nesting.{noscript_children, made_under}
 use Rattle.hm_elements.specs.Paths.{html_element, current, is_in_svg, is_in_text, stands_on, is_open, is_block_in_p, is_nested, is_deep, front, behind, yields_to, falls_to, made_on}
-use Rattle.hm_settle.specs.Moves.{Moves, moves, refuses, element, opens, opens_in_place, start_on, svg_start_moves, html_start_moves, start_moves, ends_nothing, end_on, html_end_moves, end_moves}
-use Rattle.hm_construction.specs.Steps.{Phase, initial, before_html, before_head, in_head, after_head, in_body, after_body, after_html, State, Stepped, went, stops, behind_events, moved, under_html, under_head, under_body, make_html, make_head, close_head, make_body, reach_body, is_in_noscript, drops_behind, closes_at_once, entered, end_event, start_event, starts, after_moves, start_in_body, opened, open_html, open_head_here, open_head, open_body_here, open_body, is_metadata, start_after_head, start_in_noscript, start_in_head, start_inside, html_start, is_outside, outside_rule, step_start, after_end_moves, end_current, end_head, is_at_end, leave_body, end_body, end_html, end_inside, html_end, end_outside, step_end}
-use Rattle.hm_construction.specs.Room.{frame_events, frame_bytes, bytes_in, events_ahead, bytes_ahead}
+use Rattle.hm_settle.specs.Moves.{moves, refuses, element, opens_in_place, start_on, svg_start_moves, html_start_moves, start_moves, ends_nothing, end_on, html_end_moves, end_moves}
+use Rattle.hm_construction.specs.Steps.{Phase, initial, before_html, before_head, in_head, after_head, in_body, after_body, after_html, State, Stepped, went, stops, moved, under_html, under_head, under_body, make_head, close_head, make_body, reach_body, is_in_noscript, drops_behind, closes_at_once, entered, end_event, starts, after_moves, start_in_body, opened, open_html, open_head_here, open_head, open_body_here, open_body, is_metadata, start_after_head, start_in_head, start_inside, html_start, is_outside, outside_rule, step_start, after_end_moves, end_current, end_head, is_at_end, leave_body, end_body, end_html, end_inside, html_end, end_outside, step_end}
+use Rattle.hm_construction.specs.Room.{frame_events, frame_bytes}
 use Rattle.hm_construction.proofs.Made.{Made, none_made, a_tbody, two_made, a_colgroup, a_tr, made_cases}
 use Rattle.hm_construction.proofs.Growth.{Grows, Leaves, size_append, behind_grows, more_grows, html_grows, head_grows, closed_grows, body_grows, reach_body_grows}
 

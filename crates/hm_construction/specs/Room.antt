@@ -7,10 +7,10 @@ use Rattle.hm_tree.specs.Tokens.{Seen, taken}
 use Rattle.hm_tree.specs.Trees.{HasRoom}
 use Rattle.hm_tokens.specs.First.{behind_bytes, first}
 use Rattle.hm_tokens.specs.Laws.{SoundNames}
-use Rattle.hm_construction.specs.Steps.{Phase, initial, before_html, before_head, in_head, after_head, in_body, after_body, after_html, State, went, step, step_over, first_state}
+use Rattle.hm_construction.specs.Steps.{Phase, initial, before_html, before_head, in_head, after_head, State, went, step, step_over, first_state}
 use Rattle.hm_construction.specs.Trees.{mode_of}
 
--- the events that the end of the page would still make: those of html, head and body, and the ends of what is open in body
+-- the events that html, head and body would still make if the page ended here, and the ends of what is open in body
 abbrev pub frame_events : Phase → List Element → ℕ
 frame_events initial path = 6
 frame_events before_html path = 6

@@ -115,9 +115,6 @@ current_in_body n st path c (inner e rest other out more) s = by (bytes_eq e.nam
 head_closed : (n m : List ℕ) (st : State) (rest : List Element) → CommentsGood st → HeadPath rest → bytes_eq m head ≡ false → Leads in_head (html_element m ∷ rest) (end_current n (before_tag st in_head (html_element m ∷ rest)) (html_element m ∷ rest))
 head_closed n m st rest c on_path other = by (bytes_eq m n)
   where
-    e : Element
-    e = html_element m
-
     by : (b : Bool) → Leads in_head (html_element m ∷ rest) (cond b (went (end_event (html_element m) ∷ []) (record (before_tag st in_head (html_element m ∷ rest)) { path = rest })) (if is_open n (html_element m ∷ rest) then stops NotCurrent 0 else stops StrayEnd 0))
     by true = (good_on st in_head (html_element m ∷ rest) rest c on_path, λ w h. (refl, rw other h))
     by false = other_ends in_head (html_element m ∷ rest) (is_open n (html_element m ∷ rest))

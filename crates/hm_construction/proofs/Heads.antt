@@ -82,11 +82,8 @@ in_head_there : (n : List ℕ) → (is_void n || holds_text n) || bytes_eq n nos
 in_head_there n k v =
     elim (or_cases (is_void n || holds_text n) (bytes_eq n noscript) k) [
       | inl a ↦ in_outer n under_head at_head a v
-      | inr b ↦ rw (same n noscript b) (outside_text (html_element noscript ∷ under_head) at_noscript)
+      | inr b ↦ rw (same_bytes n noscript b) (outside_text (html_element noscript ∷ under_head) at_noscript)
     ]
-  where
-    same : (a b : List ℕ) → bytes_eq a b ≡ true → a ≡ b
-    same a b e = same_bytes a b e
 
 opens_in_head : (n : List ℕ) → stands_on n under_head ≡ true → HeadOpening n under_head
 opens_in_head n h =
@@ -113,16 +110,10 @@ head_allowed n attributes path w form allowed known o closes =
       not_deep = f.1.1.1.1;
     }
 
-outer_good : (path : List Element) → HeadOuter path → HeadPath path
-outer_good path o = outside_text path o
-
 opened_leads : (n : List ℕ) (attributes : List Attribute) (st : State) (path : List Element) → CommentsGood st → is_tag_name n ≡ true → AttributesAllowed attributes → is_refused n ≡ false → HeadOpening n path
     → Leads in_head path (opened n attributes (before_tag st in_head path))
 opened_leads n attributes st path c form allowed known o = by (is_void n) refl
   where
-    e : Element
-    e = html_element n
-
     by : (v : Bool) → is_void n ≡ v
         → Leads in_head path (cond ((not false && v) || (false && false)) (went (start n false attributes ∷ end n false ∷ []) (record (before_tag st in_head path) { path = path })) (went (start n false attributes ∷ []) (record (before_tag st in_head path) { path = html_element n ∷ path; drops_line_feed = drops_behind (html_element n ∷ path) })))
     by true h = (record { shape = outside_text path o.outer_path; inner_comments = c.0; last_comments = c.1; keeps = λ x. refl }, λ w s. (head_allowed n attributes path (end n false ∷ w) form allowed known o (λ v. refl), (refl, rw o.plain.no_head s)))

@@ -15,3 +15,4 @@ pub mod Built
 pub mod Growth
 pub mod TagGrowth
 pub mod Rooms
+pub mod Pages

@@ -18,10 +18,6 @@ use Rattle.hm_construction.proofs.Bytes.{text_not_blank}
 
 -- ---- By name
 
-names_in_form : list_all is_tag_name (rcdata_names ++ raw_names) ≡ true
-unfolding is_tag_name is_small is_tag_byte is_digit_of rcdata_names raw_names
-names_in_form = refl
-
 rcdata_form : list_all is_tag_name rcdata_names ≡ true
 unfolding is_tag_name is_small is_tag_byte is_digit_of rcdata_names
 rcdata_form = refl
@@ -46,10 +42,6 @@ is_mode_name n = by (is_among n rcdata_names) (bytes_eq n script_name) (is_among
     by false true c ea ec = tt
     by false false true ea ec = entry_passes is_tag_name n (raw_names ++ script_name ∷ []) raw_form ec
     by false false false ea ec = tt
-
-script_is_raw : is_raw script_name ≡ true
-unfolding is_raw raw_names is_among
-script_is_raw = refl
 
 rcdata_is_no_raw : (n : List ℕ) → is_rcdata n ≡ true → is_raw n ≡ false
 unfolding is_rcdata is_raw
@@ -128,25 +120,22 @@ raw_whole : (n : List ℕ) (mode : Mode) (s : List ℕ) → RawMode n mode → I
 raw_whole n mode s (of_script e) w = (w.0, rw e w.1)
 raw_whole n mode s (of_raw e) w = (w.0, rw e w.1)
 
-raw_is_text : (path : List Element) → is_in_raw path ≡ true → is_in_text path ≡ true
+pub in_text : (path : List Element) → is_in_raw path ≡ true → is_in_text path ≡ true
 unfolding holds_text
-raw_is_text [] h = cc
-raw_is_text (e ∷ path) h = by e.foreign (is_raw e.name) h
+in_text [] h = cc
+in_text (e ∷ path) h = by e.foreign (is_raw e.name) h
   where
     by : (f r : Bool) → not f && r ≡ true → not f && (r || is_rcdata e.name) ≡ true
     by true r k = cc
     by false true k = refl
     by false false k = cc
 
-pub in_text : (path : List Element) → is_in_raw path ≡ true → is_in_text path ≡ true
-in_text path h = raw_is_text path h
-
 pub raw_piece : (path : List Element) (s : List ℕ) → is_in_raw path ≡ true → IsText (mode_of path) s → RawPiece path s
 raw_piece path s h t =
     let w = raw_whole (current path) (mode_of path) s (raw_mode path h) t.whole in
     record {
       raw = h;
-      piece = record { not_empty = w.0; no_zero = t.no_zero; blank = λ k. absurd (both_ways (is_in_blank path) (text_not_blank path (raw_is_text path h)) k); utf8 = t.utf8 };
+      piece = record { not_empty = w.0; no_zero = t.no_zero; blank = λ k. absurd (both_ways (is_in_blank path) (text_not_blank path (in_text path h)) k); utf8 = t.utf8 };
       no_return = t.no_return;
       ends = w.1;
     }

@@ -16,7 +16,7 @@ use Rattle.hm_elements.proofs.TableFacts.{svg_is_plain}
 use Rattle.hm_settle.specs.Moves.{moves, refuses, element, opens, opens_in_place, start_on, svg_start_moves, html_start_moves, start_moves, is_void_open}
 use Rattle.hm_construction.specs.Steps.{in_body, State, went, behind_events, moved, no_drop, under_body, drops_behind, closes_at_once, entered, end_event, starts, after_moves, start_in_body}
 use Rattle.hm_construction.proofs.Standing.{BodyPath, at_body, inner, AllComments, Leads, behind_leads, pushes_append}
-use Rattle.hm_construction.proofs.Made.{OpensTo, Made, made_cases, made_leads, Free, made_free, made_path}
+use Rattle.hm_construction.proofs.Made.{OpensTo, made_cases, made_leads, Free, made_free, made_path}
 
 -- ---- The element opens
 
@@ -96,10 +96,6 @@ front_path q path (inner e rest other out more) b = by (q e) (front_path q rest 
     by true k = k
     by false k = inner e rest other out more
 
-outer_html : (e : Element) (path : List Element) → BodyPath (e ∷ path) → e.foreign ≡ false → is_in_svg path ≡ false
-outer_html e path at_body h = refl
-outer_html e path (inner e' path' other out more) h = out h
-
 -- in an element of HTML what is left is of HTML
 pub behind_html : (q : Element → Bool) (path : List Element) → BodyPath path → q (html_element body) ≡ false → is_in_svg path ≡ false → is_in_svg (behind q path) ≡ false
 behind_html q path at_body b h = rw b refl
@@ -146,17 +142,11 @@ opens_leads : (n : List ℕ) (attributes : List Attribute) (slash : Bool) (st : 
     → Leads in_body path (after_moves attributes slash (in_body_on st old) (opens_in_place n closed (map html_element (made_under t n)) (map html_element (made_under t n) ++ html_element t ∷ rest)))
 opens_leads n attributes slash st old path left closed t rest c form allowed known no_root closes on_path f = by_deep (is_deep on) refl
   where
-    made : List (List ℕ)
-    made = made_under t n
-
     on : List Element
     on = map html_element (made_under t n) ++ html_element t ∷ rest
 
     e : Element
     e = element n (bytes_eq n svg)
-
-    case : Made t n (made_under t n)
-    case = made_cases t n
 
     out : Free n (map html_element (made_under t n) ++ html_element t ∷ rest)
     out = made_free t n (made_under t n) rest (made_cases t n) f

@@ -75,12 +75,6 @@ opens_grow : (attributes : List Attribute) (slash : Bool) (st : State) (n : List
     → Grows (4 + 2) (8 + tag_bytes n attributes) (moved st in_body path) (after_moves attributes slash (moved st in_body path) (opens_in_place n closed made (made ++ left)))
 opens_grow attributes slash st n path closed made left split s = by (is_deep (made ++ left)) (not (stands_on n (made ++ left))) (is_deep (element n (bytes_eq n svg) ∷ (made ++ left)))
   where
-    on : List Element
-    on = made ++ left
-
-    e : Element
-    e = element n (bytes_eq n svg)
-
     by : (a b d : Bool) → Grows (4 + 2) (8 + tag_bytes n attributes) (moved st in_body path) (after_moves attributes slash (moved st in_body path) (cond a (refuses TooDeep) (cond b (refuses WrongParent) (cond d (refuses TooDeep) (moves closed made (element n (bytes_eq n svg) ∷ (made ++ left)))))))
     by true b d = tt
     by false true d = tt

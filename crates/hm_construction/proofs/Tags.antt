@@ -85,9 +85,6 @@ html_starts : (phase : Phase) (n : List ℕ) (attributes : List Attribute) (slas
     → Leads phase path (html_start n attributes slash (before_tag st phase path))
 html_starts phase n attributes slash st path c form a o s t = by (is_refused n) (bytes_eq n html) (bytes_eq n head) (bytes_eq n body) refl
   where
-    here : State
-    here = before_tag st phase path
-
     by : (r h k b : Bool) → is_refused n ≡ r
         → Leads phase path (cond r (stops RefusedName 0) (cond h (open_html phase attributes (before_tag st phase path)) (cond k (open_head phase attributes (before_tag st phase path)) (cond b (open_body phase attributes (before_tag st phase path)) (start_inside phase n attributes slash (before_tag st phase path))))))
     by true h k b e = tt

@@ -2,16 +2,16 @@
 --
 -- A step answers the events that it makes and the state then, or the rule that refuses the token. Texts are taken byte by
 -- byte: the bytes of a code point above U+007F are none that a rule asks for, and all of them fare like the first.
-use Rattle.std.specs.Prelude.{ℕ, ◌+◌, Bool, true, false, not, ◌&&◌, ◌||◌, ◌==◌, List, [], ◌∷◌, ◌++◌, map, if◌then◌else◌, bytes_eq, encode_utf8_all}
+use Rattle.std.specs.Prelude.{ℕ, ◌+◌, Bool, true, false, not, ◌&&◌, ◌||◌, ◌==◌, List, [], ◌∷◌, ◌++◌, map, Some, None, if◌then◌else◌, codes, bytes_eq, encode_utf8_all}
 use Rattle.hm_base.specs.Bytes.{is_space}
 use Rattle.hm_base.specs.Walks.{Attribute, Event, doctype, start, text, comment, end, Element}
 use Rattle.hm_base.specs.declared.rules.Rule.{Rule}
 use Rattle.hm_base.specs.declared.rules.Rule.TheVariants.{Cut, NoDoctype, SecondDoctype, RefusedName, SecondRoot, StrayEnd, NotCurrent, WrongParent, TextHere, AfterHead, AfterBody, Unclosed}
 use Rattle.hm_elements.specs.Names.{words, is_among, html, head, body, noscript, p}
-use Rattle.hm_elements.specs.Tables.{is_refused}
-use Rattle.hm_elements.specs.Nesting.{noscript_children}
-use Rattle.hm_elements.specs.Paths.{html_element, current, is_in_svg, stands_on, is_open, is_in_raw, is_in_text, is_in_blank}
-use Rattle.hm_settle.specs.Moves.{Moves, moves, refuses, start_moves, end_moves, is_void_open}
+use Rattle.hm_elements.specs.Tables.{is_void, is_refused}
+use Rattle.hm_elements.specs.Nesting.{may_stand, noscript_children}
+use Rattle.hm_elements.specs.Paths.{html_element, current, current_name, is_in_svg, outer, stands_on, is_open, is_in_raw, is_in_text, is_in_blank}
+use Rattle.hm_settle.specs.Moves.{Moves, moves, refuses, element, start_moves, end_moves, is_void_open}
 use Rattle.hm_tree.specs.Tokens.{Seen}
 use Rattle.hm_tree.specs.Tokens as tokens
 

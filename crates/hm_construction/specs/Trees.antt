@@ -1,5 +1,5 @@
 -- The tree of a page, or its first refusal with its rule and the byte of the page where it comes.
-use Rattle.std.specs.Prelude.{ℕ, zero, suc, pred, ◌+◌, ◌-◌, List, [], ◌∷◌, length, map, Option, Some, None, if◌then◌else◌, bytes_eq}
+use Rattle.std.specs.Prelude.{ℕ, zero, suc, pred, ◌+◌, ◌-◌, Bool, true, false, List, [], ◌∷◌, ◌++◌, length, map, Option, Some, None, if◌then◌else◌, bytes_eq}
 use Rattle.hm_base.specs.Source.{Source, Refusal, text_fault, byte_of, source_of, place_in}
 use Rattle.hm_base.specs.Walks.{Event, Element, pushes}
 use Rattle.hm_base.specs.declared.rules.Rule.{Rule}
@@ -7,7 +7,7 @@ use Rattle.hm_elements.specs.Names.{script as script_name}
 use Rattle.hm_elements.specs.Tables.{is_rcdata, is_raw}
 use Rattle.hm_elements.specs.Paths.{current, is_in_svg}
 use Rattle.hm_refs.specs.Names.{Entry}
-use Rattle.hm_tree.specs.Tokens.{taken, refused}
+use Rattle.hm_tree.specs.Tokens.{Scanned, taken, refused}
 use Rattle.hm_tokens.specs.First.{Mode, ordinary, in_svg, rcdata, raw, script, Next, at_end, behind_bytes, first, rule_of}
 use Rattle.hm_construction.specs.Steps.{State, Stepped, went, stops, step, step_over, first_state}
 

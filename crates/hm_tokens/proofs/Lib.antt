@@ -8,3 +8,5 @@ pub mod Marks
 pub mod Texts
 pub mod Elements
 pub mod Firsts
+pub mod Longer
+pub mod Readings

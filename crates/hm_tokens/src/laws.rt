@@ -1,5 +1,6 @@
 //! Laws over the next token of a text. The functions do nothing.
 ghost use Rattle.hm_tokens.specs.Laws.{TokensAreSmall, TokensAreSound};
+ghost use Rattle.hm_tokens.specs.Readings.{NextTokensExtend, PiecesAreRead, ReadingsFollow, WholePiecesAreRead, WholeReadingsExtend};
 
 /// Each token that is read from the text of a page can stand in a tree that is written and read back: its name is one
 /// that is read, its attributes can be written, its text is UTF-8 without zero byte.
@@ -10,4 +11,17 @@ pub fn tokens_are_sound()
 /// Each token stands for at most three times the bytes that it is read from.
 pub fn tokens_are_small()
     ensures { TokensAreSmall }
+{}
+
+/// A token that ends by itself is the same, whatever follows it.
+pub fn tokens_extend()
+    ensures next { NextTokensExtend }
+    ensures readings { WholeReadingsExtend }
+{}
+
+/// What is put together of written pieces is read piece by piece.
+pub fn written_pieces_are_read()
+    ensures follow { ReadingsFollow }
+    ensures pieces { PiecesAreRead }
+    ensures whole { WholePiecesAreRead }
 {}

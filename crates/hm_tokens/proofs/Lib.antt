@@ -10,3 +10,4 @@ pub mod Elements
 pub mod Firsts
 pub mod Longer
 pub mod Readings
+pub mod Decided

@@ -1,4 +1,5 @@
 pub mod First
 pub mod Laws
 pub mod Readings
+pub mod Decided
 pub mod Examples

@@ -11,3 +11,5 @@ pub mod Firsts
 pub mod Longer
 pub mod Readings
 pub mod Decided
+pub mod TextPieces
+pub mod TextReads

@@ -92,9 +92,21 @@ unfolding is_letter
 a_small d g h a = grind arith
 
 neither : (d : ℕ) → is_letter d ≡ false → is_digit_of 10 d ≡ false → is_digit_of 16 d ≡ false
-neither d l a = elim (cases_lt d 48) [ inl h ↦ below_digits d h | inr h1 ↦ elim (cases_lt d 58) [ inl h ↦ absurd (a_digit d h1 h a) | inr h2 ↦
-    elim (cases_lt d 65) [ inl h ↦ below_capitals d h2 h | inr h3 ↦ elim (cases_lt d 91) [ inl h ↦ absurd (a_capital d h3 h l) | inr h4 ↦
-    elim (cases_lt d 97) [ inl h ↦ below_small d h4 h | inr h5 ↦ elim (cases_lt d 123) [ inl h ↦ absurd (a_small d h5 h l) | inr h6 ↦ above_small d h6 ] ] ] ] ] ]
+neither d l a = elim (cases_lt d 48) [
+  | inl h ↦ below_digits d h
+  | inr h1 ↦ elim (cases_lt d 58) [
+    | inl h ↦ absurd (a_digit d h1 h a)
+    | inr h2 ↦
+        elim (cases_lt d 65) [
+          | inl h ↦ below_capitals d h2 h
+          | inr h3 ↦ elim (cases_lt d 91) [
+            | inl h ↦ absurd (a_capital d h3 h l)
+            | inr h4 ↦
+                elim (cases_lt d 97) [ inl h ↦ below_small d h4 h | inr h5 ↦ elim (cases_lt d 123) [ inl h ↦ absurd (a_small d h5 h l) | inr h6 ↦ above_small d h6 ] ]
+          ]
+        ]
+  ]
+]
 
 no_hexadecimal : (d : ℕ) → is_alnum d ≡ false → is_digit_of 16 d ≡ false
 no_hexadecimal d a = neither d (no_letter d a) (no_decimal d a)

@@ -93,3 +93,152 @@ literal_read t closed c s after text ended h more = by_front (plain_front t clos
           texts = both.1;
           joined = ap (λ x. c ∷ x) (subst (λ x. texts_of (x ∷ ks) ≡ text) (sym token) joined);
         }
+
+-- a reference, and what is behind it
+text_by : (t : List Entry) (closed : Bool) (s : List ℕ) → read_text t closed s ≡ read_by (reference_here t s) t closed s
+unfolding read_text
+text_by t closed [] = refl
+text_by t closed (c ∷ s) = refl
+
+amp_here : (t : List Entry) → IsTable t → (closed : Bool) (s : List ℕ) (r : Reference) → reference_here t s ≡ Some r → TextHere closed s
+unfolding reference_in begins_markup
+amp_here t k closed [] r h = absurd (cc)
+amp_here t k closed (c ∷ s) r h =
+    let amp = (at_amp t false c s r (names_of_table t k) h).amp in
+    record { some = refl; no_markup = rw amp (either closed) }
+  where
+    either : (b : Bool) → not b && false ≡ false
+    either true = refl
+    either false = refl
+
+referred_read : (t : List Entry) → IsTable t → (closed : Bool) (b qs s after text : List ℕ) → reference_here t (b ++ s) ≡ Some (record { points = qs; len = length b }) → TextRead t closed s after text
+    → TextRead t closed (b ++ s) after (encode_utf8_all qs ++ text)
+unfolding ReadsText
+referred_read t k closed b qs s after text h more = record {
+  tokens = points qs ∷ more.tokens;
+  reads = (s, text_by t closed (b ++ s) ∙ rw h (ap (taken (points qs)) (drop_at b s (length b) refl)), amp_here t k closed (b ++ s) _ h, more.reads);
+  texts = more.texts;
+  joined = ap (λ x. encode_utf8_all qs ++ x) more.joined;
+}
+
+text_read : (t : List Entry) → IsTable t → (closed : Bool) (ps : List TextPiece) (after : List ℕ) → plain_front t closed after ≡ [] → ArePieces t closed ps after → TextRead t closed (written_so ps ++ after) after (meant ps)
+unfolding ReadsText
+text_read t k closed [] after ended h = record { tokens = []; reads = refl; texts = refl; joined = refl }
+text_read t k closed (literal c ∷ ps) after ended h = literal_read t closed c (written_so ps ++ after) after (meant ps) ended h.0 (text_read t k closed ps after ended h.1)
+text_read t k closed (referred b qs ∷ ps) after ended h =
+    subst (λ x. TextRead t closed x after (encode_utf8_all qs ++ meant ps)) (sym (append_assoc b (written_so ps) after))
+    (referred_read t k closed b qs (written_so ps ++ after) after (meant ps) h.0 (text_read t k closed ps after ended h.1))
+
+-- ---- ordinary text
+
+-- `</>` is markup
+no_empty_tags : (s : List ℕ) → begins_markup s ≡ false → behind_empty_tags s ≡ behind_none s
+unfolding begins_markup
+no_empty_tags [] h = refl
+no_empty_tags (a ∷ []) h = refl
+no_empty_tags (a ∷ b ∷ []) h = refl
+no_empty_tags (a ∷ b ∷ c ∷ s) h = by_test (a == 60 && (b == 47 && c == 62)) refl
+  where
+    opens : a ≡ 60 → b ≡ 47 → begins_markup (a ∷ b ∷ c ∷ s) ≡ true
+    opens e f = grind (arith, e, f)
+
+    by_test : (x : Bool) → (a == 60 && (b == 47 && c == 62)) ≡ x → cond x (three_more (behind_empty_tags s)) (behind_none (a ∷ b ∷ c ∷ s)) ≡ behind_none (a ∷ b ∷ c ∷ s)
+    by_test false e = refl
+    by_test true e =
+        let one = and_parts (a == 60) (b == 47 && c == 62) e in
+        let two = and_parts (b == 47) (c == 62) one.1 in
+        let there = opens (eqb-true a 60 one.0) (eqb-true b 47 two.0) in
+        absurd (cc)
+
+here_first : (t : List Entry) (foreign : Bool) (s : List ℕ) → is_null s ≡ false → begins_markup s ≡ false → next_here t foreign (behind_empty_tags s) ≡ behind_bytes 0 (read_text t false s)
+here_first t foreign s some none = rw (no_empty_tags s none, some, none) refl
+
+ordinary_first : (t : List Entry) (mode : Mode) (s : List ℕ) → reads_markup mode ≡ true → TextHere false s → first t mode s ≡ behind_bytes 0 (read_text t false s)
+unfolding first
+ordinary_first t ordinary s m h = here_first t false s h.some h.no_markup
+ordinary_first t in_svg s m h = here_first t true s h.some h.no_markup
+ordinary_first t (modes.rcdata name) s m h = absurd (cc)
+ordinary_first t (raw name) s m h = absurd (cc)
+ordinary_first t script s m h = absurd (cc)
+
+ordinary_reads : (t : List Entry) (mode : Mode) → reads_markup mode ≡ true → (ks : List Seen) (s rest : List ℕ) → ReadsText t false ks s rest → ReadsAs t (map (in_mode mode) ks) s rest
+unfolding ReadsText
+ordinary_reads t mode m [] s rest h = h
+ordinary_reads t mode m (k ∷ ks) s rest (left, read, here, more) = (0, left, ordinary_first t mode s m here ∙ ap (behind_bytes 0) read, ordinary_reads t mode m ks left rest more)
+
+ended_front : (t : List Entry) (s : List ℕ) → ends_text t s ≡ true → plain_front t false s ≡ []
+ended_front t [] h = refl
+ended_front t (c ∷ s) h = rw h refl
+
+pub texts_are_read : TextsAreRead
+texts_are_read t mode ps after k m h ended =
+    let r = text_read t k false ps after (ended_front t after ended) h in
+    record { tokens = r.tokens; reads = ordinary_reads t mode m r.tokens (written_so ps ++ after) after r.reads; texts = r.texts; joined = r.joined }
+
+-- ---- title and textarea
+
+-- the end tag stands as much nearer as was read
+place_back : (passes : List ℕ → Bool) (i n : ℕ) (s : List ℕ) → place_from passes (suc i) s ≡ Some (suc n) → place_from passes i s ≡ Some n
+place_back passes i n [] h = absurd (cc)
+place_back passes i n (c ∷ s) h = by_test (passes (c ∷ s)) h (place_back passes (suc i) n s)
+  where
+    by_test : (b : Bool) → cond b (Some (suc i)) (place_from passes (suc (suc i)) s) ≡ Some (suc n) → (place_from passes (suc (suc i)) s ≡ Some (suc n) → place_from passes (suc i) s ≡ Some n)
+        → cond b (Some i) (place_from passes (suc i) s) ≡ Some n
+    by_test true h more = cc
+    by_test false h more = more h
+
+place_behind : (passes : List ℕ → Bool) (x s : List ℕ) (n : ℕ) → place_from passes 0 (x ++ s) ≡ Some (length x + n) → place_from passes 0 s ≡ Some n
+place_behind passes [] s n h = h ∙ ap Some (omega arith)
+place_behind passes (c ∷ x) s n h = place_behind passes x s n (place_back passes 0 (length x + n) (x ++ s) (by_test (passes (c ∷ (x ++ s))) (h ∙ ap Some (omega arith))))
+  where
+    by_test : (b : Bool) → cond b (Some 0) (place_from passes 1 (x ++ s)) ≡ Some (suc (length x + n)) → place_from passes 1 (x ++ s) ≡ Some (suc (length x + n))
+    by_test true h = absurd (cc)
+    by_test false h = h
+
+-- what is read of a text, and what is left of it
+record Split (s left : List ℕ) : Type 0 where
+  front : List ℕ
+  is : s ≡ front ++ left
+
+split_read : (t : List Entry) → IsTable t → (s : List ℕ) (token : Seen) (left : List ℕ) → TextHere true s → read_text t true s ≡ taken token left → Split s left
+split_read t k s token left here h = by_piece (piece t true s token left (names_of_table t k) here.some here.no_markup h)
+  where
+    by_piece : Piece t true s token left → Split s left
+    by_piece (Piece.referred r good token_is rest_is) =
+        let at : drop r.len s ≡ good.rest = ap (drop r.len) good.is ∙ drop_at good.written good.rest r.len (sym good.len) in
+        record { front = good.written; is = good.is ∙ ap (λ x. good.written ++ x) (sym at ∙ rest_is) }
+    by_piece (Piece.plain some token_is rest_is) =
+        let c = plain_cut t true s in
+        let f = plain_front t true s in
+        let at : drop (length f) s ≡ c.tail = ap (drop (length f)) c.is ∙ drop_at f c.tail (length f) refl in
+        record { front = f; is = c.is ∙ ap (λ x. f ++ x) (sym at ∙ rest_is) }
+
+-- a text that isn't empty, up to the end tag
+inside_first : (t : List Entry) (name s after : List ℕ) → is_null s ≡ false → raw_end name (s ++ after) ≡ Some (length s) → first t (modes.rcdata name) (s ++ after) ≡ behind_bytes 0 (before_rest (read_text t true s) after)
+unfolding first
+inside_first t name [] after some h = absurd (cc)
+inside_first t name (c ∷ s) after some h =
+    let cut : (take (length (c ∷ s)) ((c ∷ s) ++ after) ≡ c ∷ s) × (drop (length (c ∷ s)) ((c ∷ s) ++ after) ≡ after) = (take_at (c ∷ s) after (length (c ∷ s)) refl, drop_at (c ∷ s) after (length (c ∷ s)) refl) in
+    rw h (ap₂ (λ x y. behind_bytes 0 (before_rest (read_text t true x) y)) cut.0 cut.1)
+
+element_reads : (t : List Entry) → IsTable t → (name : List ℕ) (ks : List Seen) (s after : List ℕ) → ReadsText t true ks s [] → raw_end name (s ++ after) ≡ Some (length s)
+    → ReadsAs t (map (in_mode (modes.rcdata name)) ks) (s ++ after) after
+unfolding ReadsText
+element_reads t k name [] s after h found = rw h refl
+element_reads t k name (token ∷ ks) s after (left, read, here, more) found =
+    let c = split_read t k s token left here read in
+    let nearer : raw_end name (left ++ after) ≡ Some (length left) =
+    place_behind (begins_end_tag name) c.front (left ++ after) (length left)
+    (subst (λ x. raw_end name x ≡ Some (length c.front + length left)) (append_assoc c.front left after)
+    (subst (λ x. raw_end name (x ++ after) ≡ Some (length c.front + length left)) c.is (found ∙ ap Some (ap length c.is ∙ length-append c.front left)))) in
+    (0, left ++ after, inside_first t name s after here.some found ∙ ap (λ x. behind_bytes 0 (before_rest x after)) read, element_reads t k name ks left after more nearer)
+
+pub element_texts_are_read : ElementTextsAreRead
+element_texts_are_read t name ps after k h found =
+    let r = text_read t k true ps [] refl h in
+    record {
+      tokens = r.tokens;
+      reads = element_reads t k name r.tokens (written_so ps) after (subst (λ x. ReadsText t true r.tokens x []) (append-nil (written_so ps)) r.reads) found;
+      texts = r.texts;
+      joined = r.joined;
+    }

@@ -1,4 +1,5 @@
 //! Laws over the next token of a text. The functions do nothing.
+ghost use Rattle.hm_tokens.specs.Decided.{ElementTextsAreRead, EndsAreDecided, ReferencesAreDecided, TextsAreDecided, TextsAreRead};
 ghost use Rattle.hm_tokens.specs.Laws.{TokensAreSmall, TokensAreSound};
 ghost use Rattle.hm_tokens.specs.Readings.{NextTokensExtend, PiecesAreRead, ReadingsFollow, WholePiecesAreRead, WholeReadingsExtend};
 
@@ -24,4 +25,17 @@ pub fn written_pieces_are_read()
     ensures follow { ReadingsFollow }
     ensures pieces { PiecesAreRead }
     ensures whole { WholePiecesAreRead }
+{}
+
+/// Whether a reference or a text stands as it is meant is decided by the bytes before the first that can't go on.
+pub fn text_is_decided()
+    ensures references { ReferencesAreDecided }
+    ensures texts { TextsAreDecided }
+    ensures ends { EndsAreDecided }
+{}
+
+/// A text that is written piece by piece is read as it is meant.
+pub fn written_texts_are_read()
+    ensures texts { TextsAreRead }
+    ensures element_texts { ElementTextsAreRead }
 {}

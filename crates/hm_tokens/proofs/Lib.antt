@@ -13,3 +13,4 @@ pub mod Readings
 pub mod Decided
 pub mod TextPieces
 pub mod TextReads
+pub mod Written

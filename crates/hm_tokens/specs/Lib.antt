@@ -2,4 +2,5 @@ pub mod First
 pub mod Laws
 pub mod Readings
 pub mod Decided
+pub mod Written
 pub mod Examples

@@ -2,6 +2,7 @@
 ghost use Rattle.hm_tokens.specs.Decided.{ElementTextsAreRead, EndsAreDecided, ReferencesAreDecided, TextsAreDecided, TextsAreRead};
 ghost use Rattle.hm_tokens.specs.Laws.{TokensAreSmall, TokensAreSound};
 ghost use Rattle.hm_tokens.specs.Readings.{NextTokensExtend, PiecesAreRead, ReadingsFollow, WholePiecesAreRead, WholeReadingsExtend};
+ghost use Rattle.hm_tokens.specs.Written.{CommentsAreNext, DoctypesAreNext, EndsAreNext, RawTextsAreNext, ScriptsAreNext, StartsAreNext, TextEndsAreNext};
 
 /// Each token that is read from the text of a page can stand in a tree that is written and read back: its name is one
 /// that is read, its attributes can be written, its text is UTF-8 without zero byte.
@@ -38,4 +39,19 @@ pub fn text_is_decided()
 pub fn written_texts_are_read()
     ensures texts { TextsAreRead }
     ensures element_texts { ElementTextsAreRead }
+{}
+
+/// Written tags, comments and doctypes are the next token, whatever follows them (13.2.5.6 to 13.2.5.68).
+pub fn written_markup_is_next()
+    ensures starts { StartsAreNext }
+    ensures ends { EndsAreNext }
+    ensures comments { CommentsAreNext }
+    ensures doctypes { DoctypesAreNext }
+{}
+
+/// So are the text of `style`, `iframe` and `script` up to its end tag, and the end tag behind a text (13.2.5.9 to 13.2.5.31).
+pub fn written_elements_are_next()
+    ensures raw_texts { RawTextsAreNext }
+    ensures scripts { ScriptsAreNext }
+    ensures ends { TextEndsAreNext }
 {}

@@ -16,6 +16,7 @@ use Rattle.hm_tag_scan.specs.Tags.{is_later_byte, is_tag_end}
 use Rattle.hm_tag_scan.specs.Reading.{attribute_limit, is_bad_byte, is_equals, is_bad_name, has_bad_name, read_attribute, without_name, without_repeats, read_attributes}
 use Rattle.hm_tag_scan.specs.Values.{read_value}
 use Rattle.hm_tokens.specs.Laws.{IsPlain, SoundNames}
+use Rattle.hm_tokens.proofs.Bools.{or_parts}
 use Rattle.hm_tokens.proofs.Plain.{utf8_both, utf8_before, utf8_from, utf8_behind, no_zero_byte}
 use Rattle.hm_tokens.proofs.References.{is_ascii, low_ascii}
 use Rattle.hm_tokens.proofs.TagParts.{GoodAttribute, AllGood}
@@ -43,10 +44,6 @@ lower_utf8 s h = lower_utf8_behind s [] h
 small_byte : (d : ℕ) → 97 ≤ d → d ≤ 122 → is_attribute_byte d ≡ true
 unfolding is_attribute_byte is_space
 small_byte d low high = grind arith
-
-or_parts : (a b : Bool) → a || b ≡ false → (a ≡ false) × (b ≡ false)
-or_parts false b h = (refl, h)
-or_parts true b h = absurd (cc)
 
 -- a byte of a name as it is written
 record NameByte (c : ℕ) : Type 0 where

@@ -8,6 +8,7 @@ use Rattle.hm_refs.specs.References.{Reference, value_of, is_semicolon, numeric,
 use Rattle.hm_refs.specs.Tables.{IsTable}
 use Rattle.hm_refs.proofs.Found.{here_none, found_none, child_is, null_append, no_empty_name}
 use Rattle.hm_tokens.specs.Decided.{goes_on, ReferencesAreDecided}
+use Rattle.hm_tokens.proofs.Bools.{or_parts, turned}
 
 -- what a byte that can't go on isn't
 record Stops (value : Bool) (d : ℕ) : Type 0 where
@@ -16,10 +17,6 @@ record Stops (value : Bool) (d : ℕ) : Type 0 where
   no_hash : (d == 35) ≡ false
   no_equals : value && d == 61 ≡ false
 
-or_parts : (a b : Bool) → a || b ≡ false → (a ≡ false) × (b ≡ false)
-or_parts false b h = (refl, h)
-or_parts true b h = absurd (cc)
-
 stops : (value : Bool) (d : ℕ) → goes_on value d ≡ false → Stops value d
 unfolding goes_on
 stops value d h =
@@ -27,9 +24,6 @@ stops value d h =
     let two = or_parts (d == 59) (d == 35 || (value && d == 61)) one.1 in
     let three = or_parts (d == 35) (value && d == 61) two.1 in
     record { no_alnum = one.0; no_semicolon = two.0; no_hash = three.0; no_equals = three.1 }
-
-turned : (a b : ℕ) → (a == b) ≡ false → (b == a) ≡ false
-turned a b e = grind arith
 
 -- ---- numbers
 

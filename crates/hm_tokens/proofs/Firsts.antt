@@ -15,7 +15,9 @@ use Rattle.hm_tokens.specs.Laws.{IsPlain, SoundNames, IsMode, reads_markup, read
 use Rattle.hm_tokens.proofs.Plain.{plain_behind_all}
 use Rattle.hm_tokens.proofs.References.{is_ascii, ascii_low}
 use Rattle.hm_tokens.proofs.Tags.{tag_sound, tag_takes}
-use Rattle.hm_tokens.proofs.Marks.{comment_sound, comment_takes, cdata_sound, cdata_takes, doctype_sound, doctype_takes}
+use Rattle.hm_tokens.proofs.Comments.{comment_sound, comment_takes}
+use Rattle.hm_tokens.proofs.Sections.{cdata_sound, cdata_takes}
+use Rattle.hm_tokens.proofs.Doctypes.{doctype_sound, doctype_takes}
 use Rattle.hm_tokens.proofs.Texts.{piece, piece_sound, piece_takes}
 use Rattle.hm_tokens.proofs.Elements.{raw_ends_at, script_ends_at, script_is_name, raw_whole, script_whole, inside, whole_sound, whole_takes, references_sound, references_take}
 

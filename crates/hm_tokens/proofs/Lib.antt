@@ -1,3 +1,4 @@
+pub mod Bools
 pub mod Plain
 pub mod TagParts
 pub mod References
@@ -5,6 +6,9 @@ pub mod Values
 pub mod Attributes
 pub mod Tags
 pub mod Marks
+pub mod Comments
+pub mod Sections
+pub mod Doctypes
 pub mod Texts
 pub mod Elements
 pub mod Firsts

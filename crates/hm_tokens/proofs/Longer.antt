@@ -22,6 +22,7 @@ use Rattle.hm_tree.specs.declared.tokens.ScanFault.TheVariants as faults
 use Rattle.hm_tokens.specs.First.{Mode, ordinary, in_svg, rcdata, raw, script, Next, behind_bytes, read_markup, read_here, Behind, three_more, behind_none, behind_empty_tags, next_here, before_rest, read_inside, read_references, read_nothing, unless_end, first}
 use Rattle.hm_tokens.specs.First as next
 use Rattle.hm_tokens.specs.Readings.{ends_itself, NextExtends, NextTokensExtend}
+use Rattle.hm_tokens.proofs.Bools.{or_parts, both_ways, not_true, turned}
 use Rattle.hm_tokens.proofs.Elements.{EndsAt, raw_ends_at, script_ends_at}
 
 -- ---- where a text of an element ends
@@ -112,9 +113,6 @@ no_nothing : begins_markup [] ≡ true → ⊥
 unfolding begins_markup
 no_nothing h = cc
 
-turned : (a b : ℕ) → (a == b) ≡ false → (b == a) ≡ false
-turned a b e = grind arith
-
 tag_longer : (s y : List ℕ) → begins_markup s ≡ true → begins_tag (s ++ y) ≡ begins_tag s
 unfolding begins_tag
 tag_longer [] y h = absurd (no_nothing h)
@@ -169,26 +167,18 @@ byte_left d (x ∷ xs) ys h = by_test (x == d) h (byte_left d xs ys)
     by_test true h more = absurd (cc)
     by_test false h more = more h
 
-byte_right : (a b : Bool) → a || b ≡ false → b ≡ false
-byte_right true b h = absurd (cc)
-byte_right false b h = h
-
 greater_lower : (c : ℕ) → (lower c == 62) ≡ false → (c == 62) ≡ false
 unfolding lower
 greater_lower c h = grind arith
 
 no_greater : (s : List ℕ) → has_byte 62 (map lower s) ≡ false → has_byte 62 s ≡ false
 no_greater [] h = refl
-no_greater (c ∷ s) h = or_from (c == 62) (has_byte 62 s) (greater_lower c (byte_first (lower c == 62) (has_byte 62 (map lower s)) h)) (no_greater s (byte_right (lower c == 62) (has_byte 62 (map lower s)) h))
-  where
-    byte_first : (a b : Bool) → a || b ≡ false → a ≡ false
-    byte_first true b h = absurd (cc)
-    byte_first false b h = refl
+no_greater (c ∷ s) h = or_from (c == 62) (has_byte 62 s) (greater_lower c (or_parts (lower c == 62) (has_byte 62 (map lower s)) h).0) (no_greater s (or_parts (lower c == 62) (has_byte 62 (map lower s)) h).1)
 
 byte_drop : (d n : ℕ) (s : List ℕ) → has_byte d s ≡ false → has_byte d (drop n s) ≡ false
 byte_drop d zero s h = h
 byte_drop d (suc n) [] h = h
-byte_drop d (suc n) (c ∷ s) h = byte_drop d n s (byte_right (c == d) (has_byte d s) h)
+byte_drop d (suc n) (c ∷ s) h = byte_drop d n s (or_parts (c == d) (has_byte d s) h).1
 
 cut_missing : (d : ℕ) (s : List ℕ) → has_byte d s ≡ false → cut_at (d ∷ []) s ≡ None
 cut_missing d [] h = refl
@@ -207,10 +197,6 @@ no_comment s none h = rw (by_tests (begins (codes "<?") s) (begins (codes "<!--"
     by_tests true b e = cut_missing 62 (drop 1 s) (byte_drop 62 1 s none)
     by_tests false b e = rw e (cut_missing 62 (drop 2 s) (byte_drop 62 2 s none))
 
-not_true : (b : Bool) → (b ≡ true → ⊥) → b ≡ false
-not_true true h = absurd (h refl)
-not_true false h = refl
-
 -- `<!--` begins no doctype and no CDATA section
 dashes_no_doctype : (s y : List ℕ) → begins (codes "<!--") s ≡ true → begins_doctype (s ++ y) ≡ false
 unfolding begins_doctype lower
@@ -223,9 +209,6 @@ dashes_no_cdata s y h = rw (front_stripped (codes "<!--") s (drop 4 s) (begins_f
 cdata_no_doctype : (s y : List ℕ) → begins_cdata s ≡ true → begins_doctype (s ++ y) ≡ false
 unfolding begins_cdata begins_doctype lower
 cdata_no_doctype s y h = rw (front_stripped (codes "<![CDATA[") s (drop 9 s) (begins_front (codes "<![CDATA[") s h)) refl
-
-both_ways : (b : Bool) → b ≡ true → b ≡ false → ⊥
-both_ways b e f = cc
 
 doctype_greaterless : (s y : List ℕ) → begins_doctype s ≡ false → begins_doctype (s ++ y) ≡ true → has_byte 62 s ≡ false
 unfolding begins_doctype

@@ -9,16 +9,13 @@ use Rattle.hm_text_scan.specs.Places.{reference_here}
 use Rattle.hm_text_scan.specs.Texts.{opens_markup, begins_markup, reference_in, ends_plain}
 use Rattle.hm_tokens.specs.Laws.{SoundNames}
 use Rattle.hm_tokens.specs.Decided.{goes_on, TextPiece, literal, referred, written_so, ArePieces, cuts_text, TextsAreDecided, EndsAreDecided}
+use Rattle.hm_tokens.proofs.Bools.{or_parts}
 use Rattle.hm_tokens.proofs.Decided.{references_are_decided}
 use Rattle.hm_tokens.proofs.References.{GoodReference}
 use Rattle.hm_tokens.proofs.Values.{AtAmp, at_amp}
 
 pub names_of_table : (t : List Entry) → IsTable t → SoundNames t
 names_of_table t k = record { good = k.good; pointed = k.pointed }
-
-or_parts : (a b : Bool) → a || b ≡ false → (a ≡ false) × (b ≡ false)
-or_parts false b h = (refl, h)
-or_parts true b h = absurd (cc)
 
 -- the first byte of what cuts a text
 record Cuts (x : List ℕ) : Type 0 where

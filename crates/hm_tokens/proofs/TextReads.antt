@@ -15,6 +15,7 @@ use Rattle.hm_tokens.specs.First as modes
 use Rattle.hm_tokens.specs.Laws.{SoundNames, reads_markup}
 use Rattle.hm_tokens.specs.Readings.{ReadsAs}
 use Rattle.hm_tokens.specs.Decided.{TextPiece, literal, referred, written_so, meant, ArePieces, in_mode, texts_of, is_text, are_texts, IsReadAs, ends_text, TextsAreRead, ElementTextsAreRead}
+use Rattle.hm_tokens.proofs.Bools.{or_parts, none_there}
 use Rattle.hm_tokens.proofs.References.{GoodReference}
 use Rattle.hm_tokens.proofs.Texts.{Piece, piece, PlainCut, plain_cut}
 use Rattle.hm_tokens.proofs.Values.{AtAmp, at_amp}
@@ -36,14 +37,6 @@ record TextRead (t : List Entry) (closed : Bool) (s rest text : List ℕ) : Type
   reads : ReadsText t closed tokens s rest
   texts : are_texts tokens ≡ true
   joined : texts_of tokens ≡ text
-
-or_parts : (a b : Bool) → a || b ≡ false → (a ≡ false) × (b ≡ false)
-or_parts false b h = (refl, h)
-or_parts true b h = absurd (cc)
-
-none_there : {A : Type 0} (o : Option A) → is_some o ≡ false → o ≡ None
-none_there None h = refl
-none_there (Some x) h = absurd (cc)
 
 -- a byte that stands for itself, and the plain text behind it
 plain_first : (t : List Entry) (closed : Bool) (c : ℕ) (s : List ℕ) → ends_plain t closed c s ≡ false

@@ -22,6 +22,7 @@ use Rattle.hm_tree.specs.Tokens.{Seen, end_tag, slice, Scanned, taken}
 use Rattle.hm_tokens.specs.First.{Mode, ordinary, in_svg, rcdata, raw, script, behind_bytes, read_markup, read_here, Behind, three_more, behind_none, behind_empty_tags, next_here, read_inside, read_references, read_nothing, unless_end, first}
 use Rattle.hm_tokens.specs.Laws.{reads_markup}
 use Rattle.hm_tokens.specs.Written.{IsNext, StartsAreNext, EndsAreNext, IsTextOf, TextEndsAreNext, CommentsAreNext, DoctypesAreNext, RawTextsAreNext, ScriptsAreNext}
+use Rattle.hm_tokens.proofs.Bools.{same_parts}
 use Rattle.hm_tokens.proofs.Elements.{EndsAt, raw_ends_at, script_ends_at}
 
 -- ---- where markup begins
@@ -187,9 +188,6 @@ doctype_word : (legacy : Bool) (b : List ℕ) → IsWrittenDoctype legacy b → 
 doctype_word false b w = record { word = w.word; more = w.gap ++ (w.name ++ (w.tail ++ codes ">")); is = w.whole; lowered = w.word_is }
 doctype_word true b w = record { word = w.word; more = _; is = w.whole; lowered = w.word_is }
 
-both_same : (c d : ℕ) (x y : List ℕ) → c ∷ x ≡ d ∷ y → (c ≡ d) × (x ≡ y)
-both_same c d x y e = (cc, cc)
-
 lowered_sign : (c d : ℕ) → d < 65 → lower c ≡ d → c ≡ d
 lowered_sign c d low e = elim (lower_cases c) [
   | inl w ↦ let high = w.0 in let up = w.2 in absurd (omega arith)
@@ -202,10 +200,10 @@ record Declared (s : List ℕ) : Type 0 where
 
 declared : (word s : List ℕ) → map lower word ≡ codes "<!doctype" → Declared (word ++ s)
 declared [] s e = absurd (cc)
-declared (c ∷ []) s e = absurd (let k = both_same (lower c) 60 [] _ e in let l = k.1 in cc)
+declared (c ∷ []) s e = absurd (let k = same_parts (lower c) 60 [] _ e in let l = k.1 in cc)
 declared (c ∷ d ∷ word) s e =
-    let one = both_same (lower c) 60 (lower d ∷ map lower word) (codes "!doctype") e in
-    let two = both_same (lower d) 33 (map lower word) (codes "doctype") one.1 in
+    let one = same_parts (lower c) 60 (lower d ∷ map lower word) (codes "!doctype") e in
+    let two = same_parts (lower d) 33 (map lower word) (codes "doctype") one.1 in
     record { more = word ++ s; is = rw (lowered_sign c 60 (omega arith) one.0, lowered_sign d 33 (omega arith) two.0) refl }
 
 declared_markup : (s : List ℕ) → IsMarkup (60 ∷ 33 ∷ s)

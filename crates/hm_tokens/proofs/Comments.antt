@@ -1,25 +1,21 @@
 -- Comments that are read.
-use Rattle.std.proofs.Common.{◌≡◌, ℕ, zero, suc, ◌+◌, ◌*◌, ◌<◌, ◌≤◌, ◌⊎◌, Bool, true, false, cond, not, ◌&&◌, ◌||◌, ◌==◌, List, [], ◌∷◌, ◌++◌, map, length, drop, Option, Some, None, refl, inl, inr, ap, sym, subst, ◌∙◌, arith, append_assoc, length-append, codes}
+use Rattle.std.proofs.Common.{◌≡◌, ℕ, ◌+◌, ◌≤◌, ◌⊎◌, Bool, true, false, cond, ◌||◌, ◌==◌, List, [], ◌∷◌, ◌++◌, length, drop, Option, Some, None, refl, inl, inr, ap, sym, subst, ◌∙◌, arith, codes}
 use Rattle.std.specs.Option.{option_or}
-use Rattle.std.proofs.lemmas.Bool.{and_parts, eqb-true, or_from, cond_both}
-use Rattle.std.proofs.lemmas.List.{length-map, drop_at}
-use Rattle.hm_base.specs.Bytes.{Cut, cut_at, or_go_on, with_first, strip, strip_word, all_pass, is_null, is_letter, lower}
+use Rattle.std.proofs.lemmas.Bool.{eqb-true, or_from}
+use Rattle.hm_base.specs.Bytes.{Cut, cut_at, strip, all_pass}
 use Rattle.hm_base.specs.Forms.{has_byte, has_mark, is_comment_text}
 use Rattle.hm_base.specs.RawText.{is_found}
-use Rattle.hm_mark_scan.specs.Comments.{begins, cut_where, behind_end, at_once, cut_comment, comment_at, read_comment, begins_cdata, read_cdata}
-use Rattle.hm_mark_scan.specs.Doctypes.{begins_doctype, doctype_form, by_form, as_doctype, read_doctype}
-use Rattle.hm_mark_scan.specs.Pieces.{as_comment, as_slice}
-use Rattle.hm_mark_scan.proofs.Cuts.{RestExtends, strip_extends, cut_at_where}
-use Rattle.hm_mark_scan.proofs.Lowered.{lower_cases}
+use Rattle.hm_mark_scan.specs.Comments.{begins, cut_where, behind_end, at_once, cut_comment, comment_at, read_comment}
+use Rattle.hm_mark_scan.specs.Pieces.{as_comment}
+use Rattle.hm_mark_scan.proofs.Cuts.{RestExtends, strip_extends}
 use Rattle.hm_mark_scan.proofs.Searches.{front_stripped, begins_front}
-use Rattle.hm_text_scan.specs.Texts.{opens_markup, begins_markup}
-use Rattle.hm_tree.specs.Tokens.{Seen, doctype, slice, comment, Scanned, taken, refused}
-use Rattle.hm_tokens.specs.First.{Mode, in_svg}
-use Rattle.hm_tokens.specs.Laws.{IsPlain, reads_markup, IsText, IsComment, SoundToken, TakesBytes}
-use Rattle.hm_tokens.proofs.Plain.{plain_nothing, plain_before, plain_from, plain_behind, plain_behind_all, no_zero_byte, no_return_byte}
-use Rattle.hm_tokens.proofs.References.{is_ascii, ascii_low, low_ascii}
-use Rattle.hm_tokens.proofs.Tags.{WordCut, word_cut}
-use Rattle.hm_tokens.proofs.Marks.{FoundAt, found_at, no_mark_before, ByteCut, byte_cut, IsCut, CutPlain, cut_plain, CutSize, cut_size, MarkupShape, markup_shape, IsTaken}
+use Rattle.hm_text_scan.specs.Texts.{begins_markup}
+use Rattle.hm_tree.specs.Tokens.{Seen, comment, taken}
+use Rattle.hm_tokens.specs.First.{Mode}
+use Rattle.hm_tokens.specs.Laws.{IsPlain, reads_markup, IsComment, SoundToken, TakesBytes}
+use Rattle.hm_tokens.proofs.Plain.{no_zero_byte, no_return_byte}
+use Rattle.hm_tokens.proofs.References.{is_ascii, low_ascii}
+use Rattle.hm_tokens.proofs.Marks.{found_at, no_mark_before, byte_cut, IsCut, cut_plain, cut_size, MarkupShape, markup_shape, IsTaken}
 use Rattle.hm_tokens.proofs.Bools.{or_parts, same_parts}
 
 -- ---- the form of a comment's text

@@ -1,10 +1,10 @@
 -- A reference is decided by the bytes before the first that can't go on.
-use Rattle.std.proofs.Common.{◌≡◌, ℕ, zero, suc, ◌+◌, ◌<◌, ◌≤◌, ◌⊎◌, Bool, true, false, cond, not, ◌&&◌, ◌||◌, ◌==◌, List, [], ◌∷◌, ◌++◌, length, Option, Some, None, option_map, is_some, refl, inl, inr, ap, ap₂, sym, subst, ◌∙◌, arith, append_assoc, codes}
-use Rattle.std.proofs.lemmas.Bool.{and_parts, eqb-true, cases_lt}
-use Rattle.hm_base.specs.Bytes.{front, behind, head_is, is_null, is_alnum, is_letter, is_digit, is_hex, is_digit_of}
+use Rattle.std.proofs.Common.{◌≡◌, ℕ, ◌+◌, ◌<◌, ◌≤◌, ◌⊎◌, Bool, true, false, cond, not, ◌&&◌, ◌||◌, ◌==◌, List, [], ◌∷◌, ◌++◌, length, Option, Some, None, option_map, refl, inl, inr, ap, ap₂, ◌∙◌, arith}
+use Rattle.std.proofs.lemmas.Bool.{cases_lt}
+use Rattle.hm_base.specs.Bytes.{front, behind, head_is, is_null, is_alnum, is_letter, is_digit_of}
 use Rattle.hm_refs.specs.Names.{Entry, points_of, is_name, is_front, Found, or_else, found_by, found_here, found, longest, is_closed}
 use Rattle.hm_refs.specs.Numbers.{point_of}
-use Rattle.hm_refs.specs.References.{Reference, value_of, is_semicolon, numeric, decimal_number, hexadecimal, hash, blocks, is_blocked, named, reference_by, reference}
+use Rattle.hm_refs.specs.References.{value_of, is_semicolon, numeric, hash, blocks, is_blocked, named, reference_by, reference}
 use Rattle.hm_refs.specs.Tables.{IsTable}
 use Rattle.hm_refs.proofs.Found.{here_none, found_none, child_is, null_append, no_empty_name}
 use Rattle.hm_tokens.specs.Decided.{goes_on, ReferencesAreDecided}

@@ -1,15 +1,14 @@
 -- A token that ends by itself is the same token of a longer text.
-use Rattle.std.proofs.Common.{◌≡◌, ℕ, zero, suc, ◌+◌, ◌<◌, ◌≤◌, ◌⊎◌, Bool, true, false, cond, not, ◌&&◌, ◌||◌, ◌==◌, List, [], ◌∷◌, ◌++◌, map, length, take, drop, Option, Some, None, refl, inl, inr, ap, ap₂, sym, subst, ◌∙◌, arith, append_assoc, length-append, append-nil, codes}
+use Rattle.std.proofs.Common.{◌≡◌, ℕ, zero, suc, ◌<◌, Bool, true, false, cond, not, ◌&&◌, ◌||◌, ◌==◌, List, [], ◌∷◌, ◌++◌, map, length, take, drop, Option, Some, None, refl, ap, ap₂, sym, ◌∙◌, arith, append_assoc, codes}
 use Rattle.std.proofs.lemmas.Bool.{and_parts, eqb-true, or_from}
 use Rattle.std.proofs.lemmas.List.{take-append-drop, length-take-le, take_at, drop_at}
-use Rattle.hm_base.specs.Bytes.{Cut, cut_at, or_go_on, head_is, is_null, is_letter, lower, strip, strip_word}
+use Rattle.hm_base.specs.Bytes.{cut_at, or_go_on, is_null, is_letter, lower, strip, strip_word}
 use Rattle.hm_base.specs.Forms.{has_byte}
-use Rattle.hm_base.specs.RawText.{is_found, begins_end_tag, raw_end, script_end, unescaped}
-use Rattle.hm_mark_scan.specs.Comments.{begins, cut_comment, comment_at, read_comment, begins_cdata, read_cdata}
+use Rattle.hm_base.specs.RawText.{is_found, raw_end, script_end, unescaped}
+use Rattle.hm_mark_scan.specs.Comments.{begins, cut_comment, read_comment, begins_cdata, read_cdata}
 use Rattle.hm_mark_scan.specs.Doctypes.{begins_doctype, read_doctype}
 use Rattle.hm_mark_scan.proofs.Cuts.{RestExtends, strip_extends}
 use Rattle.hm_mark_scan.proofs.Extended.{comment_extends, cdata_extends, doctype_extends}
-use Rattle.hm_mark_scan.proofs.Lowered.{lower_cases}
 use Rattle.hm_mark_scan.proofs.RawTextLaws.{begins_longer, place_same, parted}
 use Rattle.hm_mark_scan.proofs.ScriptLaws.{first_same}
 use Rattle.hm_mark_scan.proofs.Searches.{begins_front, front_stripped}
@@ -17,11 +16,10 @@ use Rattle.hm_refs.specs.Names.{Entry}
 use Rattle.hm_tag_scan.specs.Reading.{read_tag, followed_by_letter, begins_tag}
 use Rattle.hm_tag_scan.proofs.Follows.{whatever_follows}
 use Rattle.hm_text_scan.specs.Texts.{opens_markup, begins_markup, read_text}
-use Rattle.hm_tree.specs.Tokens.{Seen, slice, Scanned, taken, refused, Extends}
+use Rattle.hm_tree.specs.Tokens.{Scanned, taken, refused, Extends}
 use Rattle.hm_tree.specs.declared.tokens.ScanFault.TheVariants as faults
-use Rattle.hm_tokens.specs.First.{Mode, ordinary, in_svg, rcdata, raw, script, Next, behind_bytes, read_markup, read_here, Behind, three_more, behind_none, behind_empty_tags, next_here, before_rest, read_inside, read_references, read_nothing, unless_end, first}
-use Rattle.hm_tokens.specs.First as next
-use Rattle.hm_tokens.specs.Readings.{ends_itself, NextExtends, NextTokensExtend}
+use Rattle.hm_tokens.specs.First.{ordinary, in_svg, rcdata, raw, script, read_markup, read_here, Behind, three_more, behind_none, behind_empty_tags, next_here, before_rest, read_inside, read_references, read_nothing, unless_end, first}
+use Rattle.hm_tokens.specs.Readings.{NextExtends, NextTokensExtend}
 use Rattle.hm_tokens.proofs.Bools.{or_parts, both_ways, not_true, turned}
 use Rattle.hm_tokens.proofs.Elements.{EndsAt, raw_ends_at, script_ends_at}
 

@@ -1,9 +1,8 @@
 -- Tokens that are read one after another, and what follows them.
-use Rattle.std.proofs.Common.{◌≡◌, ℕ, Bool, true, List, [], ◌∷◌, ◌++◌, refl, ap, sym, subst, ◌∙◌, append_assoc}
+use Rattle.std.proofs.Common.{◌≡◌, ℕ, true, List, [], ◌∷◌, ◌++◌, refl, ap, subst, ◌∙◌, append_assoc}
 use Rattle.hm_refs.specs.Names.{Entry}
-use Rattle.hm_text_scan.specs.Texts.{begins_markup}
 use Rattle.hm_tree.specs.Tokens.{Seen, taken}
-use Rattle.hm_tokens.specs.First.{Mode, ordinary, in_svg, rcdata, raw, script, Behind, behind_empty_tags, Next, behind_bytes, first}
+use Rattle.hm_tokens.specs.First.{Mode, ordinary, in_svg, rcdata, raw, script, behind_empty_tags, behind_bytes, first}
 use Rattle.hm_tokens.specs.Readings.{ends_itself, NextExtends, Step, ReadsAs, ReadsWhole, WholeReadingsExtend, ReadingsFollow, Piece, all_bytes, all_steps, EachIsRead, PiecesAreRead, EachIsWhole, WholePiecesAreRead}
 use Rattle.hm_tokens.proofs.Longer.{next_tokens_extend, markup_longer, empty_tags_longer}
 

@@ -1,6 +1,6 @@
 -- Pieces of text are decided by the first byte behind them.
-use Rattle.std.proofs.Common.{◌≡◌, ℕ, zero, suc, ◌+◌, ◌<◌, ◌≤◌, Bool, true, false, cond, not, ◌&&◌, ◌||◌, ◌==◌, List, [], ◌∷◌, ◌++◌, length, Option, Some, None, is_some, refl, ap, ap₂, sym, subst, ◌∙◌, arith, append_assoc, append-nil}
-use Rattle.std.proofs.lemmas.Bool.{and_parts, eqb-true, or_from, not-true}
+use Rattle.std.proofs.Common.{◌≡◌, ℕ, ◌≤◌, Bool, true, false, cond, not, ◌&&◌, ◌||◌, ◌==◌, List, [], ◌∷◌, ◌++◌, length, Some, None, is_some, refl, ap, ap₂, sym, ◌∙◌, arith, append_assoc, append-nil}
+use Rattle.std.proofs.lemmas.Bool.{eqb-true, not-true}
 use Rattle.hm_base.specs.Bytes.{is_null, is_letter, is_alnum}
 use Rattle.hm_refs.specs.Names.{Entry}
 use Rattle.hm_refs.specs.References.{Reference, reference}
@@ -11,8 +11,7 @@ use Rattle.hm_tokens.specs.Laws.{SoundNames}
 use Rattle.hm_tokens.specs.Decided.{goes_on, TextPiece, literal, referred, written_so, ArePieces, cuts_text, TextsAreDecided, EndsAreDecided}
 use Rattle.hm_tokens.proofs.Bools.{or_parts}
 use Rattle.hm_tokens.proofs.Decided.{references_are_decided}
-use Rattle.hm_tokens.proofs.References.{GoodReference}
-use Rattle.hm_tokens.proofs.Values.{AtAmp, at_amp}
+use Rattle.hm_tokens.proofs.Values.{at_amp}
 
 pub names_of_table : (t : List Entry) → IsTable t → SoundNames t
 names_of_table t k = record { good = k.good; pointed = k.pointed }

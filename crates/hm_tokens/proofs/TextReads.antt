@@ -1,25 +1,24 @@
 -- A text that is written piece by piece is read as it is meant.
-use Rattle.std.proofs.Common.{◌≡◌, ℕ, zero, suc, ◌+◌, ◌-◌, ◌<◌, ◌≤◌, Bool, true, false, cond, not, ◌&&◌, ◌||◌, ◌==◌, List, [], ◌∷◌, ◌++◌, map, length, take, drop, Option, Some, None, is_some, encode_utf8_all, refl, ap, ap₂, sym, subst, ◌∙◌, arith, append_assoc, append-nil, length-append}
+use Rattle.std.proofs.Common.{◌≡◌, ℕ, suc, ◌+◌, Bool, true, false, cond, not, ◌&&◌, ◌==◌, List, [], ◌∷◌, ◌++◌, map, length, take, drop, Some, encode_utf8_all, refl, ap, ap₂, sym, subst, ◌∙◌, arith, append_assoc, append-nil, length-append}
 use Rattle.std.proofs.lemmas.Bool.{and_parts, eqb-true}
 use Rattle.std.proofs.lemmas.List.{take_at, drop_at}
 use Rattle.hm_base.specs.Bytes.{is_null}
 use Rattle.hm_base.specs.RawText.{place_from, begins_end_tag, raw_end}
 use Rattle.hm_refs.specs.Names.{Entry}
-use Rattle.hm_refs.specs.References.{Reference, reference}
+use Rattle.hm_refs.specs.References.{Reference}
 use Rattle.hm_refs.specs.Tables.{IsTable}
 use Rattle.hm_text_scan.specs.Places.{reference_here}
-use Rattle.hm_text_scan.specs.Texts.{opens_markup, begins_markup, reference_in, ends_plain, plain_front, read_plain, read_by, read_text}
-use Rattle.hm_tree.specs.Tokens.{Seen, slice, points, Scanned, taken}
+use Rattle.hm_text_scan.specs.Texts.{begins_markup, reference_in, ends_plain, plain_front, read_by, read_text}
+use Rattle.hm_tree.specs.Tokens.{Seen, slice, points, taken}
 use Rattle.hm_tokens.specs.First.{Mode, ordinary, in_svg, raw, script, Next, behind_bytes, read_here, Behind, three_more, behind_none, behind_empty_tags, next_here, before_rest, read_inside, read_references, unless_end, first}
 use Rattle.hm_tokens.specs.First as modes
-use Rattle.hm_tokens.specs.Laws.{SoundNames, reads_markup}
+use Rattle.hm_tokens.specs.Laws.{reads_markup}
 use Rattle.hm_tokens.specs.Readings.{ReadsAs}
-use Rattle.hm_tokens.specs.Decided.{TextPiece, literal, referred, written_so, meant, ArePieces, in_mode, texts_of, is_text, are_texts, IsReadAs, ends_text, TextsAreRead, ElementTextsAreRead}
+use Rattle.hm_tokens.specs.Decided.{TextPiece, literal, referred, written_so, meant, ArePieces, in_mode, texts_of, is_text, are_texts, ends_text, TextsAreRead, ElementTextsAreRead}
 use Rattle.hm_tokens.proofs.Bools.{or_parts, none_there}
-use Rattle.hm_tokens.proofs.References.{GoodReference}
-use Rattle.hm_tokens.proofs.Texts.{Piece, piece, PlainCut, plain_cut}
-use Rattle.hm_tokens.proofs.Values.{AtAmp, at_amp}
-use Rattle.hm_tokens.proofs.TextPieces.{names_of_table, here_long}
+use Rattle.hm_tokens.proofs.Texts.{Piece, piece, plain_cut}
+use Rattle.hm_tokens.proofs.Values.{at_amp}
+use Rattle.hm_tokens.proofs.TextPieces.{names_of_table}
 
 -- ---- pieces of text one after another
 

@@ -1,5 +1,5 @@
 -- Values of attributes as they are read: UTF-8 without zero byte, and at most three times as long as they are written.
-use Rattle.std.proofs.Common.{◌≡◌, ℕ, zero, suc, pred, ◌+◌, ◌*◌, ◌<◌, ◌≤◌, Bool, true, false, cond, ◌||◌, ◌==◌, List, [], ◌∷◌, ◌++◌, length, drop, Option, Some, None, encode_utf8_all, refl, ap, sym, subst, ◌∙◌, arith, append_assoc, length-append}
+use Rattle.std.proofs.Common.{◌≡◌, ℕ, zero, suc, pred, ◌+◌, ◌*◌, ◌≤◌, Bool, true, false, cond, ◌==◌, List, [], ◌∷◌, ◌++◌, length, drop, Option, Some, None, encode_utf8_all, refl, ap, sym, subst, ◌∙◌, arith, append_assoc, length-append}
 use Rattle.std.specs.Str.{IsAscii, is_utf8}
 use Rattle.std.proofs.lemmas.Bool.{and_parts, eqb-true, or_from}
 use Rattle.std.proofs.lemmas.List.{drop_at}
@@ -12,7 +12,7 @@ use Rattle.hm_tag_scan.specs.Values.{reference_at, read_on, value_from, read_val
 use Rattle.hm_tokens.specs.Laws.{SoundNames}
 use Rattle.hm_tokens.proofs.Bools.{or_parts}
 use Rattle.hm_tokens.proofs.Plain.{utf8_both, utf8_before, utf8_from, utf8_behind}
-use Rattle.hm_tokens.proofs.References.{is_ascii, ascii_low, GoodReference, reference_good, PointBytes, point_bytes, no_byte_both}
+use Rattle.hm_tokens.proofs.References.{is_ascii, ascii_low, GoodReference, reference_good, point_bytes, no_byte_both}
 
 ascii_each : (s : List ℕ) → all_pass is_ascii s ≡ true → IsAscii s
 ascii_each [] h i = omega arith

@@ -1,29 +1,29 @@
 -- Written tags, comments, doctypes and texts of elements are the next token.
-use Rattle.std.proofs.Common.{◌≡◌, ℕ, zero, suc, ◌+◌, ◌<◌, ◌≤◌, ◌⊎◌, Bool, true, false, cond, not, ◌&&◌, ◌||◌, ◌==◌, List, [], ◌∷◌, ◌++◌, map, length, take, drop, Option, Some, None, refl, inl, inr, ap, ap₂, sym, subst, ◌∙◌, arith, append_assoc, codes}
+use Rattle.std.proofs.Common.{◌≡◌, ℕ, ◌<◌, Bool, true, false, cond, ◌||◌, ◌==◌, List, [], ◌∷◌, ◌++◌, map, length, Option, Some, None, refl, inl, inr, ap, ap₂, sym, subst, ◌∙◌, arith, append_assoc, codes}
 use Rattle.std.proofs.lemmas.Bool.{and_parts, eqb-true, eq-eqb}
 use Rattle.std.proofs.lemmas.List.{take_at, drop_at}
-use Rattle.hm_base.specs.Bytes.{head_is, is_null, is_letter, is_space, all_pass, lower, strip_word}
-use Rattle.hm_base.specs.Forms.{is_blank, is_tag_name}
-use Rattle.hm_base.specs.RawText.{is_name_end, is_found, is_found_whole, begins_end_tag, place_from, raw_end, script_end, unescaped}
-use Rattle.hm_mark_scan.specs.Comments.{read_comment, begins_cdata, read_cdata}
+use Rattle.hm_base.specs.Bytes.{head_is, is_null, is_letter, is_space, lower, strip_word}
+use Rattle.hm_base.specs.Forms.{is_blank}
+use Rattle.hm_base.specs.RawText.{is_name_end, begins_end_tag, raw_end, script_end, unescaped}
+use Rattle.hm_mark_scan.specs.Comments.{read_comment, begins_cdata}
 use Rattle.hm_mark_scan.specs.Doctypes.{begins_doctype, read_doctype}
-use Rattle.hm_mark_scan.specs.Written.{IsWord, IsPlainDoctype, IsLegacyDoctype, IsWrittenDoctype}
+use Rattle.hm_mark_scan.specs.Written.{IsWrittenDoctype}
 use Rattle.hm_mark_scan.proofs.Lowered.{lower_cases}
-use Rattle.hm_mark_scan.proofs.RawTextLaws.{place_first, place_found, place_same}
-use Rattle.hm_mark_scan.proofs.ScriptLaws.{mark_of_end, first_found, first_same}
+use Rattle.hm_mark_scan.proofs.RawTextLaws.{place_first, place_same}
+use Rattle.hm_mark_scan.proofs.ScriptLaws.{mark_of_end, first_same}
 use Rattle.hm_mark_scan.proofs.WrittenComments.{comment_is_read}
 use Rattle.hm_mark_scan.proofs.WrittenDoctypes.{doctype_is_read}
 use Rattle.hm_refs.specs.Names.{Entry}
 use Rattle.hm_tag_scan.specs.Reading.{read_tag, followed_by_letter, begins_tag}
-use Rattle.hm_tag_scan.specs.Spellings.{WritesStart, WritesEnd, IsAttributes}
+use Rattle.hm_tag_scan.specs.Spellings.{WritesEnd}
 use Rattle.hm_tag_scan.proofs.WrittenTags.{starts_read, ends_read}
-use Rattle.hm_text_scan.specs.Texts.{opens_markup, begins_markup, read_text}
-use Rattle.hm_tree.specs.Tokens.{Seen, end_tag, slice, Scanned, taken}
-use Rattle.hm_tokens.specs.First.{Mode, ordinary, in_svg, rcdata, raw, script, behind_bytes, read_markup, read_here, Behind, three_more, behind_none, behind_empty_tags, next_here, read_inside, read_references, read_nothing, unless_end, first}
+use Rattle.hm_text_scan.specs.Texts.{begins_markup}
+use Rattle.hm_tree.specs.Tokens.{slice, Scanned, taken}
+use Rattle.hm_tokens.specs.First.{Mode, ordinary, in_svg, rcdata, raw, script, behind_bytes, read_markup, behind_none, behind_empty_tags, next_here, read_inside, read_references, read_nothing, unless_end, first}
 use Rattle.hm_tokens.specs.Laws.{reads_markup}
-use Rattle.hm_tokens.specs.Written.{IsNext, StartsAreNext, EndsAreNext, IsTextOf, TextEndsAreNext, CommentsAreNext, DoctypesAreNext, RawTextsAreNext, ScriptsAreNext}
+use Rattle.hm_tokens.specs.Written.{StartsAreNext, EndsAreNext, IsTextOf, TextEndsAreNext, CommentsAreNext, DoctypesAreNext, RawTextsAreNext, ScriptsAreNext}
 use Rattle.hm_tokens.proofs.Bools.{same_parts}
-use Rattle.hm_tokens.proofs.Elements.{EndsAt, raw_ends_at, script_ends_at}
+use Rattle.hm_tokens.proofs.Elements.{raw_ends_at, script_ends_at}
 
 -- ---- where markup begins
 

@@ -1,9 +1,9 @@
 -- How far references and texts look, and texts that are written piece by piece.
-use Rattle.std.specs.Prelude.{◌≡◌, ℕ, Bool, true, false, not, ◌&&◌, ◌||◌, ◌==◌, List, [], ◌∷◌, ◌++◌, map, length, Option, Some, encode_utf8_all}
+use Rattle.std.specs.Prelude.{◌≡◌, ℕ, Bool, true, false, not, ◌&&◌, ◌||◌, ◌==◌, List, [], ◌∷◌, ◌++◌, map, length, Some, encode_utf8_all}
 use Rattle.hm_base.specs.Bytes.{is_alnum}
 use Rattle.hm_base.specs.RawText.{raw_end}
 use Rattle.hm_refs.specs.Names.{Entry}
-use Rattle.hm_refs.specs.References.{Reference, reference}
+use Rattle.hm_refs.specs.References.{reference}
 use Rattle.hm_refs.specs.Tables.{IsTable}
 use Rattle.hm_text_scan.specs.Places.{reference_here, ends_before}
 use Rattle.hm_text_scan.specs.Texts.{ends_plain}

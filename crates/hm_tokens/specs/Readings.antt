@@ -3,7 +3,7 @@ use Rattle.std.specs.Prelude.{◌≡◌, ℕ, Bool, true, List, [], ◌∷◌, �
 use Rattle.hm_refs.specs.Names.{Entry}
 use Rattle.hm_text_scan.specs.Texts.{begins_markup}
 use Rattle.hm_tree.specs.Tokens.{Seen, Scanned, taken, Extends}
-use Rattle.hm_tokens.specs.First.{Mode, ordinary, in_svg, Behind, behind_empty_tags, Next, at_end, behind_bytes, first}
+use Rattle.hm_tokens.specs.First.{Mode, ordinary, in_svg, behind_empty_tags, Next, at_end, behind_bytes, first}
 
 -- The token that begins here ends by itself: a tag, a comment, a doctype, a CDATA section, and, up to the end tag, the text
 -- of an element with raw text or with references alone. Ordinary text ends where something else begins.

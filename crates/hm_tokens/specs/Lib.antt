@@ -4,3 +4,4 @@ pub mod Readings
 pub mod Decided
 pub mod Written
 pub mod Examples
+pub mod LawExamples

@@ -2,7 +2,7 @@
 use Rattle.std.proofs.Common.{◌≡◌, ℕ, suc, ◌+◌, Bool, true, false, cond, not, ◌&&◌, ◌==◌, List, [], ◌∷◌, ◌++◌, map, length, take, drop, Some, encode_utf8_all, refl, ap, ap₂, sym, subst, ◌∙◌, arith, append_assoc, append-nil, length-append}
 use Rattle.std.proofs.lemmas.Bool.{and_parts, eqb-true}
 use Rattle.std.proofs.lemmas.List.{take_at, drop_at}
-use Rattle.hm_base.specs.Bytes.{is_null}
+use Rattle.hm_base.specs.Bytes.{is_null, is_alnum, is_letter, is_digit_of}
 use Rattle.hm_base.specs.RawText.{place_from, begins_end_tag, raw_end}
 use Rattle.hm_refs.specs.Names.{Entry}
 use Rattle.hm_refs.specs.References.{Reference}
@@ -14,9 +14,10 @@ use Rattle.hm_tokens.specs.First.{Mode, ordinary, in_svg, raw, script, Next, beh
 use Rattle.hm_tokens.specs.First as modes
 use Rattle.hm_tokens.specs.Laws.{reads_markup}
 use Rattle.hm_tokens.specs.Readings.{ReadsAs}
-use Rattle.hm_tokens.specs.Decided.{TextPiece, literal, referred, written_so, meant, ArePieces, in_mode, texts_of, is_text, are_texts, ends_text, TextsAreRead, ElementTextsAreRead}
+use Rattle.hm_tokens.specs.Decided.{TextPiece, literal, referred, written_so, meant, ArePieces, in_mode, texts_of, is_text, are_texts, ends_text, TextsAreRead, ElementTextsAreRead, MarkupEndsTexts, goes_on, cuts_text}
 use Rattle.hm_tokens.proofs.Bools.{or_parts, none_there}
 use Rattle.hm_tokens.proofs.Texts.{Piece, piece, plain_cut}
+use Rattle.hm_tokens.proofs.Marks.{markup_shape}
 use Rattle.hm_tokens.proofs.Values.{at_amp}
 use Rattle.hm_tokens.proofs.TextPieces.{names_of_table}
 
@@ -234,3 +235,16 @@ element_texts_are_read t name ps after k h found =
       texts = r.texts;
       joined = r.joined;
     }
+
+-- ---- where markup begins
+
+sign_cuts : (s : List ℕ) → cuts_text (60 ∷ s) ≡ true
+unfolding goes_on is_alnum is_letter is_digit_of
+sign_cuts s = refl
+
+markup_ends : (t : List Entry) (s : List ℕ) → begins_markup s ≡ true → ends_text t s ≡ true
+markup_ends t [] h = refl
+markup_ends t (c ∷ s) h = rw h refl
+
+pub markup_ends_texts : MarkupEndsTexts
+markup_ends_texts t s h = let m = markup_shape s h in (markup_ends t s h, rw m.is (sign_cuts (m.second ∷ m.more)))

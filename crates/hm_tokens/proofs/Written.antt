@@ -107,12 +107,12 @@ tag_first t mode s m h = markup_first t mode s m (tag_markup s (tag_shape s h)) 
 pub starts_are_next : StartsAreNext
 starts_are_next t mode name attributes slash b after m good allowed w =
     let r = starts_read t name attributes slash b after good allowed w in
-    tag_first t mode (b ++ after) m r.0 ∙ ap (behind_bytes 0) r.1
+    ((tag_markup (b ++ after) (tag_shape (b ++ after) r.0)).begins, tag_first t mode (b ++ after) m r.0 ∙ ap (behind_bytes 0) r.1)
 
 pub ends_are_next : EndsAreNext
 ends_are_next t mode name b after m good w =
     let r = ends_read t name b after good w in
-    tag_first t mode (b ++ after) m r.0 ∙ ap (behind_bytes 0) r.1
+    ((tag_markup (b ++ after) (tag_shape (b ++ after) r.0)).begins, tag_first t mode (b ++ after) m r.0 ∙ ap (behind_bytes 0) r.1)
 
 -- ---- end tags of elements with text
 
@@ -174,8 +174,11 @@ comment_first t false s = refl
 
 pub comments_are_next : CommentsAreNext
 comments_are_next t mode s after m h =
-    markup_first t mode (codes "<!--" ++ (s ++ (codes "-->" ++ after))) m (comment_markup (s ++ (codes "-->" ++ after)))
-    ∙ ap (behind_bytes 0) (comment_first t (reads_cdata mode) (s ++ (codes "-->" ++ after)) ∙ comment_is_read s after h)
+    let k = comment_markup (s ++ (codes "-->" ++ after)) in (
+      k.begins,
+      markup_first t mode (codes "<!--" ++ (s ++ (codes "-->" ++ after))) m k
+          ∙ ap (behind_bytes 0) (comment_first t (reads_cdata mode) (s ++ (codes "-->" ++ after)) ∙ comment_is_read s after h),
+    )
 
 -- the word of a doctype
 record DoctypeWord (b : List ℕ) : Type 0 where
@@ -230,8 +233,8 @@ doctypes_are_next t mode legacy b after m w =
     let cut : b ++ after ≡ k.word ++ (k.more ++ after) = ap (λ x. x ++ after) k.is ∙ append_assoc k.word k.more after in
     let d : Declared (b ++ after) = subst Declared (sym cut) (declared k.word (k.more ++ after) k.lowered) in
     let begins : begins_doctype (b ++ after) ≡ true = subst (λ x. begins_doctype x ≡ true) (sym cut) (doctype_begins k.word (k.more ++ after) k.lowered) in
-    markup_first t mode (b ++ after) m (subst IsMarkup (sym d.is) (declared_markup d.more))
-    ∙ ap (behind_bytes 0) (doctype_first t (reads_cdata mode) (b ++ after) d begins ∙ doctype_is_read legacy b after w)
+    let k = subst IsMarkup (sym d.is) (declared_markup d.more) in
+    (k.begins, markup_first t mode (b ++ after) m k ∙ ap (behind_bytes 0) (doctype_first t (reads_cdata mode) (b ++ after) d begins ∙ doctype_is_read legacy b after w))
 
 -- ---- texts in which nothing is read
 

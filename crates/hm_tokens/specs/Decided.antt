@@ -6,7 +6,7 @@ use Rattle.hm_refs.specs.Names.{Entry}
 use Rattle.hm_refs.specs.References.{reference}
 use Rattle.hm_refs.specs.Tables.{IsTable}
 use Rattle.hm_text_scan.specs.Places.{reference_here, ends_before}
-use Rattle.hm_text_scan.specs.Texts.{ends_plain}
+use Rattle.hm_text_scan.specs.Texts.{begins_markup, ends_plain}
 use Rattle.hm_tree.specs.Tokens.{Seen, slice, points}
 use Rattle.hm_tokens.specs.First as modes
 use Rattle.hm_tokens.specs.First.{Mode}
@@ -105,3 +105,7 @@ TextsAreRead = (t : List Entry) (mode : Mode) (ps : List TextPiece) (after : Lis
 abbrev pub ElementTextsAreRead : Type 0
 ElementTextsAreRead = (t : List Entry) (name : List ℕ) (ps : List TextPiece) (after : List ℕ)
     → IsTable t → ArePieces t true ps [] → raw_end name (written_so ps ++ after) ≡ Some (length (written_so ps)) → IsReadAs t (modes.rcdata name) (written_so ps ++ after) after (meant ps)
+
+-- A text ends where markup begins, and what stands before it is decided there.
+abbrev pub MarkupEndsTexts : Type 0
+MarkupEndsTexts = (t : List Entry) (s : List ℕ) → begins_markup s ≡ true → (ends_text t s ≡ true) × (cuts_text s ≡ true)

@@ -7,6 +7,7 @@ use Rattle.hm_base.specs.Walks.{Attribute}
 use Rattle.hm_refs.specs.Names.{Entry}
 use Rattle.hm_mark_scan.specs.Written.{IsWrittenDoctype}
 use Rattle.hm_tag_scan.specs.Spellings.{WritesStart, WritesEnd, IsAttributes}
+use Rattle.hm_text_scan.specs.Texts.{begins_markup}
 use Rattle.hm_tree.specs.Tokens.{Seen, doctype, start_tag, end_tag, slice, comment, taken}
 use Rattle.hm_tokens.specs.First.{Mode, rcdata, raw, script, behind_bytes, first}
 use Rattle.hm_tokens.specs.Laws.{reads_markup}
@@ -15,12 +16,16 @@ use Rattle.hm_tokens.specs.Laws.{reads_markup}
 abbrev pub IsNext : List Entry → Mode → List ℕ → Seen → List ℕ → Type 0
 IsNext t mode s token rest = first t mode s ≡ behind_bytes 0 (taken token rest)
 
+-- and markup begins with it, so that a text ends before it
+abbrev pub IsNextMarkup : List Entry → Mode → List ℕ → Seen → List ℕ → Type 0
+IsNextMarkup t mode s token rest = (begins_markup s ≡ true) × IsNext t mode s token rest
+
 abbrev pub StartsAreNext : Type 0
 StartsAreNext = (t : List Entry) (mode : Mode) (name : List ℕ) (attributes : List Attribute) (slash : Bool) (b after : List ℕ)
-    → reads_markup mode ≡ true → is_tag_name name ≡ true → IsAttributes attributes → WritesStart t name attributes slash b → IsNext t mode (b ++ after) (start_tag name attributes slash) after
+    → reads_markup mode ≡ true → is_tag_name name ≡ true → IsAttributes attributes → WritesStart t name attributes slash b → IsNextMarkup t mode (b ++ after) (start_tag name attributes slash) after
 
 abbrev pub EndsAreNext : Type 0
-EndsAreNext = (t : List Entry) (mode : Mode) (name b after : List ℕ) → reads_markup mode ≡ true → is_tag_name name ≡ true → WritesEnd name b → IsNext t mode (b ++ after) (end_tag name) after
+EndsAreNext = (t : List Entry) (mode : Mode) (name b after : List ℕ) → reads_markup mode ≡ true → is_tag_name name ≡ true → WritesEnd name b → IsNextMarkup t mode (b ++ after) (end_tag name) after
 
 -- the text of the element with this name is read
 abbrev pub IsTextOf : Mode → List ℕ → Type 0
@@ -34,10 +39,10 @@ abbrev pub TextEndsAreNext : Type 0
 TextEndsAreNext = (t : List Entry) (mode : Mode) (name b after : List ℕ) → IsTextOf mode name → is_tag_name name ≡ true → WritesEnd name b → IsNext t mode (b ++ after) (end_tag name) after
 
 abbrev pub CommentsAreNext : Type 0
-CommentsAreNext = (t : List Entry) (mode : Mode) (s after : List ℕ) → reads_markup mode ≡ true → is_comment_text s ≡ true → IsNext t mode (codes "<!--" ++ (s ++ (codes "-->" ++ after))) (comment s) after
+CommentsAreNext = (t : List Entry) (mode : Mode) (s after : List ℕ) → reads_markup mode ≡ true → is_comment_text s ≡ true → IsNextMarkup t mode (codes "<!--" ++ (s ++ (codes "-->" ++ after))) (comment s) after
 
 abbrev pub DoctypesAreNext : Type 0
-DoctypesAreNext = (t : List Entry) (mode : Mode) (legacy : Bool) (b after : List ℕ) → reads_markup mode ≡ true → IsWrittenDoctype legacy b → IsNext t mode (b ++ after) (doctype legacy) after
+DoctypesAreNext = (t : List Entry) (mode : Mode) (legacy : Bool) (b after : List ℕ) → reads_markup mode ≡ true → IsWrittenDoctype legacy b → IsNextMarkup t mode (b ++ after) (doctype legacy) after
 
 -- Where some end tag of the element ends a raw text that isn't empty, each one does.
 abbrev pub RawTextsAreNext : Type 0

@@ -1,5 +1,5 @@
 //! Laws over the next token of a text. The functions do nothing.
-ghost use Rattle.hm_tokens.specs.Decided.{ElementTextsAreRead, EndsAreDecided, ReferencesAreDecided, TextsAreDecided, TextsAreRead};
+ghost use Rattle.hm_tokens.specs.Decided.{ElementTextsAreRead, EndsAreDecided, MarkupEndsTexts, ReferencesAreDecided, TextsAreDecided, TextsAreRead};
 ghost use Rattle.hm_tokens.specs.Laws.{TokensAreSmall, TokensAreSound};
 ghost use Rattle.hm_tokens.specs.Readings.{NextTokensExtend, PiecesAreRead, ReadingsFollow, WholePiecesAreRead, WholeReadingsExtend};
 ghost use Rattle.hm_tokens.specs.Written.{CommentsAreNext, DoctypesAreNext, EndsAreNext, RawTextsAreNext, ScriptsAreNext, StartsAreNext, TextEndsAreNext};
@@ -33,6 +33,7 @@ pub fn text_is_decided()
     ensures references { ReferencesAreDecided }
     ensures texts { TextsAreDecided }
     ensures ends { EndsAreDecided }
+    ensures markup { MarkupEndsTexts }
 {}
 
 /// A text that is written piece by piece is read as it is meant.

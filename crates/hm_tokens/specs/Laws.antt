@@ -1,5 +1,5 @@
 -- What holds of tokens that are read from the text of a page.
-use Rattle.std.specs.Prelude.{◌≡◌, ℕ, ◌+◌, ◌*◌, ◌≤◌, Bool, true, false, List, [], ◌∷◌, ◌++◌, length, Some, codes, encode_utf8_all}
+use Rattle.std.specs.Prelude.{◌≡◌, ℕ, ◌+◌, ◌*◌, ◌≤◌, Bool, true, false, List, ◌++◌, length, Some, codes, encode_utf8_all}
 use Rattle.std.specs.Str.{is_utf8}
 use Rattle.hm_base.specs.Bytes.{all_pass, is_null}
 use Rattle.hm_base.specs.Forms.{has_byte, is_tag_name, is_comment_text}
@@ -10,8 +10,8 @@ use Rattle.hm_elements.specs.Places.{AttributesAllowed}
 use Rattle.hm_elements.specs.Settled as settled
 use Rattle.hm_refs.specs.Names.{Entry, is_good_name}
 use Rattle.hm_refs.specs.Tables.{IsIn, are_points}
-use Rattle.hm_tree.specs.Tokens.{Seen, doctype, start_tag, end_tag, slice, points, comment, Scanned, taken}
-use Rattle.hm_tokens.specs.First.{Mode, ordinary, in_svg, rcdata, raw, script, Next, behind_bytes, first}
+use Rattle.hm_tree.specs.Tokens.{Seen, doctype, start_tag, end_tag, slice, points, comment, taken}
+use Rattle.hm_tokens.specs.First.{Mode, ordinary, in_svg, rcdata, raw, script, behind_bytes, first}
 
 -- the bytes of a text: UTF-8, without zero byte and CR
 pub record IsPlain (s : List ℕ) : Type 0 where

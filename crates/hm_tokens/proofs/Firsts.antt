@@ -121,11 +121,10 @@ next_takes t foreign s n token rest names h =
     let all : length s ≡ length k.written + length b.rest = ap length k.is ∙ length-append k.written b.rest in
     let takes = here_takes t foreign b.rest token rest names r.some r.read in
     let whole = takes.whole in
-    let size = takes.size in
     let least = takes.least in
     let count = k.count in
     let same = r.count in
-    record { count = takes.count; whole = omega arith; size = omega arith; least = omega arith }
+    record { count = takes.count; whole = omega arith; size = takes.size; least = omega arith }
 
 -- ---- texts of elements
 

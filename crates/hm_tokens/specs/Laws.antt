@@ -116,14 +116,23 @@ least_size (slice s) = 1
 least_size (points ps) = 3
 least_size (comment s) = 3
 
+-- what a token stands for has at most so many bytes for each byte of it
+abbrev pub growth : Seen → ℕ
+growth (doctype legacy) = 3
+growth (start_tag name attributes slash) = 3
+growth (end_tag name) = 3
+growth (slice s) = 1
+growth (points ps) = 3
+growth (comment s) = 3
+
 -- the token stands behind n bytes of s, and rest behind it
 pub record TakesBytes (s : List ℕ) (n : ℕ) (token : Seen) (rest : List ℕ) : Type 0 where
   pub count : ℕ  -- the bytes of the token
   pub whole : length s ≡ n + count + length rest
-  pub size : token_size token ≤ 3 * count
+  pub size : token_size token ≤ growth token * count
   pub least : least_size token ≤ count
 
--- Each token stands for at most three times the bytes that it is read from.
+-- Each token stands for at most three times the bytes that it is read from, text as it is written for no more than those.
 abbrev pub TokensAreSmall : Type 0
 TokensAreSmall = (t : List Entry) (mode : Mode) (s : List ℕ) (n : ℕ) (token : Seen) (rest : List ℕ)
     → SoundNames t → IsMode mode → first t mode s ≡ behind_bytes n (taken token rest) → TakesBytes s n token rest

@@ -27,8 +27,10 @@ struct TextEnd {
 /// A text that is read token by token.
 ///
 /// Contracts see the names of character references, the text with its places, and how many of its bytes were taken.
-/// A token is looked at up to its own end. In title, textarea, style, iframe and script that is the end of the text
-/// that the element has, which is found once.
+///
+/// No byte behind a token's own end is looked at but one, unless the end is missing, which refuses the page: so all
+/// tokens of a page together take time linear in it. In title, textarea, style, iframe and script the first token
+/// looks for the end tag of the element; the pieces of a title or a textarea behind it don't look again.
 #[derive(Drop)]
 pub struct Lexer<'a> {
     source: &'a SourceText,

@@ -8,3 +8,6 @@ mod ordinary;
 
 pub use lexer::Lexer;
 pub use modes::{Mode, RawName, RcdataName};
+
+#[cfg(test)]
+mod tests;

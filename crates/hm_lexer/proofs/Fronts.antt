@@ -1,12 +1,12 @@
 -- What is read in the front of a text, up to the end of an element's text.
-use Rattle.std.proofs.Common.{◌≡◌, ℕ, zero, suc, ◌+◌, ◌-◌, ◌<◌, ◌≤◌, Bool, true, false, List, [], ◌∷◌, ◌++◌, length, take, drop, get_or, slice_range, Option, Some, None, refl, sym, ap, ap₂, subst, ◌∙◌, inl, inr, arith, length-drop}
+use Rattle.std.proofs.Common.{◌≡◌, ℕ, zero, suc, ◌+◌, ◌-◌, ◌<◌, ◌≤◌, true, false, List, ◌++◌, length, take, drop, get_or, slice_range, Some, refl, sym, ap, ap₂, subst, ◌∙◌, inl, inr, arith}
 use Rattle.std.specs.Str.{IsCharBoundary}
 use Rattle.std.proofs.lemmas.Bool.{cases_lt}
-use Rattle.std.proofs.lemmas.List.{drop-drop, drop-take, take-take, take-append-drop, length-take-le, get_or-take}
+use Rattle.std.proofs.lemmas.List.{drop-drop, drop-take, take-take, length-take-le, get_or-take}
 use Rattle.std.proofs.lemmas.List.Folds.{drop_split}
 use Rattle.hm_refs.specs.Names.{Entry}
 use Rattle.hm_text_scan.specs.Texts.{read_text}
-use Rattle.hm_tokens.specs.First.{before_rest, read_inside, read_nothing}
+use Rattle.hm_tokens.specs.First.{before_rest, read_inside}
 use Rattle.hm_tree.specs.Tokens.{IsPiece, IsInText, Reads, Scanned, seen, slice, comment, taken}
 use Rattle.hm_tree.specs.declared.tokens.Token.{Token}
 use Rattle.hm_tree.specs.declared.tokens.Token.TheVariants as tokens

@@ -1,5 +1,5 @@
 -- The next token, by its steps.
-use Rattle.std.proofs.Common.{◌≡◌, ◌≢◌, ℕ, ◌+◌, ◌-◌, ◌<◌, ◌≤◌, Bool, true, false, List, [], ◌∷◌, length, drop, refl, sym, ap, ◌∙◌, arith}
+use Rattle.std.proofs.Common.{◌≡◌, ◌≢◌, ℕ, ◌+◌, ◌-◌, ◌<◌, true, false, List, length, drop, refl, ap, ◌∙◌, arith}
 use Rattle.std.proofs.lemmas.List.{drop_all, drop_more}
 use Rattle.hm_base.specs.Bytes.{is_null}
 use Rattle.hm_base.specs.Source.{place_in}
@@ -9,7 +9,6 @@ use Rattle.hm_tree.specs.Tokens.{Reads, refused}
 use Rattle.hm_tree.specs.declared.tokens.Token.{Token}
 use Rattle.hm_tree.specs.declared.tokens.ScanFault.{ScanFault}
 use Rattle.hm_tree.specs.declared.tokens.ScanFault.TheVariants as faults
-use Rattle.std.specs.Str.{IsCharBoundary}
 use Rattle.hm_lexer.specs.Reading.{Reading, IsTaken, IsFaulty, Refuses, next_of, text_of}
 use Rattle.hm_lexer.specs.Steps.{IsBehind, behind_nothing, next_behind, read_in, refusal_of}
 

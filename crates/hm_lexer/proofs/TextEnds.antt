@@ -1,5 +1,5 @@
 -- Where the text of an element ends, its end tag begins.
-use Rattle.std.proofs.Common.{◌≡◌, ℕ, zero, suc, ◌+◌, ◌-◌, ◌<◌, ◌≤◌, Bool, true, false, cond, ◌||◌, ◌==◌, List, [], ◌∷◌, length, take, drop, Option, Some, None, IfSome, refl, sym, ap, subst, ◌∙◌, arith, codes, lit<, add-zero, length-drop}
+use Rattle.std.proofs.Common.{◌≡◌, ℕ, zero, suc, ◌+◌, ◌-◌, ◌<◌, ◌≤◌, Bool, true, false, cond, ◌||◌, ◌==◌, List, [], ◌∷◌, length, drop, Option, Some, None, refl, ap, subst, ◌∙◌, arith, codes, lit<, add-zero, length-drop}
 use Rattle.std.specs.Str.{IsCharBoundary}
 use Rattle.std.proofs.lemmas.Bool.Decides.{nat_tests, Decides-eqb}
 use Rattle.std.proofs.lemmas.List.{drop-drop}
@@ -9,7 +9,7 @@ use Rattle.hm_base.specs.RawText.{begins_end_tag, is_found_whole, place_from, ra
 use Rattle.hm_tree.specs.Tokens.{Reads, refused}
 use Rattle.hm_tree.specs.declared.tokens.Token.{Token}
 use Rattle.hm_tree.specs.declared.tokens.ScanFault.{ScanFault}
-use Rattle.hm_tag_scan.specs.Reading.{begins_tag, followed_by_letter}
+use Rattle.hm_tag_scan.specs.Reading.{begins_tag}
 use Rattle.hm_mark_scan.specs.Pieces.{slice_up_to}
 use Rattle.hm_mark_scan.specs.RawTexts.{read_raw, read_script}
 use Rattle.hm_mark_scan.proofs.Lowered.{eqb_lower}

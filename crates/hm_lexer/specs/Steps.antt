@@ -1,5 +1,5 @@
 -- The steps by which the next token is found.
-use Rattle.std.specs.Prelude.{◌≡◌, ℕ, ◌-◌, ◌≤◌, Bool, true, false, ◌&&◌, ◌==◌, List, [], ◌∷◌, drop, Option, Some, None, IfSome, MatchOption, IsCharBoundary, if◌then◌else◌}
+use Rattle.std.specs.Prelude.{◌≡◌, ℕ, ◌-◌, ◌≤◌, Bool, true, false, ◌&&◌, ◌==◌, List, ◌∷◌, drop, Option, Some, None, IfSome, MatchOption, IsCharBoundary, if◌then◌else◌}
 use Rattle.hm_base.specs.Bytes.{is_null}
 use Rattle.hm_base.specs.RawText.{raw_end, script_end}
 use Rattle.hm_base.specs.declared.rules.Refused.{Refused}

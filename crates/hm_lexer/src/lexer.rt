@@ -28,9 +28,10 @@ struct TextEnd {
 ///
 /// Contracts see the names of character references, the text with its places, and how many of its bytes were taken.
 ///
-/// No byte behind a token's own end is looked at but one, unless the end is missing, which refuses the page: so all
-/// tokens of a page together take time linear in it. In title, textarea, style, iframe and script the first token
-/// looks for the end tag of the element; the pieces of a title or a textarea behind it don't look again.
+/// What is looked at for a token runs to the token's own end, or, where a piece of text ends before a character
+/// reference, to the end of that reference; where a token's end is missing, to the end of the text, and the page is
+/// refused. So all tokens of a page together take time linear in it. In title, textarea, style, iframe and script the
+/// first token looks for the end tag of the element; the pieces of a title or a textarea behind it don't look again.
 #[derive(Drop)]
 pub struct Lexer<'a> {
     source: &'a SourceText,

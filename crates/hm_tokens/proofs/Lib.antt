@@ -1,0 +1,10 @@
+pub mod Plain
+pub mod TagParts
+pub mod References
+pub mod Values
+pub mod Attributes
+pub mod Tags
+pub mod Marks
+pub mod Texts
+pub mod Elements
+pub mod Firsts

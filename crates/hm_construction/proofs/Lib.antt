@@ -12,7 +12,4 @@ pub mod Modes
 pub mod Rests
 pub mod RawTexts
 pub mod Built
-pub mod Growth
-pub mod TagGrowth
-pub mod Rooms
 pub mod Pages

@@ -2,4 +2,3 @@ pub mod Steps
 pub mod Trees
 pub mod Examples
 pub mod Laws
-pub mod Room

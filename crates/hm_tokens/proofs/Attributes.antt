@@ -1,9 +1,9 @@
 -- The attributes of a tag that is read.
-use Rattle.std.proofs.Common.{◌≡◌, ℕ, zero, suc, ◌+◌, ◌*◌, ◌<◌, ◌≤◌, ◌⊎◌, Bool, true, false, cond, not, ◌&&◌, ◌||◌, ◌==◌, nat_le, nat_lt, List, [], ◌∷◌, ◌++◌, map, length, bytes_eq, Option, Some, None, refl, inl, inr, ap, sym, subst, ◌∙◌, arith, append_assoc}
+use Rattle.std.proofs.Common.{◌≡◌, ℕ, ◌+◌, ◌*◌, ◌<◌, ◌≤◌, ◌⊎◌, Bool, true, false, cond, not, ◌&&◌, ◌||◌, ◌==◌, nat_le, List, [], ◌∷◌, ◌++◌, map, length, bytes_eq, refl, inl, inr, sym, subst, arith, append_assoc}
 use Rattle.std.specs.Str.{is_utf8}
-use Rattle.std.proofs.lemmas.Bool.{and_parts, and_from, or_from, cond_both, not-true}
+use Rattle.std.proofs.lemmas.Bool.{and_parts, and_from, cond_both, not-true}
 use Rattle.std.proofs.lemmas.List.{length-map}
-use Rattle.hm_base.specs.Bytes.{all_pass, some_passes, head_is, is_null, is_space, lower}
+use Rattle.hm_base.specs.Bytes.{all_pass, some_passes, is_space, lower}
 use Rattle.hm_base.specs.Forms.{has_byte, is_attribute_byte, is_attribute_name}
 use Rattle.hm_base.specs.RawText.{is_name_end}
 use Rattle.hm_base.specs.Source.{is_text_byte}
@@ -13,9 +13,9 @@ use Rattle.hm_elements.specs.Settled.{all_names_in_form, no_zero_in_values, all_
 use Rattle.hm_mark_scan.proofs.Lowered.{lower_cases}
 use Rattle.hm_refs.specs.Names.{Entry}
 use Rattle.hm_tag_scan.specs.Tags.{is_later_byte, is_tag_end}
-use Rattle.hm_tag_scan.specs.Reading.{attribute_limit, is_bad_byte, is_equals, is_bad_name, has_bad_name, read_attribute, without_name, without_repeats, read_attributes}
-use Rattle.hm_tag_scan.specs.Values.{read_value}
+use Rattle.hm_tag_scan.specs.Reading.{attribute_limit, is_bad_byte, is_bad_name, has_bad_name, read_attribute, without_name, without_repeats, read_attributes}
 use Rattle.hm_tokens.specs.Laws.{IsPlain, SoundNames}
+use Rattle.hm_tokens.proofs.Bools.{or_parts}
 use Rattle.hm_tokens.proofs.Plain.{utf8_both, utf8_before, utf8_from, utf8_behind, no_zero_byte}
 use Rattle.hm_tokens.proofs.References.{is_ascii, low_ascii}
 use Rattle.hm_tokens.proofs.TagParts.{GoodAttribute, AllGood}
@@ -43,10 +43,6 @@ lower_utf8 s h = lower_utf8_behind s [] h
 small_byte : (d : ℕ) → 97 ≤ d → d ≤ 122 → is_attribute_byte d ≡ true
 unfolding is_attribute_byte is_space
 small_byte d low high = grind arith
-
-or_parts : (a b : Bool) → a || b ≡ false → (a ≡ false) × (b ≡ false)
-or_parts false b h = (refl, h)
-or_parts true b h = absurd (cc)
 
 -- a byte of a name as it is written
 record NameByte (c : ℕ) : Type 0 where

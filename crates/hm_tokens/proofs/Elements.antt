@@ -1,10 +1,10 @@
 -- The texts of title, textarea, style, iframe and script as they are read.
-use Rattle.std.proofs.Common.{◌≡◌, ℕ, zero, suc, ◌+◌, ◌*◌, ◌<◌, ◌≤◌, ◌⊎◌, Bool, true, false, cond, not, ◌&&◌, ◌||◌, ◌==◌, List, [], ◌∷◌, ◌++◌, map, length, take, drop, Option, Some, None, refl, inl, inr, ap, sym, subst, ◌∙◌, arith, append_assoc, length-append, codes}
-use Rattle.std.proofs.lemmas.Bool.{and_parts, and_from, eqb-true, eq-eqb}
+use Rattle.std.proofs.Common.{◌≡◌, ℕ, zero, suc, ◌+◌, ◌<◌, ◌≤◌, Bool, true, false, not, ◌&&◌, ◌==◌, List, [], ◌∷◌, ◌++◌, length, take, drop, Option, Some, None, refl, inl, inr, ap, sym, subst, ◌∙◌, arith, length-append, codes}
+use Rattle.std.proofs.lemmas.Bool.{and_parts, eq-eqb}
 use Rattle.std.proofs.lemmas.List.{take-append-drop, length-take-le}
 use Rattle.hm_base.specs.Bytes.{strip_word, all_pass, is_null, is_space, lower, is_digit_of}
 use Rattle.hm_base.specs.Forms.{is_small, is_tag_byte, is_tag_name}
-use Rattle.hm_base.specs.RawText.{is_name_end, is_found_whole, begins_end_tag, raw_end, script_end, unescaped}
+use Rattle.hm_base.specs.RawText.{is_name_end, begins_end_tag, raw_end, script_end, unescaped}
 use Rattle.hm_elements.specs.Settled as settled
 use Rattle.hm_mark_scan.proofs.Lowered.{lower_cases}
 use Rattle.hm_mark_scan.proofs.RawTextLaws.{place_found, place_same}
@@ -13,11 +13,11 @@ use Rattle.hm_refs.specs.Names.{Entry}
 use Rattle.hm_tag_scan.specs.Reading.{read_tag}
 use Rattle.hm_text_scan.specs.Texts.{begins_markup, read_text}
 use Rattle.hm_tree.specs.Tokens.{Seen, slice, Scanned, taken, refused}
-use Rattle.hm_tokens.specs.First.{Mode, rcdata, raw, script, before_rest, read_inside, read_references, read_nothing}
-use Rattle.hm_tokens.specs.Laws.{IsPlain, SoundNames, EndsElement, IsWhole, IsText, SoundToken, TakesBytes, token_size, least_size}
+use Rattle.hm_tokens.specs.First.{Mode, rcdata, before_rest, read_inside, read_references, read_nothing}
+use Rattle.hm_tokens.specs.Laws.{IsPlain, SoundNames, EndsElement, IsWhole, IsText, SoundToken, TakesBytes}
 use Rattle.hm_tokens.proofs.Plain.{plain_both, plain_before, plain_from, no_zero_byte, no_return_byte}
 use Rattle.hm_tokens.proofs.Tags.{EndTagHere, end_tag_here, end_tag_sound, end_tag_takes}
-use Rattle.hm_tokens.proofs.Texts.{Piece, piece, piece_sound, piece_takes}
+use Rattle.hm_tokens.proofs.Texts.{piece, piece_sound, piece_takes}
 
 -- ---- the shortest end tag
 

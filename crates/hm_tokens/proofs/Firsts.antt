@@ -1,5 +1,5 @@
 -- Each token that is read is sound and small, by the mode.
-use Rattle.std.proofs.Common.{◌≡◌, ℕ, zero, suc, ◌+◌, ◌*◌, ◌<◌, ◌≤◌, Bool, true, false, cond, not, ◌&&◌, ◌||◌, ◌==◌, List, [], ◌∷◌, ◌++◌, length, take, drop, Option, Some, None, refl, ap, sym, subst, ◌∙◌, arith, append_assoc, length-append, codes}
+use Rattle.std.proofs.Common.{◌≡◌, ℕ, suc, ◌+◌, Bool, true, false, cond, ◌&&◌, ◌==◌, List, [], ◌∷◌, ◌++◌, length, refl, ap, sym, subst, ◌∙◌, arith, length-append, codes}
 use Rattle.std.proofs.lemmas.Bool.{and_parts, eqb-true}
 use Rattle.hm_base.specs.Bytes.{all_pass, is_null}
 use Rattle.hm_base.specs.RawText.{raw_end, script_end}
@@ -8,14 +8,16 @@ use Rattle.hm_tag_scan.specs.Reading.{read_tag, begins_tag}
 use Rattle.hm_text_scan.specs.Texts.{begins_markup, read_text}
 use Rattle.hm_mark_scan.specs.Comments.{read_comment, begins_cdata, read_cdata}
 use Rattle.hm_mark_scan.specs.Doctypes.{begins_doctype, read_doctype}
-use Rattle.hm_tree.specs.Tokens.{Seen, Scanned, taken, refused}
+use Rattle.hm_tree.specs.Tokens.{Seen, Scanned, taken}
 use Rattle.hm_tokens.specs.First.{Mode, ordinary, in_svg, rcdata, raw, script, Next, behind_bytes, read_markup, read_here, Behind, three_more, behind_none, behind_empty_tags, next_here, read_inside, read_references, read_nothing, unless_end, first}
 use Rattle.hm_tokens.specs.First as next
-use Rattle.hm_tokens.specs.Laws.{IsPlain, SoundNames, IsMode, reads_markup, reads_references, EndsElement, IsWhole, SoundToken, TokensAreSound, token_size, least_size, TakesBytes, TokensAreSmall}
+use Rattle.hm_tokens.specs.Laws.{IsPlain, SoundNames, reads_markup, reads_references, EndsElement, IsWhole, SoundToken, TokensAreSound, TakesBytes, TokensAreSmall}
 use Rattle.hm_tokens.proofs.Plain.{plain_behind_all}
 use Rattle.hm_tokens.proofs.References.{is_ascii, ascii_low}
 use Rattle.hm_tokens.proofs.Tags.{tag_sound, tag_takes}
-use Rattle.hm_tokens.proofs.Marks.{comment_sound, comment_takes, cdata_sound, cdata_takes, doctype_sound, doctype_takes}
+use Rattle.hm_tokens.proofs.Comments.{comment_sound, comment_takes}
+use Rattle.hm_tokens.proofs.Sections.{cdata_sound, cdata_takes}
+use Rattle.hm_tokens.proofs.Doctypes.{doctype_sound, doctype_takes}
 use Rattle.hm_tokens.proofs.Texts.{piece, piece_sound, piece_takes}
 use Rattle.hm_tokens.proofs.Elements.{raw_ends_at, script_ends_at, script_is_name, raw_whole, script_whole, inside, whole_sound, whole_takes, references_sound, references_take}
 
@@ -119,11 +121,10 @@ next_takes t foreign s n token rest names h =
     let all : length s ≡ length k.written + length b.rest = ap length k.is ∙ length-append k.written b.rest in
     let takes = here_takes t foreign b.rest token rest names r.some r.read in
     let whole = takes.whole in
-    let size = takes.size in
     let least = takes.least in
     let count = k.count in
     let same = r.count in
-    record { count = takes.count; whole = omega arith; size = omega arith; least = omega arith }
+    record { count = takes.count; whole = omega arith; size = takes.size; least = omega arith }
 
 -- ---- texts of elements
 

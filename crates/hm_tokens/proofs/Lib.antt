@@ -1,3 +1,4 @@
+pub mod Bools
 pub mod Plain
 pub mod TagParts
 pub mod References
@@ -5,6 +6,15 @@ pub mod Values
 pub mod Attributes
 pub mod Tags
 pub mod Marks
+pub mod Comments
+pub mod Sections
+pub mod Doctypes
 pub mod Texts
 pub mod Elements
 pub mod Firsts
+pub mod Longer
+pub mod Readings
+pub mod Decided
+pub mod TextPieces
+pub mod TextReads
+pub mod Written

@@ -1,17 +1,17 @@
 -- A character reference that is read: its bytes are ASCII and at least three, and it stands for one or two code points.
-use Rattle.std.proofs.Common.{◌≡◌, ℕ, zero, suc, ◌+◌, ◌*◌, ◌<◌, ◌≤◌, Bool, true, false, cond, not, ◌&&◌, ◌||◌, ◌==◌, nat_lt, nat_le, List, [], ◌∷◌, ◌++◌, length, get_or, Option, Some, None, encode_utf8_all, refl, ap, sym, subst, ◌∙◌, arith, append_assoc, length-append, append-nil, codes}
+use Rattle.std.proofs.Common.{◌≡◌, ℕ, suc, ◌+◌, ◌<◌, ◌≤◌, Bool, true, false, cond, ◌&&◌, ◌||◌, ◌==◌, nat_lt, nat_le, List, [], ◌∷◌, ◌++◌, length, get_or, Option, Some, None, encode_utf8_all, refl, ap, sym, subst, ◌∙◌, arith, append_assoc, length-append, append-nil}
 use Rattle.std.specs.List.{list_all}
-use Rattle.std.specs.Char.{IsScalar, len_utf8}
-use Rattle.std.specs.Str.{IsUtf8, is_utf8}
-use Rattle.std.proofs.lemmas.Bool.{and_parts, and_from, or_from, eqb-true, leb-true, cases_Bool}
+use Rattle.std.specs.Char.{IsScalar}
+use Rattle.std.specs.Str.{is_utf8}
+use Rattle.std.proofs.lemmas.Bool.{and_parts, and_from, or_from, eqb-true}
 use Rattle.std.proofs.lemmas.Str.{IsUtf8-append, IsUtf8-nil, IsUtf8-encode, is_utf8-from_IsUtf8, length-encode, len_utf8_bounds, inside_one}
 use lib.Utf8.{encode}
-use Rattle.hm_base.specs.Bytes.{front, behind, strip, head_is, all_pass, is_null, is_digit, is_hex, is_digit_of, is_alnum, is_letter}
+use Rattle.hm_base.specs.Bytes.{front, behind, all_pass, is_null, is_digit_of, is_alnum, is_letter}
 use Rattle.hm_base.specs.Forms.{has_byte}
-use Rattle.hm_refs.specs.Names.{Entry, Found, found, longest, points_of, is_good, is_good_name, is_tail}
+use Rattle.hm_refs.specs.Names.{Entry, Found, longest, is_good, is_tail}
 use Rattle.hm_refs.specs.Numbers.{point_of, look_up, or_number, replaced}
-use Rattle.hm_refs.specs.References.{Reference, value_of, is_semicolon, numeric, decimal_number, hexadecimal, hash, is_blocked, named, reference_by, reference}
-use Rattle.hm_refs.specs.Tables.{IsIn, is_scalar, is_point, are_points}
+use Rattle.hm_refs.specs.References.{Reference, value_of, numeric, decimal_number, hexadecimal, hash, is_blocked, named, reference_by, reference}
+use Rattle.hm_refs.specs.Tables.{is_point, are_points}
 use Rattle.hm_refs.proofs.Found.{Entered, entry_of, IsLast, found_last}
 use Rattle.hm_refs.proofs.NumberLaws.{up_passes}
 use Rattle.hm_tokens.specs.Laws.{SoundNames}

@@ -1,11 +1,11 @@
 -- The parts of a tag that is read from a text: texts themselves, and no longer than what they are read from.
-use Rattle.std.proofs.Common.{◌≡◌, ℕ, zero, suc, ◌+◌, ◌-◌, ◌<◌, ◌≤◌, Bool, true, false, cond, not, ◌&&◌, ◌||◌, ◌==◌, List, [], ◌∷◌, ◌++◌, length, drop, Option, Some, None, refl, ap, sym, subst, ◌∙◌, arith, append_assoc, length-append, append-nil}
-use Rattle.std.proofs.lemmas.Bool.{cond_both, not-false, or_cases, eqb-true}
+use Rattle.std.proofs.Common.{◌≡◌, ℕ, zero, suc, ◌+◌, ◌-◌, ◌<◌, ◌≤◌, Bool, true, false, ◌==◌, List, [], ◌∷◌, ◌++◌, length, drop, Option, Some, None, refl, ap, sym, subst, ◌∙◌, arith, append_assoc, length-append, append-nil}
+use Rattle.std.proofs.lemmas.Bool.{cond_both, not-false, eqb-true}
 use Rattle.std.proofs.lemmas.List.{drop_at}
 use Rattle.hm_base.specs.Bytes.{Cut, front, behind, head_is, all_pass, is_space}
 use Rattle.hm_base.specs.RawText.{is_name_end}
 use Rattle.hm_base.specs.Walks.{Attribute, attributes_size}
-use Rattle.hm_tag_scan.specs.Tags.{is_name_byte, is_later_byte, is_unquoted_byte, is_inside, is_quote, is_tag_end, cut_behind, cut_quoted, cut_value, cut_assigned, Written, with_name, named, attribute_at, Tag, with_attribute, with_slash, attribute_then, tag_from, cut_tag}
+use Rattle.hm_tag_scan.specs.Tags.{is_name_byte, is_later_byte, is_unquoted_byte, is_inside, is_quote, is_tag_end, cut_behind, cut_quoted, cut_value, cut_assigned, Written, attribute_at, Tag, with_attribute, with_slash, attribute_then, tag_from, cut_tag}
 use Rattle.hm_tokens.specs.Laws.{IsPlain}
 use Rattle.hm_tokens.proofs.Plain.{plain_nothing, plain_before, plain_from, plain_behind, plain_parts, plain_behind_front, front_and_behind, front_passes, behind_fails}
 

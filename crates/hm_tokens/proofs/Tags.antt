@@ -1,14 +1,14 @@
 -- Tags that are read.
-use Rattle.std.proofs.Common.{◌≡◌, ℕ, zero, suc, ◌+◌, ◌*◌, ◌<◌, ◌≤◌, ◌⊎◌, Bool, true, false, cond, not, ◌&&◌, ◌||◌, ◌==◌, nat_lt, List, [], ◌∷◌, ◌++◌, map, length, drop, Option, Some, None, refl, inl, inr, ap, sym, subst, ◌∙◌, arith, append_assoc, length-append, codes}
-use Rattle.std.proofs.lemmas.Bool.{eqb-true, not-false}
+use Rattle.std.proofs.Common.{◌≡◌, ℕ, ◌+◌, ◌≤◌, Bool, true, false, cond, not, ◌||◌, ◌==◌, nat_lt, List, [], ◌∷◌, ◌++◌, map, length, Option, Some, None, refl, ap, sym, subst, ◌∙◌, arith, length-append}
+use Rattle.std.proofs.lemmas.Bool.{eqb-true}
 use Rattle.std.proofs.lemmas.List.{length-map}
-use Rattle.hm_base.specs.Bytes.{front, behind, strip, strip_word, head_is, all_pass, lower, is_letter, is_null}
+use Rattle.hm_base.specs.Bytes.{front, behind, strip_word, head_is, lower}
 use Rattle.hm_base.specs.Forms.{is_tag_name}
 use Rattle.hm_base.specs.RawText.{is_name_end, is_found_whole, begins_end_tag}
-use Rattle.hm_base.specs.Walks.{Attribute, attributes_size}
+use Rattle.hm_base.specs.Walks.{attributes_size}
 use Rattle.hm_mark_scan.proofs.Lowered.{eqb_lower}
 use Rattle.hm_refs.specs.Names.{Entry}
-use Rattle.hm_tree.specs.Tokens.{Seen, start_tag, end_tag, Scanned, taken, refused}
+use Rattle.hm_tree.specs.Tokens.{Seen, start_tag, end_tag, Scanned, taken}
 use Rattle.hm_tree.specs.declared.tokens.ScanFault.{ScanFault}
 use Rattle.hm_tree.specs.declared.tokens.ScanFault.TheVariants as faults
 use Rattle.hm_tag_scan.specs.Tags.{is_name_byte, Tag, cut_tag}
@@ -16,9 +16,9 @@ use Rattle.hm_tag_scan.specs.Reading.{attribute_limit, has_bad_name, tag_fault, 
 use Rattle.hm_tag_scan.proofs.Cases.{tag_name_written}
 use Rattle.hm_tag_scan.proofs.Fronts.{front_all}
 use Rattle.hm_tokens.specs.First.{Mode}
-use Rattle.hm_tokens.specs.Laws.{IsPlain, SoundNames, reads_markup, EndsElement, IsStart, IsEnd, SoundToken, token_size, least_size, TakesBytes}
+use Rattle.hm_tokens.specs.Laws.{IsPlain, SoundNames, reads_markup, EndsElement, IsStart, IsEnd, SoundToken, TakesBytes}
 use Rattle.hm_tokens.proofs.Plain.{plain_behind, plain_parts}
-use Rattle.hm_tokens.proofs.TagParts.{name_end_low, Fits, fits_more, fits_same, fits_front, cut_tag_fits, cut_tag_plain}
+use Rattle.hm_tokens.proofs.TagParts.{name_end_low, fits_front, cut_tag_fits, cut_tag_plain}
 use Rattle.hm_tokens.proofs.Attributes.{attributes_allowed, attributes_small}
 
 -- ---- why a tag isn't refused

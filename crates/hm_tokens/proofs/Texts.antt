@@ -1,18 +1,18 @@
 -- Pieces of text that are read.
-use Rattle.std.proofs.Common.{◌≡◌, ℕ, zero, suc, pred, ◌+◌, ◌*◌, ◌<◌, ◌≤◌, Bool, true, false, cond, not, ◌&&◌, ◌||◌, ◌==◌, List, [], ◌∷◌, ◌++◌, length, drop, Option, Some, None, is_some, encode_utf8_all, refl, ap, sym, subst, ◌∙◌, arith, append_assoc, length-append, append-nil}
-use Rattle.std.proofs.lemmas.Bool.{and_parts, eqb-true}
+use Rattle.std.proofs.Common.{◌≡◌, ℕ, ◌+◌, ◌<◌, ◌≤◌, Bool, true, false, cond, not, ◌&&◌, ◌||◌, ◌==◌, List, [], ◌∷◌, ◌++◌, length, drop, Option, Some, None, is_some, encode_utf8_all, refl, ap, sym, subst, ◌∙◌, arith, length-append, append-nil}
+use Rattle.std.proofs.lemmas.Bool.{and_parts}
 use Rattle.std.proofs.lemmas.List.{drop_at}
 use Rattle.hm_base.specs.Bytes.{is_null}
 use Rattle.hm_refs.specs.Names.{Entry}
 use Rattle.hm_refs.specs.References.{Reference, reference}
-use Rattle.hm_text_scan.specs.Texts.{opens_markup, begins_markup, reference_in, ends_plain, plain_front, read_plain, read_by, read_text}
-use Rattle.hm_tree.specs.Tokens.{Seen, slice, points, Scanned, taken}
+use Rattle.hm_text_scan.specs.Texts.{opens_markup, begins_markup, reference_in, ends_plain, plain_front, read_by, read_text}
+use Rattle.hm_tree.specs.Tokens.{Seen, slice, points, taken}
 use Rattle.hm_tokens.specs.First.{Mode}
 use Rattle.hm_tokens.specs.Laws.{IsPlain, SoundNames, reads_references, IsWhole, IsText, IsReference, SoundToken, TakesBytes}
 use Rattle.hm_tokens.proofs.Plain.{plain_nothing, plain_before, plain_from, plain_behind_all, no_zero_byte, no_return_byte}
-use Rattle.hm_tokens.proofs.References.{is_ascii, ascii_low, GoodReference, PointBytes, point_bytes}
+use Rattle.hm_tokens.proofs.References.{is_ascii, ascii_low, GoodReference, point_bytes}
 use Rattle.hm_tokens.proofs.TagParts.{equals_low}
-use Rattle.hm_tokens.proofs.Values.{AtAmp, at_amp}
+use Rattle.hm_tokens.proofs.Values.{at_amp}
 
 -- ---- where a plain text ends
 

@@ -1,5 +1,5 @@
 -- Values of attributes as they are read: UTF-8 without zero byte, and at most three times as long as they are written.
-use Rattle.std.proofs.Common.{◌≡◌, ℕ, zero, suc, pred, ◌+◌, ◌*◌, ◌<◌, ◌≤◌, Bool, true, false, cond, ◌||◌, ◌==◌, List, [], ◌∷◌, ◌++◌, length, drop, Option, Some, None, encode_utf8_all, refl, ap, sym, subst, ◌∙◌, arith, append_assoc, length-append}
+use Rattle.std.proofs.Common.{◌≡◌, ℕ, zero, suc, pred, ◌+◌, ◌*◌, ◌≤◌, Bool, true, false, cond, ◌==◌, List, [], ◌∷◌, ◌++◌, length, drop, Option, Some, None, encode_utf8_all, refl, ap, sym, subst, ◌∙◌, arith, append_assoc, length-append}
 use Rattle.std.specs.Str.{IsAscii, is_utf8}
 use Rattle.std.proofs.lemmas.Bool.{and_parts, eqb-true, or_from}
 use Rattle.std.proofs.lemmas.List.{drop_at}
@@ -10,8 +10,9 @@ use Rattle.hm_refs.specs.Names.{Entry}
 use Rattle.hm_refs.specs.References.{Reference, reference}
 use Rattle.hm_tag_scan.specs.Values.{reference_at, read_on, value_from, read_value}
 use Rattle.hm_tokens.specs.Laws.{SoundNames}
+use Rattle.hm_tokens.proofs.Bools.{or_parts}
 use Rattle.hm_tokens.proofs.Plain.{utf8_both, utf8_before, utf8_from, utf8_behind}
-use Rattle.hm_tokens.proofs.References.{is_ascii, ascii_low, GoodReference, reference_good, PointBytes, point_bytes, no_byte_both}
+use Rattle.hm_tokens.proofs.References.{is_ascii, ascii_low, GoodReference, reference_good, point_bytes, no_byte_both}
 
 ascii_each : (s : List ℕ) → all_pass is_ascii s ≡ true → IsAscii s
 ascii_each [] h i = omega arith
@@ -73,23 +74,15 @@ value_utf8 t names zero (c ∷ s) p h = by_reference (reference_at t c s) refl (
         let rest : is_utf8 (drop (pred r.len) s) ≡ true = rw (behind_reference c s r a.good) (utf8_behind_ascii a.good.written a.good.rest a.good.low whole) in
         utf8_both p _ front (utf8_both (encode_utf8_all r.points) _ (point_bytes r.points a.good.scalars).utf8 (more (pred r.len) [] rest))
 
-or_left : (a b : Bool) → a || b ≡ false → a ≡ false
-or_left true b h = absurd (cc)
-or_left false b h = refl
-
-or_right : (a b : Bool) → a || b ≡ false → b ≡ false
-or_right true b h = absurd (cc)
-or_right false b h = h
-
 value_no_zero : (t : List Entry) → SoundNames t → (k : ℕ) (s : List ℕ) → has_byte 0 s ≡ false → has_byte 0 (value_from t k s) ≡ false
 unfolding reference_at
 value_no_zero t names zero [] h = refl
 value_no_zero t names (suc k) [] h = refl
-value_no_zero t names (suc k) (c ∷ s) h = value_no_zero t names k s (or_right (c == 0) (has_byte 0 s) h)
-value_no_zero t names zero (c ∷ s) h = by_reference (reference_at t c s) refl (λ k. value_no_zero t names k s (or_right (c == 0) (has_byte 0 s) h))
+value_no_zero t names (suc k) (c ∷ s) h = value_no_zero t names k s (or_parts (c == 0) (has_byte 0 s) h).1
+value_no_zero t names zero (c ∷ s) h = by_reference (reference_at t c s) refl (λ k. value_no_zero t names k s (or_parts (c == 0) (has_byte 0 s) h).1)
   where
     by_reference : (o : Option Reference) → reference_at t c s ≡ o → ((k : ℕ) → has_byte 0 (value_from t k s) ≡ false) → has_byte 0 (read_on o c (λ k. value_from t k s)) ≡ false
-    by_reference None e more = or_from (c == 0) (has_byte 0 (value_from t 0 s)) (or_left (c == 0) (has_byte 0 s) h) (more 0)
+    by_reference None e more = or_from (c == 0) (has_byte 0 (value_from t 0 s)) (or_parts (c == 0) (has_byte 0 s) h).0 (more 0)
     by_reference (Some r) e more =
         let a = at_amp t true c s r names e in
         no_byte_both 0 (encode_utf8_all r.points) (value_from t (pred r.len) s) (point_bytes r.points a.good.scalars).no_zero (more (pred r.len))

@@ -1,5 +1,5 @@
 -- What holds of tokens that are read from the text of a page.
-use Rattle.std.specs.Prelude.{◌≡◌, ℕ, ◌+◌, ◌*◌, ◌≤◌, Bool, true, false, List, [], ◌∷◌, ◌++◌, length, Some, codes, encode_utf8_all}
+use Rattle.std.specs.Prelude.{◌≡◌, ℕ, ◌+◌, ◌*◌, ◌≤◌, Bool, true, false, List, ◌++◌, length, Some, codes, encode_utf8_all}
 use Rattle.std.specs.Str.{is_utf8}
 use Rattle.hm_base.specs.Bytes.{all_pass, is_null}
 use Rattle.hm_base.specs.Forms.{has_byte, is_tag_name, is_comment_text}
@@ -10,8 +10,8 @@ use Rattle.hm_elements.specs.Places.{AttributesAllowed}
 use Rattle.hm_elements.specs.Settled as settled
 use Rattle.hm_refs.specs.Names.{Entry, is_good_name}
 use Rattle.hm_refs.specs.Tables.{IsIn, are_points}
-use Rattle.hm_tree.specs.Tokens.{Seen, doctype, start_tag, end_tag, slice, points, comment, Scanned, taken}
-use Rattle.hm_tokens.specs.First.{Mode, ordinary, in_svg, rcdata, raw, script, Next, behind_bytes, first}
+use Rattle.hm_tree.specs.Tokens.{Seen, doctype, start_tag, end_tag, slice, points, comment, taken}
+use Rattle.hm_tokens.specs.First.{Mode, ordinary, in_svg, rcdata, raw, script, behind_bytes, first}
 
 -- the bytes of a text: UTF-8, without zero byte and CR
 pub record IsPlain (s : List ℕ) : Type 0 where
@@ -116,14 +116,23 @@ least_size (slice s) = 1
 least_size (points ps) = 3
 least_size (comment s) = 3
 
+-- what a token stands for has at most so many bytes for each byte of it
+abbrev pub growth : Seen → ℕ
+growth (doctype legacy) = 3
+growth (start_tag name attributes slash) = 3
+growth (end_tag name) = 3
+growth (slice s) = 1
+growth (points ps) = 3
+growth (comment s) = 3
+
 -- the token stands behind n bytes of s, and rest behind it
 pub record TakesBytes (s : List ℕ) (n : ℕ) (token : Seen) (rest : List ℕ) : Type 0 where
   pub count : ℕ  -- the bytes of the token
   pub whole : length s ≡ n + count + length rest
-  pub size : token_size token ≤ 3 * count
+  pub size : token_size token ≤ growth token * count
   pub least : least_size token ≤ count
 
--- Each token stands for at most three times the bytes that it is read from.
+-- Each token stands for at most three times the bytes that it is read from, text as it is written for no more than those.
 abbrev pub TokensAreSmall : Type 0
 TokensAreSmall = (t : List Entry) (mode : Mode) (s : List ℕ) (n : ℕ) (token : Seen) (rest : List ℕ)
     → SoundNames t → IsMode mode → first t mode s ≡ behind_bytes n (taken token rest) → TakesBytes s n token rest

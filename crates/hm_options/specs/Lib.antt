@@ -1,2 +1,4 @@
 pub mod Rewrites
+pub mod Rules
+pub mod Joins
 pub mod Examples

@@ -1,4 +1,5 @@
 pub mod Apart
+pub mod Becoming
 pub mod Behind
 pub mod Collapsing
 pub mod Distinct

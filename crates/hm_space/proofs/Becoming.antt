@@ -1,12 +1,12 @@
 -- A settled walk whose events are rewritten or left out one by one is settled.
-use Rattle.std.proofs.Common.{◌≡◌, ℕ, Bool, true, false, not, ◌&&◌, ◌⊎◌, inl, inr, List, [], ◌∷◌, Option, Some, None, length, sym, ap, subst, ◌∙◌, refl, arith}
+use Rattle.std.proofs.Common.{◌≡◌, ℕ, Bool, true, false, ◌⊎◌, inl, inr, List, [], ◌∷◌, ap, refl}
 use Rattle.hm_base.specs.Forms.{is_blank}
 use Rattle.hm_base.specs.Walks.{Event, doctype, start, text, comment, end, Attribute, Element}
 use Rattle.hm_elements.specs.Names.{html, head, body}
 use Rattle.hm_elements.specs.Tables.{is_root}
 use Rattle.hm_elements.specs.Paths.{html_element, outer}
-use Rattle.hm_elements.specs.Settled.{is_html, begins_end, begins_text, Settled}
-use Rattle.hm_elements.specs.Places.{AttributesAllowed, HtmlAllowed, ElementAllowed, StartAllowed, RootAllowed, TextAllowed, CommentAllowed, one_of_two, html_path, SettledLast, SettledBehindBody, SettledInside, SettledBody, SettledBeforeBody, SettledHead, SettledBeforeHead, SettledBeforeHtml, SettledPage}
+use Rattle.hm_elements.specs.Settled.{is_html, begins_end, Settled}
+use Rattle.hm_elements.specs.Places.{AttributesAllowed, ElementAllowed, RootAllowed, TextAllowed, CommentAllowed, html_path, SettledLast, SettledBehindBody, SettledInside, SettledBeforeBody, SettledBeforeHead, SettledBeforeHtml, SettledPage}
 use Rattle.hm_elements.proofs.Chain.{Inside, at_root, deeper, inside_is_open, no_root_is_other, html_is_itself, head_is_root, body_is_root, settled_page}
 use Rattle.hm_elements.proofs.Events.{start_is_no_root}
 use Rattle.hm_elements.proofs.Gathered.{page_settles}
@@ -143,16 +143,19 @@ behind_body_stays (text s raw ∷ w) v h b = absurd h
 
 element_stays : (path : List Element) (n : List ℕ) (foreign : Bool) (w v : List Event) → (begins_end w ≡ true → begins_end v ≡ true) → ElementAllowed n foreign path w → ElementAllowed n foreign path v
 element_stays path n foreign w v ends (inl (e, s)) = inl (e, s)
-element_stays path n foreign w v ends (inr (e, a)) = inr (e, record {
-  kind = a.kind;
-  name = a.name;
-  known = a.known;
-  stands = a.stands;
-  kept = a.kept;
-  no_block_in_p = a.no_block_in_p;
-  not_nested = a.not_nested;
-  void_is_closed = λ void. ends (a.void_is_closed void);
-})
+element_stays path n foreign w v ends (inr (e, a)) = inr (
+  e,
+  record {
+    kind = a.kind;
+    name = a.name;
+    known = a.known;
+    stands = a.stands;
+    kept = a.kept;
+    no_block_in_p = a.no_block_in_p;
+    not_nested = a.not_nested;
+    void_is_closed = λ void. ends (a.void_is_closed void);
+  },
+)
 
 -- the end of an element inside a root
 end_stays : (root : List ℕ) (after : List Event → Type 0) (path : List Element) → Inside root path → (n : List ℕ) (foreign : Bool) (w rest : List Event)

@@ -1,6 +1,8 @@
 pub mod Apart
 pub mod Becoming
 pub mod Behind
+pub mod Better
+pub mod Collapsed
 pub mod Collapsing
 pub mod Distinct
 pub mod Parents

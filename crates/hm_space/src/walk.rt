@@ -6,6 +6,7 @@ ghost use Rattle.hm_base.specs.Walks.{Element, path_after, path_behind, ends_mat
 ghost use Rattle.hm_elements.specs.Nesting.{is_name};
 ghost use Rattle.hm_elements.specs.Names.{head};
 ghost use Rattle.hm_elements.specs.Paths.{current_name};
+ghost use Rattle.hm_elements.specs.Settled.{Settled};
 ghost use Rattle.hm_space.specs.Copies.{are_texts_apart, event_before, may_follow};
 ghost use Rattle.hm_space.specs.Marks.{IsBefore, kept_count};
 ghost use Rattle.hm_space.specs.Space as space;
@@ -36,6 +37,7 @@ struct Before {
 pub fn collapse(alloc: Global, tree: &Tree, conservative: bool) -> Result<Tree, Memory>
     requires apart { are_texts_apart tree.now ≡ true }
     ensures ok { IfOk result (λ made. made ≡ collapsed conservative tree.now) }
+    ensures settled { Settled tree.now → IfOk result (λ made. Settled made) }
 {
     let mut maker = Tree::maker(alloc);
     let mut scratch = String::new(alloc);

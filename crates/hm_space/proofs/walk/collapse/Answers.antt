@@ -1,6 +1,7 @@
 use Rattle.std.proofs.Common.{◌≤◌, length, ◌∙◌, arith}
 use Rattle.hm_tree.specs.Views.{event_of}
 use Rattle.hm_space.proofs.Collapsing.{has_room, follows, few_kept, IsCollapsed-more, IsCollapsed-all, IsCollapsed-closed}
+use Rattle.hm_space.proofs.Collapsed.{collapsed_settled}
 use Rattle.hm_space.proofs.walk.collapse.Goals as goal
 
 pub put_collapsed-requires-clause-room : goal.put_collapsed-requires-clause-room
@@ -28,4 +29,5 @@ finish-requires c =
 pub returns : goal.returns
 returns c =
     let past : length c.args.tree.now ≤ c.loop-i.i = omega (arith, c.len-i-end.ensures.len, c.loop-i-test.false) in
-    record { ok = c.finish.ensures ∙ IsCollapsed-all c.args.conservative c.args.tree.now c.loop-i.i c.loop-i.maker c.loop-i.before past c.loop-i.invariant }
+    let is = c.finish.ensures ∙ IsCollapsed-all c.args.conservative c.args.tree.now c.loop-i.i c.loop-i.maker c.loop-i.before past c.loop-i.invariant in
+    record { ok = is; settled = λ h. rw is (collapsed_settled c.args.conservative c.args.tree.now h) }

@@ -4,3 +4,4 @@ pub mod Joined
 pub mod Kept
 pub mod Ruled
 pub mod StillApart
+pub mod StillSettled

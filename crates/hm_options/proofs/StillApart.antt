@@ -13,14 +13,14 @@ use Rattle.hm_space.specs.Copies.{are_texts_apart}
 use Rattle.hm_space.specs.Rewritten.{first_event, rewritten}
 
 -- a doctype becomes a doctype
-doctype_one : (rule : Rule) (legacy : Bool) (path : List Element) (before next : Option Event) → (other : Bool) × (event_rule rule path before (doctype legacy) next ≡ doctype other ∷ [])
+pub doctype_one : (rule : Rule) (legacy : Bool) (path : List Element) (before next : Option Event) → (other : Bool) × (event_rule rule path before (doctype legacy) next ≡ doctype other ∷ [])
 doctype_one PlainDoctype legacy path before next = (false, refl)
 doctype_one BooleanValues legacy path before next = (legacy, refl)
 doctype_one EmptyAttributes legacy path before next = (legacy, refl)
 doctype_one RedundantAttributes legacy path before next = (legacy, refl)
 
 module _ (rule : Rule) where
-  begins_alike : (path : List Element) (before : Option Event) (w : List Event) → begins_text (rewritten (event_rule rule) path before w) ≡ begins_text w
+  pub begins_alike : (path : List Element) (before : Option Event) (w : List Event) → begins_text (rewritten (event_rule rule) path before w) ≡ begins_text w
   begins_alike path before [] = refl
   begins_alike path before (doctype legacy ∷ w) = rw ((doctype_one rule legacy path before (first_event w)).1) refl
   begins_alike path before (start n false attributes ∷ w) = rw (start_by rule n attributes path before (first_event w)) refl

@@ -3,6 +3,7 @@
 
 mod attributes;
 mod comments;
+pub mod laws;
 mod rules;
 mod top;
 

@@ -1,5 +1,6 @@
 //! All rewrites in their order.
 ghost use Rattle.std.specs.Prelude.{◌≡◌, true, IfOk};
+ghost use Rattle.hm_elements.specs.Settled.{Settled};
 ghost use Rattle.hm_options.specs.Rewrites as rewrites;
 ghost use Rattle.hm_options.specs.Rewrites.{by, uncommented, where_set};
 ghost use Rattle.hm_options.specs.Rules.{event_rule};
@@ -17,6 +18,7 @@ use std::alloc::Global;
 pub fn rewrite(alloc: Global, tree: Tree, options: &TreeOptions) -> Result<Tree, Memory>
     requires apart { are_texts_apart tree ≡ true }
     ensures ok { IfOk result (λ made. made ≡ rewrites.rewrite options.now tree) }
+    ensures settled { Settled tree → IfOk result (λ made. Settled made) }
 {
     let tree = by_rule(alloc, tree, options.doctype, Rule::PlainDoctype)?;
     let tree = by_comments(alloc, tree, options.comments)?;

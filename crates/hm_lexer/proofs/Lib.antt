@@ -1,0 +1,5 @@
+pub mod Markup
+pub mod EmptyTags
+pub mod TextEnds
+pub mod Fronts
+pub mod Nexts

@@ -1,0 +1,14 @@
+use Rattle.std.proofs.Common.{◌<◌, arith}
+use Rattle.hm_lexer.proofs.Fronts.{reads_nothing, reads_references}
+use Rattle.hm_lexer.proofs.inside.scan_up_to.Goals as goal
+
+pub returns-then-references-clause-ok : goal.returns-then-references-clause-ok
+returns-then-references-clause-ok c =
+    let low : c.args.at < c.args.to = omega (arith, c.requires.end.forward, c.if-at-to.false) in
+    rw c.if-references.true (reads_references c.args.table.now.entries c.args.text.now c.args.at c.args.to c.scan_text.result.0 c.scan_text.result.1 low c.requires.end.boundary
+    (rw c.range.ensures.value at c.scan_text.ensures.reads))
+
+pub returns-clause-ok : goal.returns-clause-ok
+returns-clause-ok c =
+    let low : c.args.at < c.args.to = omega (arith, c.requires.end.forward, c.if-at-to.false) in
+    rw c.if-references.false (reads_nothing c.args.table.now.entries c.args.text.now c.args.at c.args.to low c.requires.boundary c.requires.end.boundary)

@@ -1,0 +1,89 @@
+-- The steps by which the next token is found.
+use Rattle.std.specs.Prelude.{◌≡◌, ℕ, ◌-◌, ◌≤◌, Bool, true, false, ◌&&◌, ◌==◌, List, ◌∷◌, drop, Option, Some, None, IfSome, MatchOption, IsCharBoundary, if◌then◌else◌}
+use Rattle.hm_base.specs.Bytes.{is_null}
+use Rattle.hm_base.specs.RawText.{raw_end, script_end}
+use Rattle.hm_base.specs.declared.rules.Refused.{Refused}
+use Rattle.hm_base.specs.declared.rules.Refused.TheVariants as answers
+use Rattle.hm_refs.specs.Names.{Entry}
+use Rattle.hm_tag_scan.specs.Reading.{begins_tag}
+use Rattle.hm_tree.specs.Tokens.{Scanned}
+use Rattle.hm_tree.specs.declared.tokens.ScanFault.{ScanFault}
+use Rattle.hm_tree.specs.declared.tokens.ScanFault.TheVariants as faults
+use Rattle.hm_tokens.specs.First.{Mode, ordinary, in_svg, rcdata, raw, script, Next, at_end, behind_bytes, Behind, behind_empty_tags, behind_none, read_here, read_inside, read_references, read_nothing, rule_of}
+use Rattle.hm_lexer.specs.Modes.{rcdata_name}
+use Rattle.hm_lexer.specs.declared.lexer.TextEnd.{TextEnd}
+
+-- ---- what stands for nothing in front
+
+-- `</>` is in front
+abbrev pub begins_empty_tag : List ℕ → Bool
+begins_empty_tag (a ∷ b ∷ c ∷ s) = a == 60 && (b == 47 && c == 62)
+begins_empty_tag s = false
+
+-- the bytes behind what stands for nothing, and how many that are: only ordinary text has such
+abbrev pub behind_nothing : Mode → List ℕ → Behind
+behind_nothing ordinary s = behind_empty_tags s
+behind_nothing in_svg s = behind_empty_tags s
+behind_nothing (rcdata name) s = behind_none s
+behind_nothing (raw name) s = behind_none s
+behind_nothing script s = behind_none s
+
+-- what stands for nothing is in front
+abbrev pub begins_nothing : Mode → List ℕ → Bool
+begins_nothing ordinary s = begins_empty_tag s
+begins_nothing in_svg s = begins_empty_tag s
+begins_nothing (rcdata name) s = false
+begins_nothing (raw name) s = false
+begins_nothing script s = false
+
+-- behind it another place of the text begins
+pub record IsBehind (mode : Mode) (s : List ℕ) (at to : ℕ) : Type 0 where
+  pub is : behind_nothing mode (drop at s) ≡ record { count = to - at; rest = drop to s }
+  pub forward : at ≤ to
+  pub boundary : IsCharBoundary s to
+  pub real : begins_nothing mode (drop to s) ≡ false
+
+-- ---- what is read there
+
+-- what is read of a piece of an element's text: whether references are
+abbrev pub read_piece : Bool → List Entry → List ℕ → List ℕ → Scanned
+read_piece true t s rest = read_references t s rest
+read_piece false t s rest = read_nothing s rest
+
+abbrev pub read_in : List Entry → Mode → List ℕ → Scanned
+read_in t ordinary s = read_here t false s
+read_in t in_svg s = read_here t true s
+read_in t (rcdata name) s = read_inside t s (raw_end name s) (read_piece true t)
+read_in t (raw name) s = read_inside t s (raw_end name s) (read_piece false t)
+read_in t script s = read_inside t s (script_end s) (read_piece false t)
+
+abbrev pub next_behind : List Entry → Mode → Behind → Next
+next_behind t mode k = if is_null k.rest then at_end else behind_bytes k.count (read_in t mode k.rest)
+
+-- ---- the end of an element's text
+
+-- An element's text ends at a place of the text, where its end tag begins; it was found counted from another place on.
+pub record IsEndAt (found : Option ℕ) (s : List ℕ) (at to : ℕ) : Type 0 where
+  pub is : found ≡ Some (to - at)
+  pub forward : at ≤ to
+  pub boundary : IsCharBoundary s to
+  pub tag : begins_tag (drop to s) ≡ true
+
+abbrev pub Ends : Option ℕ → List ℕ → ℕ → Option ℕ → Type 0
+Ends found s at place = MatchOption place (found ≡ None) (IsEndAt found s at)
+
+-- ---- what a lexer keeps
+
+-- A character begins at the place, and the end of the text of title or textarea that is kept is that from there on.
+pub record IsLexer (s : List ℕ) (at : ℕ) (kept : Option TextEnd) : Type 0 where
+  pub boundary : IsCharBoundary s at
+  pub end : IfSome kept (λ e. IsEndAt (raw_end (rcdata_name e.name) (drop at s)) s at e.place)
+
+-- ---- what a fault is answered as
+
+abbrev pub refusal_of : ScanFault → ℕ → Refused
+refusal_of faults.Cut place = answers.Page (rule_of faults.Cut) place
+refusal_of faults.BadName place = answers.Page (rule_of faults.BadName) place
+refusal_of faults.TooManyAttributes place = answers.Page (rule_of faults.TooManyAttributes) place
+refusal_of faults.BadDoctype place = answers.Page (rule_of faults.BadDoctype) place
+refusal_of faults.Memory place = answers.Memory

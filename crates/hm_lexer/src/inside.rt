@@ -1,0 +1,109 @@
+//! The text of one element, up to its end tag.
+ghost use Rattle.std.specs.Prelude.{◌≡◌, ◌≢◌, ◌-◌, ◌^◌, ◌<◌, ◌≤◌, drop, false, length, true, IfOk, IfErr, Some, IsCharBoundary};
+ghost use Rattle.hm_base.specs.Bytes.{head_is};
+ghost use Rattle.hm_base.specs.Forms.{is_small};
+ghost use Rattle.hm_base.specs.RawText.{raw_end, script_end};
+ghost use Rattle.hm_tokens.specs.First.{read_inside};
+ghost use Rattle.hm_tree.specs.Tokens.{Reads, refused};
+ghost use Rattle.hm_lexer.specs.Steps.{Ends, IsEndAt, read_piece};
+
+use hm_mark_scan::{scan_raw, scan_script};
+use hm_refs::Table;
+use hm_tag_scan::scan_tag;
+use hm_text_scan::scan_text;
+use hm_tree::{ScanFault, Token};
+use std::alloc::Global;
+
+/// Where the text from byte `at` on ends, at the first end tag with that name.
+pub fn raw_text_end(text: &str, at: u32, name: &str) -> Option<u32>
+    requires boundary { IsCharBoundary text.now at }
+    requires size { length text.now < 2 ^ 32 }
+    requires name { head_is is_small name.now ≡ true }
+    ensures { Ends (raw_end name.now (drop at text.now)) text.now at result }
+{
+    match scan_raw(text, at, name) {
+        Ok((_token, to)) => Some(to),
+        Err(_fault) => None,
+    }
+}
+
+/// Where the text of a script from byte `at` on ends.
+fn script_text_end(text: &str, at: u32) -> Option<u32>
+    requires boundary { IsCharBoundary text.now at }
+    requires size { length text.now < 2 ^ 32 }
+    ensures { Ends (script_end (drop at text.now)) text.now at result }
+{
+    match scan_script(text, at) {
+        Ok((_token, to)) => Some(to),
+        Err(_fault) => None,
+    }
+}
+
+/// Reads from byte `at` on in the text of an element that ends at `to`: a piece of it, or at its end the end tag.
+/// `references` tells whether character references are read.
+pub fn scan_up_to(
+    alloc: Global,
+    text: &str,
+    at: u32,
+    to: u32,
+    table: &Table,
+    references: bool,
+) -> Result<(Token, u32), ScanFault>
+    requires boundary { IsCharBoundary text.now at }
+    requires size { length text.now < 2 ^ 32 }
+    requires end { IsEndAt (Some (to - at)) text.now at to }
+    ensures ok { IfOk result (λ r. Reads (read_inside table.now.entries (drop at text.now) (Some (to - at)) (read_piece references table.now.entries)) text.now r.0 r.1) }
+    ensures err { IfErr result
+        (λ fault. fault ≢ ScanFault.Memory → read_inside table.now.entries (drop at text.now) (Some (to - at)) (read_piece references table.now.entries) ≡ refused fault) }
+    ensures forward { IfOk result (λ r. at < r.1) }
+{
+    if at == to {
+        return scan_tag(alloc, text, at, table);
+    }
+    if references {
+        return Ok(scan_text(&text[..to as usize], at, true, table));
+    }
+    Ok((Token::Slice { from: at, to }, to))
+}
+
+/// Reads from byte `at` on in the raw text of an element with that name.
+pub fn scan_raw_text(
+    alloc: Global,
+    text: &str,
+    at: u32,
+    name: &str,
+    table: &Table,
+) -> Result<(Token, u32), ScanFault>
+    requires boundary { IsCharBoundary text.now at }
+    requires size { length text.now < 2 ^ 32 }
+    requires name { head_is is_small name.now ≡ true }
+    ensures ok { IfOk result (λ r. Reads (read_inside table.now.entries (drop at text.now) (raw_end name.now (drop at text.now)) (read_piece false table.now.entries)) text.now r.0 r.1) }
+    ensures err { IfErr result
+        (λ fault. fault ≢ ScanFault.Memory → read_inside table.now.entries (drop at text.now) (raw_end name.now (drop at text.now)) (read_piece false table.now.entries) ≡ refused fault) }
+    ensures forward { IfOk result (λ r. at < r.1) }
+{
+    match raw_text_end(text, at, name) {
+        Some(to) => scan_up_to(alloc, text, at, to, table, false),
+        None => Err(ScanFault::Cut),
+    }
+}
+
+/// Reads from byte `at` on in the text of a script.
+pub fn scan_script_text(
+    alloc: Global,
+    text: &str,
+    at: u32,
+    table: &Table,
+) -> Result<(Token, u32), ScanFault>
+    requires boundary { IsCharBoundary text.now at }
+    requires size { length text.now < 2 ^ 32 }
+    ensures ok { IfOk result (λ r. Reads (read_inside table.now.entries (drop at text.now) (script_end (drop at text.now)) (read_piece false table.now.entries)) text.now r.0 r.1) }
+    ensures err { IfErr result
+        (λ fault. fault ≢ ScanFault.Memory → read_inside table.now.entries (drop at text.now) (script_end (drop at text.now)) (read_piece false table.now.entries) ≡ refused fault) }
+    ensures forward { IfOk result (λ r. at < r.1) }
+{
+    match script_text_end(text, at) {
+        Some(to) => scan_up_to(alloc, text, at, to, table, false),
+        None => Err(ScanFault::Cut),
+    }
+}

@@ -1,0 +1,194 @@
+//! The lexer: a place in a text, from which it is read token by token.
+ghost use Rattle.std.specs.Prelude.{◌≡◌, ◌≢◌, ℕ, ◌^◌, ◌<◌, ◌≤◌, List, drop, length, IfOk, IfErr, OnErr, IsCharBoundary};
+ghost use Rattle.hm_base.specs.RawText.{raw_end};
+ghost use Rattle.hm_base.specs.Source.{place_in};
+ghost use Rattle.hm_tree.specs.Tokens.{Reads, refused};
+ghost use Rattle.hm_tokens.specs.First as tokens;
+ghost use Rattle.hm_lexer.specs.Modes.{mode_of, rcdata_name};
+ghost use Rattle.hm_lexer.specs.Reading.{Gives, Refuses, text_of};
+ghost use Rattle.hm_lexer.specs.Steps.{Ends, IsBehind, IsLexer, read_in, refusal_of};
+
+use crate::inside::{raw_text_end, scan_raw_text, scan_script_text, scan_up_to};
+use crate::modes::{Mode, RcdataName};
+use crate::ordinary::{behind_empty_tags, scan_here};
+use hm_base::{Refused, Rule, SourceText};
+use hm_refs::Table;
+use hm_tree::{ScanFault, Spanned, Token};
+use std::alloc::Global;
+use std::marker::Model;
+
+/// Where the text of a title or a textarea ends, in bytes of the text.
+#[derive(Clone, Copy, Debug)]
+struct TextEnd {
+    name: RcdataName,
+    place: u32,
+}
+
+/// A text that is read token by token.
+///
+/// Contracts see the names of character references, the text with its places, and how many of its bytes were taken.
+///
+/// What is looked at for a token runs to the token's own end, or, where a piece of text ends before a character
+/// reference, to the end of that reference; where a token's end is missing, to the end of the text, and the page is
+/// refused. So all tokens of a page together take time linear in it. In title, textarea, style, iframe and script the
+/// first token looks for the end tag of the element; the pieces of a title or a textarea behind it don't look again.
+#[derive(Drop)]
+pub struct Lexer<'a> {
+    source: &'a SourceText,
+    table: &'a Table,
+    at: u32,
+    // The end of the text of a title or a textarea, once found, so that each of its pieces needn't look for it again.
+    text_end: Option<TextEnd>,
+}
+
+impl<'a> Model for Lexer<'a> {
+    ghost use Rattle.std.specs.Prelude.{map};
+    ghost use Rattle.hm_base.specs.Source.{byte_of};
+    ghost use Rattle.hm_lexer.specs.Reading.{Reading};
+    ghost use Rattle.hm_lexer.specs.Steps.{IsLexer};
+
+    ghost Value = { Reading };
+
+    ghost view = { λ l. record { names = l.table.now.entries; source = l.source.now; at = l.at } };
+
+    ghost invariant = { λ l. IsLexer (map byte_of l.source.now.placed) l.at l.text_end };
+}
+
+/// What a fault is answered as, at byte `at` of the text.
+fn refusal(source: &SourceText, fault: ScanFault, at: u32) -> Refused
+    requires { at ≤ length source.now.placed }
+    ensures { result ≡ refusal_of fault (place_in source.now.placed source.now.end at) }
+{
+    let rule = match fault {
+        ScanFault::Cut => Rule::Cut,
+        ScanFault::BadName => Rule::BadName,
+        ScanFault::TooManyAttributes => Rule::TooManyAttributes,
+        ScanFault::BadDoctype => Rule::BadDoctype,
+        ScanFault::Memory => return Refused::Memory,
+    };
+    Refused::Page {
+        rule,
+        at: source.place_of(at),
+    }
+}
+
+/// Where the next token begins, from byte `at` on.
+fn token_start(text: &str, at: u32, mode: Mode) -> u32
+    requires boundary { IsCharBoundary text.now at }
+    requires size { length text.now < 2 ^ 32 }
+    ensures { IsBehind (mode_of mode) text.now at result }
+{
+    match mode {
+        Mode::Html | Mode::Foreign => behind_empty_tags(text, at),
+        Mode::Rcdata { .. } | Mode::Raw { .. } | Mode::Script => at,
+    }
+}
+
+// The end of a text that is kept, where byte `to` isn't behind it.
+fn kept_end(end: Option<TextEnd>, to: u32) -> Option<TextEnd>
+    ensures { (s : List ℕ) (at : ℕ) → at ≤ to → IsCharBoundary s to → IsLexer s at end → IsLexer s to result }
+{
+    match end {
+        Some(kept) if to <= kept.place => Some(kept),
+        _ => None,
+    }
+}
+
+impl<'a> Lexer<'a> {
+    /// A lexer at the front of a text.
+    pub fn new(text: &'a SourceText, table: &'a Table) -> Lexer<'a>
+        ensures { result ≡ record { names = table.now.entries; source = text.now; at = 0 } }
+    {
+        let _text = text.text();
+        Lexer {
+            source: text,
+            table,
+            at: 0,
+            text_end: None,
+        }
+    }
+
+    /// Reads the next token, with the bytes of the text that it was read from; None at the end of the text.
+    ///
+    /// `</>` stands for nothing and is passed over. A refusal has the place of the token's first byte in the page, and
+    /// leaves the lexer as it was; its rule is `Cut` where the token's end is missing, `BadName`,
+    /// `TooManyAttributes` or `BadDoctype`.
+    pub fn next(&mut self, alloc: Global, mode: Mode) -> Result<Option<Spanned>, Refused>
+        ensures ok { IfOk result (λ token. Gives self.old (mode_of mode) token self.new) }
+        ensures err { IfErr result (λ refusal. Refuses self.old (mode_of mode) refusal) }
+        ensures unchanged { OnErr result (self.new ≡ self.old) }
+    {
+        let text = self.source.text();
+        let from = token_start(text, self.at, mode);
+        if from as usize == text.len() {
+            return Ok(None);
+        }
+        match self.scan(alloc, mode, from) {
+            Ok((token, to)) => {
+                self.advance(to);
+                Ok(Some(Spanned { token, from, to }))
+            }
+            Err(fault) => Err(refusal(self.source, fault, from)),
+        }
+    }
+
+    // Reads the token that begins at `from`, the next place at which one does.
+    fn scan(&mut self, alloc: Global, mode: Mode, from: u32) -> Result<(Token, u32), ScanFault>
+        requires start { IsBehind (mode_of mode) (text_of self.old) self.old.at from }
+        requires inside { from < length (text_of self.old) }
+        ensures ok { IfOk result (λ r. Reads (read_in self.old.names (mode_of mode) (drop from (text_of self.old))) (text_of self.old) r.0 r.1) }
+        ensures err { IfErr result
+            (λ fault. fault ≢ ScanFault.Memory → read_in self.old.names (mode_of mode) (drop from (text_of self.old)) ≡ refused fault) }
+        ensures forward { IfOk result (λ r. from < r.1) }
+        ensures same { self.new ≡ self.old }
+    {
+        let text = self.source.text();
+        match mode {
+            Mode::Html => scan_here(alloc, text, from, self.table, false),
+            Mode::Foreign => scan_here(alloc, text, from, self.table, true),
+            Mode::Rcdata { name } => self.scan_rcdata(alloc, name),
+            Mode::Raw { name } => scan_raw_text(alloc, text, from, name.as_str(), self.table),
+            Mode::Script => scan_script_text(alloc, text, from, self.table),
+        }
+    }
+
+    // Reads from the place of the lexer on in the text of a title or a textarea.
+    fn scan_rcdata(&mut self, alloc: Global, name: RcdataName) -> Result<(Token, u32), ScanFault>
+        requires { self.old.at < length (text_of self.old) }
+        ensures ok { IfOk result (λ r. Reads (read_in self.old.names (tokens.rcdata (rcdata_name name)) (drop self.old.at (text_of self.old))) (text_of self.old) r.0 r.1) }
+        ensures err { IfErr result
+            (λ fault. fault ≢ ScanFault.Memory → read_in self.old.names (tokens.rcdata (rcdata_name name)) (drop self.old.at (text_of self.old)) ≡ refused fault) }
+        ensures forward { IfOk result (λ r. self.old.at < r.1) }
+        ensures same { self.new ≡ self.old }
+    {
+        match self.end_of(name) {
+            Some(place) => {
+                self.text_end = Some(TextEnd { name, place });
+                scan_up_to(alloc, self.source.text(), self.at, place, self.table, true)
+            }
+            None => Err(ScanFault::Cut),
+        }
+    }
+
+    // Where the text of a title or a textarea ends, from the place of the lexer on.
+    fn end_of(&self, name: RcdataName) -> Option<u32>
+        ensures { Ends (raw_end (rcdata_name name) (drop self.now.at (text_of self.now))) (text_of self.now) self.now.at result }
+    {
+        if let Some(end) = self.text_end {
+            if end.name == name {
+                return Some(end.place);
+            }
+        }
+        raw_text_end(self.source.text(), self.at, name.as_str())
+    }
+
+    // Goes on to a place further on.
+    fn advance(&mut self, to: u32)
+        requires forward { self.old.at ≤ to }
+        requires boundary { IsCharBoundary (text_of self.old) to }
+        ensures { self.new ≡ record self.old { at = to } }
+    {
+        self.text_end = kept_end(self.text_end, to);
+        self.at = to;
+    }
+}

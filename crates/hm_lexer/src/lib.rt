@@ -1,0 +1,13 @@
+//! The lexer: the next token of a page's text, in a mode, with its place (HTML Standard, 13.2.5).
+#![tactic(auto)]
+
+mod inside;
+mod lexer;
+mod modes;
+mod ordinary;
+
+pub use lexer::Lexer;
+pub use modes::{Mode, RawName, RcdataName};
+
+#[cfg(test)]
+mod tests;

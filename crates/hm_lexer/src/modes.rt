@@ -1,0 +1,56 @@
+//! Modes: what kind of text is read.
+ghost use Rattle.std.specs.Prelude.{◌≡◌};
+ghost use Rattle.hm_lexer.specs.Modes.{raw_name, rcdata_name};
+
+/// An element whose text has character references, and no markup (13.2.5.2).
+#[derive(Clone, Copy, Debug, PartialEq, Eq)]
+pub enum RcdataName {
+    Title,
+    Textarea,
+}
+
+impl RcdataName {
+    /// The name, in small letters.
+    pub fn as_str(self) -> &'static str
+        ensures { result.now ≡ rcdata_name self }
+    {
+        match self {
+            RcdataName::Title => "title",
+            RcdataName::Textarea => "textarea",
+        }
+    }
+}
+
+/// An element whose text has neither character references nor markup (13.2.5.3).
+#[derive(Clone, Copy, Debug, PartialEq, Eq)]
+pub enum RawName {
+    Style,
+    Iframe,
+}
+
+impl RawName {
+    /// The name, in small letters.
+    pub fn as_str(self) -> &'static str
+        ensures { result.now ≡ raw_name self }
+    {
+        match self {
+            RawName::Style => "style",
+            RawName::Iframe => "iframe",
+        }
+    }
+}
+
+/// What kind of text is read next (13.2.5.1 to 13.2.5.4).
+#[derive(Clone, Copy, Debug, PartialEq, Eq)]
+pub enum Mode {
+    /// Ordinary text: tags, comments, doctypes, and the text between them.
+    Html,
+    /// The same in an element of SVG, where CDATA sections may stand (13.2.5.42).
+    Foreign,
+    /// The text of title or textarea, and its end tag.
+    Rcdata { name: RcdataName },
+    /// The text of style or iframe, and its end tag.
+    Raw { name: RawName },
+    /// The text of a script, and its end tag.
+    Script,
+}

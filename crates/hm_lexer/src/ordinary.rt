@@ -1,0 +1,94 @@
+//! Ordinary text: markup, and the text between.
+ghost use Rattle.std.specs.Prelude.{◌≡◌, ◌≢◌, ◌^◌, ◌<◌, ◌≤◌, drop, false, length, true, IfOk, IfErr, IsCharBoundary};
+ghost use Rattle.hm_text_scan.specs.Texts as texts;
+ghost use Rattle.hm_tokens.specs.First as tokens;
+ghost use Rattle.hm_tokens.specs.First.{read_here, read_markup};
+ghost use Rattle.hm_tree.specs.Tokens.{Reads, refused};
+ghost use Rattle.hm_lexer.specs.Steps as steps;
+ghost use Rattle.hm_lexer.specs.Steps.{IsBehind};
+
+use hm_mark_scan::{begins_cdata, begins_doctype, scan_cdata, scan_comment, scan_doctype};
+use hm_refs::Table;
+use hm_tag_scan::{begins_tag, scan_tag};
+use hm_text_scan::{begins_markup, scan_text};
+use hm_tree::{ScanFault, Token};
+use std::alloc::Global;
+
+/// Whether the bytes begin with `</>`, which stands for nothing (13.2.5.7).
+fn begins_empty_tag(bytes: &[u8]) -> bool
+    ensures { result ≡ steps.begins_empty_tag bytes.now }
+{
+    match bytes {
+        [first, second, third, ..] => { *first == b'<' && (*second == b'/' && *third == b'>') }
+        _ => false,
+    }
+}
+
+/// The first place at or behind `at` where no `</>` begins, over those that follow each other.
+pub fn behind_empty_tags(text: &str, at: u32) -> u32
+    requires boundary { IsCharBoundary text.now at }
+    requires size { length text.now < 2 ^ 32 }
+    ensures { IsBehind tokens.ordinary text.now at result }
+{
+    let bytes = text.as_bytes();
+    let mut from = at as usize;
+    while begins_empty_tag(&bytes[from..]) {
+        from += 3;
+    }
+    from as u32
+}
+
+/// Reads the markup that begins at byte `at`.
+fn scan_markup(
+    alloc: Global,
+    text: &str,
+    at: u32,
+    table: &Table,
+    foreign: bool,
+) -> Result<(Token, u32), ScanFault>
+    requires inside { at < length text.now }
+    requires begins { texts.begins_markup (drop at text.now) ≡ true }
+    requires real { steps.begins_empty_tag (drop at text.now) ≡ false }
+    requires size { length text.now < 2 ^ 32 }
+    ensures ok { IfOk result
+        (λ r. Reads (read_markup table.now.entries foreign (drop at text.now)) text.now r.0 r.1) }
+    ensures err { IfErr result
+        (λ fault. fault ≢ ScanFault.Memory → read_markup table.now.entries foreign (drop at text.now) ≡ refused fault) }
+    ensures forward { IfOk result (λ r. at < r.1) }
+{
+    if begins_tag(text, at) {
+        return scan_tag(alloc, text, at, table);
+    }
+    if begins_doctype(text, at) {
+        return scan_doctype(text, at);
+    }
+    if foreign && begins_cdata(text, at) {
+        return scan_cdata(text, at);
+    }
+    scan_comment(text, at)
+}
+
+/// Reads the markup or the piece of text that begins at byte `at`. `foreign` tells that a CDATA section may.
+pub fn scan_here(
+    alloc: Global,
+    text: &str,
+    at: u32,
+    table: &Table,
+    foreign: bool,
+) -> Result<(Token, u32), ScanFault>
+    requires inside { at < length text.now }
+    requires boundary { IsCharBoundary text.now at }
+    requires real { steps.begins_empty_tag (drop at text.now) ≡ false }
+    requires size { length text.now < 2 ^ 32 }
+    ensures ok { IfOk result
+        (λ r. Reads (read_here table.now.entries foreign (drop at text.now)) text.now r.0 r.1) }
+    ensures err { IfErr result
+        (λ fault. fault ≢ ScanFault.Memory → read_here table.now.entries foreign (drop at text.now) ≡ refused fault) }
+    ensures forward { IfOk result (λ r. at < r.1) }
+{
+    if begins_markup(text, at) {
+        scan_markup(alloc, text, at, table, foreign)
+    } else {
+        Ok(scan_text(text, at, false, table))
+    }
+}

@@ -1,18 +1,17 @@
 -- The next token, on examples.
-use Rattle.std.specs.Prelude.{◌≡◌, true, false, List, [], ◌∷◌, codes, refl}
-use Rattle.hm_base.specs.Bytes.{is_letter, is_space, is_alnum, is_digit_of, lower}
-use Rattle.hm_base.specs.Walks.{Attribute}
+use Rattle.std.specs.Prelude.{◌≡◌, false, [], ◌∷◌, codes, refl}
+use Rattle.hm_base.specs.Bytes.{is_letter, is_space, lower}
 use Rattle.hm_base.specs.RawText.{begins_end_tag, is_name_end, mark_at}
 use Rattle.hm_base.specs.Forms.{is_tag_name, is_small, is_tag_byte}
-use Rattle.hm_tree.specs.Tokens.{taken, refused, doctype, start_tag, end_tag, slice, comment}
+use Rattle.hm_tree.specs.Tokens.{taken, refused, start_tag, end_tag, slice, comment}
 use Rattle.hm_tree.specs.declared.tokens.ScanFault.TheVariants as faults
 use Rattle.hm_tag_scan.specs.Reading.{read_tag, read_start, read_end, begins_tag, tag_fault, is_bad_byte}
-use Rattle.hm_tag_scan.specs.Tags.{is_name_byte, is_later_byte, is_unquoted_byte, is_inside, is_quote, is_tag_end, attribute_at}
+use Rattle.hm_tag_scan.specs.Tags.{is_name_byte, is_later_byte, is_unquoted_byte, is_quote, is_tag_end, attribute_at}
 use Rattle.hm_tag_scan.specs.Values.{reference_at}
 use Rattle.hm_text_scan.specs.Texts.{read_text, begins_markup, reference_in}
-use Rattle.hm_mark_scan.specs.Comments.{read_comment, begins_comment, begins_cdata, read_cdata}
-use Rattle.hm_mark_scan.specs.Doctypes.{read_doctype, doctype_form, begins_doctype}
-use Rattle.hm_tokens.specs.First.{ordinary, in_svg, rcdata, raw, script, at_end, behind_bytes, first}
+use Rattle.hm_mark_scan.specs.Comments.{read_comment, begins_cdata, read_cdata}
+use Rattle.hm_mark_scan.specs.Doctypes.{begins_doctype}
+use Rattle.hm_tokens.specs.First.{ordinary, in_svg, rcdata, script, at_end, behind_bytes, first}
 
 empty_tags : first [] ordinary (codes "</></></b>x") ≡ behind_bytes 6 (taken (end_tag (codes "b")) (codes "x"))
 unfolding first begins_markup is_letter begins_tag read_tag read_end is_name_byte is_name_end is_space lower is_tag_end tag_fault is_tag_name is_small is_tag_byte

@@ -1,2 +1,4 @@
 //! What the next token of a text is, in a mode, and laws about it.
 #![tactic(auto)]
+
+pub mod laws;

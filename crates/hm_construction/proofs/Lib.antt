@@ -1,0 +1,15 @@
+pub mod Standing
+pub mod Texts
+pub mod Bytes
+pub mod Fronts
+pub mod Made
+pub mod Starts
+pub mod Ends
+pub mod Heads
+pub mod Tags
+pub mod Overs
+pub mod Modes
+pub mod Rests
+pub mod RawTexts
+pub mod Built
+pub mod Pages

@@ -1,0 +1,20 @@
+-- What holds of trees that are built.
+use Rattle.std.specs.Prelude.{◌≡◌, ℕ, List, None, map}
+use Rattle.hm_base.specs.Source.{Source, byte_of, text_fault, source_of}
+use Rattle.hm_base.specs.Walks.{Event}
+use Rattle.hm_elements.specs.Settled.{Settled}
+use Rattle.hm_refs.specs.Names.{Entry}
+use Rattle.hm_tokens.specs.Laws.{IsPlain, SoundNames}
+use Rattle.hm_construction.specs.Trees.{built, tree_of_source, page_tree}
+
+-- Every walk that is built of the text of a page is settled.
+abbrev pub BuiltIsSettled : Type 0
+BuiltIsSettled = (t : List Entry) (page : Source) (w : List Event) → SoundNames t → IsPlain (map byte_of page.placed) → tree_of_source t page ≡ built w → Settled w
+
+-- The text of a page that has one is UTF-8 without zero byte and CR.
+abbrev pub TextsArePlain : Type 0
+TextsArePlain = (page : List ℕ) → text_fault page ≡ None → IsPlain (map byte_of (source_of page).placed)
+
+-- So every walk that is built of a page is settled, whatever the page.
+abbrev pub PagesAreSettled : Type 0
+PagesAreSettled = (t : List Entry) (page : List ℕ) (w : List Event) → SoundNames t → page_tree t page ≡ built w → Settled w

@@ -30,6 +30,7 @@ const LEFT_OUT = new Map(Object.entries({
     "a carriage return that a numeric reference gives is whitespace for the standard's tree construction; parse5 takes it " +
     "for other text",
   names_two_points: "the table has a name that the standard's table hasn't",
+  page_two_point_name: "the table has a name that the standard's table hasn't",
 }));
 
 const SVG = "http://www.w3.org/2000/svg";

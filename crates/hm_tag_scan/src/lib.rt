@@ -11,6 +11,8 @@ mod references;
 mod runs;
 mod scan;
 mod tag_body;
+#[cfg(test)]
+mod tests;
 mod values;
 
 pub use begins::begins_tag;

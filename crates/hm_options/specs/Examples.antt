@@ -1,11 +1,11 @@
 -- Rewrites, on examples.
-use Rattle.std.specs.Prelude.{◌≡◌, ℕ, Bool, true, false, List, [], ◌∷◌, ◌++◌, codes, refl}
+use Rattle.std.specs.Prelude.{◌≡◌, ℕ, true, false, List, [], ◌∷◌, codes, refl}
 use Rattle.hm_base.specs.Bytes.{is_space, lower}
-use Rattle.hm_base.specs.Walks.{Event, Attribute, doctype, start, text, comment, end}
+use Rattle.hm_base.specs.Walks.{Attribute, doctype, start, text, comment}
 use Rattle.hm_base.specs.declared.plain.TreeOptions.{TreeOptions}
 use Rattle.hm_elements.specs.Names.{is_among}
 use Rattle.hm_elements.specs.Tables.{is_boolean, boolean_attributes}
-use Rattle.hm_options.specs.Rewrites.{rewrite, is_empty, default_of}
+use Rattle.hm_options.specs.Rewrites.{rewrite, is_empty, is_redundant, is_default, defaults}
 
 abbrev attribute : List ℕ → List ℕ → Attribute
 attribute n v = record { name = n; value = v }
@@ -20,7 +20,7 @@ without_comments = refl
 without_attributes : rewrite (record none_set { booleans = true; empty = true; redundant = true })
     (start (codes "form") false (attribute (codes "method") (codes "GET") ∷ []) ∷ start (codes "input") false (attribute (codes "type") (codes "text") ∷ attribute (codes "disabled") (codes "x") ∷ attribute (codes "class") (codes " ") ∷ []) ∷ [])
     ≡ start (codes "form") false [] ∷ start (codes "input") false (attribute (codes "disabled") [] ∷ []) ∷ []
-unfolding rewrite is_boolean boolean_attributes is_among is_empty is_space default_of lower
+unfolding rewrite is_boolean boolean_attributes is_among is_empty is_space is_redundant is_default defaults lower
 without_attributes = refl
 
 plain : rewrite (record none_set { doctype = true }) (doctype true ∷ []) ≡ doctype false ∷ []

@@ -1,7 +1,7 @@
 -- The rewrites of a tree, and all that options ask for in their order.
-use Rattle.std.specs.Prelude.{ℕ, Bool, true, false, not, ◌&&◌, ◌||◌, List, [], ◌∷◌, Option, Some, None, if◌then◌else◌, map, codes, bytes_eq}
+use Rattle.std.specs.Prelude.{ℕ, Bool, false, ◌&&◌, ◌||◌, List, [], ◌∷◌, Option, None, if◌then◌else◌, map, codes, bytes_eq}
 use Rattle.hm_base.specs.Bytes.{lower, is_space, all_pass}
-use Rattle.hm_base.specs.Walks.{Event, doctype, start, text, comment, end, Attribute, Element, pushes}
+use Rattle.hm_base.specs.Walks.{Event, doctype, start, comment, Attribute, Element, pushes}
 use Rattle.hm_base.specs.declared.plain.TreeOptions.{TreeOptions}
 use Rattle.hm_elements.specs.Names.{words, is_among}
 use Rattle.hm_elements.specs.Tables.{is_boolean}
@@ -42,19 +42,32 @@ is_empty a = is_among a.name (words "class id style") && all_pass is_space a.val
 abbrev pub no_empty : List ℕ → List Attribute → List Attribute
 no_empty n attributes = without is_empty attributes
 
--- the value, in small letters, that the attribute of that name has on that element without being written
-unfoldable pub default_of : List ℕ → List ℕ → List (List ℕ)
-default_of n name =
-    if bytes_eq n (codes "form") && bytes_eq name (codes "method") then words "get"
-    else if bytes_eq n (codes "input") && bytes_eq name (codes "type") then words "text"
-    else if bytes_eq n (codes "area") && bytes_eq name (codes "shape") then words "rect"
-    else if bytes_eq n (codes "script") && bytes_eq name (codes "type") then words "text/javascript"
-    else if bytes_eq n (codes "script") && bytes_eq name (codes "language") then words "javascript"
-    else if bytes_eq n (codes "style") && bytes_eq name (codes "type") then words "text/css"
-    else []
+-- an attribute of an element, with a value in small letters that says what holds without it
+pub record Default : Type 0 where
+  pub element : List ℕ
+  pub name : List ℕ
+  pub value : List ℕ
 
-abbrev pub is_redundant : List ℕ → Attribute → Bool
-is_redundant n a = is_among (map lower a.value) (default_of n a.name)
+unfoldable pub defaults : List Default
+defaults =
+    record { element = codes "form"; name = codes "method"; value = codes "get" }
+    ∷ record { element = codes "input"; name = codes "type"; value = codes "text" }
+    ∷ record { element = codes "area"; name = codes "shape"; value = codes "rect" }
+    ∷ record { element = codes "script"; name = codes "type"; value = codes "text/javascript" }
+    ∷ record { element = codes "script"; name = codes "language"; value = codes "javascript" }
+    ∷ record { element = codes "style"; name = codes "type"; value = codes "text/css" }
+    ∷ []
+
+-- this element has this attribute with this value, in any ASCII case
+unfoldable pub is_default : List ℕ → Attribute → Default → Bool
+is_default n a d = bytes_eq n d.element && bytes_eq a.name d.name && bytes_eq (map lower a.value) d.value
+
+abbrev pub is_one_of : List ℕ → Attribute → List Default → Bool
+is_one_of n a [] = false
+is_one_of n a (d ∷ ds) = is_default n a d || is_one_of n a ds
+
+unfoldable pub is_redundant : List ℕ → Attribute → Bool
+is_redundant n a = is_one_of n a defaults
 
 abbrev pub no_redundant : List ℕ → List Attribute → List Attribute
 no_redundant n attributes = without (is_redundant n) attributes

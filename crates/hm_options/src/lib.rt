@@ -1,2 +1,10 @@
 //! The tree that the options ask for.
 #![tactic(auto)]
+
+mod attributes;
+mod comments;
+pub mod laws;
+mod rules;
+mod top;
+
+pub use top::rewrite;

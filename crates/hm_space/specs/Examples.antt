@@ -1,7 +1,7 @@
 -- Whitespace collapsed, on examples.
 use Rattle.std.specs.Prelude.{◌≡◌, ℕ, true, false, List, [], ◌∷◌, ◌++◌, codes, refl}
 use Rattle.hm_base.specs.Bytes.{is_space}
-use Rattle.hm_base.specs.Walks.{Event, doctype, start, text, end}
+use Rattle.hm_base.specs.Walks.{Event, start, text, end}
 use Rattle.hm_elements.specs.Names.{is_among}
 use Rattle.hm_elements.specs.Tables.{is_block, block_names, blocks, headings}
 use Rattle.hm_space.specs.Space.{collapsed, keeps_space, hides_space, space_parents}

@@ -1,8 +1,8 @@
 -- Whitespace of texts made short.
 use Rattle.std.specs.Prelude.{ℕ, Bool, true, false, not, ◌&&◌, ◌||◌, ◌==◌, List, [], ◌∷◌, Option, Some, None, if◌then◌else◌, codes, bytes_eq}
-use Rattle.hm_base.specs.Bytes.{is_space, is_null}
+use Rattle.hm_base.specs.Bytes.{is_space}
 use Rattle.hm_base.specs.Walks.{Event, doctype, start, text, comment, end, Element}
-use Rattle.hm_elements.specs.Names.{words, is_among, html, head, noscript}
+use Rattle.hm_elements.specs.Names.{words, is_among, head, noscript}
 use Rattle.hm_elements.specs.Nesting.{is_name}
 use Rattle.hm_elements.specs.Paths.{current_name}
 use Rattle.hm_elements.specs.Tables.{is_block}

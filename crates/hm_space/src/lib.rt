@@ -1,2 +1,12 @@
-//! Whitespace of texts, as far as it isn't seen.
+//! Whitespace of texts, as far as it isn't seen, and the copying of a tree event by event.
 #![tactic(auto)]
+
+mod copy;
+pub mod laws;
+mod names;
+mod spaces;
+mod walk;
+
+pub use copy::{copied, put};
+pub use names::is_one_of;
+pub use walk::collapse;

@@ -1,0 +1,136 @@
+// parse5.mjs [CASES]: compares the wanted trees of cases.txt with those of parse5.
+//
+// Each case with the words `tree TABLE page`, without flags and with status 0, is parsed by parse5 with scripting off; its
+// tree is printed in the form of hminify's dump and compared with the wanted lines. It ends with 1 where one differs.
+import { createRequire } from "node:module";
+import { readFileSync } from "node:fs";
+import { fileURLToPath } from "node:url";
+import { dirname, join } from "node:path";
+
+const require = createRequire(import.meta.url);
+
+// Debian's package is found where NODE_PATH says so.
+function library() {
+  try {
+    return require("parse5");
+  } catch (fault) {
+    if (fault.code !== "MODULE_NOT_FOUND") throw fault;
+    throw new Error("no parse5: apt-get install node-parse5, and NODE_PATH=/usr/share/nodejs in front", { cause: fault });
+  }
+}
+
+// The cases that parse5 has no part in, with the reason.
+const LEFT_OUT = new Map(Object.entries({
+  p_search: "the start tag of search closes an open p in the HTML Standard; parse5 7.1.2 is older than the element",
+  svg_cdata_in_title:
+    "by the standard's markup declaration open state a CDATA section is text while the current element is in SVG, title " +
+    "and desc among them; parse5 reads a comment there",
+  reference_names_without_table: "the table is empty, so its names are text; parse5 has the standard's table",
+  reference_cr_is_whitespace:
+    "a carriage return that a numeric reference gives is whitespace for the standard's tree construction; parse5 takes it " +
+    "for other text",
+  names_two_points: "the table has a name that the standard's table hasn't",
+  page_two_point_name: "the table has a name that the standard's table hasn't",
+}));
+
+const SVG = "http://www.w3.org/2000/svg";
+
+/** The page's bytes as they stand behind the escapes. */
+function bytesOf(text) {
+  const simple = { n: 10, r: 13, t: 9, "\\": 92 };
+  const out = [];
+  for (let i = 0; i < text.length; i += 1) {
+    if (text[i] !== "\\") {
+      out.push(text.charCodeAt(i));
+    } else if (text[i + 1] === "x") {
+      out.push(parseInt(text.slice(i + 2, i + 4), 16));
+      i += 3;
+    } else {
+      out.push(simple[text[i + 1]]);
+      i += 1;
+    }
+  }
+  return Buffer.from(out);
+}
+
+/** The cases of the file. */
+function casesOf(text) {
+  const cases = [];
+  let one = null;
+  for (const line of text.split("\n")) {
+    const cut = line.indexOf(" ");
+    const key = cut < 0 ? line : line.slice(0, cut);
+    const rest = cut < 0 ? "" : line.slice(cut + 1);
+    if (key === "case") one = { name: rest, page: null, wanted: [] };
+    else if (key === "words") one.words = rest.split(" ");
+    else if (key === "page") one.page = bytesOf(rest);
+    else if (key === "status") one.status = Number(rest);
+    else if (key === "|") one.wanted.push(rest);
+    else if (key === "end") cases.push(one);
+  }
+  return cases;
+}
+
+function quoted(text) {
+  const escapes = { '"': '\\"', "\\": "\\\\", "\n": "\\n", "\r": "\\r", "\t": "\\t" };
+  return `"${text.replace(/["\\\n\r\t]/g, (c) => escapes[c])}"`;
+}
+
+const lowered = (text) => text.replace(/[A-Z]/g, (c) => c.toLowerCase());
+
+function doctypeLine(node) {
+  if (node.name !== "html" || node.publicId !== "") return `doctype ? ${node.name}`;
+  if (node.systemId === "") return "doctype";
+  return node.systemId === "about:legacy-compat" ? "doctype legacy" : `doctype ? ${node.systemId}`;
+}
+
+function elementLine(node) {
+  const name = node.namespaceURI === SVG ? lowered(node.tagName) : node.tagName;
+  const attrs = node.attrs.map((a) => {
+    // an attribute of SVG is told with its prefix, and in lower case, as it was written
+    const written = a.prefix ? `${a.prefix}:${a.name}` : a.name;
+    return ` ${lowered(written)}=${quoted(a.value)}`;
+  });
+  return `element ${name}${attrs.join("")}`;
+}
+
+/** The lines of a node and of all that is below it. */
+function dump(node, depth, lines) {
+  const pad = "  ".repeat(depth);
+  if (node.nodeName === "#documentType") lines.push(pad + doctypeLine(node));
+  else if (node.nodeName === "#comment") lines.push(`${pad}comment ${quoted(node.data)}`);
+  else if (node.nodeName === "#text") lines.push(`${pad}text ${quoted(node.value)}`);
+  else {
+    lines.push(pad + elementLine(node));
+    for (const child of node.childNodes) dump(child, depth + 1, lines);
+  }
+  return lines;
+}
+
+/** The lines of the tree that parse5 gives. A leading byte order mark belongs to the decoding, which is done before. */
+function linesOf(parse, page) {
+  const text = new TextDecoder("utf-8", { fatal: true }).decode(page);
+  const document = parse(text, { scriptingEnabled: false });
+  return document.childNodes.flatMap((node) => dump(node, 0, []));
+}
+
+function main(path) {
+  const { parse } = library();
+  const cases = casesOf(readFileSync(path, "utf8"));
+  const taken = cases.filter((c) => c.status === 0 && c.words.length === 3 && c.words[0] === "tree");
+  const asked = taken.filter((c) => !LEFT_OUT.has(c.name));
+  let differ = 0;
+  for (const one of asked) {
+    const got = linesOf(parse, one.page);
+    if (got.join("\n") === one.wanted.join("\n")) continue;
+    differ += 1;
+    const at = got.findIndex((line, i) => line !== one.wanted[i]);
+    const place = at < 0 ? got.length : at;
+    console.log(`${one.name}: line ${place + 1}\n  wanted ${one.wanted[place]}\n  parse5 ${got[place]}`);
+  }
+  console.log(`${asked.length} cases, ${asked.length - differ} agree, ${differ} differ, ${taken.length - asked.length} left out`);
+  return differ === 0 ? 0 : 1;
+}
+
+const here = dirname(fileURLToPath(import.meta.url));
+process.exitCode = main(process.argv[2] ?? join(here, "../crates/hm_cases/data/cases.txt"));

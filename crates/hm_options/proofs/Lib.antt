@@ -1,0 +1,7 @@
+pub mod Defaults
+pub mod InOrder
+pub mod Joined
+pub mod Kept
+pub mod Ruled
+pub mod StillApart
+pub mod StillSettled

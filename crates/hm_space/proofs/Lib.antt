@@ -1,0 +1,11 @@
+pub mod Apart
+pub mod Becoming
+pub mod Behind
+pub mod Better
+pub mod Collapsed
+pub mod Collapsing
+pub mod Distinct
+pub mod Parents
+pub mod Rewriting
+pub mod Runs
+pub mod Trims

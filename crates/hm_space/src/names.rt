@@ -1,0 +1,43 @@
+//! The elements that matter for whitespace.
+ghost use Rattle.std.specs.Prelude.{◌≡◌};
+ghost use Rattle.hm_elements.specs.Names.{is_among};
+ghost use Rattle.hm_elements.specs.Texts.{texts};
+ghost use Rattle.hm_space.specs.Space as space;
+
+/// Whether the name is one of these.
+pub fn is_one_of(name: &str, names: &[&str]) -> bool
+    ensures { result ≡ is_among name.now (texts names.now) }
+{
+    for n in names {
+        if *n == name {
+            return true;
+        }
+    }
+    false
+}
+
+// Whether whitespace is seen as it is in this element.
+#[tactic(auto, unfolding(crate::specs::Space::keeps_space))]
+pub(crate) fn keeps_space(name: &str, foreign: bool) -> bool
+    ensures { result ≡ space.keeps_space (record { name = name.now; foreign = foreign }) }
+{
+    if foreign {
+        name == "svg"
+    } else {
+        is_one_of(name, &["pre", "textarea"])
+    }
+}
+
+// Whether whitespace alone isn't seen directly in an HTML element of this name.
+#[tactic(auto, unfolding(crate::specs::Space::space_parents))]
+pub(crate) fn is_space_parent(name: &str) -> bool
+    ensures { result ≡ is_among name.now space.space_parents }
+{
+    is_one_of(
+        name,
+        &[
+            "html", "head", "table", "colgroup", "thead", "tbody", "tfoot", "tr", "select",
+            "optgroup", "datalist", "ul", "ol", "menu", "dir", "dl",
+        ],
+    )
+}

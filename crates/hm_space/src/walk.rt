@@ -1,0 +1,204 @@
+//! The whitespace of a tree.
+ghost use Rattle.std.specs.Prelude.{◌≡◌, ◌<◌, ◌+◌, ◌^◌, [], ◌∷◌, ◌++◌, length, take, slice_get, true, false, Some, if◌then◌else◌, IfOk, OnOk, List};
+ghost use Rattle.hm_base.specs.Bytes.{is_null};
+ghost use Rattle.hm_base.specs.Walks as walks;
+ghost use Rattle.hm_base.specs.Walks.{Element, path_after, path_behind, ends_match};
+ghost use Rattle.hm_elements.specs.Nesting.{is_name};
+ghost use Rattle.hm_elements.specs.Names.{head};
+ghost use Rattle.hm_elements.specs.Paths.{current_name};
+ghost use Rattle.hm_elements.specs.Settled.{Settled};
+ghost use Rattle.hm_space.specs.Copies.{are_texts_apart, event_before, may_follow};
+ghost use Rattle.hm_space.specs.Marks.{IsBefore, kept_count};
+ghost use Rattle.hm_space.specs.Space as space;
+ghost use Rattle.hm_space.specs.Space.{collapsed, collapsed_event, collapsed_text, trimmed};
+ghost use Rattle.hm_tree.specs.Rows.{ends_in_text};
+ghost use Rattle.hm_tree.specs.Trees.{HasRoom};
+ghost use Rattle.hm_tree.specs.Views.{event_of};
+
+use crate::copy::put;
+use crate::names::{is_space_parent, keeps_space};
+use crate::spaces::{push_spaced, without_leading, without_trailing};
+use hm_base::Memory;
+use hm_elements::is_block;
+use hm_tree::{EventView, Maker, Tree};
+use std::alloc::Global;
+
+// What is known before an event: how many open elements keep their whitespace, and whether the event before is the start
+// or the end of a block.
+#[derive(Clone, Copy, Debug)]
+struct Before {
+    kept: u32,
+    edge: bool,
+}
+
+/// The tree with its whitespace collapsed. In every text but raw ones and those in `pre`, `textarea` and `svg` each longest
+/// run of whitespace becomes one space. Unless this is to be done conservatively, a text that is one space is left out
+/// directly in elements that don't show it, as `ul` and `table`, and any other text loses a space at the edge of a block.
+pub fn collapse(alloc: Global, tree: &Tree, conservative: bool) -> Result<Tree, Memory>
+    requires apart { are_texts_apart tree.now ≡ true }
+    ensures ok { IfOk result (λ made. made ≡ collapsed conservative tree.now) }
+    ensures settled { Settled tree.now → IfOk result (λ made. Settled made) }
+{
+    let mut maker = Tree::maker(alloc);
+    let mut scratch = String::new(alloc);
+    let mut before = Before {
+        kept: 0,
+        edge: false,
+    };
+    for i in 0..tree.len() {
+        let event = tree.event(i);
+        put_collapsed(
+            alloc,
+            &mut maker,
+            &mut scratch,
+            tree,
+            i,
+            &event,
+            before,
+            conservative,
+        )?;
+        before = behind(before, &event);
+    }
+    Ok(maker.finish())
+}
+
+// What is known behind an event.
+fn behind(before: Before, event: &EventView<'_>) -> Before
+    requires { before.kept + 1 < 2 ^ 32 }
+    ensures kept { (path : List Element) → ends_match path (event_of event.now ∷ []) ≡ true → before.kept ≡ kept_count path → result.kept ≡ kept_count (path_behind path (event_of event.now)) }
+    ensures edge { result.edge ≡ space.is_edge (Some (event_of event.now)) }
+{
+    Before {
+        kept: kept_behind(before.kept, event),
+        edge: is_edge(event),
+    }
+}
+
+fn kept_behind(kept: u32, event: &EventView<'_>) -> u32
+    requires { kept + 1 < 2 ^ 32 }
+    ensures { (path : List Element) → ends_match path (event_of event.now ∷ []) ≡ true → kept ≡ kept_count path → result ≡ kept_count (path_behind path (event_of event.now)) }
+{
+    match event {
+        EventView::Start { name, foreign, .. } if keeps_space(name, *foreign) => kept + 1,
+        EventView::End { name, foreign } if keeps_space(name, *foreign) => kept.saturating_sub(1),
+        _ => kept,
+    }
+}
+
+// Whether an event is the start or the end of a block.
+fn is_edge(event: &EventView<'_>) -> bool
+    ensures { result ≡ space.is_edge (Some (event_of event.now)) }
+{
+    match event {
+        EventView::Start { name, foreign, .. } => !*foreign && is_block(name),
+        EventView::End { name, foreign } => !*foreign && is_block(name),
+        _ => false,
+    }
+}
+
+// Whether the event behind event `i` is the start or the end of a block.
+fn is_edge_behind(tree: &Tree, i: u32) -> bool
+    requires { i < length tree.now }
+    ensures { result ≡ space.is_edge (slice_get tree.now (i + 1)) }
+{
+    let len = tree.len();
+    i + 1 < len && is_edge(&tree.event(i + 1))
+}
+
+// Whether whitespace alone isn't seen as event `i`.
+fn hides_space(tree: &Tree, i: u32) -> bool
+    requires { i < length tree.now }
+    ensures { result ≡ space.hides_space (path_after [] (take i tree.now)) }
+{
+    let Some(parent) = tree.parent(i) else {
+        return false;
+    };
+    match tree.event(parent) {
+        EventView::Start { name, foreign, .. } => {
+            !foreign && (is_space_parent(name) || (name == "noscript" && is_in_head(tree, parent)))
+        }
+        _ => false,
+    }
+}
+
+// Whether event `i` stands directly in `head`.
+fn is_in_head(tree: &Tree, i: u32) -> bool
+    requires { i < length tree.now }
+    ensures { result ≡ is_name head (current_name (path_after [] (take i tree.now))) }
+{
+    let Some(parent) = tree.parent(i) else {
+        return false;
+    };
+    match tree.event(parent) {
+        EventView::Start { name, .. } => name == "head",
+        _ => false,
+    }
+}
+
+// Puts what event `i` becomes.
+fn put_collapsed(
+    alloc: Global,
+    maker: &mut Maker,
+    scratch: &mut String,
+    tree: &Tree,
+    i: u32,
+    event: &EventView<'_>,
+    before: Before,
+    conservative: bool,
+) -> Result<(), Memory>
+    requires at { slice_get tree.now i ≡ Some (event_of event.now) }
+    requires before { IsBefore tree.now i before }
+    requires room { HasRoom (maker.old ++ event_of event.now ∷ []) }
+    requires follows { may_follow maker.old (event_of event.now) ≡ true }
+    ensures { OnOk result (maker.new ≡ maker.old ++ collapsed_event conservative (path_after [] (take i tree.now)) (event_before tree.now i) (event_of event.now) (slice_get tree.now (i + 1))) }
+{
+    if let EventView::Text { text, raw } = event {
+        if !*raw && before.kept == 0 {
+            return put_text(maker, scratch, text, tree, i, before.edge, conservative);
+        }
+    }
+    put(alloc, maker, event)
+}
+
+// Puts what a text becomes that isn't kept as it is, as event `i`. An edge of a block may stand before it.
+fn put_text(
+    maker: &mut Maker,
+    scratch: &mut String,
+    text: &str,
+    tree: &Tree,
+    i: u32,
+    edge: bool,
+    conservative: bool,
+) -> Result<(), Memory>
+    requires inside { i < length tree.now }
+    requires shown { space.is_kept (path_after [] (take i tree.now)) ≡ false }
+    requires edge { edge ≡ space.is_edge (event_before tree.now i) }
+    requires room { HasRoom (maker.old ++ walks.text text.now false ∷ []) }
+    requires some { is_null text.now ≡ false }
+    requires last { ends_in_text maker.old ≡ false }
+    ensures { OnOk result (maker.new ≡ maker.old ++ collapsed_text conservative (path_after [] (take i tree.now)) (event_before tree.now i) (slice_get tree.now (i + 1)) text.now) }
+{
+    scratch.clear();
+    push_spaced(scratch, text)?;
+    if conservative {
+        maker.text(scratch.as_str(), false)
+    } else {
+        put_trimmed(maker, scratch.as_str(), tree, i, edge)
+    }
+}
+
+// Puts a text whose runs of whitespace are single spaces, as event `i`, as far as it is seen. An edge of a block may stand before it.
+fn put_trimmed(maker: &mut Maker, text: &str, tree: &Tree, i: u32, edge: bool) -> Result<(), Memory>
+    requires inside { i < length tree.now }
+    requires edge { edge ≡ space.is_edge (event_before tree.now i) }
+    requires room { HasRoom (maker.old ++ walks.text text.now false ∷ []) }
+    requires last { ends_in_text maker.old ≡ false }
+    ensures { OnOk result (maker.new ≡ maker.old ++ trimmed (path_after [] (take i tree.now)) (event_before tree.now i) (slice_get tree.now (i + 1)) text.now) }
+{
+    if text == " " && hides_space(tree, i) {
+        return Ok(());
+    }
+    let text = without_leading(text, edge);
+    let text = without_trailing(text, is_edge_behind(tree, i));
+    maker.text(text, false)
+}

@@ -1,0 +1,28 @@
+use Rattle.std.proofs.Common.{◌≡◌, false, IfErr, OnOk, sym, ap, subst, ◌∙◌}
+use Rattle.hm_elements.specs.Paths as paths
+use Rattle.hm_construction.specs.Steps.{Stepped}
+use Rattle.hm_builder.specs.Building.{Fits, IsRefused}
+use Rattle.hm_builder.specs.Inside.{open_path, IsDone}
+use Rattle.hm_builder.proofs.EndTags.{end_in_text, end_past_html}
+use Rattle.hm_builder.proofs.parts.Parts.end_in_body.Goals as goal
+
+pub end_inner-requires-clause-room : goal.end_inner-requires-clause-room
+end_inner-requires-clause-room c =
+    let p = c.args.self.now in
+    subst (λ s. Fits s p.maker) (end_in_text p c.args.name.now c.requires.body (sym c.is_in_text.ensures ∙ c.if-is_in_text.true)) c.requires.room
+
+pub returns-then-is_in_text-clause-ok : goal.returns-then-is_in_text-clause-ok
+returns-then-is_in_text-clause-ok c =
+    let p = c.args.self.now in
+    subst (λ (s : Stepped). OnOk c.end_inner.result (IsDone s p c.end_inner.new.self)) (sym (end_in_text p c.args.name.now c.requires.body (sym c.is_in_text.ensures ∙ c.if-is_in_text.true))) c.end_inner.ensures.ok
+
+pub returns-then-is_in_text-clause-err : goal.returns-then-is_in_text-clause-err
+returns-then-is_in_text-clause-err c =
+    let p = c.args.self.now in
+    subst (λ (s : Stepped). IfErr c.end_inner.result (IsRefused s)) (sym (end_in_text p c.args.name.now c.requires.body (sym c.is_in_text.ensures ∙ c.if-is_in_text.true))) c.end_inner.ensures.err
+
+pub returns-in-AfterHtml-clause-err : goal.returns-in-AfterHtml-clause-err
+returns-in-AfterHtml-clause-err c =
+    let p = c.args.self.now in
+    let no_text : paths.is_in_text p.path ≡ false = ap (λ ph. paths.is_in_text (open_path ph p.path)) (sym c.in-AfterHtml.is) ∙ sym c.is_in_text.ensures ∙ c.if-is_in_text.false in
+    rw c.from.ensures (end_past_html p c.args.name.now c.in-AfterHtml.is no_text)

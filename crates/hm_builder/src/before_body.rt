@@ -1,0 +1,331 @@
+//! Start tags before the body (HTML Standard, 13.2.6.4.2 to 13.2.6.4.6).
+ghost use Rattle.std.specs.Prelude.{◌≡◌, [], ◌∷◌, ◌++◌, false, true, Some, None, OnOk, IfErr};
+ghost use Rattle.hm_base.specs.Walks.{path_after};
+ghost use Rattle.hm_construction.specs.Steps as steps;
+ghost use Rattle.hm_construction.specs.Steps.{html_start, opened, start_inside, under_head};
+ghost use Rattle.hm_elements.specs.Names.{html, noscript};
+ghost use Rattle.hm_elements.specs.Paths.{is_in_svg, is_in_text, stands_on};
+ghost use Rattle.hm_elements.specs.Tables.{is_root, is_void};
+ghost use Rattle.hm_tree.specs.Trees.{HasRoom};
+ghost use Rattle.hm_builder.specs.BeforeBody as before_body;
+ghost use Rattle.hm_builder.specs.BeforeBody.{IsBefore, TakesChildren, html_opened, head_opened, in_open_head};
+ghost use Rattle.hm_builder.specs.Building.{Fits, IsRefused};
+ghost use Rattle.hm_builder.specs.Inside as inside;
+ghost use Rattle.hm_builder.specs.Inside.{CanMake, IsDone, IsKept, IsUnbegun, open_path, phase_of, state_of, text_name};
+
+use crate::BuildFault;
+use crate::insertion::{HeadText, Phase};
+use crate::make::close_made_head;
+use crate::parts::Parts;
+use hm_base::{Memory, Rule};
+use hm_elements::may_stand;
+use hm_tree::{Attrs, Maker};
+use std::alloc::Global;
+
+impl Parts {
+    /// Takes the start tag of `html`, `head` or `body`, which opens once.
+    pub(crate) fn open_root(
+        &mut self,
+        alloc: Global,
+        name: &str,
+        attrs: Attrs,
+    ) -> Result<(), BuildFault>
+        requires kept { IsKept self.old }
+        requires all { self.old.drops_line_feed ≡ false }
+        requires not_text { is_in_text (open_path self.old.phase self.old.path) ≡ false }
+        requires not_svg { is_in_svg (open_path self.old.phase self.old.path) ≡ false }
+        requires root { is_root name.now ≡ true }
+        requires room { Fits (html_start name.now attrs false (state_of self.old)) self.old.maker }
+        ensures ok { OnOk result (IsDone (html_start name.now attrs false (state_of self.old)) self.old self.new) }
+        ensures err { IfErr result (IsRefused (html_start name.now attrs false (state_of self.old))) }
+    {
+        match name {
+            "html" => self.open_html(attrs),
+            "head" => self.open_head(alloc, attrs),
+            _ => self.open_body(alloc, attrs),
+        }
+    }
+
+    /// Takes the start tag of `html`.
+    fn open_html(&mut self, attrs: Attrs) -> Result<(), BuildFault>
+        requires kept { IsKept self.old }
+        requires room { Fits (steps.open_html (phase_of self.old.phase) attrs (state_of self.old)) self.old.maker }
+        ensures ok { OnOk result (IsDone (steps.open_html (phase_of self.old.phase) attrs (state_of self.old)) self.old self.new) }
+        ensures err { IfErr result (IsRefused (steps.open_html (phase_of self.old.phase) attrs (state_of self.old))) }
+    {
+        match self.phase {
+            Phase::BeforeHtml => {
+                self.maker.start("html", false, attrs)?;
+                self.phase = Phase::BeforeHead;
+                Ok(())
+            }
+            _ => Err(BuildFault::from(Rule::SecondRoot)),
+        }
+    }
+
+    /// Takes the start tag of `head`.
+    fn open_head(&mut self, alloc: Global, attrs: Attrs) -> Result<(), BuildFault>
+        requires kept { IsKept self.old }
+        requires room { Fits (steps.open_head (phase_of self.old.phase) attrs (state_of self.old)) self.old.maker }
+        ensures ok { OnOk result (IsDone (steps.open_head (phase_of self.old.phase) attrs (state_of self.old)) self.old self.new) }
+        ensures err { IfErr result (IsRefused (steps.open_head (phase_of self.old.phase) attrs (state_of self.old))) }
+    {
+        match self.phase {
+            Phase::BeforeHtml | Phase::BeforeHead => {
+                make_only_html(alloc, &mut self.maker, self.phase)?;
+                self.maker.start("head", false, attrs)?;
+                self.phase = Phase::InHead {
+                    noscript: false,
+                    text: None,
+                };
+                Ok(())
+            }
+            _ => Err(BuildFault::from(Rule::SecondRoot)),
+        }
+    }
+
+    /// Takes the start tag of `body`. Where `head` is missing it is made, and it closes.
+    fn open_body(&mut self, alloc: Global, attrs: Attrs) -> Result<(), BuildFault>
+        requires kept { IsKept self.old }
+        requires not_text { is_in_text (open_path self.old.phase self.old.path) ≡ false }
+        requires room { Fits (steps.open_body (phase_of self.old.phase) attrs (state_of self.old)) self.old.maker }
+        ensures ok { OnOk result (IsDone (steps.open_body (phase_of self.old.phase) attrs (state_of self.old)) self.old self.new) }
+        ensures err { IfErr result (IsRefused (steps.open_body (phase_of self.old.phase) attrs (state_of self.old))) }
+    {
+        if has_begun(self.phase) {
+            return Err(BuildFault::from(Rule::SecondRoot));
+        }
+        self.open_body_here(alloc, attrs)
+    }
+
+    /// Opens `body` where it is missing and nothing is open in `head`.
+    fn open_body_here(&mut self, alloc: Global, attrs: Attrs) -> Result<(), BuildFault>
+        requires kept { IsKept self.old }
+        requires unbegun { IsUnbegun self.old.phase }
+        requires room { Fits (steps.open_body (phase_of self.old.phase) attrs (state_of self.old)) self.old.maker }
+        ensures ok { OnOk result (IsDone (steps.open_body (phase_of self.old.phase) attrs (state_of self.old)) self.old self.new) }
+        ensures err { IfErr result (IsRefused (steps.open_body (phase_of self.old.phase) attrs (state_of self.old))) }
+    {
+        close_made_head(alloc, &mut self.maker, self.phase)?;
+        self.maker.start("body", false, attrs)?;
+        self.phase = Phase::InBody;
+        Ok(())
+    }
+
+    /// Takes the start tag of any other element, where the body hasn't begun.
+    pub(crate) fn start_before_body(
+        &mut self,
+        alloc: Global,
+        name: &str,
+        attrs: Attrs,
+        slash: bool,
+    ) -> Result<(), BuildFault>
+        requires kept { IsKept self.old }
+        requires all { self.old.drops_line_feed ≡ false }
+        requires not_text { is_in_text (open_path self.old.phase self.old.path) ≡ false }
+        requires before { IsBefore self.old.phase }
+        requires room { Fits (start_inside (phase_of self.old.phase) name.now attrs slash (state_of self.old)) self.old.maker }
+        ensures ok { OnOk result (IsDone (start_inside (phase_of self.old.phase) name.now attrs slash (state_of self.old)) self.old self.new) }
+        ensures err { IfErr result (IsRefused (start_inside (phase_of self.old.phase) name.now attrs slash (state_of self.old))) }
+    {
+        match self.phase {
+            Phase::AfterHead => self.start_after_head(alloc, name, attrs, slash),
+            Phase::InHead { noscript, .. } => {
+                if noscript {
+                    self.start_in_noscript(name, attrs)
+                } else {
+                    self.start_in_head(alloc, name, attrs, slash)
+                }
+            }
+            _ => self.start_in_head(alloc, name, attrs, slash),
+        }
+    }
+
+    /// Between `head` and `body`.
+    fn start_after_head(
+        &mut self,
+        alloc: Global,
+        name: &str,
+        attrs: Attrs,
+        slash: bool,
+    ) -> Result<(), BuildFault>
+        requires kept { IsKept self.old }
+        requires all { self.old.drops_line_feed ≡ false }
+        requires phase { self.old.phase ≡ Phase.AfterHead }
+        requires room { Fits (steps.start_after_head name.now attrs slash (state_of self.old)) self.old.maker }
+        ensures ok { OnOk result (IsDone (steps.start_after_head name.now attrs slash (state_of self.old)) self.old self.new) }
+        ensures err { IfErr result (IsRefused (steps.start_after_head name.now attrs slash (state_of self.old))) }
+    {
+        if is_metadata(name) {
+            return Err(BuildFault::from(Rule::AfterHead));
+        }
+        self.start_in_body(alloc, name, attrs, slash)
+    }
+
+    /// Where `head` can take a child, which opens in it; else `head` closes and the body begins.
+    fn start_in_head(
+        &mut self,
+        alloc: Global,
+        name: &str,
+        attrs: Attrs,
+        slash: bool,
+    ) -> Result<(), BuildFault>
+        requires kept { IsKept self.old }
+        requires all { self.old.drops_line_feed ≡ false }
+        requires takes { TakesChildren self.old.phase }
+        requires room { Fits (start_inside (phase_of self.old.phase) name.now attrs slash (state_of self.old)) self.old.maker }
+        ensures ok { OnOk result (IsDone (start_inside (phase_of self.old.phase) name.now attrs slash (state_of self.old)) self.old self.new) }
+        ensures err { IfErr result (IsRefused (start_inside (phase_of self.old.phase) name.now attrs slash (state_of self.old))) }
+    {
+        if may_stand(name, "head", Some("html")) {
+            self.reach_head(alloc)?;
+            self.start_child(name, attrs)?;
+            Ok(())
+        } else {
+            self.start_in_body(alloc, name, attrs, slash)
+        }
+    }
+
+    /// Makes `html` and `head` where they are missing.
+    fn reach_head(&mut self, alloc: Global) -> Result<(), Memory>
+        requires kept { IsKept self.old }
+        requires takes { TakesChildren self.old.phase }
+        requires room { HasRoom (self.old.maker ++ head_opened self.old.phase) }
+        ensures { OnOk result (self.new ≡ in_open_head self.old) }
+    {
+        make_open_head(alloc, &mut self.maker, self.phase)?;
+        self.phase = Phase::InHead {
+            noscript: false,
+            text: None,
+        };
+        Ok(())
+    }
+
+    /// Starts a child of `head`. A void one closes at once.
+    fn start_child(&mut self, name: &str, attrs: Attrs) -> Result<(), Memory>
+        requires kept { IsKept self.old }
+        requires all { self.old.drops_line_feed ≡ false }
+        requires phase { self.old.phase ≡ Phase.InHead false None }
+        requires stands { stands_on name.now under_head ≡ true }
+        requires room { Fits (opened name.now attrs (state_of self.old)) self.old.maker }
+        ensures { OnOk result (IsDone (opened name.now attrs (state_of self.old)) self.old self.new) }
+    {
+        match name {
+            "noscript" => self.start_noscript(attrs),
+            "title" => self.start_text(false, HeadText::Title, attrs),
+            "style" => self.start_text(false, HeadText::Style, attrs),
+            "script" => self.start_text(false, HeadText::Script, attrs),
+            _ => self.start_void(false, name, attrs),
+        }
+    }
+
+    /// In `noscript` in `head`.
+    fn start_in_noscript(&mut self, name: &str, attrs: Attrs) -> Result<(), BuildFault>
+        requires kept { IsKept self.old }
+        requires all { self.old.drops_line_feed ≡ false }
+        requires phase { self.old.phase ≡ Phase.InHead true None }
+        requires room { Fits (steps.start_in_noscript name.now attrs (state_of self.old)) self.old.maker }
+        ensures ok { OnOk result (IsDone (steps.start_in_noscript name.now attrs (state_of self.old)) self.old self.new) }
+        ensures err { IfErr result (IsRefused (steps.start_in_noscript name.now attrs (state_of self.old))) }
+    {
+        match name {
+            "link" | "meta" => self.start_void(true, name, attrs)?,
+            "style" => self.start_text(true, HeadText::Style, attrs)?,
+            _ => return Err(BuildFault::from(Rule::WrongParent)),
+        }
+        Ok(())
+    }
+
+    /// Starts `noscript` in `head`.
+    fn start_noscript(&mut self, attrs: Attrs) -> Result<(), Memory>
+        requires kept { IsKept self.old }
+        requires all { self.old.drops_line_feed ≡ false }
+        requires phase { self.old.phase ≡ Phase.InHead false None }
+        requires room { Fits (opened noscript attrs (state_of self.old)) self.old.maker }
+        ensures { OnOk result (IsDone (opened noscript attrs (state_of self.old)) self.old self.new) }
+    {
+        self.maker.start("noscript", false, attrs)?;
+        self.phase = Phase::InHead {
+            noscript: true,
+            text: None,
+        };
+        Ok(())
+    }
+
+    /// Starts an element that holds a text, in `head` or in `noscript` in it.
+    fn start_text(&mut self, noscript: bool, text: HeadText, attrs: Attrs) -> Result<(), Memory>
+        requires kept { IsKept self.old }
+        requires all { self.old.drops_line_feed ≡ false }
+        requires phase { self.old.phase ≡ Phase.InHead noscript None }
+        requires room { Fits (opened (text_name text) attrs (state_of self.old)) self.old.maker }
+        ensures { OnOk result (IsDone (opened (text_name text) attrs (state_of self.old)) self.old self.new) }
+    {
+        self.maker.start(text.name(), false, attrs)?;
+        self.phase = Phase::InHead {
+            noscript,
+            text: Some(text),
+        };
+        Ok(())
+    }
+
+    /// Starts and ends a void element, in `head` or in `noscript` in it.
+    fn start_void(&mut self, noscript: bool, name: &str, attrs: Attrs) -> Result<(), Memory>
+        requires kept { IsKept self.old }
+        requires all { self.old.drops_line_feed ≡ false }
+        requires phase { self.old.phase ≡ Phase.InHead noscript None }
+        requires void { is_void name.now ≡ true }
+        requires room { Fits (opened name.now attrs (state_of self.old)) self.old.maker }
+        ensures { OnOk result (IsDone (opened name.now attrs (state_of self.old)) self.old self.new) }
+    {
+        self.maker.start(name, false, attrs)?;
+        self.maker.end()
+    }
+}
+
+/// Whether `body` can't open any more, or not before the end of `noscript` in `head`.
+fn has_begun(phase: Phase) -> bool
+    ensures { result ≡ before_body.has_begun phase }
+{
+    match phase {
+        Phase::BeforeHtml | Phase::BeforeHead | Phase::AfterHead => false,
+        Phase::InHead { noscript, .. } => noscript,
+        Phase::Initial | Phase::InBody | Phase::AfterBody | Phase::AfterHtml => true,
+    }
+}
+
+/// Makes `html` where it is missing.
+fn make_only_html(alloc: Global, maker: &mut Maker, phase: Phase) -> Result<(), Memory>
+    requires { HasRoom (maker.old ++ html_opened phase) }
+    ensures { OnOk result (maker.new ≡ maker.old ++ html_opened phase) }
+{
+    match phase {
+        Phase::BeforeHtml => maker.start("html", false, Attrs::new(alloc)),
+        _ => Ok(()),
+    }
+}
+
+/// Makes `html` and `head` where they are missing.
+fn make_open_head(alloc: Global, maker: &mut Maker, phase: Phase) -> Result<(), Memory>
+    requires { HasRoom (maker.old ++ head_opened phase) }
+    ensures { OnOk result (maker.new ≡ maker.old ++ head_opened phase) }
+{
+    match phase {
+        Phase::BeforeHtml => {
+            maker.start("html", false, Attrs::new(alloc))?;
+            maker.start("head", false, Attrs::new(alloc))
+        }
+        Phase::BeforeHead => maker.start("head", false, Attrs::new(alloc)),
+        _ => Ok(()),
+    }
+}
+
+/// Whether the element is metadata, which doesn't stand between `head` and `body`.
+#[tactic(auto, unfolding(hm_construction::specs::Steps::is_metadata, hm_elements::specs::Names::is_among))]
+fn is_metadata(name: &str) -> bool
+    ensures { result ≡ steps.is_metadata name.now }
+{
+    matches!(
+        name,
+        "base" | "link" | "meta" | "script" | "style" | "title"
+    )
+}

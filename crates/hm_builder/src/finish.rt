@@ -1,0 +1,86 @@
+//! The end of the page (HTML Standard, 13.2.6.4).
+ghost use Rattle.std.specs.Prelude.{◌≡◌, ◌<◌, [], ◌++◌, length, map, IfOk, OnOk, IfErr};
+ghost use Rattle.hm_base.specs.Walks as walks;
+ghost use Rattle.hm_base.specs.Walks.{path_after};
+ghost use Rattle.hm_construction.specs.Steps.{closing, step_over};
+ghost use Rattle.hm_tree.specs.Trees.{HasRoom};
+ghost use Rattle.hm_builder.specs.Building.{Fits, IsBuilt, IsRefused};
+ghost use Rattle.hm_builder.specs.Inside as inside;
+ghost use Rattle.hm_builder.specs.Inside.{IsKept, state_of};
+
+use crate::BuildFault;
+use crate::end_tag::is_at_end;
+use crate::insertion::Phase;
+use crate::make::make_missing;
+use crate::moves::end_elements;
+use crate::parts::{Parts, is_in_text};
+use hm_base::{Memory, Rule, Word};
+use hm_settle::Path;
+use hm_tree::{Maker, Tree};
+use std::alloc::Global;
+
+impl Parts {
+    /// All that is missing is made, and all closes.
+    pub(crate) fn finish(self, alloc: Global) -> Result<Tree, BuildFault>
+        requires kept { IsKept self }
+        requires room { Fits (step_over (state_of self)) self.maker }
+        ensures ok { IfOk result (λ tree. IsBuilt (step_over (state_of self)) self.maker tree) }
+        ensures err { IfErr result (IsRefused (step_over (state_of self))) }
+    {
+        if is_in_text(self.phase, &self.path) {
+            return Err(BuildFault::from(Rule::Cut));
+        }
+        if let Some(rule) = end_rule(self.phase, &self.path) {
+            return Err(BuildFault::from(rule));
+        }
+        // The length of the path comes with its outermost elements, html and body.
+        let _depth = self.path.len();
+        let mut maker = self.maker;
+        make_missing(alloc, &mut maker, self.phase)?;
+        close_all(
+            &mut maker,
+            self.behind_body.as_slice(),
+            self.behind_html.as_slice(),
+        )?;
+        Ok(maker.finish())
+    }
+}
+
+/// Why a page doesn't end here.
+fn end_rule(phase: Phase, path: &Path) -> Option<Rule>
+    ensures { result ≡ inside.end_rule phase path.now }
+{
+    match phase {
+        Phase::Initial => Some(Rule::NoDoctype),
+        Phase::InHead {
+            noscript: true,
+            text: None,
+        } => Some(Rule::Unclosed),
+        Phase::InBody => (!is_at_end(path)).then_some(Rule::Unclosed),
+        _ => None,
+    }
+}
+
+/// Ends all that is open, with comments before the last end and behind it.
+fn close_all(maker: &mut Maker, inner: &[Word], last: &[Word]) -> Result<(), Memory>
+    requires open_still { 0 < length (path_after [] maker.old) }
+    requires room { HasRoom (maker.old ++ closing (path_after [] maker.old) inner.now last.now) }
+    ensures { OnOk result (maker.new ≡ maker.old ++ closing (path_after [] maker.old) inner.now last.now) }
+{
+    let depth = maker.depth();
+    end_elements(maker, depth - 1)?;
+    put_comments(maker, inner)?;
+    maker.end()?;
+    put_comments(maker, last)
+}
+
+/// Appends comments.
+fn put_comments(maker: &mut Maker, comments: &[Word]) -> Result<(), Memory>
+    requires { HasRoom (maker.old ++ map walks.comment comments.now) }
+    ensures { OnOk result (maker.new ≡ maker.old ++ map walks.comment comments.now) }
+{
+    for word in comments {
+        maker.comment(word.text.as_str())?;
+    }
+    Ok(())
+}

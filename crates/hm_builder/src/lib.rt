@@ -1,0 +1,19 @@
+//! A tree that is built token by token (HTML Standard, 13.2.6).
+#![tactic(auto)]
+
+mod before_body;
+mod builder;
+mod end_tag;
+mod fault;
+mod finish;
+mod insertion;
+mod make;
+mod moves;
+mod names;
+mod other;
+mod parts;
+mod start_tag;
+mod text;
+
+pub use builder::Builder;
+pub use fault::BuildFault;

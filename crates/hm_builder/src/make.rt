@@ -1,0 +1,92 @@
+//! The elements that are made where their tags are left out (HTML Standard, 13.2.6.4.2 to 13.2.6.4.6).
+ghost use Rattle.std.specs.Prelude.{◌≡◌, [], ◌∷◌, ◌++◌, OnOk};
+ghost use Rattle.hm_base.specs.Walks.{path_after};
+ghost use Rattle.hm_construction.specs.Steps.{under_html, under_head};
+ghost use Rattle.hm_tree.specs.Trees.{HasRoom};
+ghost use Rattle.hm_builder.specs.Inside.{CanMake, missing, body_made, head_closed, head_ended, head_made, html_made, html_then_head, only_head};
+
+use crate::insertion::Phase;
+use hm_base::Memory;
+use hm_tree::{Attrs, Maker};
+use std::alloc::Global;
+
+/// Makes what is missing up to `body`, and closes `head`.
+pub(crate) fn make_missing(alloc: Global, maker: &mut Maker, phase: Phase) -> Result<(), Memory>
+    requires room { HasRoom (maker.old ++ missing phase) }
+    requires open_there { CanMake phase (path_after [] maker.old) }
+    ensures { OnOk result (maker.new ≡ maker.old ++ missing phase) }
+{
+    match phase {
+        Phase::BeforeHtml => make_html(alloc, maker),
+        Phase::BeforeHead => make_head(alloc, maker),
+        Phase::InHead { .. } => close_head(alloc, maker),
+        Phase::AfterHead => make_body(alloc, maker),
+        Phase::Initial | Phase::InBody | Phase::AfterBody | Phase::AfterHtml => Ok(()),
+    }
+}
+
+fn make_html(alloc: Global, maker: &mut Maker) -> Result<(), Memory>
+    requires room { HasRoom (maker.old ++ html_made) }
+    requires open_there { path_after [] maker.old ≡ [] }
+    ensures { OnOk result (maker.new ≡ maker.old ++ html_made) }
+{
+    maker.start("html", false, Attrs::new(alloc))?;
+    make_head(alloc, maker)
+}
+
+fn make_head(alloc: Global, maker: &mut Maker) -> Result<(), Memory>
+    requires room { HasRoom (maker.old ++ head_made) }
+    requires open_there { path_after [] maker.old ≡ under_html }
+    ensures { OnOk result (maker.new ≡ maker.old ++ head_made) }
+{
+    maker.start("head", false, Attrs::new(alloc))?;
+    close_head(alloc, maker)
+}
+
+fn close_head(alloc: Global, maker: &mut Maker) -> Result<(), Memory>
+    requires room { HasRoom (maker.old ++ head_closed) }
+    requires open_there { path_after [] maker.old ≡ under_head }
+    ensures { OnOk result (maker.new ≡ maker.old ++ head_closed) }
+{
+    maker.end()?;
+    make_body(alloc, maker)
+}
+
+fn make_body(alloc: Global, maker: &mut Maker) -> Result<(), Memory>
+    requires { HasRoom (maker.old ++ body_made) }
+    ensures { OnOk result (maker.new ≡ maker.old ++ body_made) }
+{
+    maker.start("body", false, Attrs::new(alloc))
+}
+
+/// Makes `head` where it is missing, and closes it.
+pub(crate) fn close_made_head(alloc: Global, maker: &mut Maker, phase: Phase) -> Result<(), Memory>
+    requires room { HasRoom (maker.old ++ head_ended phase) }
+    requires open_there { CanMake phase (path_after [] maker.old) }
+    ensures { OnOk result (maker.new ≡ maker.old ++ head_ended phase) }
+{
+    match phase {
+        Phase::BeforeHtml => make_html_and_head(alloc, maker),
+        Phase::BeforeHead => make_only_head(alloc, maker),
+        Phase::InHead { .. } => maker.end(),
+        _ => Ok(()),
+    }
+}
+
+fn make_html_and_head(alloc: Global, maker: &mut Maker) -> Result<(), Memory>
+    requires room { HasRoom (maker.old ++ html_then_head) }
+    requires open_there { path_after [] maker.old ≡ [] }
+    ensures { OnOk result (maker.new ≡ maker.old ++ html_then_head) }
+{
+    maker.start("html", false, Attrs::new(alloc))?;
+    make_only_head(alloc, maker)
+}
+
+fn make_only_head(alloc: Global, maker: &mut Maker) -> Result<(), Memory>
+    requires room { HasRoom (maker.old ++ only_head) }
+    requires open_there { path_after [] maker.old ≡ under_html }
+    ensures { OnOk result (maker.new ≡ maker.old ++ only_head) }
+{
+    maker.start("head", false, Attrs::new(alloc))?;
+    maker.end()
+}

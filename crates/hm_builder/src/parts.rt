@@ -1,0 +1,105 @@
+//! The parts of a builder, and which elements are open.
+ghost use Rattle.std.specs.Prelude.{◌≡◌};
+ghost use Rattle.hm_elements.specs.Names.{is_among};
+ghost use Rattle.hm_elements.specs.Paths as paths;
+ghost use Rattle.hm_elements.specs.Paths.{blank_parents};
+ghost use Rattle.hm_builder.specs.Inside as inside;
+ghost use Rattle.hm_builder.specs.Inside.{inside_head, open_path, text_name};
+
+use crate::insertion::{HeadText, Phase};
+use crate::names::{holds_text, is_raw};
+use hm_base::Word;
+use hm_settle::Path;
+use hm_tree::Maker;
+
+/// What a tree is built from. Between two tokens the open elements are those of the events so far.
+#[derive(Debug, Drop)]
+pub(crate) struct Parts {
+    pub maker: Maker,
+    pub phase: Phase,
+    /// The open elements of the body; `html` and `body` before it begins.
+    pub path: Path,
+    /// Whether a line feed that comes next is dropped.
+    pub drops_line_feed: bool,
+    /// The comments that stand behind `body` and behind `html`.
+    pub behind_body: Vec<Word>,
+    pub behind_html: Vec<Word>,
+}
+
+impl HeadText {
+    /// The name of the element.
+    pub(crate) fn name(self) -> &'static str
+        ensures { result.now ≡ text_name self }
+    {
+        match self {
+            HeadText::Title => "title",
+            HeadText::Style => "style",
+            HeadText::Script => "script",
+        }
+    }
+}
+
+/// The name of the innermost element, and no bytes where none is open.
+pub(crate) fn current(phase: Phase, path: &Path) -> &str
+    ensures { result.now ≡ paths.current (open_path phase path.now) }
+{
+    match phase {
+        Phase::Initial | Phase::BeforeHtml => "",
+        Phase::BeforeHead | Phase::AfterHead => "html",
+        Phase::InHead { noscript, text } => current_in_head(noscript, text),
+        Phase::InBody | Phase::AfterBody | Phase::AfterHtml => path.current(),
+    }
+}
+
+pub(crate) fn current_in_head(noscript: bool, text: Option<HeadText>) -> &'static str
+    ensures { result.now ≡ paths.current (inside_head noscript text) }
+{
+    match text {
+        Some(inner) => inner.name(),
+        None => { if noscript { "noscript" } else { "head" } }
+    }
+}
+
+/// Whether the innermost element is one of SVG.
+pub(crate) fn is_in_svg(phase: Phase, path: &Path) -> bool
+    ensures { result ≡ paths.is_in_svg (open_path phase path.now) }
+{
+    matches!(phase, Phase::InBody | Phase::AfterBody | Phase::AfterHtml) && path.is_in_svg()
+}
+
+/// Whether the innermost element holds one text and nothing else.
+pub(crate) fn is_in_text(phase: Phase, path: &Path) -> bool
+    ensures { result ≡ paths.is_in_text (open_path phase path.now) }
+{
+    !is_in_svg(phase, path) && holds_text(current(phase, path))
+}
+
+/// Whether a text is raw here.
+pub(crate) fn is_in_raw(phase: Phase, path: &Path) -> bool
+    ensures { result ≡ paths.is_in_raw (open_path phase path.now) }
+{
+    !is_in_svg(phase, path) && is_raw(current(phase, path))
+}
+
+/// Whether a text is whitespace alone in the innermost element of a body.
+pub(crate) fn is_in_blank(path: &Path) -> bool
+    ensures { result ≡ paths.is_in_blank path.now }
+{
+    !path.is_in_svg() && (is_blank_parent(path.current()) || is_noscript_in_head(path))
+}
+
+#[tactic(auto, unfolding(hm_elements::specs::Paths::blank_parents, hm_elements::specs::Names::is_among))]
+fn is_blank_parent(name: &str) -> bool
+    ensures { result ≡ is_among name.now blank_parents }
+{
+    matches!(
+        name,
+        "head" | "table" | "thead" | "tbody" | "tfoot" | "tr" | "colgroup" | "select" | "optgroup"
+    )
+}
+
+fn is_noscript_in_head(path: &Path) -> bool
+    ensures { result ≡ inside.is_noscript_in_head path.now }
+{
+    path.current() == "noscript" && path.name(path.len() - 2) == "head"
+}

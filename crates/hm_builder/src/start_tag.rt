@@ -1,0 +1,179 @@
+//! Start tags (HTML Standard, 13.2.6.4).
+ghost use Rattle.std.specs.Prelude.{◌≡◌, ◌≤◌, [], ◌∷◌, ◌++◌, length, map, take, false, OnOk, IfErr};
+ghost use Rattle.hm_base.specs.Walks as walks;
+ghost use Rattle.hm_base.specs.Walks.{path_after};
+ghost use Rattle.hm_construction.specs.Steps.{end_event, html_start, reach_body, start_in_body, starts, step, step_start};
+ghost use Rattle.hm_elements.specs.Names.{is_among, words};
+ghost use Rattle.hm_elements.specs.Paths.{is_in_text};
+ghost use Rattle.hm_elements.specs.Tables as tables;
+ghost use Rattle.hm_settle.specs.Answers.{elements_of};
+ghost use Rattle.hm_settle.specs.Plans as plans;
+ghost use Rattle.hm_tree.specs.Tokens as tokens;
+ghost use Rattle.hm_tree.specs.Trees.{HasRoom};
+ghost use Rattle.hm_builder.specs.BeforeBody.{IsBefore};
+ghost use Rattle.hm_builder.specs.Building.{Fits, IsRefused};
+ghost use Rattle.hm_builder.specs.Inside.{CanReach, IsDone, IsEntered, IsKept, IsOpened, open_path, phase_of, state_of};
+
+use crate::BuildFault;
+use crate::insertion::Phase;
+use crate::make::make_missing;
+use crate::moves::{end_elements, start_made};
+use crate::names::{is_refused, is_void};
+use crate::parts::Parts;
+use hm_base::{Memory, Rule};
+use hm_settle::{Moves, Path};
+use hm_tree::{Attrs, Maker};
+use std::alloc::Global;
+
+impl Parts {
+    /// Takes a start tag. None is read inside an element that holds a text.
+    pub(crate) fn start_tag(
+        &mut self,
+        alloc: Global,
+        name: &str,
+        attrs: Attrs,
+        slash: bool,
+    ) -> Result<(), BuildFault>
+        requires kept { IsKept self.old }
+        requires not_text { is_in_text (open_path self.old.phase self.old.path) ≡ false }
+        requires room { Fits (step (state_of self.old) (tokens.start_tag name.now attrs slash)) self.old.maker }
+        ensures ok { OnOk result (IsDone (step (state_of self.old) (tokens.start_tag name.now attrs slash)) self.old self.new) }
+        ensures err { IfErr result (IsRefused (step (state_of self.old) (tokens.start_tag name.now attrs slash))) }
+    {
+        self.drops_line_feed = false;
+        self.start_undropped(alloc, name, attrs, slash)
+    }
+
+    /// Takes a start tag where no line feed is dropped any more.
+    fn start_undropped(
+        &mut self,
+        alloc: Global,
+        name: &str,
+        attrs: Attrs,
+        slash: bool,
+    ) -> Result<(), BuildFault>
+        requires kept { IsKept self.old }
+        requires all { self.old.drops_line_feed ≡ false }
+        requires not_text { is_in_text (open_path self.old.phase self.old.path) ≡ false }
+        requires room { Fits (step_start name.now attrs slash (state_of self.old)) self.old.maker }
+        ensures ok { OnOk result (IsDone (step_start name.now attrs slash (state_of self.old)) self.old self.new) }
+        ensures err { IfErr result (IsRefused (step_start name.now attrs slash (state_of self.old))) }
+    {
+        match self.phase {
+            Phase::Initial => Err(BuildFault::from(Rule::NoDoctype)),
+            Phase::AfterBody | Phase::AfterHtml => Err(BuildFault::from(Rule::AfterBody)),
+            Phase::InBody => self.start_in_body(alloc, name, attrs, slash),
+            _ => self.start_html(alloc, name, attrs, slash),
+        }
+    }
+
+    /// Before the body.
+    fn start_html(
+        &mut self,
+        alloc: Global,
+        name: &str,
+        attrs: Attrs,
+        slash: bool,
+    ) -> Result<(), BuildFault>
+        requires kept { IsKept self.old }
+        requires all { self.old.drops_line_feed ≡ false }
+        requires not_text { is_in_text (open_path self.old.phase self.old.path) ≡ false }
+        requires before { IsBefore self.old.phase }
+        requires room { Fits (html_start name.now attrs slash (state_of self.old)) self.old.maker }
+        ensures ok { OnOk result (IsDone (html_start name.now attrs slash (state_of self.old)) self.old self.new) }
+        ensures err { IfErr result (IsRefused (html_start name.now attrs slash (state_of self.old))) }
+    {
+        if is_refused(name) {
+            return Err(BuildFault::from(Rule::RefusedName));
+        }
+        if is_root(name) {
+            return self.open_root(alloc, name, attrs);
+        }
+        self.start_before_body(alloc, name, attrs, slash)
+    }
+
+    /// Opens an element in the body, which is made where it is missing.
+    pub(crate) fn start_in_body(
+        &mut self,
+        alloc: Global,
+        name: &str,
+        attrs: Attrs,
+        slash: bool,
+    ) -> Result<(), BuildFault>
+        requires kept { IsKept self.old }
+        requires reach { CanReach self.old.phase }
+        requires all { self.old.drops_line_feed ≡ false }
+        requires room { Fits (reach_body (phase_of self.old.phase) (start_in_body name.now attrs slash) (state_of self.old)) self.old.maker }
+        ensures ok { OnOk result (IsDone (reach_body (phase_of self.old.phase) (start_in_body name.now attrs slash) (state_of self.old)) self.old self.new) }
+        ensures err { IfErr result (IsRefused (reach_body (phase_of self.old.phase) (start_in_body name.now attrs slash) (state_of self.old))) }
+    {
+        let foreign = opens_as_svg(&self.path, name);
+        let moves = self.path.start(name, foreign)?;
+        make_missing(alloc, &mut self.maker, self.phase)?;
+        self.phase = Phase::InBody;
+        move_and_start(alloc, &mut self.maker, moves, name, foreign, attrs)?;
+        self.close_at_once(name, foreign, slash)
+    }
+
+    /// Closes a void element, and one of SVG whose tag closes itself; else the element stays open.
+    fn close_at_once(&mut self, name: &str, foreign: bool, slash: bool) -> Result<(), BuildFault>
+        requires { IsOpened name.now foreign self.old }
+        ensures ok { OnOk result (IsEntered slash self.old self.new) }
+        ensures err { IfErr result (λ fault. fault ≡ BuildFault.Memory) }
+    {
+        if foreign {
+            if slash {
+                self.path.end(name)?;
+                self.maker.end()?;
+            }
+            return Ok(());
+        }
+        if is_void(name) {
+            self.maker.end()?;
+            return Ok(());
+        }
+        self.drops_line_feed = drops_behind(name);
+        Ok(())
+    }
+}
+
+/// Whether the element is html, head or body.
+#[tactic(auto, unfolding(hm_elements::specs::Tables::is_root, hm_elements::specs::Tables::roots, hm_elements::specs::Names::is_among))]
+fn is_root(name: &str) -> bool
+    ensures { result ≡ tables.is_root name.now }
+{
+    matches!(name, "html" | "head" | "body")
+}
+
+/// Whether the element opens as one of SVG.
+fn opens_as_svg(path: &Path, name: &str) -> bool
+    ensures { result ≡ plans.opens_as_svg name.now path.now }
+{
+    path.is_in_svg() || name == "svg"
+}
+
+/// Ends the elements that close, starts those that are made, and then the element of the tag.
+fn move_and_start(
+    alloc: Global,
+    maker: &mut Maker,
+    moves: Moves,
+    name: &str,
+    foreign: bool,
+    attrs: Attrs,
+) -> Result<(), Memory>
+    requires closes { moves.closes ≤ length (path_after [] maker.old) }
+    requires room { HasRoom (maker.old ++ ((map end_event (take moves.closes (path_after [] maker.old)) ++ starts (elements_of moves.made)) ++ walks.start name.now foreign attrs ∷ [])) }
+    ensures { OnOk result (maker.new ≡ maker.old ++ ((map end_event (take moves.closes (path_after [] maker.old)) ++ starts (elements_of moves.made)) ++ walks.start name.now foreign attrs ∷ [])) }
+{
+    end_elements(maker, moves.closes)?;
+    start_made(alloc, maker, moves.made)?;
+    maker.start(name, foreign, attrs)
+}
+
+/// Whether a line feed directly behind the start tag of the HTML element is dropped (13.2.6.4.7).
+#[tactic(auto, unfolding(hm_elements::specs::Names::is_among))]
+fn drops_behind(name: &str) -> bool
+    ensures { result ≡ is_among name.now (words "pre textarea") }
+{
+    name == "pre" || name == "textarea"
+}

@@ -7,9 +7,17 @@ use Rattle.hm_store.specs.Files.{FileMap, file_of, IsMissing, AppendsFront}
 use Rattle.hm_first_path.specs.Page.{Outcome, built, refused, page_outcome}
 use Rattle.hm_first_path.specs.Graph.{shortest_text, prices_of}
 use Rattle.hm_first_path.specs.Certificate.{certificate_text}
-use Rattle.hm_minify.specs.Words.{minify, asked}
+use denote.Ref.{Bor}
+use Rattle.std.specs.Prelude.{Ok}
+use Rattle.hm_base.specs.declared.plain.TreeOptions.{TreeOptions}
+use Rattle.hm_input.specs.Inputs.{Input, missing as missing_input, input_of, input_from, table_names, is_none, IsInput}
+use Rattle.hm_input.specs.Loads.{IsFileMissing}
+use Rattle.hm_words.specs.Words.{minify, tree as show_tree, asked}
+use Rattle.hm_words.specs.Answers.{request_of}
+use Rattle.hm_words.specs.declared.words.Asked as requests
+use Rattle.hm_words.specs.declared.words.Asked.TheVariants as variants
 use Rattle.hm_minify.specs.Lines.{usage_line, store_line}
-use Rattle.hm_minify.specs.Runs.{Ending, ends, page_ending, loaded_ending, asked_ending, ending, is_answer, EndsAs, Works, Stops, HasMinified, HasRefused}
+use Rattle.hm_minify.specs.Runs.{Ending, ends, page_ending, loaded_ending, asked_ending, ending, is_answer, EndsAs, Works, Stops, HasMinified, HasRefused, Shows, HasShown, shown_ending, asks_missing}
 use Rattle.hm_minify.specs.declared.status.Status.{Status}
 use Rattle.hm_minify.specs.declared.status.Status.TheVariants as status
 use Rattle.hm_minify.proofs.Loaded.{form_of_outcome}
@@ -140,3 +148,68 @@ quiet_says faults_old faults_new sink_old sink_new line said result (inr p) n = 
 pub still_missing : (faults_old faults_new : ℕ) {P : Type 0} → Rose faults_old faults_new ⊎ P → (Rose faults_old faults_new → ⊥) → P
 still_missing faults_old faults_new (inl r) n = absurd (n r)
 still_missing faults_old faults_new (inr p) n = p
+
+-- ---- what the program's requests ask for
+
+pub asks_minify : (words : List (List ℕ)) (a : requests.Asked) (page out cert : Bor (List ℕ)) → asked words ≡ Some (request_of a) → a ≡ variants.Minify page out cert → asked words ≡ Some (minify page.now out.now cert.now)
+asks_minify words a page out cert e f = e ∙ ap (λ x. Some (request_of x)) f
+
+pub asks_tree : (words : List (List ℕ)) (a : requests.Asked) (table page : Bor (List ℕ)) (o : TreeOptions) → asked words ≡ Some (request_of a) → a ≡ variants.Tree table page o → asked words ≡ Some (show_tree table.now page.now o)
+asks_tree words a table page o e f = e ∙ ap (λ x. Some (request_of x)) f
+
+-- ---- a tree that is shown
+
+-- where the store tells its files, the input is theirs
+told_input : (old : Option FileMap) (table page : List ℕ) (o : TreeOptions) (input : Input) → IsSome old → IsInput old table page o input → input_of old table page o ≡ input
+told_input old table page o input some i = ap (λ c. input_from o (table_names (is_none table) c) (file_of old page)) (i.table_told some) ∙ ap (input_from o (table_names (is_none table) i.table_content)) (i.page_told some) ∙ i.is
+
+pub ends_of_shown : (old new : Option FileMap) (words : List (List ℕ)) (sink_old sink_new : Option (List ℕ)) (table page line : List ℕ) (o : TreeOptions) (ended result : Status) (files : FileMap)
+    → asked words ≡ Some (show_tree table page o) → Shows old table page o ended line → new ≡ old → old ≡ Some files → result ≡ ended → sink_new ≡ append_known sink_old line
+    → EndsAs (ending words files) result new sink_old sink_new
+ends_of_shown old new words sink_old sink_new table page line o ended result files asks w same told r put =
+    let input : input_of old table page o ≡ w.input = told_input old table page o w.input (subst IsSome (sym told) refl) w.reads in
+    let is : ends ended line old ≡ ending words files = w.is ∙ ap (shown_ending old) (sym input) ∙ ap (λ t. shown_ending t (input_of t table page o)) told ∙ ap (asked_ending (Some files)) (sym asks) in
+    record {
+      status = r ∙ ap (λ (x : Ending). x.status) is;
+      files = same ∙ ap (λ (x : Ending). x.files) is;
+      sink = put ∙ ap (λ (x : Ending). append_known sink_old x.line) is;
+    }
+
+pub shown_of : (old new : Option FileMap) (words : List (List ℕ)) (sink_old sink_new : Option (List ℕ)) (table page line : List ℕ) (o : TreeOptions) (ended result : Status)
+    → asked words ≡ Some (show_tree table page o) → Shows old table page o ended line → new ≡ old → result ≡ ended → sink_new ≡ append_known sink_old line → HasShown old new words sink_old sink_new result
+shown_of old new words sink_old sink_new table page line o ended result asks w same r put = record {
+  table = table;
+  page = page;
+  options = o;
+  asks = asks;
+  input = w.input;
+  reads = w.reads;
+  is = record {
+    status = r ∙ ap (λ (x : Ending). x.status) w.is;
+    files = same ∙ ap (λ (x : Ending). x.files) w.is;
+    sink = put ∙ ap (λ (x : Ending). append_known sink_old x.line) w.is;
+  };
+}
+
+no_input : (old : Option FileMap) (table page : List ℕ) (o : TreeOptions) → IsSome old → IsFileMissing old table page → input_of old table page o ≡ missing_input
+no_input old table page o some (inl (none, absent)) = ap (λ b. input_from o (table_names b (file_of old table)) (file_of old page)) none ∙ ap (λ c. input_from o (table_names false c) (file_of old page)) absent.1
+no_input old table page o some (inr (names, absent)) =
+    ap (λ c. input_from o (table_names (is_none table) c) (file_of old page)) (names.read.there some) ∙ ap (λ x. input_from o x (file_of old page)) names.read.is ∙ ap (input_from o (Some (Ok names.entries))) absent.1
+
+pub ends_of_no_file : (old new : Option FileMap) (words : List (List ℕ)) (sink_old sink_new : Option (List ℕ)) (table page : List ℕ) (o : TreeOptions) (result : Status) (files : FileMap)
+    → asked words ≡ Some (show_tree table page o) → IsFileMissing old table page → new ≡ old → old ≡ Some files → result ≡ status.StoreFault → sink_new ≡ append_known sink_old store_line
+    → EndsAs (ending words files) result new sink_old sink_new
+ends_of_no_file old new words sink_old sink_new table page o result files asks absent same told r put =
+    let input : input_of old table page o ≡ missing_input = no_input old table page o (subst IsSome (sym told) refl) absent in
+    let is : ends status.StoreFault store_line old ≡ ending words files = ap (shown_ending old) (sym input) ∙ ap (λ t. shown_ending t (input_of t table page o)) told ∙ ap (asked_ending (Some files)) (sym asks) in
+    record {
+      status = r ∙ ap (λ (x : Ending). x.status) is;
+      files = same ∙ ap (λ (x : Ending). x.files) is;
+      sink = put ∙ ap (λ (x : Ending). append_known sink_old x.line) is;
+    }
+
+pub missing_of : (old : Option FileMap) (words : List (List ℕ)) (table page : List ℕ) (o : TreeOptions) → asked words ≡ Some (show_tree table page o) → IsFileMissing old table page → asks_missing old (asked words)
+missing_of old words table page o asks m = subst (asks_missing old) (sym asks) m
+
+pub no_store_fault : (said : Status) → is_answer said ≡ true → said ≡ status.StoreFault → ⊥
+no_store_fault said a e = let f : is_answer said ≡ false = ap is_answer e in cc

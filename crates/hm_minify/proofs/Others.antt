@@ -7,7 +7,7 @@ use Rattle.std.specs.FinMap.{get, get-insert}
 use Rattle.std.proofs.lemmas.Map.Text.{is_eq-slice_cmp}
 use Rattle.hm_store.specs.Files.{FileMap, file_of, with_file, HasFront}
 use Rattle.hm_first_path.specs.Page.{Outcome, built, refused, page_outcome}
-use Rattle.hm_minify.specs.Words.{Asked, minify, asked}
+use Rattle.hm_words.specs.Words.{Asked, minify, asked}
 use Rattle.hm_minify.specs.Runs.{Ending, page_ending, is_written, IsHalfway, Works, Stops}
 use Rattle.hm_minify.specs.declared.status.Status.{Status}
 

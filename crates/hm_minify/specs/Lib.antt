@@ -1,4 +1,3 @@
 pub mod Codes
-pub mod Words
 pub mod Lines
 pub mod Runs

@@ -8,8 +8,12 @@ use Rattle.hm_first_path.specs.Page.{Outcome, built, refused, page_tree, page_ou
 use Rattle.hm_first_path.specs.Spellings.{SpellsTree, Shortest}
 use Rattle.hm_first_path.specs.Graph.{FeasibleFor, first_price, prices_of, shortest_text}
 use Rattle.hm_first_path.specs.Certificate.{certificate_text}
-use Rattle.hm_minify.specs.Words.{Asked, minify, asked}
-use Rattle.hm_minify.specs.Lines.{length_line, refused_line, usage_line, store_line}
+use Rattle.hm_base.specs.declared.plain.TreeOptions.{TreeOptions}
+use Rattle.hm_tree.specs.Dump.{dump_of}
+use Rattle.hm_input.specs.Inputs.{Input, missing, bad_table, bad_page, tree as tree_input, input_of, IsInput}
+use Rattle.hm_input.specs.Loads.{IsFileMissing}
+use Rattle.hm_words.specs.Words.{Asked, minify, tree as show_tree, asked}
+use Rattle.hm_minify.specs.Lines.{length_line, refused_line, table_line, usage_line, store_line}
 use Rattle.hm_minify.specs.declared.status.Status.{Status}
 use Rattle.hm_minify.specs.declared.status.Status.TheVariants as status
 
@@ -35,9 +39,17 @@ abbrev pub loaded_ending : Option FileMap → List ℕ → List ℕ → Option (
 loaded_ending files out cert None = ends status.StoreFault store_line files
 loaded_ending files out cert (Some page) = page_ending files out cert (page_outcome page)
 
+-- a tree is shown
+abbrev pub shown_ending : Option FileMap → Input → Ending
+shown_ending files missing = ends status.StoreFault store_line files
+shown_ending files (bad_table fault) = ends status.TableRefused (table_line fault) files
+shown_ending files (bad_page rule at) = ends status.PageRefused (refused_line rule at) files
+shown_ending files (tree_input w) = ends status.Done (dump_of w) files
+
 abbrev pub asked_ending : Option FileMap → Option Asked → Ending
 asked_ending files None = ends status.Usage usage_line files
 asked_ending files (Some (minify page out cert)) = loaded_ending files out cert (file_of files page)
+asked_ending files (Some (show_tree table page o)) = shown_ending files (input_of files table page o)
 
 -- the result of a run on these words over told files
 abbrev pub ending : List (List ℕ) → FileMap → Ending
@@ -48,6 +60,7 @@ abbrev pub is_answer : Status → Bool
 is_answer status.Done = true
 is_answer status.Usage = true
 is_answer status.PageRefused = true
+is_answer status.TableRefused = true
 is_answer status.StoreFault = false
 is_answer status.SinkFault = false
 is_answer status.Memory = false
@@ -71,6 +84,12 @@ pub record Works (old new : Option FileMap) (page_name out_name cert_name : List
   pub page : List ℕ
   pub there : IsSome old → file_of old page_name ≡ Some page
   pub is : ends ended line new ≡ page_ending old out_name cert_name (page_outcome page)
+
+-- status and line are those of what table and page give
+pub record Shows (told : Option FileMap) (table page : List ℕ) (o : TreeOptions) (ended : Status) (line : List ℕ) : Type 0 where
+  pub input : Input
+  pub reads : IsInput told table page o input
+  pub is : ends ended line told ≡ shown_ending told input
 
 -- after a fault of the store in the writing of two files: nothing is touched, or a front of the first stands, or the
 -- first is whole and a front of the second stands
@@ -98,14 +117,13 @@ pub record HasStopped (old new : Option FileMap) (words : List (List ℕ)) : Typ
 abbrev pub is_written : Option Asked → List ℕ → Bool
 is_written None name = false
 is_written (Some (minify page out cert)) name = bytes_eq name out || bytes_eq name cert
+is_written (Some (show_tree table page o)) name = false
 
--- the words ask for a page that isn't there
-pub record PageIsMissing (told : Option FileMap) (words : List (List ℕ)) : Type 0 where
-  pub page_name : List ℕ
-  pub out_name : List ℕ
-  pub cert_name : List ℕ
-  pub asks : asked words ≡ Some (minify page_name out_name cert_name)
-  pub missing : IsMissing told page_name
+-- the words ask for a file that isn't there
+abbrev pub asks_missing : Option FileMap → Option Asked → Type 0
+asks_missing told None = ⊥
+asks_missing told (Some (minify page out cert)) = IsMissing told page
+asks_missing told (Some (show_tree table page o)) = IsFileMissing told table page
 
 -- The headline
 
@@ -149,3 +167,13 @@ pub record HasRefused (old new : Option FileMap) (words : List (List ℕ)) (sink
   pub reads : page_outcome page ≡ refused rule at
   pub files : new ≡ old
   pub line : sink_new ≡ append_known sink_old (refused_line rule at)
+
+-- what a run has shown: the tree of a page after the rewrites that are asked for, or why table or page is refused
+pub record HasShown (old new : Option FileMap) (words : List (List ℕ)) (sink_old sink_new : Option (List ℕ)) (ended : Status) : Type 0 where
+  pub table : List ℕ
+  pub page : List ℕ
+  pub options : TreeOptions
+  pub asks : asked words ≡ Some (show_tree table page options)
+  pub input : Input
+  pub reads : IsInput old table page options input
+  pub is : EndsAs (shown_ending old input) ended new sink_old sink_new

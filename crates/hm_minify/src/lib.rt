@@ -2,10 +2,11 @@
 #![tactic(auto)]
 
 mod lines;
+mod shown;
 mod status;
 mod top;
-mod words;
 mod work;
 
+pub use hm_first_path::laws;
 pub use status::Status;
 pub use top::run;

@@ -3,6 +3,7 @@ ghost use Rattle.std.specs.Prelude.{◌≡◌, IfOk, string_bytes};
 ghost use Rattle.hm_minify.specs.Lines as spec;
 
 use hm_base::Rule;
+use hm_refs::TableFault;
 use std::alloc::{AllocError, Global};
 
 /// What is said of words without a meaning.
@@ -25,4 +26,21 @@ pub fn refused_line(alloc: Global, rule: Rule, at: u32) -> Result<String, AllocE
 {
     let name = rule.name();
     format!(in alloc; "page refused: {name} at {at}\n")
+}
+
+/// The line of a table that is refused.
+pub fn table_line(alloc: Global, fault: &TableFault) -> Result<String, AllocError>
+    ensures { IfOk result (λ line. string_bytes line ≡ spec.table_line fault.now) }
+{
+    let name = fault.name();
+    match fault {
+        TableFault::BadName { key } | TableFault::BadPoints { key } | TableFault::Lone { key } => {
+            let key = key.text.as_str();
+            format!(in alloc; "table refused: {name} {key}\n")
+        }
+        TableFault::TooManyFor { point } => {
+            format!(in alloc; "table refused: {name} {point}\n")
+        }
+        _ => format!(in alloc; "table refused: {name}\n"),
+    }
 }

@@ -11,6 +11,8 @@ pub enum Status {
     Usage,
     /// The page is refused.
     PageRefused,
+    /// The table is refused.
+    TableRefused,
     /// A call on the store has failed, or a file isn't there.
     StoreFault,
     /// A call on the sink has failed.
@@ -28,6 +30,7 @@ impl Status {
             Status::Done => 0,
             Status::Usage => 2,
             Status::PageRefused => 3,
+            Status::TableRefused => 4,
             Status::StoreFault => 5,
             Status::SinkFault => 6,
             Status::Memory => 7,

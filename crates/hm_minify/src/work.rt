@@ -10,7 +10,6 @@ ghost use Rattle.hm_minify.specs.Runs as spec;
 
 use crate::Status;
 use crate::lines::{length_line, refused_line};
-use crate::words::Names;
 use hm_base::{Memory, Refused};
 use hm_first_path::{Tree, minify_tree, read_page};
 use hm_store::{Failed, LoadFault, Store, load, write_file};
@@ -18,6 +17,14 @@ use std::alloc::{AllocError, Global};
 
 /// The most bytes of a page.
 pub const PAGE_LIMIT: u32 = 4_194_304;
+
+/// The names of the files of a page that is minified.
+#[derive(Clone, Copy, Debug)]
+pub struct Names<'w> {
+    pub page: &'w str,
+    pub out: &'w str,
+    pub cert: &'w str,
+}
 
 /// Why the work stops without an answer.
 #[derive(Clone, Copy, Debug, PartialEq, Eq)]

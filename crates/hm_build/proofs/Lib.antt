@@ -1,0 +1,6 @@
+mod Weights
+mod Room
+mod Reading
+mod Turns
+mod Names
+mod Ends

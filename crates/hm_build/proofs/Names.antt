@@ -1,0 +1,26 @@
+-- Elements whose text is read in a mode of its own.
+use Rattle.std.proofs.Common.{◌≡◌, ℕ, Bool, true, false, List, codes, bytes_eq, refl, sym, ◌∙◌}
+use Rattle.std.proofs.lemmas.Slice.Eq.{bytes_eq-Decides}
+use Rattle.std.proofs.lemmas.Grind.{common_steps}
+use Rattle.std.specs.Bool.{Decides}
+use Rattle.hm_elements.specs.Names.{is_among, script}
+use Rattle.hm_elements.specs.Tables.{is_raw, raw_names, is_rcdata, rcdata_names}
+use Rattle.hm_tokens.specs.First.{ordinary}
+use Rattle.hm_construction.specs.Trees.{mode_of_name}
+
+differs : (n m : List ℕ) → (n ≡ m → ⊥) → (bytes_eq m n ≡ false) × (bytes_eq n m ≡ false)
+differs n m h = (by (bytes_eq m n) (bytes_eq-Decides m n) (λ e. h (sym e)), by (bytes_eq n m) (bytes_eq-Decides n m) h)
+  where
+    by : {P : Type 0} (b : Bool) → Decides b P → (P → ⊥) → b ≡ false
+    by true d k = absurd (k (d.0 refl))
+    by false d k = refl
+
+pub is_ordinary : (n : List ℕ) → (n ≡ codes "title" → ⊥) → (n ≡ codes "textarea" → ⊥) → (n ≡ codes "style" → ⊥) → (n ≡ codes "iframe" → ⊥) → (n ≡ codes "script" → ⊥) → ordinary ≡ mode_of_name n
+unfolding is_raw raw_names is_rcdata rcdata_names is_among
+is_ordinary n title textarea style iframe script' =
+    let a = differs n (codes "title") title in
+    let b = differs n (codes "textarea") textarea in
+    let c = differs n (codes "style") style in
+    let d = differs n (codes "iframe") iframe in
+    let e = differs n (codes "script") script' in
+    rw (a.0, b.0, c.0, d.0, e.0, e.1) refl

@@ -1,0 +1,185 @@
+-- A turn of the reader: the next token is taken into the tree.
+use Rattle.std.proofs.Common.{◌≡◌, ℕ, ◌+◌, ◌-◌, ◌*◌, ◌^◌, ◌≤◌, ◌<◌, List, [], ◌∷◌, ◌++◌, length, drop, map, refl, sym, ap, ◌∙◌, subst, Some, None, arith}
+use Rattle.std.proofs.lemmas.List.{length-drop, drop-drop}
+use Rattle.std.specs.declared.option.Option.{Option}
+use Rattle.hm_base.specs.Source.{Source, byte_of}
+use Rattle.hm_base.specs.declared.source.TheConstants.{LONGEST_PAGE}
+use Rattle.hm_base.specs.Walks.{Event, Element}
+use Rattle.hm_base.specs.declared.rules.Refused.{Refused}
+use Rattle.hm_base.specs.declared.rules.Refused.TheVariants as answers
+use Rattle.hm_base.specs.declared.rules.Rule.{Rule}
+use Rattle.hm_tree.specs.Tokens.{Seen, seen, taken, refused, doctype, start_tag, end_tag, slice, points, comment}
+use Rattle.hm_tree.specs.declared.tokens.Spanned.{Spanned}
+use Rattle.hm_tokens.specs.First.{Mode, at_end, behind_bytes, first, rule_of}
+use Rattle.hm_tokens.specs.Laws.{IsPlain, SoundNames, SoundToken, TakesBytes, token_size, least_size, growth}
+use Rattle.hm_tokens.proofs.Firsts.{tokens_are_small, tokens_are_sound}
+use Rattle.hm_construction.specs.Steps.{State, Stepped, went, stops, step}
+use Rattle.hm_construction.specs.Trees.{Outcome, built, refused_by, after_events, mode_of, stepped, over, tree_from}
+use Rattle.hm_construction.proofs.Modes.{is_mode, markup_no_text}
+use Rattle.hm_lexer.specs.Reading.{Reading, text_of, next_of, Gives, IsTaken, IsFaulty, Refuses}
+use Rattle.hm_builder.specs.Building.{Building, Fits, IsStepped, IsRefused, grown}
+use Rattle.hm_builder.specs.declared.fault.BuildFault.{BuildFault}
+use Rattle.hm_builder.specs.declared.fault.BuildFault.TheVariants as faults
+use Rattle.hm_build.specs.Parsing.{IsParsing, IsReadUnder, IsRead, IsFurther, IsRefusedAs, IsWithin, tree_of, place_of, answer_of, span_of}
+use Rattle.hm_build.proofs.Reading.{goes_on, ends_here, is_faulty, after_grown}
+use Rattle.hm_build.proofs.Room.{step_fits, step_stays, stops_inside, within_further}
+
+-- ---- no token
+
+pub lexer_refuses : (r : Reading) (b : Building) (m : Mode) (answer : Refused) → IsParsing r b → m ≡ mode_of b.state.path → Refuses r m answer → IsRefusedAs (tree_of r) answer
+lexer_refuses r b m answers.Memory p e f = tt
+lexer_refuses r b m (answers.Page rule at) p e f =
+    let here : first r.names (mode_of b.state.path) (drop r.at (text_of r)) ≡ behind_bytes f.passed (refused f.fault) = subst (λ k. first r.names k (drop r.at (text_of r)) ≡ behind_bytes f.passed (refused f.fault)) e f.is in
+    p.goes_on ∙ ap (after_events b.walk) (is_faulty r.names (place_of r.source) r.at f.passed b.state f.fault (drop r.at (text_of r)) here)
+    ∙ ap (λ x. refused_by x (place_of r.source (r.at + f.passed))) (sym f.rule_is) ∙ ap (refused_by rule) (sym f.place_is)
+
+pub text_ends : (r : Reading) (b : Building) (m : Mode) → IsParsing r b → m ≡ mode_of b.state.path → next_of r m ≡ at_end → IsRead r b
+text_ends r b m p e f =
+    let here : first r.names (mode_of b.state.path) (drop r.at (text_of r)) ≡ at_end = subst (λ k. first r.names k (drop r.at (text_of r)) ≡ at_end) e f in
+    let left : length (drop r.at (text_of r)) ≡ length (text_of r) - r.at = length-drop r.at (text_of r) in
+    let inside : r.at ≤ length (text_of r) = p.inside in
+    let all : r.at + length (drop r.at (text_of r)) ≡ length (text_of r) = omega arith in
+    record {
+      ends = p.goes_on ∙ ap (after_events b.walk) (ends_here r.names (place_of r.source) r.at b.state (drop r.at (text_of r)) here ∙ ap (λ i. over (place_of r.source) i b.state) all);
+      within = within_further r.at (length (text_of r)) b.walk b.state p.inside p.within;
+    }
+
+-- ---- a token
+
+sound : (r : Reading) (b : Building) (token : Spanned) (new : Reading) → SoundNames r.names → IsParsing r b → IsTaken r (mode_of b.state.path) token new → SoundToken (mode_of b.state.path) (seen (text_of r) token.token) × IsPlain (drop token.to (text_of r))
+sound r b token new names p k = tokens_are_sound r.names (mode_of b.state.path) (drop r.at (text_of r)) k.passed (seen (text_of r) token.token) (drop token.to (text_of r)) names (is_mode b.state.path) p.plain k.is
+
+read_under : (path : List Element) (token : Seen) → SoundToken (mode_of path) token → IsReadUnder path token
+read_under path (start_tag n attributes slash) s = markup_no_text path s.mode_reads
+read_under path (doctype legacy) s = tt
+read_under path (end_tag n) s = tt
+read_under path (slice x) s = tt
+read_under path (points ps) s = tt
+read_under path (comment x) s = tt
+
+pub token_under : (r : Reading) (b : Building) (m : Mode) (token : Spanned) (new : Reading) (s : List ℕ) → SoundNames r.names → IsParsing r b → m ≡ mode_of b.state.path → IsTaken r m token new → text_of r ≡ s → IsReadUnder b.state.path (seen s token.token)
+token_under r b m token new s names p e k t =
+    subst (λ x. IsReadUnder b.state.path (seen x token.token)) t (read_under b.state.path (seen (text_of r) token.token) (sound r b token new names p (subst (λ x. IsTaken r x token new) e k)).0)
+
+-- how much of the text the token is
+pub record IsCounted (r : Reading) (token : Spanned) : Type 0 where
+  pub count : ℕ
+  pub size : token_size (seen (text_of r) token.token) ≤ growth (seen (text_of r) token.token) * count
+  pub least : least_size (seen (text_of r) token.token) ≤ count
+  pub whole : token.from + count ≡ token.to
+  pub before : r.at ≤ token.from
+
+counted : (r : Reading) (b : Building) (token : Spanned) (new : Reading) → SoundNames r.names → IsParsing r b → IsTaken r (mode_of b.state.path) token new → IsCounted r token
+counted r b token new names p k =
+    let rest : List ℕ = drop token.to (text_of r) in
+    let takes : TakesBytes (drop r.at (text_of r)) k.passed (seen (text_of r) token.token) rest = tokens_are_small r.names (mode_of b.state.path) (drop r.at (text_of r)) k.passed (seen (text_of r) token.token) rest names (is_mode b.state.path) k.is in
+    let a : length (drop r.at (text_of r)) ≡ length (text_of r) - r.at = length-drop r.at (text_of r) in
+    let c : length rest ≡ length (text_of r) - token.to = length-drop token.to (text_of r) in
+    let whole : length (drop r.at (text_of r)) ≡ k.passed + takes.count + length rest = takes.whole in
+    let inside : token.to ≤ length (text_of r) = k.inside in
+    let before : r.at ≤ length (text_of r) = p.inside in
+    let from : token.from ≡ r.at + k.passed = k.from in
+    record { count = takes.count; size = takes.size; least = takes.least; whole = omega arith; before = omega arith }
+
+in_mode : (r : Reading) (m n : Mode) (token : Spanned) (new : Reading) → m ≡ n → IsTaken r m token new → IsTaken r n token new
+in_mode r m n token new e k = subst (λ x. IsTaken r x token new) e k
+
+pub token_fits : (r : Reading) (b : Building) (m : Mode) (token : Spanned) (new : Reading) (s : List ℕ) → SoundNames r.names → IsParsing r b → m ≡ mode_of b.state.path → IsTaken r m token new → text_of r ≡ s → 6 * length s + 13 < 2 ^ 29 → Fits (step b.state (seen s token.token)) b.walk
+token_fits r b m token new s names p e k t short =
+    let taken_here : IsTaken r (mode_of b.state.path) token new = in_mode r m (mode_of b.state.path) token new e k in
+    let c : IsCounted r token = counted r b token new names p taken_here in
+    let whole : token.from + c.count ≡ token.to = c.whole in
+    let before : r.at ≤ token.from = c.before in
+    let inside : token.to ≤ length (text_of r) = k.inside in
+    subst (λ x. Fits (step b.state (seen x token.token)) b.walk) t
+    (step_fits r.at c.count (length (text_of r)) b.walk b.state (seen (text_of r) token.token) p.within c.size c.least (omega arith) (subst (λ x. 6 * length x + 13 < 2 ^ 29) (sym t) short))
+
+-- the tree goes on behind the token
+steps_on : (r : Reading) (b : Building) (token : Spanned) (new : Reading) → IsParsing r b → (k : IsTaken r (mode_of b.state.path) token new)
+    → tree_of r ≡ after_events b.walk (stepped (place_of r.source) token.from (step b.state (seen (text_of r) token.token)) (λ next. tree_from r.names (place_of r.source) 0 token.to next (drop token.to (text_of r))))
+steps_on r b token new p k =
+    let left : length (drop r.at (text_of r)) ≡ length (text_of r) - r.at = length-drop r.at (text_of r) in
+    let inside : token.to ≤ length (text_of r) = k.inside in
+    let before : r.at ≤ length (text_of r) = p.inside in
+    let from : token.from ≡ r.at + k.passed = k.from in
+    let forward : token.from < token.to = k.forward in
+    let rest : drop token.to (text_of r) ≡ drop (token.to - r.at) (drop r.at (text_of r)) = further r.at token.to (text_of r) (omega arith) in
+    let here : first r.names (mode_of b.state.path) (drop r.at (text_of r)) ≡ behind_bytes k.passed (taken (seen (text_of r) token.token) (drop (token.to - r.at) (drop r.at (text_of r)))) = k.is ∙ ap (λ x. behind_bytes k.passed (taken (seen (text_of r) token.token) x)) rest in
+    p.goes_on ∙ ap (after_events b.walk) (goes_on r.names (place_of r.source) r.at k.passed token.to b.state (seen (text_of r) token.token) (drop r.at (text_of r)) (omega arith) (omega arith) here
+    ∙ ap (λ i. stepped (place_of r.source) i (step b.state (seen (text_of r) token.token)) (λ next. tree_from r.names (place_of r.source) 0 token.to next (drop (token.to - r.at) (drop r.at (text_of r))))) (sym k.from)
+    ∙ ap (λ x. stepped (place_of r.source) token.from (step b.state (seen (text_of r) token.token)) (λ next. tree_from r.names (place_of r.source) 0 token.to next x)) (sym rest))
+  where
+    further : (i j : ℕ) (s : List ℕ) → i ≤ j → drop j s ≡ drop (j - i) (drop i s)
+    further i j s h = ap (λ x. drop x s) (omega arith) ∙ sym (drop-drop (j - i) i s)
+
+pub token_taken : (r : Reading) (b : Building) (m : Mode) (token : Spanned) (new : Reading) (s : List ℕ) (after : Building) → SoundNames r.names → IsParsing r b → m ≡ mode_of b.state.path → IsTaken r m token new → text_of r ≡ s
+    → IsStepped (step b.state (seen s token.token)) b after → IsParsing new after × IsFurther r new
+token_taken r b m token new s after names p e k t done = by (step b.state (seen (text_of r) token.token)) refl (subst (λ x. IsStepped (step b.state (seen x token.token)) b after) (sym t) done)
+  where
+    here : IsTaken r (mode_of b.state.path) token new
+    here = in_mode r m (mode_of b.state.path) token new e k
+
+    at_to : Reading
+    at_to = record r { at = token.to }
+
+    by : (x : Stepped) → step b.state (seen (text_of r) token.token) ≡ x → IsStepped x b after → IsParsing new after × IsFurther r new
+    by (stops rule n) q i = absurd i
+    by (went es st) q i =
+        let c : IsCounted r token = counted r b token new names p here in
+        let whole : token.from + c.count ≡ token.to = c.whole in
+        let before : r.at ≤ token.from = c.before in
+        let forward : token.from < token.to = k.forward in
+        let more : State → Outcome = λ next. tree_from r.names (place_of r.source) 0 token.to next (drop token.to (text_of r)) in
+        let all : tree_of r ≡ after_events after.walk (more after.state) =
+        steps_on r b token new p here ∙ ap (λ x. after_events b.walk (stepped (place_of r.source) token.from x more)) q ∙ sym (after_grown b.walk es (more st)) ∙ ap (λ w. after_events w (more st)) (sym i.1) ∙ ap (λ z. after_events after.walk (more z)) (sym i.0)
+        in
+        let stays : IsWithin (r.at + c.count) (grown b.walk es) st = step_stays r.at c.count b.walk es b.state st (seen (text_of r) token.token) p.within c.size c.least q in
+        let within : IsWithin token.to after.walk after.state = subst (λ w. IsWithin token.to w after.state) (sym i.1) (subst (λ z. IsWithin token.to (grown b.walk es) z) (sym i.0) (within_further (r.at + c.count) token.to (grown b.walk es) st (omega arith) stays)) in
+        let parsing : IsParsing at_to after = record { inside = k.inside; goes_on = all; within = within; plain = (sound r b token new names p here).1 } in
+        let ahead : IsFurther r at_to = record { names = refl; source = refl; forward = omega arith; inside = k.inside } in
+        subst (λ n. IsParsing n after × IsFurther r n) (sym k.moved) (parsing, ahead)
+
+pub token_refused : (r : Reading) (b : Building) (m : Mode) (token : Spanned) (new : Reading) (s : List ℕ) (fault : BuildFault) → IsParsing r b → m ≡ mode_of b.state.path → IsTaken r m token new → text_of r ≡ s
+    → IsRefused (step b.state (seen s token.token)) fault → IsRefusedAs (tree_of r) (answer_of fault (place_of r.source (token.from + span_of fault)))
+token_refused r b m token new s faults.Memory p e k t f = tt
+token_refused r b m token new s (faults.Rule rule n) p e k t f =
+    let here : IsTaken r (mode_of b.state.path) token new = in_mode r m (mode_of b.state.path) token new e k in
+    let stops_here : step b.state (seen (text_of r) token.token) ≡ stops rule n = subst (λ x. step b.state (seen x token.token) ≡ stops rule n) (sym t) f in
+    steps_on r b token new p here ∙ ap (λ x. after_events b.walk (stepped (place_of r.source) token.from x (λ next. tree_from r.names (place_of r.source) 0 token.to next (drop token.to (text_of r))))) stops_here
+
+pub fault_inside : (r : Reading) (b : Building) (m : Mode) (token : Spanned) (new : Reading) (s : List ℕ) (fault : BuildFault) → SoundNames r.names → IsParsing r b → m ≡ mode_of b.state.path → IsTaken r m token new → text_of r ≡ s
+    → IsRefused (step b.state (seen s token.token)) fault → token.from + span_of fault ≤ length s
+fault_inside r b m token new s faults.Memory names p e k t f =
+    let a : length (text_of r) ≡ length s = ap length t in
+    let forward : token.from < token.to = k.forward in
+    let inside : token.to ≤ length (text_of r) = k.inside in
+    omega arith
+fault_inside r b m token new s (faults.Rule rule n) names p e k t f =
+    let here : IsTaken r (mode_of b.state.path) token new = in_mode r m (mode_of b.state.path) token new e k in
+    let c : IsCounted r token = counted r b token new names p here in
+    let stops_here : step b.state (seen (text_of r) token.token) ≡ stops rule n = subst (λ x. step b.state (seen x token.token) ≡ stops rule n) (sym t) f in
+    let few : n ≤ c.count = stops_inside b.state (seen (text_of r) token.token) rule n c.count c.size stops_here in
+    let a : length (text_of r) ≡ length s = ap length t in
+    let whole : token.from + c.count ≡ token.to = c.whole in
+    let inside : token.to ≤ length (text_of r) = k.inside in
+    omega arith
+
+-- ---- the text of a page
+
+pub same_text : (r : Reading) (page : Source) (s : List ℕ) → r.source ≡ page → s ≡ map byte_of page.placed → text_of r ≡ s
+same_text r page s e f = ap (λ (p : Source). map byte_of p.placed) e ∙ sym f
+
+pub short_text : (n end : ℕ) → n ≤ end → end ≤ LONGEST_PAGE → 6 * n + 13 < 2 ^ 29
+short_text n end h k = omega arith
+
+pub answer_here : (r : Reading) (page : Source) (fault : BuildFault) (at : ℕ) → r.source ≡ page → IsRefusedAs (tree_of r) (answer_of fault (place_of r.source at)) → IsRefusedAs (tree_of r) (answer_of fault (place_of page at))
+answer_here r page fault at e h = subst (λ p. IsRefusedAs (tree_of r) (answer_of fault (place_of p at))) e h
+
+pub taken_here : (r : Reading) (m : Mode) (o : Option Spanned) (token : Spanned) (new : Reading) → Gives r m o new → o ≡ Some token → IsTaken r m token new
+taken_here r m o token new g e = subst (λ x. Gives r m x new) e g
+
+pub ended_here : (r : Reading) (m : Mode) (o : Option Spanned) (new : Reading) → Gives r m o new → o ≡ None → next_of r m ≡ at_end
+ended_here r m o new g e = (subst (λ x. Gives r m x new) e g).0
+
+pub unchanged_here : (r : Reading) (m : Mode) (o : Option Spanned) (new : Reading) → Gives r m o new → o ≡ None → new ≡ r
+unchanged_here r m o new g e = (subst (λ x. Gives r m x new) e g).1

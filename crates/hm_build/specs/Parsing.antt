@@ -1,0 +1,70 @@
+-- A page that is being parsed: what was built of its text so far, and what is left.
+use Rattle.std.specs.Prelude.{◌≡◌, ℕ, ◌+◌, ◌*◌, ◌≤◌, ◌<◌, false, List, length, drop}
+use Rattle.hm_base.specs.Source.{Source, place_in}
+use Rattle.hm_base.specs.Walks.{Event, Element, walk_size}
+use Rattle.hm_base.specs.declared.rules.Refused.{Refused}
+use Rattle.hm_base.specs.declared.rules.Refused.TheVariants as answers
+use Rattle.hm_elements.specs.Paths.{is_in_text}
+use Rattle.hm_tokens.specs.Laws.{IsPlain}
+use Rattle.hm_tree.specs.Tokens.{Seen, doctype, start_tag, end_tag, slice, points, comment}
+use Rattle.hm_construction.specs.Steps.{State}
+use Rattle.hm_construction.specs.Trees.{Outcome, refused_by, after_events, over, tree_from, tree_of_source}
+use Rattle.hm_lexer.specs.Reading.{Reading, text_of}
+use Rattle.hm_builder.specs.Building.{Building}
+use Rattle.hm_builder.specs.declared.fault.BuildFault.{BuildFault}
+use Rattle.hm_builder.specs.declared.fault.BuildFault.TheVariants as faults
+use Rattle.hm_build.specs.Weights.{weight, load, load_size}
+
+-- why there is no tree; want of memory has no cause in the page
+abbrev pub IsRefusedAs : Outcome → Refused → Type 0
+IsRefusedAs outcome (answers.Page rule at) = outcome ≡ refused_by rule at
+IsRefusedAs outcome answers.Memory = Unit {0}
+
+-- what was built of so many bytes of a text
+pub record IsWithin (read : ℕ) (w : List Event) (st : State) : Type 0 where
+  pub events : weight w + load st ≤ 3 * read + 13
+  pub bytes : walk_size w + load_size st ≤ 6 * read + 12
+
+abbrev pub place_of : Source → ℕ → ℕ
+place_of page i = place_in page.placed page.end i
+
+-- the tree of the text that is read
+abbrev pub tree_of : Reading → Outcome
+tree_of r = tree_of_source r.names r.source
+
+-- The tree begins with what was built so far, and goes on with what is left of the text.
+pub record IsParsing (r : Reading) (b : Building) : Type 0 where
+  pub inside : r.at ≤ length (text_of r)
+  pub goes_on : tree_of r ≡ after_events b.walk (tree_from r.names (place_of r.source) 0 r.at b.state (drop r.at (text_of r)))
+  pub within : IsWithin r.at b.walk b.state
+  pub plain : IsPlain (drop r.at (text_of r))
+
+-- no start tag is read inside title, textarea, style, iframe and script
+abbrev pub IsReadUnder : List Element → Seen → Type 0
+IsReadUnder path (start_tag n attributes slash) = is_in_text path ≡ false
+IsReadUnder path (doctype legacy) = Unit {0}
+IsReadUnder path (end_tag n) = Unit {0}
+IsReadUnder path (slice s) = Unit {0}
+IsReadUnder path (points ps) = Unit {0}
+IsReadUnder path (comment s) = Unit {0}
+
+-- nothing is left of the text
+pub record IsRead (r : Reading) (b : Building) : Type 0 where
+  pub ends : tree_of r ≡ after_events b.walk (over (place_of r.source) (length (text_of r)) b.state)
+  pub within : IsWithin (length (text_of r)) b.walk b.state
+
+-- further on in the same text
+pub record IsFurther (old new : Reading) : Type 0 where
+  pub names : new.names ≡ old.names
+  pub source : new.source ≡ old.source
+  pub forward : old.at < new.at
+  pub inside : new.at ≤ length (text_of new)
+
+-- what a fault is answered as, and how far behind its token's first byte it is
+abbrev pub answer_of : BuildFault → ℕ → Refused
+answer_of (faults.Rule rule behind) at = answers.Page rule at
+answer_of faults.Memory at = answers.Memory
+
+abbrev pub span_of : BuildFault → ℕ
+span_of (faults.Rule rule behind) = behind
+span_of faults.Memory = 0

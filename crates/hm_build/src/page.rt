@@ -1,0 +1,118 @@
+//! The tree of a page.
+ghost use Rattle.std.specs.Prelude.{◌≡◌, ◌≤◌, ◌<◌, ◌+◌, ℕ, Ok, true, false, length, IfOk, OnOk, IfErr};
+ghost use Rattle.hm_elements.specs.Settled.{Settled};
+ghost use Rattle.hm_tokens.specs.Laws.{SoundNames};
+ghost use Rattle.hm_construction.specs.Trees.{built, tree_of_source};
+ghost use Rattle.hm_build.specs.Parsing.{IsFurther, IsParsing, IsRead, IsRefusedAs, answer_of, place_of, span_of, tree_of};
+
+use crate::tokens::{mode, take};
+use hm_base::{Memory, Refused, SourceText};
+use hm_builder::{BuildFault, Builder};
+use hm_lexer::Lexer;
+use hm_refs::Table;
+use hm_refs::laws::every_table;
+use hm_tree::Tree;
+use std::alloc::Global;
+
+/// What a fault is answered as, of a token that begins at byte `at` of the text.
+fn refusal(text: &SourceText, fault: BuildFault, at: u32) -> Refused
+    requires { at + span_of fault ≤ length text.now.placed }
+    ensures { result ≡ answer_of fault (place_of text.now (at + span_of fault)) }
+{
+    let _text = text.text();
+    match fault {
+        BuildFault::Rule { rule, behind } => Refused::Page {
+            rule,
+            at: text.place_of(at + behind),
+        },
+        BuildFault::Memory => Refused::Memory,
+    }
+}
+
+/// Takes the next token, if there is one.
+fn turn<'a>(
+    alloc: Global,
+    text: &SourceText,
+    lexer: &mut Lexer<'a>,
+    builder: &mut Builder,
+) -> Result<bool, Refused>
+    requires names { SoundNames lexer.old.names }
+    requires source { lexer.old.source ≡ text.now }
+    requires parsing { IsParsing lexer.old builder.old }
+    ensures more { result ≡ Ok true → IsParsing lexer.new builder.new × IsFurther lexer.old lexer.new }
+    ensures done { result ≡ Ok false → IsRead lexer.old builder.new × (lexer.new ≡ lexer.old) }
+    ensures err { IfErr result (IsRefusedAs (tree_of lexer.old)) }
+{
+    match lexer.next(alloc, mode(builder)) {
+        Ok(None) => Ok(false),
+        Ok(Some(spanned)) => match take(alloc, builder, text.text(), spanned.token) {
+            Ok(()) => Ok(true),
+            Err(fault) => Err(refusal(text, fault, spanned.from)),
+        },
+        Err(refused) => Err(refused),
+    }
+}
+
+/// Takes the tokens, up to the end of the text.
+fn turns<'a>(
+    alloc: Global,
+    text: &SourceText,
+    lexer: &mut Lexer<'a>,
+    builder: &mut Builder,
+) -> Result<(), Refused>
+    requires names { SoundNames lexer.old.names }
+    requires source { lexer.old.source ≡ text.now }
+    requires parsing { IsParsing lexer.old builder.old }
+    ensures ok { OnOk result (IsRead lexer.new builder.new) }
+    ensures names { OnOk result (lexer.new.names ≡ lexer.old.names) }
+    ensures same { OnOk result (lexer.new.source ≡ lexer.old.source) }
+    ensures err { IfErr result (IsRefusedAs (tree_of lexer.old)) }
+{
+    loop {
+        match turn(alloc, text, lexer, builder) {
+            Ok(true) => {}
+            Ok(false) => return Ok(()),
+            Err(refused) => return Err(refused),
+        }
+    }
+}
+
+/// What was built, with what is missing at the end of the text.
+fn finish<'a>(
+    alloc: Global,
+    text: &SourceText,
+    lexer: &Lexer<'a>,
+    builder: Builder,
+) -> Result<Tree, Refused>
+    requires source { lexer.now.source ≡ text.now }
+    requires read { IsRead lexer.now builder }
+    ensures built { IfOk result (λ tree. tree_of lexer.now ≡ built tree) }
+    ensures refused { IfErr result (IsRefusedAs (tree_of lexer.now)) }
+{
+    let end = text.text().len() as u32;
+    match builder.finish(alloc) {
+        Ok(tree) => Ok(tree),
+        Err(fault) => Err(refusal(text, fault, end)),
+    }
+}
+
+/// The tree of a page (13.2.6), or its first refusal, with its rule and its byte of the page.
+///
+/// The time is linear in the page, and the tree is settled: it can be written and is read back without any repair.
+pub fn parse(alloc: Global, text: &SourceText, table: &Table) -> Result<Tree, Refused>
+    ensures built { IfOk result (λ tree. tree_of_source table.now.entries text.now ≡ built tree) }
+    ensures settled { IfOk result (λ tree. Settled tree) }
+    ensures refused { IfErr result (IsRefusedAs (tree_of_source table.now.entries text.now)) }
+{
+    every_table(table);
+    let _plain = text.text();
+    let mut lexer = Lexer::new(text, table);
+    let mut builder = match Builder::new(alloc) {
+        Ok(builder) => builder,
+        Err(Memory) => return Err(Refused::Memory),
+    };
+    match turns(alloc, text, &mut lexer, &mut builder) {
+        Ok(()) => finish(alloc, text, &lexer, builder),
+        Err(refused) => Err(refused),
+    }
+}

@@ -1,0 +1,73 @@
+//! A token taken into a tree.
+ghost use Rattle.std.specs.Prelude.{◌≡◌, ◌^◌, ◌<◌, length, OnOk, IfErr};
+ghost use Rattle.hm_tree.specs.Tokens.{IsInText, seen};
+ghost use Rattle.hm_lexer.specs.Modes.{mode_of};
+ghost use Rattle.hm_construction.specs.Steps.{step};
+ghost use Rattle.hm_construction.specs.Trees as trees;
+ghost use Rattle.hm_builder.specs.Building.{Fits, IsRefused, IsStepped};
+ghost use Rattle.hm_build.specs.Parsing.{IsReadUnder};
+
+use hm_builder::{BuildFault, Builder};
+use hm_lexer::{Mode, RawName, RcdataName};
+use hm_tree::Token;
+use std::alloc::Global;
+
+/// How the text under the innermost element is read (13.2.6.2 and 13.2.6.4).
+#[tactic(auto, unfolding(hm_elements::specs::Tables::is_rcdata, hm_elements::specs::Tables::is_raw, hm_elements::specs::Tables::rcdata_names, hm_elements::specs::Tables::raw_names, hm_elements::specs::Names::is_among))]
+fn mode_of_name(name: &str) -> Mode
+    ensures { mode_of result ≡ trees.mode_of_name name.now }
+{
+    match name {
+        "title" => Mode::Rcdata {
+            name: RcdataName::Title,
+        },
+        "textarea" => Mode::Rcdata {
+            name: RcdataName::Textarea,
+        },
+        "style" => Mode::Raw {
+            name: RawName::Style,
+        },
+        "iframe" => Mode::Raw {
+            name: RawName::Iframe,
+        },
+        "script" => Mode::Script,
+        _ => Mode::Html,
+    }
+}
+
+/// How the text that comes next is read.
+pub(crate) fn mode(builder: &Builder) -> Mode
+    ensures { mode_of result ≡ trees.mode_of builder.now.state.path }
+{
+    if builder.is_in_svg() {
+        Mode::Foreign
+    } else {
+        mode_of_name(builder.current())
+    }
+}
+
+/// Takes a token of this text.
+pub(crate) fn take(
+    alloc: Global,
+    builder: &mut Builder,
+    text: &str,
+    token: Token,
+) -> Result<(), BuildFault>
+    requires piece { IsInText text.now token }
+    requires under { IsReadUnder builder.old.state.path (seen text.now token) }
+    requires short { length text.now < 2 ^ 32 }
+    requires room { Fits (step builder.old.state (seen text.now token)) builder.old.walk }
+    ensures ok { OnOk result (IsStepped (step builder.old.state (seen text.now token)) builder.old builder.new) }
+    ensures err { IfErr result (IsRefused (step builder.old.state (seen text.now token))) }
+{
+    match token {
+        Token::Doctype { legacy } => builder.doctype(legacy),
+        Token::StartTag { name, attrs, slash } => {
+            builder.start_tag(alloc, name.text.as_str(), attrs, slash)
+        }
+        Token::EndTag { name } => builder.end_tag(alloc, name.text.as_str()),
+        Token::Slice { from, to } => builder.text(alloc, &text[from as usize..to as usize]),
+        Token::Points { points } => builder.points(alloc, points),
+        Token::Comment { from, to } => builder.comment(alloc, &text[from as usize..to as usize]),
+    }
+}

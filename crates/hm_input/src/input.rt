@@ -1,0 +1,67 @@
+//! The tree that a run works on.
+ghost use Rattle.std.specs.Prelude.{◌≡◌, ◌⊎◌, ◌≤◌, IfOk, IfErr, Err};
+ghost use Rattle.hm_elements.specs.Settled.{Settled};
+ghost use Rattle.hm_store.specs.Causes.{Rose};
+ghost use Rattle.hm_input.specs.Inputs as inputs;
+ghost use Rattle.hm_input.specs.Inputs.{IsInput};
+ghost use Rattle.hm_input.specs.Loads.{IsFileMissing, IsTreeRead, NoInput, NoTreeRead};
+
+use crate::Unread;
+use crate::loads::{load_table, load_text};
+use hm_base::{Memory, Refused, SourceText, TreeOptions};
+use hm_build::parse;
+use hm_options::rewrite;
+use hm_refs::Table;
+use hm_space::laws::settled_texts_are_apart;
+use hm_store::Store;
+use hm_tree::Tree;
+use std::alloc::Global;
+
+/// The tree of a page's text, after the rewrites that are asked for.
+fn read_tree(
+    alloc: Global,
+    text: &SourceText,
+    table: &Table,
+    options: &TreeOptions,
+) -> Result<Tree, Unread>
+    ensures ok { IfOk result (IsTreeRead table.now.entries text.now options.now) }
+    ensures settled { IfOk result (λ tree. Settled tree) }
+    ensures err { IfErr result (NoTreeRead table.now.entries text.now) }
+{
+    settled_texts_are_apart();
+    match parse(alloc, text, table) {
+        Ok(tree) => match rewrite(alloc, tree, options) {
+            Ok(tree) => Ok(tree),
+            Err(Memory) => Err(Unread::Memory),
+        },
+        Err(Refused::Page { rule, at }) => Err(Unread::Page { rule, at }),
+        Err(Refused::Memory) => Err(Unread::Memory),
+    }
+}
+
+/// Loads a table and then a page, and gives the page's tree after the rewrites that are asked for. The table `none`
+/// has no names and is no file.
+pub fn load_tree<S: Store>(
+    alloc: Global,
+    store: &mut S,
+    table: &str,
+    page: &str,
+    options: &TreeOptions,
+) -> Result<Tree, Unread>
+    ensures ok { IfOk result (λ tree. IsInput (S.files store.old) table.now page.now options.now (inputs.tree tree)) }
+    ensures settled { IfOk result (λ tree. Settled tree) }
+    ensures err { IfErr result (NoInput (S.files store.old) table.now page.now options.now) }
+    ensures same { S.files store.new ≡ S.files store.old }
+    ensures later { S.faults store.old ≤ S.faults store.new }
+    ensures store { result ≡ Err Unread.Store → Rose (S.faults store.old) (S.faults store.new) ⊎ IsFileMissing (S.files store.old) table.now page.now }
+{
+    let names = match load_table(alloc, store, table) {
+        Ok(names) => names,
+        Err(unread) => return Err(unread),
+    };
+    let text = match load_text(alloc, store, page) {
+        Ok(text) => text,
+        Err(unread) => return Err(unread),
+    };
+    read_tree(alloc, &text, &names, options)
+}

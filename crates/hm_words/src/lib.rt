@@ -1,0 +1,6 @@
+//! What the words of a call ask for.
+#![tactic(auto)]
+
+mod words;
+
+pub use words::Asked;

@@ -15,10 +15,11 @@ requests : (asked (words "minify none page out cert --omit --unquote") ≡ Some 
     × (asked (words "tree none page --omit") ≡ None)
     × (asked (words "tree none page -") ≡ None)
     × (asked (words "tree none") ≡ None)
+    × (asked (words "tree page page") ≡ None)
     × (asked (words "tree none page more") ≡ None)
     × (asked (codes "tree" ∷ [] ∷ codes "page" ∷ []) ≡ None)
     × (asked (words "minify none page out out --omit --unquote") ≡ None)
     × (asked (words "minify none page out cert --unquote --omit") ≡ None)
     × (asked [] ≡ None)
 unfolding asked tree_flags options_of
-requests = (refl, refl, refl, refl, refl, refl, refl, refl, refl, refl, refl, refl, refl)
+requests = (refl, refl, refl, refl, refl, refl, refl, refl, refl, refl, refl, refl, refl, refl)

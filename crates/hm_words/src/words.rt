@@ -202,13 +202,25 @@ fn three_names(words: &[Word]) -> Option<(&str, &str, &str)>
     }
 }
 
+/// Whether the names of table and page differ, where `none` is none.
+fn are_apart(table: &str, page: &str) -> bool
+    ensures { result ≡ spec.are_apart table.now page.now }
+{
+    table == "none" || table != page
+}
+
 /// What the words ask for, if it is that a tree is shown.
 fn asked_tree(words: &[Word]) -> Option<Asked<'_>>
     ensures some { IfSome result (λ a. spec.asked_tree (spec.names_in words.now) words.now ≡ Some (request_of a)) }
     ensures none { IfNone result (spec.asked_tree (spec.names_in words.now) words.now ≡ None) }
 {
     let (command, table, page) = three_names(words)?;
-    if command == "tree" && !table.is_empty() && !page.is_empty() && are_tree_flags(words) {
+    if command == "tree"
+        && !table.is_empty()
+        && !page.is_empty()
+        && are_apart(table, page)
+        && are_tree_flags(words)
+    {
         Some(Asked::Tree {
             table,
             page,

@@ -1,0 +1,109 @@
+//! One case: words and files, and how the run should end.
+use crate::escapes::bytes_of;
+use hm_base::{Memory, Word};
+use hm_minify::run;
+use hm_store::{MemSink, MemStore};
+use std::alloc::Global;
+use std::io::{self, ErrorKind};
+
+/// A run in memory, with what is wanted of it.
+#[derive(Drop)]
+pub struct Case {
+    name: String,
+    words: Vec<Word>,
+    store: MemStore,
+    status: u8,
+    wanted: Vec<u8>,
+}
+
+/// How a run ended.
+#[derive(Clone, Copy, Debug, PartialEq, Eq)]
+pub enum Verdict {
+    Agrees,
+    /// Its exit status is this one.
+    OtherStatus(u8),
+    OtherOutput,
+}
+
+/// The error of a call for which memory was refused.
+pub fn no_memory(_memory: Memory) -> io::Error {
+    io::Error::from(ErrorKind::OutOfMemory)
+}
+
+impl Case {
+    /// A case of which nothing is told yet.
+    pub fn new(alloc: Global) -> Self {
+        Case {
+            name: String::new(alloc),
+            words: Vec::new(alloc),
+            store: MemStore::new(alloc),
+            status: 0,
+            wanted: Vec::new(alloc),
+        }
+    }
+
+    /// The name of the case.
+    pub fn name(&self) -> &str {
+        self.name.as_str()
+    }
+
+    /// The wanted exit status.
+    pub fn status(&self) -> u8 {
+        self.status
+    }
+
+    /// Takes the words of the command line, with single spaces between.
+    fn take_words(&mut self, alloc: Global, text: &str) -> io::Result<()> {
+        for word in text.split(' ') {
+            let text = String::from_str(alloc, word)?;
+            self.words.push(Word { text })?;
+        }
+        Ok(())
+    }
+
+    /// Takes a printed line that is wanted.
+    fn take_line(&mut self, line: &str) -> io::Result<()> {
+        self.wanted.extend_from_slice(line.as_bytes())?;
+        self.wanted.push(b'\n')?;
+        Ok(())
+    }
+
+    /// Takes a file.
+    pub fn take_file(&mut self, name: &str, bytes: &[u8]) -> io::Result<()> {
+        match self.store.add(name, bytes) {
+            Ok(()) => Ok(()),
+            Err(memory) => Err(no_memory(memory)),
+        }
+    }
+
+    /// Takes a line of the case, by its first word. A first word that no line of a case has is refused as `InvalidData`.
+    pub fn take(&mut self, alloc: Global, key: &str, rest: &str) -> io::Result<()> {
+        match key {
+            "case" => Ok(self.name.push_str(rest)?),
+            "words" => self.take_words(alloc, rest),
+            "table" | "page" => self.take_file(key, bytes_of(alloc, rest)?.as_slice()),
+            "status" => match rest.parse::<u8>() {
+                Ok(status) => {
+                    self.status = status;
+                    Ok(())
+                }
+                Err(_) => Err(io::Error::from(ErrorKind::InvalidData)),
+            },
+            "|" => self.take_line(rest),
+            _ => Err(io::Error::from(ErrorKind::InvalidData)),
+        }
+    }
+
+    /// Runs the case, and compares.
+    pub fn verdict(&mut self, alloc: Global) -> Verdict {
+        let mut sink = MemSink::new(alloc);
+        let status = run(alloc, self.words.as_slice(), &mut self.store, &mut sink).code();
+        if status != self.status {
+            Verdict::OtherStatus(status)
+        } else if sink.bytes() != self.wanted.as_slice() {
+            Verdict::OtherOutput
+        } else {
+            Verdict::Agrees
+        }
+    }
+}

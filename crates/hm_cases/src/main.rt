@@ -1,0 +1,54 @@
+//! Runs each case of `cases.txt` in memory, prints each that ends otherwise than wanted, and last how many there are.
+//!
+//! The form of the file is told in `compare/README.md`.
+#![tactic(auto)]
+
+mod case;
+mod escapes;
+
+use case::{Case, Verdict};
+use std::alloc::Global;
+use std::{fs, io};
+
+/// Runs a case and prints how it differs: whether it does.
+fn differs(rt: &impl Print, alloc: Global, case: &mut Case) -> io::Result<bool> {
+    match case.verdict(alloc) {
+        Verdict::Agrees => Ok(false),
+        Verdict::OtherStatus(status) => {
+            let (name, wanted) = (case.name(), case.status());
+            println!(rt; "{name}: status {status}, wanted {wanted}")?;
+            Ok(true)
+        }
+        Verdict::OtherOutput => {
+            let name = case.name();
+            println!(rt; "{name}: other output")?;
+            Ok(true)
+        }
+    }
+}
+
+fn main(rt: HostRuntime) -> io::Result<()> {
+    let alloc = rt.alloc();
+    let text = fs::read_to_string(&rt, "cases.txt")?;
+    let mut case = Case::new(alloc);
+    let mut count: u32 = 0;
+    let mut differ: u32 = 0;
+    for line in text.lines() {
+        let (key, rest) = line.split_once(' ').unwrap_or((line, ""));
+        if key == "end" {
+            count = count.saturating_add(1);
+            if differs(&rt, alloc, &mut case)? {
+                differ = differ.saturating_add(1);
+            }
+            case = Case::new(alloc);
+        } else if key == "file" {
+            case.take_file("table", fs::read(&rt, rest)?.as_slice())?;
+        } else {
+            case.take(alloc, key, rest)?;
+        }
+    }
+    println!(rt; "{count} cases, {differ} differ")
+}
+
+#[cfg(test)]
+mod tests;

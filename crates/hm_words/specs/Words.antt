@@ -83,7 +83,7 @@ are_apart table page = bytes_eq table (codes "none") || not (bytes_eq table page
 
 abbrev pub asked_tree : List (List ℕ) → List (List ℕ) → Option Asked
 asked_tree (command ∷ table ∷ page ∷ []) ws =
-    if bytes_eq command (codes "tree") && (not (is_null table) && (not (is_null page) && are_tree_flags ws)) then Some (tree table page (options_of ws)) else None
+    if bytes_eq command (codes "tree") && (not (is_null table) && (not (is_null page) && (are_apart table page && are_tree_flags ws))) then Some (tree table page (options_of ws)) else None
 asked_tree names ws = None
 
 -- ---- all commands

@@ -50,11 +50,7 @@ fn unread_table(fault: TableFault) -> Unread
 }
 
 /// The table of that name; `none` is the one without names, and no file.
-pub fn load_table<S: Store>(
-    alloc: Global,
-    store: &mut S,
-    name: &str,
-) -> Result<Table, Unread>
+pub fn load_table<S: Store>(alloc: Global, store: &mut S, name: &str) -> Result<Table, Unread>
     ensures same { S.files store.new ≡ S.files store.old }
     ensures ok { IfOk result (λ table. IsTableOf (S.files store.old) name.now (Ok table.entries)) }
     ensures err { IfErr result (NoTable (S.files store.old) name.now) }
@@ -78,11 +74,7 @@ pub fn load_table<S: Store>(
 }
 
 /// The text of the page of that name.
-pub fn load_text<S: Store>(
-    alloc: Global,
-    store: &mut S,
-    name: &str,
-) -> Result<SourceText, Unread>
+pub fn load_text<S: Store>(alloc: Global, store: &mut S, name: &str) -> Result<SourceText, Unread>
     ensures same { S.files store.new ≡ S.files store.old }
     ensures ok { IfOk result (λ text. IsTextOf (S.files store.old) name.now text) }
     ensures err { IfErr result (NoText (S.files store.old) name.now) }

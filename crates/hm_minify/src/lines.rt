@@ -38,9 +38,7 @@ pub fn table_line(alloc: Global, fault: &TableFault) -> Result<String, AllocErro
             let key = key.text.as_str();
             format!(in alloc; "table refused: {name} {key}\n")
         }
-        TableFault::TooManyFor { point } => {
-            format!(in alloc; "table refused: {name} {point}\n")
-        }
+        TableFault::TooManyFor { point } => { format!(in alloc; "table refused: {name} {point}\n") }
         _ => format!(in alloc; "table refused: {name}\n"),
     }
 }

@@ -57,11 +57,13 @@ pub fn run<S: Store, O: Sink>(alloc: Global, words: &[Word], store: &mut S, out:
 {
     match Asked::read(words) {
         None => finish(out, USAGE, Status::Usage),
-        Some(Asked::Minify {
-            page,
-            out: output,
-            cert,
-        }) => {
+        Some(
+            Asked::Minify {
+                page,
+                out: output,
+                cert,
+            },
+        ) => {
             let names = Names {
                 page,
                 out: output,
@@ -73,11 +75,13 @@ pub fn run<S: Store, O: Sink>(alloc: Global, words: &[Word], store: &mut S, out:
                 Err(Stop::Memory) => Status::Memory,
             }
         }
-        Some(Asked::Tree {
-            table,
-            page,
-            options,
-        }) => match show(alloc, store, table, page, &options) {
+        Some(
+            Asked::Tree {
+                table,
+                page,
+                options,
+            },
+        ) => match show(alloc, store, table, page, &options) {
             Ok(ended) => finish(out, ended.line.as_bytes(), ended.status),
             Err(Stop::Store) => finish(out, STORE_FAULT, Status::StoreFault),
             Err(Stop::Memory) => Status::Memory,

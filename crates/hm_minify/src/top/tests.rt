@@ -6,7 +6,15 @@ use hm_store::{MemSink, MemStore};
 use std::alloc::{AllocError, Global};
 use std::test::Fail;
 
-const DONE: [&str; 7] = ["minify", "none", "page", "out", "cert", "--omit", "--unquote"];
+const DONE: [&str; 7] = [
+    "minify",
+    "none",
+    "page",
+    "out",
+    "cert",
+    "--omit",
+    "--unquote",
+];
 
 const USAGE: &str =
     "usage: hminify minify or check TABLE PAGE OUT CERT, tree TABLE PAGE, measure TABLE NUMBER SIZE\n";
@@ -117,7 +125,10 @@ fn pages_are_minified(rt: HostRuntime) -> Result<(), Fail> {
         ),
     ] {
         let left = ran(rt.alloc(), &minifying(page))?;
-        assert!(rt; is_left(&left, Status::Done, line, Some(out), Some(cert)), "{page}");
+        assert!(rt;
+            is_left(&left, Status::Done, line, Some(out), Some(cert)),
+            "{page}"
+        );
     }
     Ok(())
 }
@@ -131,7 +142,10 @@ fn pages_are_refused(rt: HostRuntime) -> Result<(), Fail> {
         ("<!doctype html></p>", "page refused: StrayEnd at 15\n"),
     ] {
         let left = ran(rt.alloc(), &minifying(page))?;
-        assert!(rt; is_left(&left, Status::PageRefused, line, None, None), "{page}");
+        assert!(rt;
+            is_left(&left, Status::PageRefused, line, None, None),
+            "{page}"
+        );
     }
     Ok(())
 }
@@ -140,11 +154,35 @@ fn pages_are_refused(rt: HostRuntime) -> Result<(), Fail> {
 #[test]
 fn words_without_a_meaning_call_nothing(rt: HostRuntime) -> Result<(), Fail> {
     for words in [
-        ["minify", "none", "page", "out", "out", "--omit", "--unquote"],
-        ["minify", "none", "page", "page", "cert", "--omit", "--unquote"],
+        [
+            "minify",
+            "none",
+            "page",
+            "out",
+            "out",
+            "--omit",
+            "--unquote",
+        ],
+        [
+            "minify",
+            "none",
+            "page",
+            "page",
+            "cert",
+            "--omit",
+            "--unquote",
+        ],
         ["minify", "none", "", "out", "cert", "--omit", "--unquote"],
         ["minify", "none", "page", "out", "-", "--omit", "--unquote"],
-        ["minify", "none", "page", "out", "cert", "--tight", "--unquote"],
+        [
+            "minify",
+            "none",
+            "page",
+            "out",
+            "cert",
+            "--tight",
+            "--unquote",
+        ],
     ] {
         let mut given = minifying("<!doctype html>");
         given.words = words;
@@ -172,7 +210,10 @@ fn each_call_fails_in_turn(rt: HostRuntime) -> Result<(), Fail> {
         let mut given = minifying(page);
         given.store_call = Some(call);
         let left = ran(rt.alloc(), &given)?;
-        assert!(rt; is_left(&left, Status::StoreFault, "store fault\n", out, cert), "call {call}");
+        assert!(rt;
+            is_left(&left, Status::StoreFault, "store fault\n", out, cert),
+            "call {call}"
+        );
     }
     Ok(())
 }

@@ -1,10 +1,10 @@
 -- Elements whose text is read in a mode of its own.
-use Rattle.std.proofs.Common.{◌≡◌, ℕ, Bool, true, false, List, codes, bytes_eq, refl, sym, ◌∙◌}
+use Rattle.std.proofs.Common.{◌≡◌, ℕ, Bool, true, false, List, codes, bytes_eq, refl, sym}
+use Rattle.std.proofs.lemmas.Bool.{or_parts, both_ways}
 use Rattle.std.proofs.lemmas.Slice.Eq.{bytes_eq-Decides}
-use Rattle.std.proofs.lemmas.Grind.{common_steps}
 use Rattle.std.specs.Bool.{Decides}
 use Rattle.hm_elements.specs.Names.{is_among, script}
-use Rattle.hm_elements.specs.Tables.{is_raw, raw_names, is_rcdata, rcdata_names}
+use Rattle.hm_elements.specs.Tables.{holds_text, is_raw, raw_names, is_rcdata, rcdata_names}
 use Rattle.hm_tokens.specs.First.{ordinary}
 use Rattle.hm_construction.specs.Trees.{mode_of_name}
 
@@ -24,3 +24,13 @@ is_ordinary n title textarea style iframe script' =
     let d = differs n (codes "iframe") iframe in
     let e = differs n (codes "script") script' in
     rw (a.0, b.0, c.0, d.0, e.0, e.1) refl
+
+script_is_raw : is_raw script ≡ true
+unfolding is_raw raw_names is_among
+script_is_raw = refl
+
+pub is_ordinary_without_text : (n : List ℕ) → holds_text n ≡ false → ordinary ≡ mode_of_name n
+unfolding holds_text
+is_ordinary_without_text n h =
+    let none = or_parts (is_raw n) (is_rcdata n) h in
+    rw (none.1, (differs n script (λ e. both_ways (is_raw n) none.0 (rw e script_is_raw))).1, none.0) refl

@@ -8,6 +8,7 @@ ghost use Rattle.hm_builder.specs.Building.{Fits, IsRefused, IsStepped};
 ghost use Rattle.hm_build.specs.Parsing.{IsReadUnder};
 
 use hm_builder::{BuildFault, Builder};
+use hm_elements::holds_text;
 use hm_lexer::{Mode, RawName, RcdataName};
 use hm_tree::Token;
 use std::alloc::Global;
@@ -17,6 +18,9 @@ use std::alloc::Global;
 fn mode_of_name(name: &str) -> Mode
     ensures { mode_of result ≡ trees.mode_of_name name.now }
 {
+    if !holds_text(name) {
+        return Mode::Html;
+    }
     match name {
         "title" => Mode::Rcdata {
             name: RcdataName::Title,

@@ -10,7 +10,7 @@ use Rattle.hm_elements.specs.Names.{is_among, html, head, body, script}
 use Rattle.hm_elements.specs.Tables.{roots, is_root, is_raw, is_rcdata, raw_names, rcdata_names, holds_text}
 use Rattle.hm_elements.specs.Nesting.{end_rows, ends_with}
 use Rattle.hm_elements.specs.Paths.{html_element, is_in_svg, is_in_text, is_open, front, behind, falls_to}
-use Rattle.hm_elements.proofs.TableTools.{entry_passes, same_bytes}
+use Rattle.hm_elements.proofs.TableTools.{entry_passes, eq_self, same_bytes}
 use Rattle.hm_settle.specs.Moves.{Moves, moves, refuses, end_on, ends_nothing, end_moves}
 use Rattle.hm_settle.specs.Answers as answers
 use Rattle.hm_settle.specs.Answers.{IsMoved}
@@ -293,8 +293,8 @@ past_body_done p n e h is kept =
     silent_done (step_end n (state_of p)) (record (state_of p) { phase = steps.after_html }) p (record p { phase = AfterHtml })
     (end_past_body p n e h ∙ (rw is refl)) kept (ap (λ ph. record (state_of p) { phase = steps.after_html; path = open_path ph p.path }) (sym e)) (ap (λ ph. open_path ph p.path) (sym e)) (subst (λ x. IsFresh x p.path) e kept.fresh) refl
 
-other_name : (m n : List ℕ) → (n ≡ m → ⊥) → bytes_eq n m ≡ false
-other_name m n h = false_from_ne_true (bytes_eq n m) (λ e. h (same_bytes n m e))
+pub unlike : (n m : List ℕ) → bytes_eq n m ≡ false → n ≡ m → ⊥
+unlike n m differs is = both_ways (bytes_eq n m) differs (rw is (eq_self m))
 
 module _ (p : Parts) (n : List ℕ) (here : p.phase ≡ InBody) (no_text : is_in_text p.path ≡ false) (no_svg : is_in_svg p.path ≡ false) where
   pub head_in_body : n ≡ head → step_end n (state_of p) ≡ stops StrayEnd 0
@@ -306,5 +306,5 @@ module _ (p : Parts) (n : List ℕ) (here : p.phase ≡ InBody) (no_text : is_in
   pub html_in_body : n ≡ html → step_end n (state_of p) ≡ steps.leave_body steps.after_html (state_of p)
   html_in_body is = end_in_html p n here no_text no_svg ∙ (rw is refl)
 
-  pub other_in_body : (n ≡ head → ⊥) → (n ≡ body → ⊥) → (n ≡ html → ⊥) → step_end n (state_of p) ≡ after_end_moves (state_of p) (end_moves n p.path)
-  other_in_body h b w = end_in_html p n here no_text no_svg ∙ (rw (other_name head n h, other_name body n b, other_name html n w) refl)
+  pub other_in_body : bytes_eq n head ≡ false → bytes_eq n body ≡ false → bytes_eq n html ≡ false → step_end n (state_of p) ≡ after_end_moves (state_of p) (end_moves n p.path)
+  other_in_body h b w = end_in_html p n here no_text no_svg ∙ (rw (h, b, w) refl)

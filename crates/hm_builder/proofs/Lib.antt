@@ -1,6 +1,5 @@
 pub mod Events
 pub mod Texts
-pub mod Classes
 pub mod Open
 pub mod TextWalks
 pub mod Blank

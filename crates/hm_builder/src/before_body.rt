@@ -18,7 +18,7 @@ use crate::insertion::{HeadText, Phase};
 use crate::make::close_made_head;
 use crate::parts::Parts;
 use hm_base::{Memory, Rule};
-use hm_elements::may_stand;
+use hm_elements::{is_one_of, may_stand};
 use hm_tree::{Attrs, Maker};
 use std::alloc::Global;
 
@@ -320,12 +320,9 @@ fn make_open_head(alloc: Global, maker: &mut Maker, phase: Phase) -> Result<(), 
 }
 
 /// Whether the element is metadata, which doesn't stand between `head` and `body`.
-#[tactic(auto, unfolding(hm_construction::specs::Steps::is_metadata, hm_elements::specs::Names::is_among))]
+#[tactic(auto, unfolding(hm_construction::specs::Steps::is_metadata))]
 fn is_metadata(name: &str) -> bool
     ensures { result ≡ steps.is_metadata name.now }
 {
-    matches!(
-        name,
-        "base" | "link" | "meta" | "script" | "style" | "title"
-    )
+    is_one_of(name, &["base", "link", "meta", "script", "style", "title"])
 }

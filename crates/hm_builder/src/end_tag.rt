@@ -16,6 +16,7 @@ use crate::make::{close_made_head, make_missing};
 use crate::moves::end_elements;
 use crate::parts::{Parts, current_in_head, is_in_text};
 use hm_base::Rule;
+use hm_elements::same_name;
 use hm_settle::Path;
 use std::alloc::Global;
 
@@ -179,12 +180,16 @@ impl Parts {
         if self.path.is_in_svg() {
             return self.end_inner(name);
         }
-        match name {
-            "head" => Err(BuildFault::from(Rule::StrayEnd)),
-            "body" => self.leave_body(Phase::AfterBody),
-            "html" => self.leave_body(Phase::AfterHtml),
-            _ => self.end_named(name),
+        if same_name(name, "body") {
+            return self.leave_body(Phase::AfterBody);
         }
+        if same_name(name, "html") {
+            return self.leave_body(Phase::AfterHtml);
+        }
+        if same_name(name, "head") {
+            return Err(BuildFault::from(Rule::StrayEnd));
+        }
+        self.end_named(name)
     }
 
     /// The body ends where nothing but a `p` is open in it.

@@ -9,7 +9,6 @@ mod finish;
 mod insertion;
 mod make;
 mod moves;
-mod names;
 mod other;
 mod parts;
 mod start_tag;

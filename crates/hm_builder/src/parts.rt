@@ -7,8 +7,8 @@ ghost use Rattle.hm_builder.specs.Inside as inside;
 ghost use Rattle.hm_builder.specs.Inside.{inside_head, open_path, text_name};
 
 use crate::insertion::{HeadText, Phase};
-use crate::names::{holds_text, is_raw};
 use hm_base::Word;
+use hm_elements::{holds_text, is_one_of, is_raw, same_name};
 use hm_settle::Path;
 use hm_tree::Maker;
 
@@ -88,18 +88,20 @@ pub(crate) fn is_in_blank(path: &Path) -> bool
     !path.is_in_svg() && (is_blank_parent(path.current()) || is_noscript_in_head(path))
 }
 
-#[tactic(auto, unfolding(hm_elements::specs::Paths::blank_parents, hm_elements::specs::Names::is_among))]
+#[tactic(auto, unfolding(hm_elements::specs::Paths::blank_parents))]
 fn is_blank_parent(name: &str) -> bool
     ensures { result ≡ is_among name.now blank_parents }
 {
-    matches!(
+    is_one_of(
         name,
-        "head" | "table" | "thead" | "tbody" | "tfoot" | "tr" | "colgroup" | "select" | "optgroup"
+        &[
+            "head", "table", "thead", "tbody", "tfoot", "tr", "colgroup", "select", "optgroup",
+        ],
     )
 }
 
 fn is_noscript_in_head(path: &Path) -> bool
     ensures { result ≡ inside.is_noscript_in_head path.now }
 {
-    path.current() == "noscript" && path.name(path.len() - 2) == "head"
+    same_name(path.current(), "noscript") && path.name(path.len() - 2) == "head"
 }

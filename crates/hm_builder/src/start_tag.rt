@@ -18,9 +18,9 @@ use crate::BuildFault;
 use crate::insertion::Phase;
 use crate::make::make_missing;
 use crate::moves::{end_elements, start_made};
-use crate::names::{is_refused, is_void};
 use crate::parts::Parts;
 use hm_base::{Memory, Rule};
+use hm_elements::{is_one_of, is_refused, is_void, same_name};
 use hm_settle::{Moves, Path};
 use hm_tree::{Attrs, Maker};
 use std::alloc::Global;
@@ -138,18 +138,18 @@ impl Parts {
 }
 
 /// Whether the element is html, head or body.
-#[tactic(auto, unfolding(hm_elements::specs::Tables::is_root, hm_elements::specs::Tables::roots, hm_elements::specs::Names::is_among))]
+#[tactic(auto, unfolding(hm_elements::specs::Tables::is_root, hm_elements::specs::Tables::roots))]
 fn is_root(name: &str) -> bool
     ensures { result ≡ tables.is_root name.now }
 {
-    matches!(name, "html" | "head" | "body")
+    is_one_of(name, &["html", "head", "body"])
 }
 
 /// Whether the element opens as one of SVG.
 fn opens_as_svg(path: &Path, name: &str) -> bool
     ensures { result ≡ plans.opens_as_svg name.now path.now }
 {
-    path.is_in_svg() || name == "svg"
+    path.is_in_svg() || same_name(name, "svg")
 }
 
 /// Ends the elements that close, starts those that are made, and then the element of the tag.
@@ -171,9 +171,8 @@ fn move_and_start(
 }
 
 /// Whether a line feed directly behind the start tag of the HTML element is dropped (13.2.6.4.7).
-#[tactic(auto, unfolding(hm_elements::specs::Names::is_among))]
 fn drops_behind(name: &str) -> bool
     ensures { result ≡ is_among name.now (words "pre textarea") }
 {
-    name == "pre" || name == "textarea"
+    is_one_of(name, &["pre", "textarea"])
 }

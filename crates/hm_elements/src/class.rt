@@ -3,7 +3,7 @@ ghost use Rattle.std.specs.Prelude.{◌≡◌};
 ghost use Rattle.hm_elements.specs.Tables as tables;
 
 use crate::lists::{BLOCKS, HEADINGS, PARTS, RAW, RCDATA, VOIDS};
-use crate::look_up::{is_in_one_of, is_one_of};
+use crate::look_up::{is_in_one_of, is_one_of, same_name};
 
 /// What kind of element a name stands for.
 #[derive(Clone, Copy, Debug, PartialEq, Eq)]
@@ -37,7 +37,7 @@ pub fn class_of(name: &str) -> Class
     } else if is_rcdata(name) {
         Class::Rcdata
     } else if is_raw(name) {
-        if name == "script" {
+        if same_name(name, "script") {
             Class::Script
         } else {
             Class::Raw
@@ -58,8 +58,9 @@ fn is_root(name: &str) -> bool
     is_one_of(name, &["html", "head", "body"])
 }
 
+/// Whether the HTML element holds nothing and has no end tag (13.1.2).
 #[tactic(auto, unfolding(crate::specs::Tables::is_void, crate::specs::Tables::voids))]
-fn is_void(name: &str) -> bool
+pub fn is_void(name: &str) -> bool
     ensures { result ≡ tables.is_void name.now }
 {
     is_one_of(name, &VOIDS)
@@ -72,11 +73,20 @@ fn is_rcdata(name: &str) -> bool
     is_one_of(name, &RCDATA)
 }
 
+/// Whether the HTML element holds one text, in which nothing is read; `script` is one of them.
 #[tactic(auto, unfolding(crate::specs::Tables::is_raw, crate::specs::Tables::raw_names))]
-fn is_raw(name: &str) -> bool
+pub fn is_raw(name: &str) -> bool
     ensures { result ≡ tables.is_raw name.now }
 {
     is_in_one_of(name, &[&RAW, &["script"]])
+}
+
+/// Whether the HTML element holds one text and nothing else.
+#[tactic(auto, unfolding(crate::specs::Tables::holds_text))]
+pub fn holds_text(name: &str) -> bool
+    ensures { result ≡ tables.holds_text name.now }
+{
+    is_raw(name) || is_rcdata(name)
 }
 
 #[tactic(auto, unfolding(crate::specs::Tables::is_table_part, crate::specs::Tables::parts))]
@@ -86,8 +96,9 @@ fn is_table_part(name: &str) -> bool
     is_in_one_of(name, &[&PARTS, &["table"]])
 }
 
+/// Whether a page with this element is refused.
 #[tactic(auto, unfolding(crate::specs::Tables::is_refused, crate::specs::Tables::refused_names))]
-fn is_refused(name: &str) -> bool
+pub fn is_refused(name: &str) -> bool
     ensures { result ≡ tables.is_refused name.now }
 {
     is_one_of(
@@ -318,5 +329,7 @@ mod tests {
         assert!(rt; svg_name("path") && !svg_name("foreignobject"));
         assert!(rt; is_heading("h1") && !is_heading("hr"));
         assert!(rt; is_unnested("nobr") && !is_unnested("b"));
+        assert!(rt; holds_text("title") && holds_text("style") && !holds_text("p"));
+        assert!(rt; is_raw("iframe") && is_void("br") && is_refused("marquee"));
     }
 }

@@ -8,6 +8,8 @@ mod look_up;
 mod nesting;
 
 pub use class::{
-    Class, class_of, closes_p, is_block, is_boolean, is_boundary, is_heading, is_unnested, svg_name,
+    Class, class_of, closes_p, holds_text, is_block, is_boolean, is_boundary, is_heading, is_raw,
+    is_refused, is_unnested, is_void, svg_name,
 };
+pub use look_up::{is_one_of, same_name};
 pub use nesting::{ends_with, may_stand, yields};

@@ -1,5 +1,5 @@
 //! Look-ups in tables of names.
-ghost use Rattle.std.specs.Prelude.{◌≡◌};
+ghost use Rattle.std.specs.Prelude.{◌≡◌, bytes_eq};
 ghost use Rattle.hm_elements.specs.Names as names;
 ghost use Rattle.hm_elements.specs.Names.{is_among};
 ghost use Rattle.hm_elements.specs.Texts.{texts, joined_texts, rows_of, names_of};
@@ -10,12 +10,20 @@ pub(crate) struct Row<'t> {
     pub names: &'t [&'t [&'t str]],
 }
 
+/// Whether the names are the same. Most names that are compared differ in length or in the first
+/// byte, which costs a few instructions here; `==` of two texts is a call for each pair.
+pub fn same_name(a: &str, b: &str) -> bool
+    ensures { result ≡ bytes_eq a.now b.now }
+{
+    a.len() == b.len() && a.as_bytes().first() == b.as_bytes().first() && a == b
+}
+
 /// Whether the name is one of these.
-pub(crate) fn is_one_of(name: &str, names: &[&str]) -> bool
+pub fn is_one_of(name: &str, names: &[&str]) -> bool
     ensures { result ≡ is_among name.now (texts names.now) }
 {
     for n in names {
-        if *n == name {
+        if same_name(n, name) {
             return true;
         }
     }
@@ -53,5 +61,17 @@ pub(crate) fn is_pair(rows: &[Row<'_>], head: &str, name: &str) -> bool
     match find(rows, head) {
         Some(lists) => is_in_one_of(name, lists),
         None => false,
+    }
+}
+
+#[cfg(test)]
+mod tests {
+    use super::*;
+
+    #[test]
+    fn same_names(rt: HostRuntime) {
+        assert!(rt; same_name("td", "td") && same_name("", ""));
+        assert!(rt; !same_name("td", "th") && !same_name("td", "t"));
+        assert!(rt; is_one_of("th", &["td", "th"]) && !is_one_of("th", &["td"]));
     }
 }

@@ -7,7 +7,7 @@ ghost use Rattle.hm_elements.specs.Nesting.{is_name};
 ghost use Rattle.hm_elements.specs.Texts.{names_of, text_of};
 
 use crate::lists::{BLOCKS, HEADINGS, PARTS, SECTIONS};
-use crate::look_up::{Row, find, is_in_one_of, is_one_of, is_pair};
+use crate::look_up::{Row, find, is_in_one_of, is_one_of, is_pair, same_name};
 
 /// What an open element yields to, but for `colgroup`.
 const YIELDS: [Row<'static>; 9] = [
@@ -62,8 +62,8 @@ const YIELDS: [Row<'static>; 9] = [
 pub fn yields(current: &str, next: &str) -> bool
     ensures { result ≡ nesting.yields current.now next.now }
 {
-    if current == "colgroup" {
-        next != "col"
+    if same_name(current, "colgroup") {
+        !same_name(next, "col")
     } else {
         yields_by_rows(current, next)
     }
@@ -204,7 +204,7 @@ const PARENTS: [Row<'static>; 5] = [
 pub fn may_stand(name: &str, parent: &str, grandparent: Option<&str>) -> bool
     ensures { result ≡ nesting.may_stand name.now parent.now (text_of grandparent.entry) }
 {
-    if parent == "noscript" && is_named(grandparent, "head") {
+    if same_name(parent, "noscript") && is_named(grandparent, "head") {
         return is_one_of(name, &["link", "meta", "style"]);
     }
     match own_children(parent) {
@@ -242,7 +242,7 @@ fn stands_by_parents(name: &str, parent: &str, grandparent: Option<&str>) -> boo
         Some(parents) => {
             is_in_one_of(parent, parents)
                 || (is_one_of(name, &["dt", "dd"])
-                    && parent == "div"
+                    && same_name(parent, "div")
                     && is_named(grandparent, "dl"))
         }
         None => !is_bound(name),
@@ -253,7 +253,7 @@ fn is_named(name: Option<&str>, wanted: &str) -> bool
     ensures { result ≡ is_name wanted.now (text_of name.entry) }
 {
     match name {
-        Some(name) => name == wanted,
+        Some(name) => same_name(name, wanted),
         None => false,
     }
 }

@@ -9,8 +9,7 @@ ghost use Rattle.hm_options.specs.Rules as specs_rules;
 
 use crate::rules::Rule;
 use hm_base::{Memory, is_space};
-use hm_elements::is_boolean;
-use hm_space::is_one_of;
+use hm_elements::{is_boolean, is_one_of, same_name};
 use hm_tree::Attrs;
 use std::alloc::Global;
 
@@ -114,5 +113,5 @@ fn is_default(element: &str, name: &str, value: &str, of: &str, called: &str, de
     requires { map lower default.now ≡ default.now }
     ensures { result ≡ rewrites.is_default element.now (record { name = name.now; value = value.now }) (record { element = of.now; name = called.now; value = default.now }) }
 {
-    element == of && name == called && value.eq_ignore_ascii_case(default)
+    same_name(element, of) && same_name(name, called) && value.eq_ignore_ascii_case(default)
 }

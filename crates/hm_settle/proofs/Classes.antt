@@ -1,7 +1,6 @@
 -- What the class of a name says of it.
 use Rattle.std.proofs.Common.{◌≡◌, ℕ, Bool, true, false, not, ◌&&◌, cond, bytes_eq, List, refl, sym, ap, ◌∙◌}
 use Rattle.std.specs.List.{list_all}
-use Rattle.std.proofs.lemmas.Bool.{not-true, false_from_ne_true, both_ways}
 use Rattle.hm_elements.specs.declared.class.Class.{Class}
 use Rattle.hm_elements.specs.declared.class.Class.TheVariants.{Root, Void, Rcdata, Raw, Script, TablePart, Ordinary, Refused}
 use Rattle.hm_elements.specs.Names.{is_among, script}

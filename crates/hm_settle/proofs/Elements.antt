@@ -1,12 +1,12 @@
 -- Open elements that are kept one behind the other, and the path that they make.
-use Rattle.std.proofs.Common.{◌≡◌, ℕ, zero, suc, ◌+◌, ◌-◌, ◌<◌, ◌≤◌, Bool, true, false, List, [], ◌∷◌, ◌++◌, length, take, get_or, refl, sym, ap, ◌∙◌, inl, inr, arith}
+use Rattle.std.proofs.Common.{◌≡◌, ℕ, zero, suc, ◌+◌, ◌<◌, ◌≤◌, List, [], ◌∷◌, ◌++◌, length, take, get_or, refl, sym, ap, ◌∙◌, inl, inr, arith}
 use Rattle.std.proofs.lemmas.List.{take_more, take_all, take-take, take-append-le, length-take-le, length_push}
 use Rattle.std.proofs.lemmas.Bool.{cases_eq}
 use Rattle.hm_base.specs.Walks.{Element}
 use Rattle.hm_elements.specs.Names.{body}
 use Rattle.hm_elements.specs.Paths.{current}
 use Rattle.hm_settle.specs.declared.element.OpenElement.{OpenElement}
-use Rattle.hm_settle.specs.Elements.{name_of, element_of, onto, path_of, marks_of, AreMarked, in_body, IsPath}
+use Rattle.hm_settle.specs.Elements.{name_of, element_of, onto, path_of, marks_of, AreMarked, IsPath}
 
 onto-append : (path : List Element) (xs ys : List OpenElement) → onto path (xs ++ ys) ≡ onto (onto path xs) ys
 onto-append path [] ys = refl

@@ -1,5 +1,5 @@
 -- What an end tag does, and on which elements another may stand.
-use Rattle.std.proofs.Common.{◌≡◌, ℕ, ◌+◌, ◌-◌, ◌<◌, ◌≤◌, Bool, true, false, List, [], ◌∷◌, ◌++◌, length, take, get_or, Some, bytes_eq, refl, sym, ap, ◌∙◌, arith, length-append}
+use Rattle.std.proofs.Common.{◌≡◌, ℕ, ◌+◌, ◌-◌, ◌≤◌, Bool, true, false, List, [], ◌∷◌, ◌++◌, length, take, get_or, Some, bytes_eq, refl, sym, ap, ◌∙◌, arith}
 use Rattle.std.proofs.lemmas.List.{take_all, length-take-le, length_push}
 use Rattle.hm_base.specs.Walks.{Element}
 use Rattle.hm_base.specs.declared.rules.Rule.TheVariants.{StrayEnd, NotCurrent}
@@ -7,7 +7,7 @@ use Rattle.hm_elements.specs.Names.{body}
 use Rattle.hm_elements.specs.Nesting.{may_stand}
 use Rattle.hm_elements.specs.Paths.{html_element, is_in_svg, front, behind, falls_to, stands_on, is_open}
 use Rattle.hm_elements.proofs.TableTools.{same_bytes}
-use Rattle.hm_settle.specs.Moves.{refuses, end_moves, end_on, ends_nothing}
+use Rattle.hm_settle.specs.Moves.{refuses, end_moves, ends_nothing}
 use Rattle.hm_settle.specs.Elements.{name_of, element_of, path_of, IsPath}
 use Rattle.hm_settle.specs.Plans.{IsReached, IsEnd}
 use Rattle.hm_settle.specs.declared.element.OpenElement.{OpenElement}

@@ -1,5 +1,5 @@
 -- The open elements as they are kept, and the path that contracts see.
-use Rattle.std.proofs.Common.{◌≡◌, ℕ, ◌+◌, ◌-◌, ◌<◌, ◌≤◌, true, List, [], ◌∷◌, ◌++◌, length, take, get_or, map, reverse, slice_get, Some, string_bytes, refl, sym, ap, ◌∙◌, append_assoc, arith, length-append}
+use Rattle.std.proofs.Common.{◌≡◌, ℕ, ◌+◌, ◌<◌, ◌≤◌, true, List, [], ◌∷◌, ◌++◌, length, take, get_or, map, reverse, slice_get, Some, string_bytes, refl, sym, ap, ◌∙◌, append_assoc, arith, length-append}
 use lib.Utf8.{encode}
 use Rattle.std.specs.Vec.{vec_capacity}
 use Rattle.std.specs.declared.vec.Vec.{Vec}
@@ -7,13 +7,13 @@ use Rattle.std.specs.declared.alloc.Global.{Global}
 use Rattle.std.specs.Option.{option_map}
 use Rattle.std.specs.Str.{is_utf8, chars}
 use Rattle.std.proofs.lemmas.Bool.{and_from}
-use Rattle.std.proofs.lemmas.List.{append-nil, reverse-append, take-map, take_all, length-take-le, length_push}
+use Rattle.std.proofs.lemmas.List.{append-nil, reverse-append, take-map, length_push}
 use Rattle.std.proofs.lemmas.Option.{slice_get-map, slice_get_read}
 use Rattle.std.proofs.lemmas.Str.{is_utf8-from_IsUtf8, IsUtf8-string_bytes}
 use Rattle.hm_base.specs.Walks.{Element}
 use Rattle.hm_elements.specs.Names.{html, body}
 use Rattle.hm_elements.specs.Paths.{html_element}
-use Rattle.hm_settle.specs.Elements.{name_of, element_of, onto, path_of, AreMarked, in_body, IsPath, IsKept, are_names_utf8}
+use Rattle.hm_settle.specs.Elements.{name_of, element_of, onto, path_of, AreMarked, IsPath, IsKept, are_names_utf8}
 use Rattle.hm_settle.specs.Plans.{IsPushed}
 use Rattle.hm_settle.specs.declared.element.Name.{Name}
 use Rattle.hm_settle.specs.declared.element.Name.TheVariants.{Html, Body, Tbody, Tr, Colgroup, Given}

@@ -1,58 +1,38 @@
--- What it means that an element would stand in one of its own kind, name by name.
-use Rattle.std.proofs.Common.{◌≡◌, ℕ, Bool, true, false, ◌||◌, ◌&&◌, List, bytes_eq, refl, sym, ap, ◌∙◌, codes}
-use Rattle.std.proofs.lemmas.Bool.{false_from_ne_true}
+-- What it means that an element would stand in one of its own kind, kind by kind.
+use Rattle.std.proofs.Common.{◌≡◌, ℕ, true, false, ◌||◌, ◌&&◌, not, List, bytes_eq, refl, sym, ap, ◌∙◌, codes}
+use Rattle.std.specs.List.{list_all}
+use Rattle.std.proofs.lemmas.Bool.{false_from_ne_true, not-true}
+use Rattle.std.proofs.Math.Bool.{and_comm, or-false}
 use Rattle.hm_base.specs.Walks.{Element}
 use Rattle.hm_elements.specs.Names.{is_among}
 use Rattle.hm_elements.specs.Tables.{is_unnested, unnested_names, is_heading, headings}
 use Rattle.hm_elements.specs.Paths.{is_nested, is_open, is_heading_open}
-use Rattle.hm_elements.proofs.TableTools.{same_bytes}
+use Rattle.hm_elements.proofs.TableTools.{same_bytes, entry_passes}
 use Rattle.hm_settle.specs.declared.element.Marks.{Marks}
 use Rattle.hm_settle.specs.Elements.{marks_of}
 
-or-false : (b : Bool) → b || false ≡ b
-or-false true = refl
-or-false false = refl
+no_headings : list_all (λ n. not (is_heading n)) unnested_names ≡ true
+unfolding unnested_names is_heading headings is_among
+no_headings = refl
 
-unnested_a : (path : List Element) → is_nested (codes "a") path ≡ is_open (codes "a") path
-unfolding is_nested is_unnested unnested_names is_heading headings is_among
-unnested_a path = or-false (is_open (codes "a") path)
+-- an element that doesn't stand in one of its own name
+pub nested_in_own_name : (n : List ℕ) (path : List Element) → is_unnested n ≡ true → is_open n path ≡ is_nested n path
+unfolding is_nested is_unnested
+nested_in_own_name n path e =
+    let other : is_heading n ≡ false = not-true (is_heading n) (entry_passes (λ m. not (is_heading m)) n unnested_names no_headings e) in
+    rw (e, other) (sym (or-false (is_open n path)))
 
-unnested_button : (path : List Element) → is_nested (codes "button") path ≡ is_open (codes "button") path
-unfolding is_nested is_unnested unnested_names is_heading headings is_among
-unnested_button path = or-false (is_open (codes "button") path)
-
-unnested_form : (path : List Element) → is_nested (codes "form") path ≡ is_open (codes "form") path
-unfolding is_nested is_unnested unnested_names is_heading headings is_among
-unnested_form path = or-false (is_open (codes "form") path)
-
-unnested_nobr : (path : List Element) → is_nested (codes "nobr") path ≡ is_open (codes "nobr") path
-unfolding is_nested is_unnested unnested_names is_heading headings is_among
-unnested_nobr path = or-false (is_open (codes "nobr") path)
-
-pub nested_a : (n : List ℕ) (m : Marks) (path : List Element) → n ≡ codes "a" → m ≡ marks_of path → m.a ≡ is_nested n path
-nested_a n m path e h = ap (λ (k : Marks). k.a) h ∙ rw e (sym (unnested_a path))
-
-pub nested_button : (n : List ℕ) (m : Marks) (path : List Element) → n ≡ codes "button" → m ≡ marks_of path → m.button ≡ is_nested n path
-nested_button n m path e h = ap (λ (k : Marks). k.button) h ∙ rw e (sym (unnested_button path))
-
-pub nested_form : (n : List ℕ) (m : Marks) (path : List Element) → n ≡ codes "form" → m ≡ marks_of path → m.form ≡ is_nested n path
-nested_form n m path e h = ap (λ (k : Marks). k.form) h ∙ rw e (sym (unnested_form path))
-
-pub nested_nobr : (n : List ℕ) (m : Marks) (path : List Element) → n ≡ codes "nobr" → m ≡ marks_of path → m.nobr ≡ is_nested n path
-nested_nobr n m path e h = ap (λ (k : Marks). k.nobr) h ∙ rw e (sym (unnested_nobr path))
+-- any other is nested only as a heading in a heading
+pub nested_heading : (n : List ℕ) (m : Marks) (path : List Element) → is_unnested n ≡ false → m ≡ marks_of path → m.heading && is_heading n ≡ is_nested n path
+unfolding is_nested
+nested_heading n m path e h = ap (λ (k : Marks). k.heading && is_heading n) h ∙ and_comm (is_heading_open path) (is_heading n) ∙ rw e refl
 
 differs : (n m : List ℕ) → (n ≡ m → ⊥) → bytes_eq m n ≡ false
 differs n m h = false_from_ne_true (bytes_eq m n) (λ e. h (sym (same_bytes m n e)))
 
--- a name that is none of the four
-pub record IsOther (n : List ℕ) : Type 0 where
-  pub no_a : n ≡ codes "a" → ⊥
-  pub no_button : n ≡ codes "button" → ⊥
-  pub no_form : n ≡ codes "form" → ⊥
-  pub no_nobr : n ≡ codes "nobr" → ⊥
-
-pub nested_heading : (n : List ℕ) (m : Marks) (path : List Element) → IsOther n → m ≡ marks_of path → is_heading n && m.heading ≡ is_nested n path
-unfolding is_nested is_unnested unnested_names is_among
-nested_heading n m path other h =
-    rw (differs n (codes "a") other.no_a, differs n (codes "button") other.no_button, differs n (codes "form") other.no_form, differs n (codes "nobr") other.no_nobr)
-    (ap (λ (k : Marks). is_heading n && k.heading) h)
+-- one of the four names that isn't one of the first three
+pub last_name : (n : List ℕ) → is_unnested n ≡ true → (n ≡ codes "a" → ⊥) → (n ≡ codes "button" → ⊥) → (n ≡ codes "form" → ⊥) → n ≡ codes "nobr"
+unfolding is_unnested unnested_names is_among
+last_name n e a button form =
+    let last : bytes_eq (codes "nobr") n || false ≡ true = rw (differs n (codes "a") a, differs n (codes "button") button, differs n (codes "form") form) at e in
+    sym (same_bytes (codes "nobr") n (sym (or-false (bytes_eq (codes "nobr") n)) ∙ last))

@@ -1,5 +1,5 @@
 -- The plan of a start tag.
-use Rattle.std.proofs.Common.{◌≡◌, ℕ, ◌+◌, ◌-◌, ◌<◌, ◌≤◌, Bool, true, false, not, ◌&&◌, List, [], ◌∷◌, length, take, get_or, map, Result, Ok, Err, bytes_eq, refl, sym, ap, ◌∙◌, arith}
+use Rattle.std.proofs.Common.{◌≡◌, ℕ, ◌+◌, ◌-◌, ◌<◌, ◌≤◌, Bool, true, false, not, ◌&&◌, List, [], length, take, get_or, map, Result, Ok, bytes_eq, refl, sym, ap, ◌∙◌, arith}
 use Rattle.std.proofs.lemmas.List.{length-take-le}
 use Rattle.hm_base.specs.Walks.{Element}
 use Rattle.hm_base.specs.declared.rules.Rule.{Rule}
@@ -11,7 +11,7 @@ use Rattle.hm_elements.proofs.TableTools.{same_bytes}
 use Rattle.hm_settle.specs.Moves.{start_moves, start_on}
 use Rattle.hm_settle.specs.Answers.{elements_of}
 use Rattle.hm_settle.specs.Elements.{name_of, path_of, IsPath}
-use Rattle.hm_settle.specs.Plans.{opened, opens_as_svg, IsPlan}
+use Rattle.hm_settle.specs.Plans.{opened, IsPlan}
 use Rattle.hm_settle.specs.declared.element.OpenElement.{OpenElement}
 use Rattle.hm_settle.specs.declared.moves.Made.{Made}
 use Rattle.hm_settle.specs.declared.moves.Made.TheVariants.{Nothing}

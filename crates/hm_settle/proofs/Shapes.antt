@@ -5,7 +5,7 @@ use Rattle.hm_base.specs.declared.rules.Rule.TheVariants.{TooDeep, WrongParent, 
 use Rattle.hm_elements.specs.Names.{svg}
 use Rattle.hm_elements.specs.Tables.{is_root, is_refused, is_svg_name, holds_svg_text}
 use Rattle.hm_elements.specs.Paths.{current, is_in_svg, front, behind, yields_to, falls_to, made_on, stands_on, is_open, is_block_in_p, is_nested, is_deep}
-use Rattle.hm_settle.specs.Moves.{Moves, moves, refuses, element, opens, opens_in_place, start_on, svg_start_moves, html_start_moves, start_moves, ends_nothing, end_on, html_end_moves, end_moves}
+use Rattle.hm_settle.specs.Moves.{moves, refuses, element, opens, opens_in_place, start_on, svg_start_moves, html_start_moves, start_moves, ends_nothing, end_on, html_end_moves, end_moves}
 use Rattle.hm_settle.specs.Plans.{opens_as_svg}
 
 front_behind : (q : Element → Bool) (path : List Element) → path ≡ front q path ++ behind q path

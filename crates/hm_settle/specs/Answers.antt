@@ -1,5 +1,5 @@
 -- What a call that took a tag answers.
-use Rattle.std.specs.Prelude.{◌≡◌, ℕ, List, [], ◌∷◌, length}
+use Rattle.std.specs.Prelude.{◌≡◌, List, [], ◌∷◌, length}
 use Rattle.hm_base.specs.Walks.{Element}
 use Rattle.hm_elements.specs.Names.{tbody, tr, colgroup}
 use Rattle.hm_elements.specs.Paths.{html_element}

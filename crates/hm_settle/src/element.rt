@@ -1,11 +1,12 @@
 //! An open element, with what is open at it.
-ghost use Rattle.std.specs.Prelude.{◌≡◌, List, [], ◌∷◌, IfOk};
+ghost use Rattle.std.specs.Prelude.{◌≡◌, List, [], ◌∷◌, true, IfOk};
 ghost use Rattle.hm_base.specs.Walks.{Element};
 ghost use Rattle.hm_elements.specs.Paths as paths;
+ghost use Rattle.hm_elements.specs.Tables as tables;
 ghost use Rattle.hm_settle.specs.Elements.{name_of, marks_of};
 
 use hm_base::Memory;
-use hm_elements::{closes_p, is_boundary, is_heading};
+use hm_elements::{closes_p, is_boundary, is_heading, is_unnested, same_name};
 use std::alloc::Global;
 
 /// The name of an open element. Only one that a tag gave takes memory.
@@ -74,12 +75,12 @@ impl Marks {
         ensures { (path : List Element) → self ≡ marks_of path → result ≡ marks_of (record { name = name.now; foreign = foreign } ∷ path) }
     {
         Marks {
-            paragraph: name == "p" || (!is_boundary(name, foreign) && self.paragraph),
+            paragraph: same_name(name, "p") || (self.paragraph && !is_boundary(name, foreign)),
             heading: is_heading(name) || self.heading,
-            a: name == "a" || self.a,
-            button: name == "button" || self.button,
-            form: name == "form" || self.form,
-            nobr: name == "nobr" || self.nobr,
+            a: same_name(name, "a") || self.a,
+            button: same_name(name, "button") || self.button,
+            form: same_name(name, "form") || self.form,
+            nobr: same_name(name, "nobr") || self.nobr,
         }
     }
 
@@ -88,19 +89,30 @@ impl Marks {
     pub(crate) fn is_block_in_p(self, name: &str) -> bool
         ensures { (path : List Element) → self ≡ marks_of path → result ≡ paths.is_block_in_p name.now path }
     {
-        closes_p(name) && self.paragraph
+        self.paragraph && closes_p(name)
     }
 
     /// Whether an element of this name would stand in one of its own kind.
     pub(crate) fn is_nested(self, name: &str) -> bool
         ensures { (path : List Element) → self ≡ marks_of path → result ≡ paths.is_nested name.now path }
     {
+        if is_unnested(name) {
+            self.is_unnested_open(name)
+        } else {
+            self.heading && is_heading(name)
+        }
+    }
+
+    /// Whether an element of this name is open, which may not stand in one of its own name.
+    fn is_unnested_open(self, name: &str) -> bool
+        requires { tables.is_unnested name.now ≡ true }
+        ensures { (path : List Element) → self ≡ marks_of path → result ≡ paths.is_open name.now path }
+    {
         match name {
             "a" => self.a,
             "button" => self.button,
             "form" => self.form,
-            "nobr" => self.nobr,
-            _ => is_heading(name) && self.heading,
+            _ => self.nobr,
         }
     }
 }

@@ -8,6 +8,7 @@ ghost use Rattle.hm_settle.specs.Answers.{elements_of};
 ghost use Rattle.hm_settle.specs.declared.moves.SettleFault.TheVariants as faults;
 
 use hm_base::{Memory, Rule};
+use hm_elements::{is_one_of, same_name};
 use std::alloc::AllocError;
 
 /// The elements that a start tag makes before its own opens (HTML Standard, 13.2.6.4.9, 13.2.6.4.13).
@@ -30,7 +31,7 @@ impl Made {
     pub(crate) fn under(parent: &str, name: &str) -> Made
         ensures { elements_of result ≡ map html_element (made_under parent.now name.now) }
     {
-        if parent == "table" {
+        if same_name(parent, "table") {
             Made::in_table(name)
         } else if is_section(parent) && is_cell(name) {
             Made::Row
@@ -71,14 +72,14 @@ impl Made {
 fn is_section(name: &str) -> bool
     ensures { result ≡ tables.is_section name.now }
 {
-    name == "thead" || name == "tbody" || name == "tfoot"
+    is_one_of(name, &["thead", "tbody", "tfoot"])
 }
 
 #[tactic(auto, unfolding(hm_elements::specs::Names::is_among))]
 fn is_cell(name: &str) -> bool
     ensures { result ≡ is_among name.now (words "td th") }
 {
-    name == "td" || name == "th"
+    is_one_of(name, &["td", "th"])
 }
 
 /// What a tag does to the open elements: how many close, and which are made then.

@@ -12,7 +12,9 @@ ghost use Rattle.hm_settle.specs.Plans.{IsPlan, IsReached, IsEnd, opened};
 use crate::Made;
 use crate::element::{Marks, OpenElement};
 use hm_base::Rule;
-use hm_elements::{Class, class_of, ends_with, is_boundary, may_stand, svg_name, yields};
+use hm_elements::{
+    Class, class_of, ends_with, is_boundary, may_stand, same_name, svg_name, yields,
+};
 
 /// How many elements may be open.
 pub(crate) const DEEPEST: usize = 512;
@@ -167,7 +169,7 @@ pub(crate) fn left_by_end(elements: &[OpenElement], name: &str) -> Result<usize,
     ensures rule { IfErr result (λ rule. end_moves name.now (path_of elements.now) ≡ refuses rule) }
 {
     let reached = reached_by_end(elements, name);
-    if elements[reached - 1].name.as_str() == name {
+    if same_name(elements[reached - 1].name.as_str(), name) {
         return Ok(reached - 1);
     }
     if is_open(elements, name) {
@@ -207,7 +209,7 @@ fn left_by_implied_ends(elements: &[OpenElement], name: &str) -> usize
 fn falls(current: &str, ending: &str) -> bool
     ensures { (foreign : Bool) → result ≡ falls_to ending.now (record { name = current.now; foreign = foreign }) }
 {
-    current != ending && ends_with(current, ending)
+    !same_name(current, ending) && ends_with(current, ending)
 }
 
 /// Whether an element of this name is open. Only a page that is refused asks.

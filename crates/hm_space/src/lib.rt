@@ -8,5 +8,4 @@ mod spaces;
 mod walk;
 
 pub use copy::{copied, put};
-pub use names::is_one_of;
 pub use walk::collapse;

@@ -1,20 +1,9 @@
 //! The elements that matter for whitespace.
 ghost use Rattle.std.specs.Prelude.{◌≡◌};
 ghost use Rattle.hm_elements.specs.Names.{is_among};
-ghost use Rattle.hm_elements.specs.Texts.{texts};
 ghost use Rattle.hm_space.specs.Space as space;
 
-/// Whether the name is one of these.
-pub fn is_one_of(name: &str, names: &[&str]) -> bool
-    ensures { result ≡ is_among name.now (texts names.now) }
-{
-    for n in names {
-        if *n == name {
-            return true;
-        }
-    }
-    false
-}
+use hm_elements::{is_one_of, same_name};
 
 // Whether whitespace is seen as it is in this element.
 #[tactic(auto, unfolding(crate::specs::Space::keeps_space))]
@@ -22,7 +11,7 @@ pub(crate) fn keeps_space(name: &str, foreign: bool) -> bool
     ensures { result ≡ space.keeps_space (record { name = name.now; foreign = foreign }) }
 {
     if foreign {
-        name == "svg"
+        same_name(name, "svg")
     } else {
         is_one_of(name, &["pre", "textarea"])
     }

@@ -19,7 +19,7 @@ use crate::copy::put;
 use crate::names::{is_space_parent, keeps_space};
 use crate::spaces::{push_spaced, without_leading, without_trailing};
 use hm_base::Memory;
-use hm_elements::is_block;
+use hm_elements::{is_block, same_name};
 use hm_tree::{EventView, Maker, Tree};
 use std::alloc::Global;
 
@@ -115,7 +115,9 @@ fn hides_space(tree: &Tree, i: u32) -> bool
     };
     match tree.event(parent) {
         EventView::Start { name, foreign, .. } => {
-            !foreign && (is_space_parent(name) || (name == "noscript" && is_in_head(tree, parent)))
+            !foreign
+                && (is_space_parent(name)
+                    || (same_name(name, "noscript") && is_in_head(tree, parent)))
         }
         _ => false,
     }
@@ -130,7 +132,7 @@ fn is_in_head(tree: &Tree, i: u32) -> bool
         return false;
     };
     match tree.event(parent) {
-        EventView::Start { name, .. } => name == "head",
+        EventView::Start { name, .. } => same_name(name, "head"),
         _ => false,
     }
 }

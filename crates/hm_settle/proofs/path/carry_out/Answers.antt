@@ -1,9 +1,7 @@
-use Rattle.std.proofs.Common.{◌≡◌, ◌+◌, ◌<◌, ◌∷◌, ◌++◌, length, take, ap, sym, ◌∙◌, arith, length-append}
-use Rattle.std.proofs.lemmas.List.{length-take-le}
+use Rattle.std.proofs.Common.{◌∷◌, ap, ◌∙◌, arith}
 use Rattle.hm_settle.specs.Answers.{elements_of}
-use Rattle.hm_settle.specs.Elements.{name_of, path_of}
+use Rattle.hm_settle.specs.Elements.{name_of}
 use Rattle.hm_settle.specs.Moves.{element}
-use Rattle.hm_settle.proofs.Elements.{length-path_of}
 use Rattle.hm_settle.proofs.Kept.{length-made, path_of-pushed, IsKept-pushed, IsKept-truncated}
 use Rattle.hm_settle.proofs.path.carry_out.Goals as goal
 

@@ -1,5 +1,5 @@
-use Rattle.std.proofs.Common.{◌≡◌, [], ◌∷◌, ◌++◌, refl, sym, ap, ◌∙◌}
-use Rattle.hm_settle.specs.Elements.{name_of, element_of, path_of, marks_of}
+use Rattle.std.proofs.Common.{◌≡◌, [], ◌∷◌, ◌++◌, refl}
+use Rattle.hm_settle.specs.Elements.{element_of, path_of, marks_of}
 use Rattle.hm_settle.specs.declared.element.OpenElement.{OpenElement}
 use Rattle.hm_settle.proofs.Elements.{AreMarked-push}
 use Rattle.hm_settle.proofs.path.push.Goals as goal

@@ -1,4 +1,4 @@
-use Rattle.std.proofs.Common.{◌≡◌, true, false, bytes_eq, sym, ap, ◌∙◌, arith}
+use Rattle.std.proofs.Common.{◌≡◌, true, false, bytes_eq, sym, arith}
 use Rattle.hm_settle.specs.Elements.{name_of}
 use Rattle.hm_settle.proofs.Fronts.{found, not_found}
 use Rattle.hm_settle.proofs.plan.is_open.Goals as goal

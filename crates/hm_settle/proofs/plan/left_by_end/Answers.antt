@@ -3,8 +3,8 @@ use Rattle.hm_settle.specs.Elements.{name_of}
 use Rattle.hm_settle.proofs.Ends.{ends_there, ends_further_out, ends_nowhere}
 use Rattle.hm_settle.proofs.plan.left_by_end.Goals as goal
 
-pub returns-then-eq-clause-ok : goal.returns-then-eq-clause-ok
-returns-then-eq-clause-ok c =
+pub returns-then-same_name-clause-ok : goal.returns-then-same_name-clause-ok
+returns-then-same_name-clause-ok c =
     let same : bytes_eq (name_of c.index-elements-reached.result.name) c.args.name.now ≡ true = cc in
     ends_there c.args.elements.now c.args.name.now c.reached_by_end-reached.result c.index-elements-reached.result c.index-elements-reached.is c.requires.path c.reached_by_end-reached.ensures same c.requires.name
 

@@ -1,4 +1,4 @@
-use Rattle.std.proofs.Common.{◌≡◌, true, false, ap, sym, ◌∙◌}
+use Rattle.std.proofs.Common.{◌≡◌, true, false, sym, ◌∙◌}
 use Rattle.hm_elements.specs.Paths.{falls_to}
 use Rattle.hm_settle.specs.Elements.{name_of, element_of}
 use Rattle.hm_settle.proofs.Fronts.{closes_more, closes_no_more, falls_inside}

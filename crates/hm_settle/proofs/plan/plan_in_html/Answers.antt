@@ -1,6 +1,5 @@
-use Rattle.std.proofs.Common.{◌≡◌, true, false, Ok, Err, refl, sym, ap, ◌∙◌}
+use Rattle.std.proofs.Common.{true, false, Ok, Err, ap, ◌∙◌}
 use Rattle.std.proofs.lemmas.Result.{err_from_is_err_and}
-use Rattle.hm_elements.specs.declared.class.Class.TheVariants.{Void}
 use Rattle.hm_settle.specs.Elements.{path_of}
 use Rattle.hm_settle.proofs.Classes.{class_refused, class_root, class_known, other_than_void, is_void_class}
 use Rattle.hm_settle.proofs.Elements.{IsPath-take}

@@ -1,5 +1,5 @@
-use Rattle.std.proofs.Common.{◌≡◌, true, false, length, sym, ap, ◌∙◌, arith}
-use Rattle.hm_elements.specs.Tables.{is_svg_name, is_boundary, holds_svg_text}
+use Rattle.std.proofs.Common.{◌≡◌, true, false, ◌∙◌, arith}
+use Rattle.hm_elements.specs.Tables.{is_svg_name, is_boundary}
 use Rattle.hm_elements.specs.Paths.{current}
 use Rattle.hm_settle.specs.Elements.{path_of}
 use Rattle.hm_settle.proofs.Elements.{length-path_of}

@@ -1,6 +1,5 @@
-use Rattle.std.proofs.Common.{◌≡◌, ◌∙◌, Some}
+use Rattle.std.proofs.Common.{◌≡◌, ◌∙◌}
 use Rattle.hm_elements.specs.Names.{tbody, tr, colgroup}
-use Rattle.hm_elements.specs.Nesting.{may_stand}
 use Rattle.hm_settle.specs.Elements.{name_of}
 use Rattle.hm_settle.proofs.Ends.{stands_alone, stands_on_made}
 use Rattle.hm_settle.proofs.plan.stands.Goals as goal

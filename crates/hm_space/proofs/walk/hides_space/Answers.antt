@@ -16,17 +16,17 @@ returns-then-is_space_parent c =
     hidden_by_name (hides_space (path_after [] (take c.args.i c.args.tree.now))) c.in-Start.foreign (is_among c.in-Start.name.now space_parents) (bytes_eq c.in-Start.name.now noscript)
     (is_name head (current_name (path_after [] (take c.in-Some.parent c.args.tree.now)))) there c.is_space_parent.result c.if-not-foreign.true c.is_space_parent.ensures c.if-is_space_parent.true
 
-pub returns-then-eq : goal.returns-then-eq
-returns-then-eq c =
+pub returns-then-same_name : goal.returns-then-same_name
+returns-then-same_name c =
     let there = hidden_there c.args.tree.now c.args.i c.in-Some.parent c.in-Some.ensures.element.0 c.in-Start.name.now c.in-Start.foreign c.in-Start.attrs.now c.in-Start.ensures (sym c.in-Some.ensures.value) c.in-Some.ensures.element.1 in
     hidden_in_head (hides_space (path_after [] (take c.args.i c.args.tree.now))) c.in-Start.foreign (is_among c.in-Start.name.now space_parents) (bytes_eq c.in-Start.name.now noscript)
-    (is_name head (current_name (path_after [] (take c.in-Some.parent c.args.tree.now)))) there c.is_space_parent.result c.eq.result c.is_in_head.result c.if-not-foreign.true c.is_space_parent.ensures c.if-is_space_parent.false c.eq.ensures c.if-eq.true c.is_in_head.ensures
+    (is_name head (current_name (path_after [] (take c.in-Some.parent c.args.tree.now)))) there c.is_space_parent.result c.same_name.result c.is_in_head.result c.if-not-foreign.true c.is_space_parent.ensures c.if-is_space_parent.false c.same_name.ensures c.if-same_name.true c.is_in_head.ensures
 
-pub returns-else-eq : goal.returns-else-eq
-returns-else-eq c =
+pub returns-else-same_name : goal.returns-else-same_name
+returns-else-same_name c =
     let there = hidden_there c.args.tree.now c.args.i c.in-Some.parent c.in-Some.ensures.element.0 c.in-Start.name.now c.in-Start.foreign c.in-Start.attrs.now c.in-Start.ensures (sym c.in-Some.ensures.value) c.in-Some.ensures.element.1 in
     shown (hides_space (path_after [] (take c.args.i c.args.tree.now))) c.in-Start.foreign (is_among c.in-Start.name.now space_parents) (bytes_eq c.in-Start.name.now noscript)
-    (is_name head (current_name (path_after [] (take c.in-Some.parent c.args.tree.now)))) there c.is_space_parent.result c.eq.result c.if-not-foreign.true c.is_space_parent.ensures c.if-is_space_parent.false c.eq.ensures c.if-eq.false
+    (is_name head (current_name (path_after [] (take c.in-Some.parent c.args.tree.now)))) there c.is_space_parent.result c.same_name.result c.if-not-foreign.true c.is_space_parent.ensures c.if-is_space_parent.false c.same_name.ensures c.if-same_name.false
 
 pub returns-else-not-foreign : goal.returns-else-not-foreign
 returns-else-not-foreign c =

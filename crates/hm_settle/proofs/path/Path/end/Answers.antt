@@ -1,4 +1,4 @@
-use Rattle.std.proofs.Common.{◌≡◌, length, ap, arith}
+use Rattle.std.proofs.Common.{arith}
 use Rattle.hm_settle.specs.Plans.{IsEnd}
 use Rattle.hm_settle.proofs.Kept.{IsKept-truncated}
 use Rattle.hm_settle.proofs.path.Path.end.Goals as goal

@@ -1,5 +1,6 @@
 //! Attributes that say nothing.
 ghost use Rattle.std.specs.Prelude.{◌≡◌, ◌++◌, ◌∷◌, ◌+◌, ◌<◌, ◌^◌, length, map, codes, false, IfOk, OnOk};
+ghost use Rattle.std.specs.Str.{str_eq_ignore_ascii_case};
 ghost use Rattle.hm_base.specs.Bytes.{all_pass, lower};
 ghost use Rattle.hm_base.specs.Bytes as bytes;
 ghost use Rattle.hm_base.specs.Walks.{has_name};
@@ -108,10 +109,17 @@ fn is_redundant(element: &str, name: &str, value: &str) -> bool
 }
 
 // Whether the element has this attribute, on that element, with that value in any ASCII case.
-#[tactic(auto, unfolding(crate::specs::Rewrites::is_default))]
+#[tactic(auto, unfolding(crate::specs::Rewrites::is_default), using(crate::proofs::Defaults::same_but_case))]
 fn is_default(element: &str, name: &str, value: &str, of: &str, called: &str, default: &str) -> bool
     requires { map lower default.now ≡ default.now }
     ensures { result ≡ rewrites.is_default element.now (record { name = name.now; value = value.now }) (record { element = of.now; name = called.now; value = default.now }) }
 {
-    same_name(element, of) && same_name(name, called) && value.eq_ignore_ascii_case(default)
+    same_name(element, of) && same_name(name, called) && is_but_for_case(value, default)
+}
+
+// Whether a value is that word but for the case of its ASCII letters.
+fn is_but_for_case(value: &str, word: &str) -> bool
+    ensures { result ≡ str_eq_ignore_ascii_case value.now word.now }
+{
+    value.eq_ignore_ascii_case(word)
 }

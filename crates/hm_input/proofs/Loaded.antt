@@ -20,7 +20,7 @@ use Rattle.hm_refs.specs.declared.fault.TableFault.{TableFault}
 use Rattle.hm_refs.specs.declared.fault.TableFault.TheVariants.{TooLong}
 use Rattle.hm_construction.specs.Trees.{Outcome, built, refused_by, page_tree, tree_of_source}
 use Rattle.hm_input.specs.Inputs.{IsInput, tree, bad_table, bad_page, is_none, table_names, page_limit, page_outcome, rewritten_input, input_from}
-use Rattle.hm_input.specs.Loads.{IsLoaded, IsTableOf, IsTextOf, IsRefusedPage, IsTreeRead, NoTable, NoText, NoTreeRead, NoInput, HasNames, IsFileMissing}
+use Rattle.hm_input.specs.Loads.{IsLoaded, IsTableOf, IsTextOf, IsRefusedPage, IsTreeRead, NoTable, NoText, NoTreeRead, NoInput, IsFileMissing}
 use Rattle.hm_input.specs.declared.unread.Unread.{Unread}
 use Rattle.hm_input.specs.declared.unread.Unread.TheVariants as reasons
 

@@ -1,6 +1,5 @@
 -- What the files of a run give: a table of names, and the tree of a page, rewritten.
-use Rattle.std.specs.Prelude.{ℕ, ◌≡◌, ◌+◌, Bool, true, false, nat_lt, List, [], length, take, Option, Some, None, IsSome, option_map, Result, Ok, Err, if◌then◌else◌, codes, bytes_eq}
-use Rattle.hm_base.specs.Source.{Source, source_of, text_fault}
+use Rattle.std.specs.Prelude.{ℕ, ◌≡◌, Bool, true, false, nat_lt, List, [], length, Option, Some, None, IsSome, option_map, Result, Ok, Err, if◌then◌else◌, codes, bytes_eq}
 use Rattle.hm_base.specs.Walks.{Event}
 use Rattle.hm_base.specs.declared.plain.TreeOptions.{TreeOptions}
 use Rattle.hm_base.specs.declared.rules.Rule.{Rule}

@@ -1,5 +1,5 @@
 -- What is known of a file that was loaded.
-use Rattle.std.specs.Prelude.{ℕ, ◌≡◌, ◌⊎◌, ◌+◌, Bool, false, nat_lt, List, length, take, Option, Some, None, IsSome, Result, Ok, Err}
+use Rattle.std.specs.Prelude.{ℕ, ◌≡◌, ◌⊎◌, ◌+◌, false, nat_lt, List, length, take, Option, Some, None, IsSome, Result, Ok, Err}
 use Rattle.hm_base.specs.Source.{Source, source_of, text_fault}
 use Rattle.hm_base.specs.Walks.{Event}
 use Rattle.hm_base.specs.declared.plain.TreeOptions.{TreeOptions}

@@ -1,8 +1,10 @@
 //! The table and the text of a page, loaded from a store.
-ghost use Rattle.std.specs.Prelude.{◌≡◌, ◌≢◌, ◌⊎◌, ◌≤◌, ℕ, List, Option, IfOk, IfErr, Ok, Err, false};
+ghost use Rattle.std.specs.Prelude.{◌≡◌, ◌≢◌, ◌⊎◌, ◌≤◌, ℕ, List, Option, IfOk, IfErr, OnOk, Ok, Err, false};
+ghost use Rattle.hm_base.specs.Faults.{HasText, IsRefusedBy};
+ghost use Rattle.hm_base.specs.Source.{source_of};
 ghost use Rattle.hm_store.specs.Causes.{Rose};
 ghost use Rattle.hm_store.specs.Files.{FileMap, IsMissing};
-ghost use Rattle.hm_input.specs.Inputs.{is_none};
+ghost use Rattle.hm_input.specs.Inputs.{is_none, page_limit};
 ghost use Rattle.hm_input.specs.Loads.{IsLoaded, IsTableOf, IsTextOf, NoTable, NoText};
 
 use crate::Unread;
@@ -73,6 +75,15 @@ pub fn load_table<S: Store>(alloc: Global, store: &mut S, name: &str) -> Result<
     }
 }
 
+/// The text of the bytes of a page, which may be up to the limit.
+fn read_page(alloc: Global, bytes: &[u8]) -> Result<SourceText, TextFault>
+    ensures read { IfOk result (λ text. text ≡ source_of bytes.now) }
+    ensures sound { OnOk result (HasText page_limit bytes.now) }
+    ensures refused { IfErr result (λ fault. IsRefusedBy fault page_limit bytes.now) }
+{
+    SourceText::read(alloc, bytes, PAGE_LIMIT)
+}
+
 /// The text of the page of that name.
 pub fn load_text<S: Store>(alloc: Global, store: &mut S, name: &str) -> Result<SourceText, Unread>
     ensures same { S.files store.new ≡ S.files store.old }
@@ -85,7 +96,7 @@ pub fn load_text<S: Store>(alloc: Global, store: &mut S, name: &str) -> Result<S
         Ok(bytes) => bytes,
         Err(unread) => return Err(unread),
     };
-    match SourceText::read(alloc, bytes.as_slice(), PAGE_LIMIT) {
+    match read_page(alloc, bytes.as_slice()) {
         Ok(text) => Ok(text),
         Err(TextFault::TooLong) => Err(Unread::Page {
             rule: Rule::TooLong,

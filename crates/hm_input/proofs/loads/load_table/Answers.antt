@@ -1,4 +1,4 @@
-use Rattle.std.proofs.Common.{◌≡◌, sym, ◌∙◌}
+use Rattle.std.proofs.Common.{sym}
 use Rattle.hm_input.proofs.Loaded.{table_of_none, table_of_bytes, of_slice}
 use Rattle.hm_input.proofs.loads.load_table.Goals as goal
 

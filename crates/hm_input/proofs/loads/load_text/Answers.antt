@@ -1,10 +1,10 @@
-use Rattle.std.proofs.Common.{◌≡◌, sym, ◌∙◌, subst}
+use Rattle.std.proofs.Common.{subst}
 use Rattle.hm_base.specs.Faults.{IsRefusedBy}
 use Rattle.hm_input.proofs.Loaded.{text_of_bytes, long_of_bytes, fault_of_bytes, of_slice}
 use Rattle.hm_input.proofs.loads.load_text.Goals as goal
 
-pub returns-in-Ok-read-clause-ok : goal.returns-in-Ok-read-clause-ok
-returns-in-Ok-read-clause-ok g c = text_of_bytes _ c.args.name.now c.as_slice.result.now c.in-Ok-read.text (of_slice _ c.args.name.now _ c.in-Ok.bytes.items c.as_slice.result.now c.as_slice.ensures.value c.in-Ok.ensures.loaded) c.in-Ok-read.ensures.sound c.in-Ok-read.ensures.read
+pub returns-in-Ok-read_page-clause-ok : goal.returns-in-Ok-read_page-clause-ok
+returns-in-Ok-read_page-clause-ok g c = text_of_bytes _ c.args.name.now c.as_slice.result.now c.in-Ok-read_page.text (of_slice _ c.args.name.now _ c.in-Ok.bytes.items c.as_slice.result.now c.as_slice.ensures.value c.in-Ok.ensures.loaded) c.in-Ok-read_page.ensures.sound c.in-Ok-read_page.ensures.read
 
 pub returns-in-Err-TooLong-clause-err : goal.returns-in-Err-TooLong-clause-err
 returns-in-Err-TooLong-clause-err g c = long_of_bytes _ c.args.name.now c.as_slice.result.now (of_slice _ c.args.name.now _ c.in-Ok.bytes.items c.as_slice.result.now c.as_slice.ensures.value c.in-Ok.ensures.loaded) (subst (λ f. IsRefusedBy f _ c.as_slice.result.now) c.in-Err-TooLong.field-0-is c.in-Err-TooLong.ensures.refused)

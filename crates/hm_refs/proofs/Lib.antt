@@ -13,3 +13,6 @@ pub mod References
 pub mod Seeking
 pub mod Webs
 pub mod Whole
+pub mod Digits
+pub mod RunEnds
+pub mod ReferenceReads

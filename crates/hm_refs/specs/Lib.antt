@@ -9,3 +9,4 @@ pub mod JsonExamples
 pub mod Nodes
 pub mod Firsts
 pub mod Laws
+pub mod Reads

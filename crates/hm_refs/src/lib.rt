@@ -1,4 +1,4 @@
-//! Character references: the table of names with its trie, and the numbers of numeric references.
+//! Character references: the table of names with its trie, the numbers of numeric references, and references as they are read.
 #![tactic(auto)]
 
 mod fault;
@@ -8,6 +8,7 @@ pub mod laws;
 mod nodes;
 mod numbers;
 mod reading;
+mod scan;
 mod table;
 #[cfg(test)]
 mod tests;
@@ -16,4 +17,5 @@ mod trie;
 pub use fault::TableFault;
 pub use ids::{NameId, Node};
 pub use numbers::{best_number, number_value};
+pub use scan::{Reference, read_reference};
 pub use table::Table;

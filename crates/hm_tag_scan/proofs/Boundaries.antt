@@ -1,11 +1,12 @@
 -- Where runs end a text may be cut.
-use Rattle.std.proofs.Common.{◌≡◌, ℕ, ◌+◌, ◌-◌, ◌<◌, ◌≤◌, Bool, true, false, cond, not, ◌||◌, ◌==◌, List, [], ◌∷◌, length, drop, get_or, refl, sym, subst, arith}
+use Rattle.std.proofs.Common.{◌≡◌, ℕ, ◌<◌, ◌≤◌, Bool, true, false, cond, List, [], ◌∷◌, drop, get_or, refl, subst, arith}
 use Rattle.std.specs.Str.{IsUtf8, IsCharBoundary}
 use Rattle.std.proofs.lemmas.Str.{IsUtf8-drop, IsCharBoundary-after_ascii, IsCharBoundary-from_drop}
 use Rattle.hm_base.specs.Bytes.{behind, is_space}
 use Rattle.hm_base.specs.RawText.{is_name_end}
 use Rattle.hm_tag_scan.specs.Tags.{is_name_byte, is_later_byte, is_unquoted_byte}
-use Rattle.hm_tag_scan.specs.Places.{IsEndOf, is_gap_byte}
+use Rattle.hm_refs.specs.Reads.{IsEndOf}
+use Rattle.hm_tag_scan.specs.Places.{is_gap_byte}
 
 -- a run that only ASCII ends
 high_ends : (p : ℕ → Bool) (s : List ℕ) (from to : ℕ) → ((c : ℕ) → 128 ≤ c → p c ≡ true) → IsEndOf p s from to → IsCharBoundary s to

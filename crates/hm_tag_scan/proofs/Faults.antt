@@ -1,23 +1,18 @@
 -- Why a tag is refused.
-use Rattle.std.proofs.Common.{◌≡◌, ◌≢◌, ℕ, ◌+◌, ◌-◌, ◌<◌, ◌≤◌, Bool, true, false, cond, not, ◌&&◌, ◌||◌, ◌==◌, nat_lt, List, [], ◌∷◌, ◌++◌, length, map, drop, get_or, slice_range, codes, Option, Some, None, string_bytes, refl, ap, ap₂, sym, subst, ◌∙◌, arith, length-drop}
-use Rattle.std.specs.Str.{IsUtf8, IsCharBoundary}
-use Rattle.std.proofs.lemmas.Str.{IsCharBoundary-after_ascii}
-use Rattle.std.proofs.lemmas.List.{get_or-drop, drop-drop}
-use Rattle.std.proofs.lemmas.Bool.Decides.{Decides-eqb}
-use Rattle.hm_base.specs.Bytes.{front, behind, strip, head_is, is_letter, lower}
+use Rattle.std.proofs.Common.{◌≡◌, ℕ, ◌<◌, ◌≤◌, Bool, true, false, cond, not, ◌||◌, nat_lt, List, length, map, drop, slice_range, Option, Some, None, refl, ap, ap₂, sym, ◌∙◌, arith}
+use Rattle.hm_base.specs.Bytes.{behind, lower}
 use Rattle.hm_base.specs.Forms.{is_tag_name}
 use Rattle.hm_base.specs.Walks.{Attribute}
 use Rattle.hm_refs.specs.Names.{Entry}
-use Rattle.hm_tree.specs.Tokens.{Scanned, taken, refused, start_tag, end_tag, Reads}
+use Rattle.hm_tree.specs.Tokens.{taken, refused, start_tag, end_tag, Reads}
 use Rattle.hm_tree.specs.declared.tokens.Token.TheVariants as tokens
 use Rattle.hm_tree.specs.declared.tokens.ScanFault.{ScanFault}
 use Rattle.hm_tree.specs.declared.tokens.ScanFault.TheVariants as faults
 use Rattle.hm_tag_scan.specs.Tags.{is_name_byte, Tag, cut_tag}
-use Rattle.hm_tag_scan.specs.Reading.{attribute_limit, has_bad_name, tag_fault, read_attributes, start_of, end_of, tag_name, read_start, read_end, read_by, read_tag, followed_by_letter, begins_tag}
+use Rattle.hm_tag_scan.specs.Reading.{attribute_limit, has_bad_name, tag_fault, read_attributes, start_of, end_of, tag_name, read_start, read_end}
 use Rattle.hm_tag_scan.specs.Collected.{IsCollected, IsTagBody, HasNoBody}
 use Rattle.hm_tag_scan.specs.Wholes.{fault_by, fault_at, IsWhole}
-use Rattle.hm_tag_scan.specs.declared.collected.Collected.{Collected}
-use Rattle.hm_tag_scan.specs.Places.{IsEndOf}
+use Rattle.hm_refs.specs.Reads.{IsEndOf}
 use Rattle.hm_tag_scan.specs.declared.scan.Whole.{Whole}
 use Rattle.hm_tag_scan.specs.declared.tag_body.TagBody.{TagBody}
 

@@ -3,12 +3,9 @@ pub mod Follows
 pub mod Cases
 pub mod Written
 pub mod WrittenTags
-pub mod RunEnds
 pub mod Boundaries
 pub mod ValuePlaces
 pub mod TagParts
-pub mod Digits
-pub mod ReferenceReads
 pub mod ValueReads
 pub mod NameReads
 pub mod Kept

@@ -1,20 +1,20 @@
 -- From the places of a tag's parts to its cuts.
-use Rattle.std.proofs.Common.{◌≡◌, ℕ, zero, suc, ◌+◌, ◌-◌, ◌<◌, ◌≤◌, Bool, true, false, cond, not, ◌&&◌, ◌||◌, ◌==◌, nat_lt, List, [], ◌∷◌, ◌++◌, length, take, drop, get_or, slice_range, Option, Some, None, inl, inr, refl, ap, ap₂, sym, subst, ◌∙◌, arith, append_assoc, drop_of_length-le, add-one, length-drop}
+use Rattle.std.proofs.Common.{◌≡◌, ℕ, zero, suc, ◌+◌, ◌-◌, ◌<◌, ◌≤◌, Bool, true, false, ◌&&◌, ◌||◌, ◌==◌, nat_lt, List, [], ◌∷◌, ◌++◌, length, drop, get_or, slice_range, Option, Some, None, inl, inr, refl, ap, sym, subst, ◌∙◌, arith, drop_of_length-le, length-drop}
 use Rattle.std.specs.Str.{IsUtf8, IsCharBoundary}
 use Rattle.std.proofs.lemmas.Str.{IsCharBoundary-after_ascii}
 use Rattle.std.proofs.lemmas.List.{drop-drop, take-append-drop}
 use Rattle.std.proofs.lemmas.Bool.{and_parts, cases_lt}
 use Rattle.std.proofs.lemmas.Bool.Decides.{Decides-eqb}
-use Rattle.hm_base.specs.Bytes.{front, behind, all_pass, head_is, is_space}
+use Rattle.hm_base.specs.Bytes.{behind, all_pass, head_is, is_space}
 use Rattle.hm_base.specs.Walks as walks
-use Rattle.hm_tag_scan.specs.Tags.{is_tag_end, Written, attribute_at, Tag, with_attribute, with_slash, attribute_then, tag_from, cut_tag}
-use Rattle.hm_tag_scan.specs.Places.{is_gap_byte, IsEndOf, IsAttributeAt}
+use Rattle.hm_tag_scan.specs.Tags.{is_tag_end, attribute_at, Tag, with_attribute, with_slash, tag_from, cut_tag}
+use Rattle.hm_refs.specs.Reads.{IsEndOf}
+use Rattle.hm_tag_scan.specs.Places.{is_gap_byte, IsAttributeAt}
 use Rattle.hm_tag_scan.specs.Parts.{written_in, IsTagEnd, IsPair}
 use Rattle.hm_tag_scan.specs.declared.attribute.Attribute.{Attribute}
 use Rattle.hm_tag_scan.proofs.Cases.{differs}
 use Rattle.hm_tag_scan.proofs.Boundaries.{gap_ends}
-use Rattle.hm_tag_scan.proofs.RunEnds.{range_more}
-use Rattle.hm_tag_scan.proofs.ValuePlaces.{rest_cons}
+use Rattle.hm_refs.proofs.RunEnds.{front_passes, range_more, rest_cons}
 
 no_slash : (o : Option Tag) → with_slash false o ≡ o
 no_slash None = refl
@@ -53,11 +53,6 @@ gap_many (d ∷ g) c r all h =
     no_end : (g : List ℕ) → all_pass is_gap_byte g ≡ true → head_is is_tag_end (g ++ c ∷ r) ≡ false
     no_end [] all = gap_no_end c h
     no_end (e ∷ g) all = gap_no_end e (and_parts (is_gap_byte e) (all_pass is_gap_byte g) all).0
-
-pub front_passes : (p : ℕ → Bool) (s : List ℕ) → all_pass p (front p s) ≡ true
-front_passes p [] = refl
-front_passes p (c ∷ s) = elim (p c) as (λ b. p c ≡ b → all_pass p (cond b (c ∷ front p s) []) ≡ true)
-    [ true ↦ λ e. rw (e, front_passes p s) refl | false ↦ λ e. refl ] refl
 
 pub split_at : (s : List ℕ) (from at : ℕ) → from ≤ at → drop from s ≡ slice_range s from at ++ drop at s
 split_at s from at h =

@@ -1,14 +1,15 @@
 -- Values by their places in the text.
-use Rattle.std.proofs.Common.{◌≡◌, ℕ, zero, suc, ◌+◌, ◌-◌, ◌<◌, ◌≤◌, Bool, true, false, cond, not, ◌||◌, ◌==◌, List, [], ◌∷◌, ◌++◌, length, take, drop, get_or, slice_range, Some, None, refl, ap, ap₂, sym, subst, ◌∙◌, arith, drop-cons, drop_of_length-le, add-one, length-drop, take_all}
+use Rattle.std.proofs.Common.{◌≡◌, ℕ, zero, suc, ◌+◌, ◌-◌, ◌<◌, ◌≤◌, Bool, true, false, not, ◌==◌, List, [], ◌∷◌, length, take, drop, get_or, slice_range, Some, None, refl, ap, ap₂, sym, subst, ◌∙◌, arith, drop_of_length-le, length-drop, take_all}
 use Rattle.std.specs.Str.{IsUtf8, IsCharBoundary}
 use Rattle.std.proofs.lemmas.Str.{IsCharBoundary-after_ascii, IsCharBoundary-before_ascii, IsCharBoundary-end}
 use Rattle.std.proofs.lemmas.List.{drop-drop, get_or-drop}
-use Rattle.std.proofs.lemmas.Bool.{cases_lt}
 use Rattle.std.proofs.lemmas.Bool.Decides.{Decides-eqb}
-use Rattle.memchr.specs.Find.{IsFirstByte, Passes, is_byte}
-use Rattle.hm_base.specs.Bytes.{Cut, front, behind, is_space}
+use Rattle.memchr.specs.Find.{IsFirstByte, is_byte}
+use Rattle.hm_base.specs.Bytes.{front, behind, is_space}
 use Rattle.hm_tag_scan.specs.Tags.{is_later_byte, is_unquoted_byte, is_inside, is_quote, cut_behind, cut_quoted, cut_value, cut_assigned, no_more, named, attribute_at}
-use Rattle.hm_tag_scan.specs.Places.{IsEndOf, IsCutAt, IsAttributeAt}
+use Rattle.hm_refs.specs.Reads.{IsEndOf}
+use Rattle.hm_refs.proofs.RunEnds.{rest_cons}
+use Rattle.hm_tag_scan.specs.Places.{IsCutAt, IsAttributeAt}
 use Rattle.hm_tag_scan.specs.declared.attribute.Attribute.{Attribute}
 use Rattle.hm_tag_scan.specs.declared.attribute.Value.{Value}
 use Rattle.hm_tag_scan.proofs.Boundaries.{later_ends, unquoted_ends}
@@ -79,10 +80,6 @@ quoted_missing s q from b none =
       ends = IsCharBoundary-end s;
       rest = IsCharBoundary-end s;
     }
-
--- the first byte of a rest
-pub rest_cons : (s : List ℕ) (n : ℕ) → n < length s → drop n s ≡ get_or s n 0 ∷ drop (n + 1) s
-rest_cons s n h = rw add-one (drop-cons s n 0 h)
 
 pub take_none : (n : ℕ) → take {A = ℕ} n [] ≡ []
 take_none zero = refl

@@ -1,19 +1,21 @@
 -- Values as they are read, piece by piece.
-use Rattle.std.proofs.Common.{◌≡◌, ℕ, zero, suc, pred, ◌+◌, ◌-◌, ◌<◌, ◌≤◌, Bool, true, false, ◌==◌, List, [], ◌∷◌, ◌++◌, length, take, drop, get_or, slice_range, Option, Some, None, encode_utf8_all, refl, ap, ap₂, sym, subst, ◌∙◌, arith, append_assoc, append-nil, length-drop, take_all, drop_of_length-le}
+use Rattle.std.proofs.Common.{◌≡◌, ℕ, zero, suc, pred, ◌+◌, ◌-◌, ◌<◌, ◌≤◌, Bool, true, false, ◌==◌, List, [], ◌∷◌, ◌++◌, length, take, drop, get_or, slice_range, Some, None, encode_utf8_all, refl, ap, ap₂, sym, subst, ◌∙◌, arith, append_assoc, append-nil, length-drop, take_all, drop_of_length-le}
 use Rattle.std.specs.Str.{IsUtf8, IsCharBoundary}
 use Rattle.std.proofs.lemmas.Str.{IsCharBoundary-after_ascii, IsCharBoundary-before_ascii, IsCharBoundary-start}
-use Rattle.std.proofs.lemmas.List.{drop-drop, get_or-drop, take_rest}
+use Rattle.std.proofs.lemmas.List.{drop-drop, get_or-drop}
 use Rattle.std.proofs.lemmas.Bool.Decides.{Decides-eqb}
-use Rattle.memchr.specs.Find.{IsFirstByte, Passes, is_byte}
+use Rattle.memchr.specs.Find.{IsFirstByte, is_byte}
 use Rattle.hm_refs.specs.Names.{Entry}
 use Rattle.hm_refs.specs.References as refs
 use Rattle.hm_refs.specs.Tables.{points_list}
-use Rattle.hm_tag_scan.specs.Values.{reference_at, read_on, value_from, read_value}
-use Rattle.hm_tag_scan.specs.Reads.{IsRead, IsNext}
-use Rattle.hm_tag_scan.specs.declared.references.Reference.{Reference}
+use Rattle.hm_tag_scan.specs.Values.{reference_at, value_from, read_value}
+use Rattle.hm_tag_scan.specs.Reads.{IsNext}
+use Rattle.hm_refs.specs.Reads.{IsRead}
+use Rattle.hm_refs.specs.declared.scan.Reference.{Reference}
 use Rattle.hm_tag_scan.proofs.TagParts.{split_at}
-use Rattle.hm_tag_scan.proofs.RunEnds.{range_more}
-use Rattle.hm_tag_scan.proofs.ValuePlaces.{rest_cons, take_none}
+use Rattle.hm_refs.proofs.RunEnds.{range_more}
+use Rattle.hm_tag_scan.proofs.ValuePlaces.{take_none}
+use Rattle.hm_refs.proofs.RunEnds.{rest_cons}
 
 -- what stands between two places was passed over: it stands for itself
 pub record IsPassed (t : List Entry) (s : List ℕ) (from at : ℕ) : Type 0 where

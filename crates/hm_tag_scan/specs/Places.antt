@@ -1,6 +1,6 @@
 -- Places in a text at which parts of it end.
-use Rattle.std.specs.Prelude.{◌≡◌, ℕ, ◌+◌, ◌≤◌, ◌<◌, Bool, false, ◌||◌, ◌==◌, List, drop, length, slice_index, slice_range, IsCharBoundary}
-use Rattle.hm_base.specs.Bytes.{Cut, front, behind, is_space}
+use Rattle.std.specs.Prelude.{◌≡◌, ℕ, ◌+◌, ◌≤◌, ◌<◌, Bool, ◌||◌, ◌==◌, List, drop, slice_index, slice_range, IsCharBoundary}
+use Rattle.hm_base.specs.Bytes.{Cut, is_space}
 use Rattle.hm_tag_scan.specs.Tags.{is_name_byte, is_later_byte, is_unquoted_byte, attribute_at}
 use Rattle.hm_tag_scan.specs.declared.attribute.Attribute.{Attribute}
 use Rattle.hm_tag_scan.specs.declared.attribute.Value.{Value}
@@ -18,14 +18,6 @@ test_of Gap = is_gap_byte
 test_of TagName = is_name_byte
 test_of AttributeName = is_later_byte
 test_of Unquoted = is_unquoted_byte
-
--- the longest front of what begins at from whose bytes pass ends at to
-pub record IsEndOf (p : ℕ → Bool) (s : List ℕ) (from to : ℕ) : Type 0 where
-  pub forward : from ≤ to
-  pub inside : to ≤ length s
-  pub front : front p (drop from s) ≡ slice_range s from to
-  pub behind : behind p (drop from s) ≡ drop to s
-  pub stops : to < length s → p (slice_index s to) ≡ false
 
 -- a cut of the rest of the text: what is before it stands between two places, and what is behind it begins at a third
 pub record IsCutAt (k : Cut) (s : List ℕ) (v : Value) : Type 0 where

@@ -1,18 +1,9 @@
--- What a reader of character references answers.
-use Rattle.std.specs.Prelude.{◌≡◌, ℕ, ◌+◌, ◌-◌, ◌<◌, ◌≤◌, List, ◌++◌, length, drop, slice_index, slice_range, Option, Some, encode_utf8_all, IsCharBoundary}
+-- The next character reference of a value.
+use Rattle.std.specs.Prelude.{◌≡◌, ℕ, ◌+◌, ◌<◌, ◌≤◌, List, ◌++◌, drop, slice_range, encode_utf8_all, IsCharBoundary}
 use Rattle.hm_refs.specs.Names.{Entry}
-use Rattle.hm_refs.specs.References as refs
 use Rattle.hm_refs.specs.Tables.{points_list}
 use Rattle.hm_tag_scan.specs.Values.{read_value}
-use Rattle.hm_tag_scan.specs.declared.references.Reference.{Reference}
 use Rattle.hm_tag_scan.specs.declared.values.Placed.{Placed}
-
--- this reference at the front of the text; its last byte is ASCII
-pub record IsRead (o : Option refs.Reference) (text : List ℕ) (r : Reference) : Type 0 where
-  pub is : o ≡ Some (record { points = points_list r.points; len = r.len })
-  pub some : 0 < r.len
-  pub inside : r.len ≤ length text
-  pub ascii : slice_index text (r.len - 1) < 128
 
 -- The first reference of a value at or behind a place. What is before it stands for itself.
 pub record IsNext (t : List Entry) (s : List ℕ) (from : ℕ) (p : Placed) : Type 0 where

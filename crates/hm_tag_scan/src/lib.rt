@@ -7,7 +7,6 @@ mod collected;
 pub mod laws;
 mod names;
 mod parts;
-mod references;
 mod runs;
 mod scan;
 mod tag_body;
@@ -16,5 +15,4 @@ mod tests;
 mod values;
 
 pub use begins::begins_tag;
-pub use references::{Reference, read_reference};
 pub use scan::scan_tag;

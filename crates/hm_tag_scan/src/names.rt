@@ -26,7 +26,7 @@ fn is_small(byte: u8) -> bool
 }
 
 /// Whether the byte is an ASCII digit.
-#[tactic(auto, using(crate::proofs::Digits::digit_is))]
+#[tactic(auto, using(hm_refs::proofs::Digits::digit_is))]
 fn is_digit(byte: u8) -> bool
     ensures { result ≡ is_digit byte }
 {

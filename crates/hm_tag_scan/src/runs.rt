@@ -1,7 +1,8 @@
 //! Runs of bytes of one kind.
 ghost use Rattle.std.specs.Prelude.{◌≡◌, ◌≤◌, length};
 ghost use Rattle.hm_base.specs.Bytes as bytes;
-ghost use Rattle.hm_tag_scan.specs.Places.{IsEndOf, test_of};
+ghost use Rattle.hm_refs.specs.Reads.{IsEndOf};
+ghost use Rattle.hm_tag_scan.specs.Places.{test_of};
 
 /// The bytes that a run is made of.
 #[derive(Clone, Copy)]

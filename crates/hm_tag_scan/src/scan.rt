@@ -4,7 +4,7 @@ ghost use Rattle.hm_base.specs.Walks.{Attribute};
 ghost use Rattle.hm_refs.specs.Names.{Entry};
 ghost use Rattle.hm_tree.specs.Tokens.{Reads, refused};
 ghost use Rattle.hm_tag_scan.specs.Collected.{IsCollected};
-ghost use Rattle.hm_tag_scan.specs.Places.{IsEndOf};
+ghost use Rattle.hm_refs.specs.Reads.{IsEndOf};
 ghost use Rattle.hm_tag_scan.specs.Tags.{is_name_byte};
 ghost use Rattle.hm_tag_scan.specs.Wholes.{IsWhole, fault_at};
 ghost use Rattle.hm_tag_scan.specs.Reading.{begins_tag, read_end, read_start, read_tag, tag_fault};

@@ -4,9 +4,8 @@ ghost use Rattle.hm_refs.specs.Tables.{points_list};
 ghost use Rattle.hm_tag_scan.specs.Reads.{IsNext};
 ghost use Rattle.hm_tag_scan.specs.Values as values;
 
-use crate::references::{Reference, read_reference};
 use hm_base::{Memory, Points};
-use hm_refs::Table;
+use hm_refs::{Reference, Table, read_reference};
 use memchr::memchr;
 use std::alloc::Global;
 

@@ -4,7 +4,7 @@ use Rattle.std.proofs.lemmas.Bool.{cases_lt}
 use Rattle.std.proofs.lemmas.List.{drop-drop, get_or-drop}
 use Rattle.std.proofs.lemmas.Bool.Decides.{Decides-eqb}
 use Rattle.hm_refs.specs.Names.{Entry}
-use Rattle.hm_tag_scan.proofs.ValuePlaces.{rest_cons}
+use Rattle.hm_refs.proofs.RunEnds.{rest_cons}
 use Rattle.hm_refs.specs.References as refs
 use Rattle.hm_text_scan.specs.Texts.{ends_plain, begins_markup, reference_in, plain_front}
 use Rattle.hm_text_scan.specs.Places.{reference_here, ends_before, is_sign, IsPlainTo}

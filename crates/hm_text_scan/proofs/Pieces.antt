@@ -5,8 +5,8 @@ use Rattle.std.proofs.lemmas.Str.{IsCharBoundary-after_ascii, IsCharBoundary-bef
 use Rattle.std.proofs.lemmas.Bool.{cases_lt}
 use Rattle.std.proofs.lemmas.List.{drop-drop, get_or-drop}
 use Rattle.hm_refs.specs.Names.{Entry}
-use Rattle.hm_tag_scan.specs.Reads.{IsRead}
-use Rattle.hm_tag_scan.specs.declared.references.Reference.{Reference}
+use Rattle.hm_refs.specs.Reads.{IsRead}
+use Rattle.hm_refs.specs.declared.scan.Reference.{Reference}
 use Rattle.hm_tree.specs.Tokens.{Reads, taken, slice, points}
 use Rattle.hm_refs.specs.Tables.{points_list}
 use Rattle.hm_tree.specs.declared.tokens.Token.TheVariants as tokens

@@ -1,13 +1,12 @@
 //! Plain text: what is neither markup nor a character reference.
 ghost use Rattle.std.specs.Prelude.{◌≡◌, ◌<◌, ◌≤◌, drop, length, MatchOption, None};
 ghost use Rattle.memchr.specs.Find.{IsFirstByte};
-ghost use Rattle.hm_tag_scan.specs.Reads.{IsRead};
+ghost use Rattle.hm_refs.specs.Reads.{IsRead};
 ghost use Rattle.hm_text_scan.specs.Places as places;
 ghost use Rattle.hm_text_scan.specs.Places.{IsPlainTo, ends_before, is_sign};
 ghost use Rattle.hm_text_scan.specs.Texts as texts;
 
-use hm_refs::Table;
-use hm_tag_scan::{Reference, read_reference};
+use hm_refs::{Reference, Table, read_reference};
 use memchr::{memchr, memchr2};
 
 /// Whether the bytes behind a `<` make it the first byte of markup.

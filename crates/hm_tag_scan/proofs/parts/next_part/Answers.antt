@@ -1,5 +1,6 @@
-use Rattle.std.proofs.Common.{◌≡◌, ◌≤◌, length, subst, arith}
-use Rattle.hm_tag_scan.specs.Places.{is_gap_byte, IsEndOf}
+use Rattle.std.proofs.Common.{◌≤◌, length, subst, arith}
+use Rattle.hm_refs.specs.Reads.{IsEndOf}
+use Rattle.hm_tag_scan.specs.Places.{is_gap_byte}
 use Rattle.hm_tag_scan.proofs.TagParts.{nothing_is, end_is, pair_is}
 use Rattle.hm_tag_scan.proofs.parts.next_part.Goals as goal
 

@@ -1,6 +1,6 @@
 use Rattle.std.proofs.Common.{sym, ◌∙◌}
 use Rattle.hm_tag_scan.specs.Places.{test_of}
-use Rattle.hm_tag_scan.proofs.RunEnds.{run_more}
+use Rattle.hm_refs.proofs.RunEnds.{run_more}
 use Rattle.hm_tag_scan.proofs.runs.run_end.Goals as goal
 
 pub loop-at-preserved : goal.loop-at-preserved

@@ -1,6 +1,6 @@
 use Rattle.std.proofs.Common.{◌-◌, length}
 use Rattle.hm_tag_scan.specs.Places.{test_of}
-use Rattle.hm_tag_scan.proofs.RunEnds.{Runs}
+use Rattle.hm_refs.proofs.RunEnds.{Runs}
 use Rattle.hm_tag_scan.proofs.runs.run_end.Given as goal
 
 abbrev pub invariant-loop-at : goal.invariant-loop-at

@@ -1,9 +1,9 @@
-use Rattle.std.proofs.Common.{◌≡◌, ◌+◌, ◌<◌, drop, length, get_or, Option, Some, None, true}
+use Rattle.std.proofs.Common.{◌≡◌, ◌+◌, drop, Some, None, true}
 use Rattle.std.proofs.lemmas.List.{take_rest}
 use Rattle.memchr.specs.Find.{IsFirstByte, is_byte}
 use Rattle.hm_refs.specs.References.{reference}
-use Rattle.hm_tag_scan.specs.Reads.{IsRead}
-use Rattle.hm_tag_scan.proofs.ValueReads.{IsPassed, amp_byte, amp_inside, passed_amp, passed_more, passed_all, next_is}
+use Rattle.hm_refs.specs.Reads.{IsRead}
+use Rattle.hm_tag_scan.proofs.ValueReads.{amp_byte, amp_inside, passed_amp, passed_more, passed_all, next_is}
 use Rattle.hm_tag_scan.proofs.values.next_reference.Goals as goal
 
 pub returns-in-Some-read_reference : goal.returns-in-Some-read_reference

@@ -1,7 +1,7 @@
-use Rattle.std.proofs.Common.{◌≡◌, ◌≤◌, ◌<◌, length, take, get_or, sym, ◌∙◌, subst, arith, take_all}
-use Rattle.hm_tag_scan.proofs.Digits.{IsNumber, number_more, number_high, number_is}
-use Rattle.hm_tag_scan.proofs.references.number.Goals as goal
-use Rattle.hm_tag_scan.proofs.references.number.Goals.{then-number-le1114111, else-number-le1114111}
+use Rattle.std.proofs.Common.{◌≡◌, take, subst, arith, take_all}
+use Rattle.hm_refs.proofs.Digits.{IsNumber, number_more, number_high, number_is}
+use Rattle.hm_refs.proofs.scan.number.Goals as goal
+use Rattle.hm_refs.proofs.scan.number.Goals.{then-number-le1114111, else-number-le1114111}
 
 pub loop-byte-preserved : goal.loop-byte-preserved
 loop-byte-preserved c =

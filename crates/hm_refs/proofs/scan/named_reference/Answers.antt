@@ -1,6 +1,6 @@
-use Rattle.std.proofs.Common.{◌≡◌, ◌≤◌, Some, length, drop, ap, sym, ◌∙◌, not, ◌&&◌}
-use Rattle.hm_tag_scan.proofs.ReferenceReads.{found_named, name_read, name_blocked}
-use Rattle.hm_tag_scan.proofs.references.named_reference.Goals as goal
+use Rattle.std.proofs.Common.{length, ap, sym}
+use Rattle.hm_refs.proofs.ReferenceReads.{found_named, name_read, name_blocked}
+use Rattle.hm_refs.proofs.scan.named_reference.Goals as goal
 
 pub is_blocked-requires : goal.is_blocked-requires
 is_blocked-requires c = rw c.name-name.ensures (found_named c.args.table.now.entries c.args.text.now c.in_ok-id.id c.every_table.ensures.names (sym c.in_ok-id.ensures.found)).inside

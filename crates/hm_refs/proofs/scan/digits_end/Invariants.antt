@@ -1,7 +1,7 @@
 use Rattle.std.proofs.Common.{◌-◌, length}
 use Rattle.hm_base.specs.Bytes.{is_digit_of}
-use Rattle.hm_tag_scan.proofs.RunEnds.{Runs}
-use Rattle.hm_tag_scan.proofs.references.digits_end.Given as goal
+use Rattle.hm_refs.proofs.RunEnds.{Runs}
+use Rattle.hm_refs.proofs.scan.digits_end.Given as goal
 
 abbrev pub invariant-loop-at : goal.invariant-loop-at
 invariant-loop-at l = Runs (is_digit_of l.base) l.text l.from l.at

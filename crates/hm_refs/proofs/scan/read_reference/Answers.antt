@@ -1,7 +1,7 @@
 use Rattle.std.proofs.Common.{◌≡◌, ◌<◌, length, get_or, arith}
-use Rattle.hm_tag_scan.proofs.ReferenceReads.{reference_hash, reference_named}
-use Rattle.hm_tag_scan.proofs.references.read_reference.Goals as goal
-use Rattle.hm_tag_scan.proofs.references.read_reference.Goals.{else-text-gt1-via-then-text-gt1+else-text-eq35, else-text-gt1-via-else-text-gt1}
+use Rattle.hm_refs.proofs.ReferenceReads.{reference_hash, reference_named}
+use Rattle.hm_refs.proofs.scan.read_reference.Goals as goal
+use Rattle.hm_refs.proofs.scan.read_reference.Goals.{else-text-gt1-via-then-text-gt1+else-text-eq35, else-text-gt1-via-else-text-gt1}
 
 pub returns-then-text-eq35 : goal.returns-then-text-eq35
 returns-then-text-eq35 c = rw (reference_hash c.args.table.now.entries c.args.in_value c.args.text.now c.if-text-gt1.true c.requires.amp c.if-text-eq35.true) c.hash_reference.ensures

@@ -1,7 +1,7 @@
-use Rattle.std.proofs.Common.{sym, ◌∙◌, slice_range}
+use Rattle.std.proofs.Common.{◌∙◌}
 use Rattle.hm_base.specs.Bytes.{is_digit_of}
-use Rattle.hm_tag_scan.proofs.ReferenceReads.{digits_pass, number_read}
-use Rattle.hm_tag_scan.proofs.references.numeric_reference.Goals as goal
+use Rattle.hm_refs.proofs.ReferenceReads.{digits_pass, number_read}
+use Rattle.hm_refs.proofs.scan.numeric_reference.Goals as goal
 
 pub number-requires-clause-digits : goal.number-requires-clause-digits
 number-requires-clause-digits c = digits_pass (is_digit_of c.args.base) c.args.text.now c.args.from c.digits_end-to.result c.digits_end-to.ensures

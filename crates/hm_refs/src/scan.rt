@@ -6,12 +6,12 @@ ghost use Rattle.hm_refs.specs.Names as names;
 ghost use Rattle.hm_refs.specs.Names.{longest};
 ghost use Rattle.hm_refs.specs.Numbers.{point_of};
 ghost use Rattle.hm_refs.specs.References as refs;
-ghost use Rattle.hm_tag_scan.specs.Places.{IsEndOf};
-ghost use Rattle.hm_tag_scan.specs.Reads.{IsRead};
+ghost use Rattle.hm_refs.specs.Reads.{IsEndOf, IsRead};
 
+use crate::Table;
+use crate::laws::every_table;
+use crate::numbers::number_value;
 use hm_base::Points;
-use hm_refs::laws::every_table;
-use hm_refs::{Table, number_value};
 
 /// The code points that a reference gives, and how many bytes it has.
 #[derive(Clone, Copy)]

@@ -1,24 +1,22 @@
 -- References as they are read.
-use Rattle.std.proofs.Common.{◌≡◌, ℕ, zero, suc, ◌+◌, ◌-◌, ◌*◌, ◌<◌, ◌≤◌, ◌⊎◌, Bool, true, false, cond, not, ◌&&◌, ◌||◌, ◌==◌, nat_lt, nat_le, List, [], ◌∷◌, ◌++◌, length, take, drop, get_or, slice_range, Option, Some, None, inl, inr, refl, ap, ap₂, sym, subst, ◌∙◌, arith, length-append, length-drop, length-take, drop_of_length-le}
-use Rattle.std.specs.Char.{digit_value, is_ascii_alphanumeric}
+use Rattle.std.proofs.Common.{◌≡◌, ℕ, ◌+◌, ◌-◌, ◌<◌, ◌≤◌, ◌⊎◌, Bool, true, false, cond, not, ◌&&◌, ◌||◌, ◌==◌, nat_lt, List, [], ◌∷◌, length, drop, get_or, slice_range, Some, None, inl, inr, refl, ap, ap₂, sym, subst, ◌∙◌, arith, length-append, length-drop, length-take, drop_of_length-le}
+use Rattle.std.specs.Char.{is_ascii_alphanumeric}
 use Rattle.std.specs.Int.{is_in_range}
 use Rattle.std.proofs.lemmas.Bool.{and_parts, cases_lt}
 use Rattle.std.proofs.lemmas.Bool.Decides.{Decides-eqb}
 use Rattle.std.proofs.lemmas.List.{get_or-drop, get_or-take, get_or_append_left}
 use Rattle.hm_base.specs.Bytes.{all_pass, front, behind, head_is, is_null, is_letter, is_alnum, is_digit, is_digit_of}
 use Rattle.hm_refs.specs.Laws.{IsLongest}
-use Rattle.hm_refs.specs.Names.{Entry, Found, longest, is_good, is_tail, is_closed}
+use Rattle.hm_refs.specs.Names.{Entry, longest, is_good, is_tail, is_closed}
 use Rattle.hm_refs.specs.Numbers.{point_of}
 use Rattle.hm_refs.specs.References as refs
 use Rattle.hm_refs.specs.References.{numeric, value_of, is_semicolon, blocks}
 use Rattle.hm_refs.specs.Tables.{IsTable, entry_at, found_at, points_list}
 use Rattle.hm_refs.proofs.Found.{longest_is_longest, good_of}
-use Rattle.hm_tag_scan.specs.Places.{IsEndOf}
-use Rattle.hm_tag_scan.specs.Reads.{IsRead}
-use Rattle.hm_tag_scan.specs.declared.references.Reference.{Reference}
-use Rattle.hm_tag_scan.proofs.Digits.{all_pass_at, digit_is}
-use Rattle.hm_tag_scan.proofs.TagParts.{front_passes}
-use Rattle.hm_tag_scan.proofs.ValuePlaces.{rest_cons}
+use Rattle.hm_refs.specs.Reads.{IsEndOf, IsRead}
+use Rattle.hm_refs.specs.declared.scan.Reference.{Reference}
+use Rattle.hm_refs.proofs.Digits.{all_pass_at, digit_is}
+use Rattle.hm_refs.proofs.RunEnds.{front_passes, rest_cons}
 
 alnum_is : (c : ℕ) → is_ascii_alphanumeric c ≡ is_alnum c
 unfolding is_alnum is_letter

@@ -1,7 +1,7 @@
 use Rattle.std.proofs.Common.{sym, ◌∙◌}
 use Rattle.hm_base.specs.Bytes.{is_digit_of}
-use Rattle.hm_tag_scan.proofs.RunEnds.{run_more}
-use Rattle.hm_tag_scan.proofs.references.digits_end.Goals as goal
+use Rattle.hm_refs.proofs.RunEnds.{run_more}
+use Rattle.hm_refs.proofs.scan.digits_end.Goals as goal
 
 pub loop-at-preserved : goal.loop-at-preserved
 loop-at-preserved c =

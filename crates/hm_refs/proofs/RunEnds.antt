@@ -1,8 +1,8 @@
 -- How a run goes on by one byte, and where it ends.
-use Rattle.std.proofs.Common.{◌≡◌, ℕ, zero, suc, ◌+◌, ◌-◌, ◌<◌, ◌≤◌, Bool, true, false, List, [], ◌∷◌, ◌++◌, length, take, drop, get_or, slice_range, refl, ap, sym, ◌∙◌, arith, drop-cons, drop_of_length-le, add-one, append-nil, append_assoc, length-drop}
+use Rattle.std.proofs.Common.{◌≡◌, ℕ, ◌+◌, ◌-◌, ◌<◌, ◌≤◌, Bool, true, false, cond, List, [], ◌∷◌, ◌++◌, length, take, drop, get_or, slice_range, refl, ap, sym, ◌∙◌, arith, drop-cons, drop_of_length-le, add-one, append-nil, append_assoc, length-drop}
 use Rattle.std.proofs.lemmas.List.{take_more, get_or-drop}
-use Rattle.hm_base.specs.Bytes.{front, behind}
-use Rattle.hm_tag_scan.specs.Places.{IsEndOf}
+use Rattle.hm_base.specs.Bytes.{all_pass, front, behind}
+use Rattle.hm_refs.specs.Reads.{IsEndOf}
 
 pub range_more : (s : List ℕ) (from at : ℕ) → from ≤ at → at < length s → slice_range s from (at + 1) ≡ slice_range s from at ++ get_or s at 0 ∷ []
 range_more s from at low high =
@@ -56,3 +56,13 @@ run_ends p s from at r h =
       behind = r.behind ∙ ap (behind p) none ∙ sym none;
       stops = λ l. absurd (omega arith);
     }
+
+-- the bytes of a front pass
+pub front_passes : (p : ℕ → Bool) (s : List ℕ) → all_pass p (front p s) ≡ true
+front_passes p [] = refl
+front_passes p (c ∷ s) = elim (p c) as (λ b. p c ≡ b → all_pass p (cond b (c ∷ front p s) []) ≡ true)
+    [ true ↦ λ e. rw (e, front_passes p s) refl | false ↦ λ e. refl ] refl
+
+-- the first byte of a rest
+pub rest_cons : (s : List ℕ) (n : ℕ) → n < length s → drop n s ≡ get_or s n 0 ∷ drop (n + 1) s
+rest_cons s n h = rw add-one (drop-cons s n 0 h)

@@ -1,47 +1,46 @@
--- Quoting a text character by character, and lines event by event.
-use Rattle.std.proofs.Common.{◌≡◌, ◌≢◌, ℕ, suc, ◌+◌, ◌<◌, ◌≤◌, List, [], ◌∷◌, ◌++◌, length, take, drop, get_or, slice_get, flat_map, chars, encode_utf8, encode_utf8_all, IsUtf8, Some, sym, ap, ◌∙◌, refl, inl, inr, arith, append_assoc}
-use Rattle.std.proofs.lemmas.Bool.{cases_lt, ne_eqb}
+-- Quoting a text byte by byte, and lines event by event.
+use Rattle.std.proofs.Common.{◌≡◌, ℕ, ◌+◌, ◌-◌, ◌<◌, ◌≤◌, List, [], ◌∷◌, ◌++◌, length, take, drop, get_or, slice_get, flat_map, IsUtf8, IsCharBoundary, Some, refl, arith, append_assoc, length-drop}
 use Rattle.std.proofs.lemmas.Grind.{flat_map-append}
-use Rattle.std.proofs.lemmas.List.{append-nil, take_more, drop_more}
+use Rattle.std.proofs.lemmas.List.{append-nil, take_more, drop_more, get_or-drop}
 use Rattle.std.proofs.lemmas.Option.{slice_get_within, get_or_from_slice_get}
-use Rattle.std.proofs.lemmas.Str.{encode_ascii, encodes-chars, inside_one}
-use Rattle.hm_base.specs.Walks.{Event, doctype, start, text, comment, end, Element, path_behind, path_after}
-use Rattle.hm_tree.specs.Dump.{quoted_byte, line_of, lines_from, dump_of}
-use Rattle.hm_tree.proofs.RoomLemmas.{length-path_behind}
+use Rattle.std.proofs.lemmas.Str.{IsCharBoundary-after_ascii}
+use Rattle.hm_base.specs.Walks.{Event, Element, path_behind, path_after}
+use Rattle.hm_tree.specs.Dump.{quoted_byte, spaces_for, line_of, lines_from, dump_of}
 use Rattle.hm_tree.proofs.WalkLemmas.{path_after-push}
 
-plain_byte : (c : ℕ) → c ≢ 34 → c ≢ 92 → c ≢ 10 → c ≢ 13 → c ≢ 9 → quoted_byte c ≡ c ∷ []
-plain_byte c a b d e f = rw (ne_eqb c 34 a, ne_eqb c 92 b, ne_eqb c 10 d, ne_eqb c 13 e, ne_eqb c 9 f) refl
+-- the bytes of a text before a place are quoted, but for those behind another place, which stand for themselves
+pub record IsQuoted (before s : List ℕ) (from at : ℕ) (out : List ℕ) : Type 0 where
+  pub ordered : from ≤ at
+  pub boundary : IsCharBoundary s from
+  pub whole : out ++ take (at - from) (drop from s) ≡ before ++ flat_map quoted_byte (take at s)
 
-above_ascii : (xs : List ℕ) → ((k : ℕ) → k < length xs → 128 ≤ get_or xs k 0) → flat_map quoted_byte xs ≡ xs
-above_ascii [] high = refl
-above_ascii (x ∷ xs) high =
-    let h : 128 ≤ x = high 0 (omega arith) in
-    rw (plain_byte x (λ e. omega arith) (λ e. omega arith) (λ e. omega arith) (λ e. omega arith) (λ e. omega arith))
-    (ap (λ rest. x ∷ rest) (above_ascii xs (λ k within. high (suc k) (omega arith))))
+module _ (before s : List ℕ) (from at : ℕ) (out : List ℕ) (h : IsQuoted before s from at out) (within : at < length s) where
+  more : flat_map quoted_byte (take (at + 1) s) ≡ flat_map quoted_byte (take at s) ++ quoted_byte (get_or s at 0)
+  more = rw (take_more s at 0 within, flat_map-append quoted_byte (take at s) (get_or s at 0 ∷ []), append-nil) refl
 
-high_byte : (c : ℕ) → 128 ≤ c → (k : ℕ) → k < length (encode_utf8 c) → 128 ≤ get_or (encode_utf8 c) k 0
-high_byte c h k within = elim (cases_lt (get_or (encode_utf8 c) k 0) 128) [
-  | inl low ↦
-      let same : c ≡ get_or (encode_utf8 c) k 0 = inside_one c [] (encode_utf8 c) k (sym (append-nil (encode_utf8 c))) within low in
-      absurd (omega arith)
-  | inr high ↦ high
-]
+  longer : take (at + 1 - from) (drop from s) ≡ take (at - from) (drop from s) ++ get_or s at 0 ∷ []
+  longer =
+      let ordered = h.ordered in
+      let next : at + 1 - from ≡ (at - from) + 1 = omega arith in
+      let place : from + (at - from) ≡ at = omega arith in
+      let inside : at - from < length (drop from s) = omega (arith, length-drop from s) in
+      rw (next, take_more (drop from s) (at - from) 0 inside, get_or-drop, place) refl
 
--- a character that isn't one of the five stands as it is
-pub plain_char : (c : ℕ) → c ≢ 34 → c ≢ 92 → c ≢ 10 → c ≢ 13 → c ≢ 9 → flat_map quoted_byte (encode_utf8 c) ≡ encode_utf8 c
-plain_char c a b d e f = elim (cases_lt c 128) [
-  | inl low ↦ rw (encode_ascii c low, plain_byte c a b d e f) refl
-  | inr high ↦ above_ascii (encode_utf8 c) (high_byte c high)
-]
+  -- a byte that stands for itself
+  pub IsQuoted-plain : quoted_byte (get_or s at 0) ≡ get_or s at 0 ∷ [] → IsQuoted before s from (at + 1) out
+  IsQuoted-plain plain = record {
+    ordered = omega (arith, h.ordered);
+    boundary = h.boundary;
+    whole = rw (longer, more, plain, ← append_assoc, h.whole) (append_assoc before (flat_map quoted_byte (take at s)) (get_or s at 0 ∷ []));
+  }
 
-quoted_chars : (cs : List ℕ) → flat_map (λ c. flat_map quoted_byte (encode_utf8 c)) cs ≡ flat_map quoted_byte (encode_utf8_all cs)
-quoted_chars [] = refl
-quoted_chars (c ∷ cs) = rw (flat_map-append quoted_byte (encode_utf8 c) (encode_utf8_all cs), quoted_chars cs) refl
-
--- what is quoted character by character is quoted byte by byte
-pub quoted_text : (s : List ℕ) → IsUtf8 s → flat_map (λ c. flat_map quoted_byte (encode_utf8 c)) (chars s) ≡ flat_map quoted_byte s
-quoted_text s utf8 = quoted_chars (chars s) ∙ ap (flat_map quoted_byte) (encodes-chars s utf8)
+  -- a byte that is escaped, behind the run before it
+  pub IsQuoted-escaped : (escape run all : List ℕ) → IsUtf8 s → get_or s at 0 < 128 → quoted_byte (get_or s at 0) ≡ escape → run ≡ out ++ take (at - from) (drop from s) → all ≡ run ++ escape → IsQuoted before s (at + 1) (at + 1) all
+  IsQuoted-escaped escape run all utf8 ascii is a b = record {
+    ordered = omega arith;
+    boundary = IsCharBoundary-after_ascii s at utf8 within ascii;
+    whole = let none : at + 1 - (at + 1) ≡ 0 = omega arith in rw (none, append-nil, b, a, h.whole, more, is) (append_assoc before (flat_map quoted_byte (take at s)) escape);
+  }
 
 -- one more element of a list that is written out element by element
 pub flat_map_step : {X : Type 0} (f : X → List ℕ) (before : List ℕ) (xs : List X) (i : ℕ) (x : X) → slice_get xs i ≡ Some x
@@ -64,21 +63,19 @@ lines_from-step path w i e at =
 pub quoted_whole : (before opened written whole s : List ℕ) → opened ≡ before ++ 34 ∷ [] → written ≡ opened ++ s → whole ≡ written ++ 34 ∷ [] → whole ≡ before ++ 34 ∷ (s ++ 34 ∷ [])
 quoted_whole before opened written whole s a b c = rw (c, b, a) (simp append_assoc)
 
--- what is written up to event i, with the lines that are left, is the whole
-pub record IsWritten (w : List Event) (i depth : ℕ) (out : List ℕ) : Type 0 where
-  pub count : depth ≡ length (path_after [] (take i w))
-  pub most : depth ≤ i
+-- what is written up to event i, with the lines that are left, is the whole, and these are the spaces of the next line
+pub record IsWritten (w : List Event) (i : ℕ) (spaces out : List ℕ) : Type 0 where
+  pub spaced : spaces ≡ spaces_for (length (path_after [] (take i w)))
   pub whole : out ++ lines_from (path_after [] (take i w)) (drop i w) ≡ dump_of w
 
-pub IsWritten-more : (w : List Event) (i depth new_depth : ℕ) (out more : List ℕ) (e : Event) → IsWritten w i depth out → slice_get w i ≡ Some e
-    → ((path : List Element) → length path ≡ depth → new_depth ≡ length (path_behind path e)) → more ≡ out ++ line_of depth e → IsWritten w (i + 1) new_depth more
-IsWritten-more w i depth new_depth out more e h at deep is =
+pub IsWritten-more : (w : List Event) (i : ℕ) (spaces new_spaces out more : List ℕ) (e : Event) → IsWritten w i spaces out → slice_get w i ≡ Some e
+    → ((path : List Element) → spaces ≡ spaces_for (length path) → new_spaces ≡ spaces_for (length (path_behind path e))) → ((depth : ℕ) → spaces ≡ spaces_for depth → more ≡ out ++ line_of depth e) → IsWritten w (i + 1) new_spaces more
+IsWritten-more w i spaces new_spaces out more e h at moved written =
     let path = path_after [] (take i w) in
     let behind : path_after [] (take (i + 1) w) ≡ path_behind path e = path_after-take w i e at in
-    let there : new_depth ≡ length (path_behind path e) = deep path (sym h.count) in
-    let line : lines_from path (drop i w) ≡ line_of depth e ++ lines_from (path_behind path e) (drop (i + 1) w) = rw h.count (lines_from-step path w i e at) in
+    let is : more ≡ out ++ line_of (length path) e = written (length path) h.spaced in
+    let line : lines_from path (drop i w) ≡ line_of (length path) e ++ lines_from (path_behind path e) (drop (i + 1) w) = lines_from-step path w i e at in
     record {
-      count = there ∙ sym (ap length behind);
-      most = omega (arith, there, (length-path_behind path e).0, h.count, h.most);
+      spaced = rw behind (moved path h.spaced);
       whole = rw (is, behind, append_assoc, ← line) h.whole;
     }

@@ -27,9 +27,13 @@ event_text (text s raw) = codes "text " ++ quoted s
 event_text (comment s) = codes "comment " ++ quoted s
 event_text (end n foreign) = []
 
--- two spaces for each open element, what the line says, and LF
+-- two spaces for each open element
+abbrev pub spaces_for : ℕ → List ℕ
+spaces_for depth = replicate (2 * depth) 32
+
+-- the spaces, what the line says, and LF
 abbrev pub whole_line : ℕ → List ℕ → List ℕ
-whole_line depth said = replicate (2 * depth) 32 ++ said ++ 10 ∷ []
+whole_line depth said = spaces_for depth ++ said ++ 10 ∷ []
 
 -- the line of an event under so many open elements; an end has none
 abbrev pub line_of : ℕ → Event → List ℕ

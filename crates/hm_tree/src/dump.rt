@@ -1,7 +1,7 @@
 //! A tree as lines of text.
-ghost use Rattle.std.specs.Prelude.{◌≡◌, ◌+◌, ◌*◌, ◌^◌, ◌<◌, ◌++◌, ◌∷◌, [], flat_map, List, length, replicate, string_bytes, encode_utf8, IfOk, OnOk};
+ghost use Rattle.std.specs.Prelude.{◌≡◌, ℕ, ◌<◌, ◌++◌, ◌∷◌, [], flat_map, List, length, string_bytes, IfOk, OnOk, MatchOption};
 ghost use Rattle.hm_base.specs.Walks.{Element, path_behind};
-ghost use Rattle.hm_tree.specs.Dump.{attribute_text, dump_of, event_text, line_of, quoted, quoted_byte};
+ghost use Rattle.hm_tree.specs.Dump.{attribute_text, dump_of, event_text, line_of, quoted, quoted_byte, spaces_for};
 ghost use Rattle.hm_tree.specs.Views.{event_of};
 
 use crate::{Attrs, EventView, Tree};
@@ -15,48 +15,41 @@ impl Tree {
         ensures { IfOk result (λ lines. string_bytes lines ≡ dump_of self.now) }
     {
         let mut out = String::new(alloc);
-        let mut depth: u32 = 0;
+        let mut spaces = String::new(alloc);
         for i in 0..self.len() {
             let event = self.event(i);
-            push_line(&mut out, depth, &event)?;
-            depth = depth_behind(depth, &event);
+            push_line(&mut out, spaces.as_str(), &event)?;
+            move_in(&mut spaces, &event)?;
         }
         Ok(out)
     }
 }
 
-// How many elements are open behind an event, where there were `depth` before it.
-fn depth_behind(depth: u32, event: &EventView<'_>) -> u32
-    requires { depth + 1 < 2 ^ 32 }
-    ensures { (path : List Element) → length path ≡ depth → result ≡ length (path_behind path (event_of event.now)) }
+// Two spaces more behind a start, and two fewer behind an end.
+fn move_in(spaces: &mut String, event: &EventView<'_>) -> Result<(), Memory>
+    ensures { OnOk result ((path : List Element) → string_bytes spaces.old ≡ spaces_for (length path) → string_bytes spaces.new ≡ spaces_for (length (path_behind path (event_of event.now)))) }
 {
     match event {
-        EventView::Start { .. } => depth + 1,
-        EventView::End { .. } => depth.saturating_sub(1),
-        _ => depth,
+        EventView::Start { .. } => spaces.push_str("  ")?,
+        EventView::End { .. } => {
+            spaces.pop();
+            spaces.pop();
+        }
+        _ => {}
     }
+    Ok(())
 }
 
-// The line of an event.
-fn push_line(out: &mut String, depth: u32, event: &EventView<'_>) -> Result<(), Memory>
-    ensures { OnOk result (string_bytes out.new ≡ string_bytes out.old ++ line_of depth (event_of event.now)) }
+// The line of an event, behind these spaces.
+fn push_line(out: &mut String, spaces: &str, event: &EventView<'_>) -> Result<(), Memory>
+    ensures { OnOk result ((depth : ℕ) → spaces.now ≡ spaces_for depth → string_bytes out.new ≡ string_bytes out.old ++ line_of depth (event_of event.now)) }
 {
     if let EventView::End { .. } = event {
         return Ok(());
     }
-    push_spaces(out, depth)?;
+    out.push_str(spaces)?;
     push_event(out, event)?;
     out.push('\n')?;
-    Ok(())
-}
-
-// Two spaces for each open element.
-fn push_spaces(out: &mut String, depth: u32) -> Result<(), Memory>
-    ensures { OnOk result (string_bytes out.new ≡ string_bytes out.old ++ replicate (2 * depth) 32) }
-{
-    for _i in 0..depth {
-        out.push_str("  ")?;
-    }
     Ok(())
 }
 
@@ -105,29 +98,35 @@ fn push_attribute(out: &mut String, name: &str, value: &str) -> Result<(), Memor
     Ok(())
 }
 
-// A text in quotes.
+// A text in quotes, copied in runs between the bytes that are escaped.
 fn push_quoted(out: &mut String, text: &str) -> Result<(), Memory>
     ensures { OnOk result (string_bytes out.new ≡ string_bytes out.old ++ quoted text.now) }
 {
     out.push('"')?;
-    for c in text.chars() {
-        push_quoted_char(out, c)?;
+    let bytes = text.as_bytes();
+    let mut from = 0;
+    for at in 0..bytes.len() {
+        if let Some(escape) = escape_of(bytes[at]) {
+            out.push_str(&text[from..at])?;
+            out.push_str(escape)?;
+            from = at + 1;
+        }
     }
+    out.push_str(&text[from..])?;
     out.push('"')?;
     Ok(())
 }
 
-// A character inside quotes.
-fn push_quoted_char(out: &mut String, c: char) -> Result<(), Memory>
-    ensures { OnOk result (string_bytes out.new ≡ string_bytes out.old ++ flat_map quoted_byte (encode_utf8 c)) }
+// What stands inside quotes for a byte that doesn't stand for itself.
+fn escape_of(byte: u8) -> Option<&'static str>
+    ensures { MatchOption result (quoted_byte byte ≡ byte ∷ []) (λ escape. (byte < 128) × (quoted_byte byte ≡ escape.now)) }
 {
-    match c {
-        '"' => out.push_str("\\\"")?,
-        '\\' => out.push_str("\\\\")?,
-        '\n' => out.push_str("\\n")?,
-        '\r' => out.push_str("\\r")?,
-        '\t' => out.push_str("\\t")?,
-        _ => out.push(c)?,
+    match byte {
+        b'"' => Some("\\\""),
+        b'\\' => Some("\\\\"),
+        b'\n' => Some("\\n"),
+        b'\r' => Some("\\r"),
+        b'\t' => Some("\\t"),
+        _ => None,
     }
-    Ok(())
 }

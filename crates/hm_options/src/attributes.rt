@@ -7,11 +7,12 @@ ghost use Rattle.hm_base.specs.Walks.{has_name};
 ghost use Rattle.hm_options.specs.Rewrites as rewrites;
 ghost use Rattle.hm_options.specs.Rules.{attribute_rule, attributes_rule};
 ghost use Rattle.hm_options.specs.Rules as specs_rules;
+ghost use Rattle.hm_tree.specs.Views.{attributes_shown};
 
 use crate::rules::Rule;
 use hm_base::{Memory, is_space};
 use hm_elements::{is_boolean, is_one_of, same_name};
-use hm_tree::Attrs;
+use hm_tree::{Attrs, AttrsView};
 use std::alloc::Global;
 
 // The attributes of an HTML element of this name, each rewritten or left out.
@@ -19,9 +20,9 @@ pub(crate) fn rewritten_attributes(
     alloc: Global,
     rule: Rule,
     element: &str,
-    attrs: &Attrs,
+    attrs: &AttrsView<'_>,
 ) -> Result<Attrs, Memory>
-    ensures { IfOk result (λ made. made ≡ attributes_rule rule element.now attrs.now) }
+    ensures { IfOk result (λ made. made ≡ attributes_rule rule element.now (attributes_shown attrs.now)) }
 {
     let mut made = Attrs::new(alloc);
     for i in 0..attrs.len() {

@@ -5,12 +5,12 @@ ghost use Rattle.hm_options.specs.Rewrites.{by};
 ghost use Rattle.hm_options.specs.Rules.{event_rule};
 ghost use Rattle.hm_space.specs.Copies.{are_texts_apart, may_follow};
 ghost use Rattle.hm_tree.specs.Trees.{HasRoom};
-ghost use Rattle.hm_tree.specs.Views.{event_of};
+ghost use Rattle.hm_tree.specs.Views.{event_of, attributes_shown};
 
 use crate::attributes::rewritten_attributes;
 use hm_base::Memory;
 use hm_space::{copied, put};
-use hm_tree::{Attrs, EventView, Maker, Tree};
+use hm_tree::{Attrs, AttrsView, EventView, Maker, Tree};
 use std::alloc::Global;
 
 // A rewrite that changes doctypes or the attributes of HTML elements.
@@ -73,10 +73,10 @@ fn attributes_by(
     rule: Rule,
     name: &str,
     foreign: bool,
-    attrs: &Attrs,
+    attrs: &AttrsView<'_>,
 ) -> Result<Attrs, Memory>
-    ensures becomes { IfOk result (λ made. event_rule rule [] None (start name.now foreign attrs.now) None ≡ start name.now foreign made ∷ []) }
-    ensures size { IfOk result (λ made. attributes_size made ≤ attributes_size attrs.now) }
+    ensures becomes { IfOk result (λ made. event_rule rule [] None (start name.now foreign (attributes_shown attrs.now)) None ≡ start name.now foreign made ∷ []) }
+    ensures size { IfOk result (λ made. attributes_size made ≤ attributes_size (attributes_shown attrs.now)) }
 {
     if foreign {
         return copied(alloc, attrs);

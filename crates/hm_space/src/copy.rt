@@ -2,10 +2,10 @@
 ghost use Rattle.std.specs.Prelude.{◌≡◌, [], ◌∷◌, ◌++◌, true, IfOk, OnOk};
 ghost use Rattle.hm_space.specs.Copies.{may_follow};
 ghost use Rattle.hm_tree.specs.Trees.{HasRoom};
-ghost use Rattle.hm_tree.specs.Views.{event_of};
+ghost use Rattle.hm_tree.specs.Views.{event_of, attributes_shown};
 
 use hm_base::Memory;
-use hm_tree::{Attrs, EventView, Maker};
+use hm_tree::{Attrs, AttrsView, EventView, Maker};
 use std::alloc::Global;
 
 /// Puts an event behind what a maker has.
@@ -28,8 +28,8 @@ pub fn put(alloc: Global, maker: &mut Maker, event: &EventView<'_>) -> Result<()
 }
 
 /// The same attributes once more.
-pub fn copied(alloc: Global, attrs: &Attrs) -> Result<Attrs, Memory>
-    ensures { IfOk result (λ made. made ≡ attrs.now) }
+pub fn copied(alloc: Global, attrs: &AttrsView<'_>) -> Result<Attrs, Memory>
+    ensures { IfOk result (λ made. made ≡ attributes_shown attrs.now) }
 {
     let mut made = Attrs::new(alloc);
     for i in 0..attrs.len() {

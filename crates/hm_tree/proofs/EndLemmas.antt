@@ -1,12 +1,16 @@
 -- The row of the innermost open start, and the row of its end.
-use Rattle.std.proofs.Common.{◌≡◌, ℕ, ◌+◌, ◌^◌, ◌<◌, Bool, List, [], ◌∷◌, ◌++◌, length, get_or, IsUtf8, Option, Some, sym, ap, ◌∙◌, refl, arith}
+use Rattle.std.proofs.Common.{◌≡◌, ℕ, ◌+◌, ◌^◌, ◌<◌, Bool, List, [], ◌∷◌, ◌++◌, length, get_or, IsUtf8, Some, sym, ap, ◌∙◌, refl, arith}
 use Rattle.std.proofs.lemmas.List.{append-nil}
+use Rattle.std.proofs.lemmas.List.Elements.{All-nil}
 use Rattle.std.proofs.lemmas.Option.{slice_get_within}
 use Rattle.std.proofs.lemmas.Str.{IsUtf8-nil, is_utf8-from_IsUtf8}
-use Rattle.hm_base.specs.Walks.{Event, start, end, Attribute, path_after, walk_size}
+use Rattle.hm_base.specs.Walks.{Event, start, end, path_after, walk_size}
 use Rattle.hm_tree.specs.Trees.{innermost, end_of}
-use Rattle.hm_tree.specs.Rows.{IsPiece, IsTable, bytes_of, event_at, events_of}
-use Rattle.hm_tree.specs.declared.rows.Piece.{Piece}
+use Rattle.hm_tree.specs.Pieces.{HasPieces, IsPiece, bytes_of}
+use Rattle.hm_tree.specs.Rows.{IsTable, event_at, events_of}
+use Rattle.hm_tree.specs.declared.pieces.AttributePieces.{AttributePieces}
+use Rattle.hm_tree.specs.declared.pieces.Piece.{Piece}
+use Rattle.hm_tree.specs.declared.rows.AttrsRange.{AttrsRange}
 use Rattle.hm_tree.specs.declared.rows.Part.{Part}
 use Rattle.hm_tree.specs.declared.rows.Part.TheVariants as parts
 use Rattle.hm_tree.specs.declared.rows.Row.{Row}
@@ -14,7 +18,7 @@ use Rattle.hm_tree.proofs.OpenLemmas.{IsInnermost, innermost-IsInnermost}
 use Rattle.hm_tree.proofs.PieceLemmas.{IsUtf8-bytes_of}
 use Rattle.hm_tree.proofs.TableLemmas.{IsTableOf, IsTableOf-push, row_within, part_event, part_inside}
 
-module _ (s : List ℕ) (lists : List (List Attribute)) (empty : List Attribute) (rows : List Row) (w : List Event) (view : events_of s lists rows ≡ w) (k : ℕ) (open_start : Some k ≡ innermost w) where
+module _ (s : List ℕ) (pieces : List AttributePieces) (rows : List Row) (w : List Event) (view : events_of s pieces rows ≡ w) (k : ℕ) (open_start : Some k ≡ innermost w) where
   around : IsInnermost w k
   around = innermost-IsInnermost w k open_start
 
@@ -23,16 +27,16 @@ module _ (s : List ℕ) (lists : List (List Attribute)) (empty : List Attribute)
 
   -- it has a row
   pub start_within : k < length rows
-  start_within = row_within s lists empty rows w view k within
+  start_within = row_within s pieces rows w view k within
 
-  module _ (table : IsTable s lists empty rows) (r : Row) (is : r ≡ get_or rows k r) where
-    same_event : (part : Part) → r.part ≡ part → event_at s lists part ≡ start around.element.name around.element.foreign around.start.attributes
+  module _ (table : IsTable s pieces rows) (r : Row) (is : r ≡ get_or rows k r) where
+    same_event : (part : Part) → r.part ≡ part → event_at s pieces part ≡ start around.element.name around.element.foreign around.start.attributes
     same_event part e =
-        let both : Some (event_at s lists part) ≡ Some (start around.element.name around.element.foreign around.start.attributes) =
-        sym (part_event s lists empty rows w view k within table r is part e) ∙ around.start.at in
+        let both : Some (event_at s pieces part) ≡ Some (start around.element.name around.element.foreign around.start.attributes) =
+        sym (part_event s pieces rows w view k within table r is part e) ∙ around.start.at in
         cc
 
-    by_part : (part : Part) → r.part ≡ part → ((name : Piece) (foreign : Bool) (attrs : Option ℕ) → r.part ≡ parts.Start name foreign attrs → ⊥) → ⊥
+    by_part : (part : Part) → r.part ≡ part → ((name : Piece) (foreign : Bool) (attrs : AttrsRange) → r.part ≡ parts.Start name foreign attrs → ⊥) → ⊥
     by_part (parts.Doctype legacy) e other = let h = same_event (parts.Doctype legacy) e in cc
     by_part (parts.Start name foreign attrs) e other = other name foreign attrs e
     by_part (parts.Text p raw) e other = let h = same_event (parts.Text p raw) e in cc
@@ -40,10 +44,10 @@ module _ (s : List ℕ) (lists : List (List Attribute)) (empty : List Attribute)
     by_part (parts.End name foreign) e other = let h = same_event (parts.End name foreign) e in cc
 
     -- which is that of a start
-    pub start_row : ((name : Piece) (foreign : Bool) (attrs : Option ℕ) → r.part ≡ parts.Start name foreign attrs → ⊥) → ⊥
+    pub start_row : ((name : Piece) (foreign : Bool) (attrs : AttrsRange) → r.part ≡ parts.Start name foreign attrs → ⊥) → ⊥
     start_row other = by_part r.part refl other
 
-    module _ (name : Piece) (foreign : Bool) (attrs : Option ℕ) (part : r.part ≡ parts.Start name foreign attrs) (utf8 : IsUtf8 s) (room : length w + 1 < 2 ^ 29) where
+    module _ (name : Piece) (foreign : Bool) (attrs : AttrsRange) (part : r.part ≡ parts.Start name foreign attrs) (utf8 : IsUtf8 s) (room : length w + 1 < 2 ^ 29) where
       names : bytes_of s name ≡ around.element.name
       names = let h = same_event (parts.Start name foreign attrs) part in cc
 
@@ -51,13 +55,13 @@ module _ (s : List ℕ) (lists : List (List Attribute)) (empty : List Attribute)
       flags = let h = same_event (parts.Start name foreign attrs) part in cc
 
       inside : IsPiece s name
-      inside = (part_inside s lists empty rows w view k within table r is (parts.Start name foreign attrs) part).0
+      inside = (part_inside s pieces rows w view k within table r is (parts.Start name foreign attrs) part).0
 
       -- the end of that element can be put behind the table
-      pub IsTableOf-end : IsTableOf s lists empty (rows ++ record { part = parts.End name foreign; parent = Some k } ∷ []) (w ++ end_of (path_after [] w))
+      pub IsTableOf-end : IsTableOf s pieces (rows ++ record { part = parts.End name foreign; parent = Some k } ∷ []) (w ++ end_of (path_after [] w))
       IsTableOf-end =
-          rw around.path (IsTableOf-push s [] s lists [] lists empty rows w (record { part = parts.End name foreign; parent = Some k }) (end around.element.name around.element.foreign)
-          (append-nil s) (append-nil lists) view table (record {
+          rw around.path (IsTableOf-push s [] s pieces [] pieces rows w (record { part = parts.End name foreign; parent = Some k }) (end around.element.name around.element.foreign)
+          (append-nil s) (append-nil pieces) view table (record {
             utf8 = IsUtf8-nil;
             event = rw (names, flags) refl;
             inside = inside;
@@ -67,5 +71,6 @@ module _ (s : List ℕ) (lists : List (List Attribute)) (empty : List Attribute)
             room = room;
             bytes = omega (arith, table.told.bytes, ap walk_size view);
             size = omega arith;
+            attributes = All-nil (HasPieces s);
             count = omega arith;
           }))

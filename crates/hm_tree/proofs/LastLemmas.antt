@@ -1,9 +1,11 @@
 -- The last row of a table, and the text that stands last.
 use Rattle.std.proofs.Common.{◌≡◌, ℕ, suc, ◌+◌, ◌^◌, ◌<◌, Bool, true, false, List, [], ◌∷◌, ◌++◌, length, take, drop, set, get_or, IsUtf8, sym, ap, subst, ◌∙◌, refl, arith}
 use Rattle.std.proofs.lemmas.List.{take_all, take_more, set_split, drop_all, map-append}
-use Rattle.hm_base.specs.Walks.{Event, text, Attribute, walk_size}
-use Rattle.hm_tree.specs.Rows.{IsTable, bytes_of, event_at, events_of, is_text, ends_in_text, with_more, extended}
-use Rattle.hm_tree.specs.declared.rows.Piece.{Piece}
+use Rattle.hm_base.specs.Walks.{Event, text, walk_size}
+use Rattle.hm_tree.specs.Pieces.{bytes_of}
+use Rattle.hm_tree.specs.Rows.{IsTable, event_at, events_of, is_text, ends_in_text, with_more, extended}
+use Rattle.hm_tree.specs.declared.pieces.AttributePieces.{AttributePieces}
+use Rattle.hm_tree.specs.declared.pieces.Piece.{Piece}
 use Rattle.hm_tree.specs.declared.rows.Part.{Part}
 use Rattle.hm_tree.specs.declared.rows.Part.TheVariants as parts
 use Rattle.hm_tree.specs.declared.rows.Row.{Row}
@@ -36,37 +38,37 @@ pub some_last : (w : List Event) → ends_in_text w ≡ true → 0 < length w
 some_last [] h = absurd (cc)
 some_last (e ∷ w) h = omega arith
 
-not_text : (s : List ℕ) (lists : List (List Attribute)) (part : Part) → ((p : Piece) (raw : Bool) → part ≡ parts.Text p raw → ⊥) → is_text (event_at s lists part) ≡ false
-not_text s lists (parts.Doctype legacy) other = refl
-not_text s lists (parts.Start name foreign attrs) other = refl
-not_text s lists (parts.Text p raw) other = absurd (other p raw refl)
-not_text s lists (parts.Comment p) other = refl
-not_text s lists (parts.End name foreign) other = refl
+not_text : (s : List ℕ) (pieces : List AttributePieces) (part : Part) → ((p : Piece) (raw : Bool) → part ≡ parts.Text p raw → ⊥) → is_text (event_at s pieces part) ≡ false
+not_text s pieces (parts.Doctype legacy) other = refl
+not_text s pieces (parts.Start name foreign attrs) other = refl
+not_text s pieces (parts.Text p raw) other = absurd (other p raw refl)
+not_text s pieces (parts.Comment p) other = refl
+not_text s pieces (parts.End name foreign) other = refl
 
-module _ (s : List ℕ) (lists : List (List Attribute)) (rows : List Row) (w : List Event) (view : events_of s lists rows ≡ w) (n : ℕ) (r : Row) (last : n + 1 ≡ length rows) (at : r ≡ get_or rows n r) where
-  split : w ≡ events_of s lists (take n rows) ++ event_at s lists r.part ∷ []
-  split = sym view ∙ ap (events_of s lists) (split_last rows n r last at) ∙ map-append (λ q. event_at s lists q.part) (take n rows) (r ∷ [])
+module _ (s : List ℕ) (pieces : List AttributePieces) (rows : List Row) (w : List Event) (view : events_of s pieces rows ≡ w) (n : ℕ) (r : Row) (last : n + 1 ≡ length rows) (at : r ≡ get_or rows n r) where
+  split : w ≡ events_of s pieces (take n rows) ++ event_at s pieces r.part ∷ []
+  split = sym view ∙ ap (events_of s pieces) (split_last rows n r last at) ∙ map-append (λ q. event_at s pieces q.part) (take n rows) (r ∷ [])
 
-  last_event : ends_in_text w ≡ is_text (event_at s lists r.part)
-  last_event = ap ends_in_text split ∙ ends_in_text-push (events_of s lists (take n rows)) (event_at s lists r.part)
+  last_event : ends_in_text w ≡ is_text (event_at s pieces r.part)
+  last_event = ap ends_in_text split ∙ ends_in_text-push (events_of s pieces (take n rows)) (event_at s pieces r.part)
 
   -- a text stands last exactly where the last row is one
   pub last_is_text : (p : Piece) (raw : Bool) → r.part ≡ parts.Text p raw → ends_in_text w ≡ true
-  last_is_text p raw is = last_event ∙ ap (λ part. is_text (event_at s lists part)) is
+  last_is_text p raw is = last_event ∙ ap (λ part. is_text (event_at s pieces part)) is
 
   pub last_is_other : ((p : Piece) (raw : Bool) → r.part ≡ parts.Text p raw → ⊥) → ends_in_text w ≡ false
-  last_is_other other = last_event ∙ not_text s lists r.part other
+  last_is_other other = last_event ∙ not_text s pieces r.part other
 
   -- the text that stands last can have more bytes
-  pub IsTableOf-extended : (more t : List ℕ) (empty : List Attribute) (p q : Piece) (raw : Bool) → s ++ more ≡ t → IsTable s lists empty rows → r.part ≡ parts.Text p raw → IsUtf8 more
-      → walk_size w + length more < 2 ^ 29 → q.from ≡ p.from → q.to ≡ length t → IsTableOf t lists empty (set rows n (longer r q raw)) (extended w more)
-  IsTableOf-extended more t empty p q raw bytes table is utf8 room from to =
+  pub IsTableOf-extended : (more t : List ℕ) (p q : Piece) (raw : Bool) → s ++ more ≡ t → IsTable s pieces rows → r.part ≡ parts.Text p raw → IsUtf8 more
+      → walk_size w + length more < 2 ^ 29 → q.from ≡ p.from → q.to ≡ length t → IsTableOf t pieces (set rows n (longer r q raw)) (extended w more)
+  IsTableOf-extended more t p q raw bytes table is utf8 room from to =
       let front = take n rows in
       let parts_of : rows ≡ front ++ r ∷ [] = split_last rows n r last at in
-      let whole : IsTable s lists empty (front ++ r ∷ []) = subst (IsTable s lists empty) parts_of table in
-      let fits : walk_size (events_of s lists (front ++ r ∷ [])) + length more < 2 ^ 29 = rw (← parts_of, view) room in
+      let whole : IsTable s pieces (front ++ r ∷ []) = subst (IsTable s pieces) parts_of table in
+      let fits : walk_size (events_of s pieces (front ++ r ∷ [])) + length more < 2 ^ 29 = rw (← parts_of, view) room in
       let end_at : q.to ≡ length (s ++ more) = rw bytes to in
-      let becomes : extended w more ≡ events_of s lists front ++ text (bytes_of s p ++ more) raw ∷ [] =
-      ap (λ v. extended v more) split ∙ extended-push (events_of s lists front) (event_at s lists r.part) more ∙ ap (λ part. events_of s lists front ++ with_more (event_at s lists part) more ∷ []) is in
+      let becomes : extended w more ≡ events_of s pieces front ++ text (bytes_of s p ++ more) raw ∷ [] =
+      ap (λ v. extended v more) split ∙ extended-push (events_of s pieces front) (event_at s pieces r.part) more ∙ ap (λ part. events_of s pieces front ++ with_more (event_at s pieces part) more ∷ []) is in
       rw (set_last rows n (longer r q raw) last, becomes, ← bytes)
-      (IsTable-longer s more lists empty front r p q raw whole is utf8 fits from end_at, events_of-longer s more lists empty front r p q raw whole is utf8 fits from end_at)
+      (IsTable-longer s more pieces front r p q raw whole is utf8 fits from end_at, events_of-longer s more pieces front r p q raw whole is utf8 fits from end_at)

@@ -7,6 +7,8 @@ pub mod ListLemmas
 pub mod OpenLemmas
 pub mod PieceLemmas
 pub mod RoomLemmas
+pub mod ShownLemmas
+pub mod StartLemmas
 pub mod TableLemmas
 pub mod TextLemmas
 pub mod WalkLemmas

@@ -3,8 +3,8 @@ use Rattle.std.proofs.Common.{◌≡◌, ℕ, ◌+◌, ◌-◌, ◌≤◌, List,
 use Rattle.std.proofs.lemmas.Bool.{cases_lt}
 use Rattle.std.proofs.lemmas.List.{get_or_append_left, drop-append-le, take-append-le, drop_at, take_all, take_rest}
 use Rattle.std.proofs.lemmas.Str.{IsCharBoundary-at_seam, IsCharBoundary-end, IsUtf8-between}
-use Rattle.hm_tree.specs.declared.rows.Piece.{Piece}
-use Rattle.hm_tree.specs.Rows.{IsPiece, bytes_of}
+use Rattle.hm_tree.specs.declared.pieces.Piece.{Piece}
+use Rattle.hm_tree.specs.Pieces.{IsPiece, bytes_of}
 
 boundary_stays : (s more : List ℕ) (i : ℕ) → IsUtf8 more → IsCharBoundary s i → IsCharBoundary (s ++ more) i
 boundary_stays s more i utf8 b = elim (cases_lt i (length s)) [

@@ -1,5 +1,5 @@
 -- Walks with one more event at their end.
-use Rattle.std.proofs.Common.{◌≡◌, ℕ, zero, suc, ◌+◌, ◌<◌, Bool, true, false, ◌&&◌, List, [], ◌∷◌, ◌++◌, length, take, slice_get, Some, ap, ◌∙◌, refl, arith}
+use Rattle.std.proofs.Common.{◌≡◌, ℕ, zero, suc, ◌+◌, ◌<◌, Bool, true, false, ◌&&◌, List, [], ◌∷◌, ◌++◌, length, take, slice_get, Some, sym, ap, ◌∙◌, refl, arith}
 use Rattle.std.proofs.lemmas.Bool.{and_parts, and_from}
 use Rattle.hm_base.specs.Walks.{Event, doctype, start, text, comment, end, Element, is_same_element, path_behind, path_after, ends_match, event_size, walk_size}
 use Rattle.hm_tree.specs.Trees.{is_sound, are_sound, open_behind, open_after}
@@ -52,3 +52,10 @@ are_sound-parts (x ∷ w) e all =
     let parts = and_parts (is_sound x) (are_sound (w ++ e ∷ [])) all in
     let rest = are_sound-parts w e parts.1 in
     (and_from (is_sound x) (are_sound w) parts.0 rest.0, rest.1)
+
+pub are_sound-at : (w : List Event) (i : ℕ) (e : Event) → are_sound w ≡ true → slice_get w i ≡ Some e → is_sound e ≡ true
+are_sound-at [] i e all at = absurd (cc)
+are_sound-at (x ∷ w) zero e all at =
+    let is : x ≡ e = cc in
+    ap is_sound (sym is) ∙ (and_parts (is_sound x) (are_sound w) all).0
+are_sound-at (x ∷ w) (suc i) e all at = are_sound-at w i e (and_parts (is_sound x) (are_sound w) all).1 at

@@ -1,5 +1,6 @@
 pub mod Attributes
 pub mod Dump
+pub mod Pieces
 pub mod Rows
 pub mod Tokens
 pub mod Trees

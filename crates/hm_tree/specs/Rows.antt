@@ -1,50 +1,37 @@
 -- How rows of a table stand for the events of a walk.
-use Rattle.std.specs.Prelude.{◌≡◌, ℕ, ◌+◌, ◌-◌, ◌<◌, ◌≤◌, List, [], ◌∷◌, length, take, drop, map, slice_index_or, slice_get, Option, Some, None, Bool, true, false, ◌++◌, IsCharBoundary}
-use Rattle.hm_base.specs.Walks.{Event, doctype, start, text, comment, end, Attribute, walk_size}
+use Rattle.std.specs.Prelude.{◌≡◌, ℕ, ◌+◌, ◌≤◌, List, [], ◌∷◌, length, map, slice_range, slice_get, All, Option, Bool, true, false, ◌++◌}
+use Rattle.hm_base.specs.Walks.{Event, doctype, start, text, comment, end, walk_size}
 use Rattle.hm_tree.specs.Trees.{IsTold, open_behind}
-use Rattle.hm_tree.specs.declared.rows.Piece.{Piece}
+use Rattle.hm_tree.specs.Pieces.{HasPieces, IsPiece, attributes_in, bytes_of}
+use Rattle.hm_tree.specs.declared.pieces.AttributePieces.{AttributePieces}
+use Rattle.hm_tree.specs.declared.rows.AttrsRange.{AttrsRange}
 use Rattle.hm_tree.specs.declared.rows.Part.{Part}
 use Rattle.hm_tree.specs.declared.rows.Part.TheVariants as parts
 use Rattle.hm_tree.specs.declared.rows.Row.{Row}
 
--- the bytes of a piece of the text
-abbrev pub bytes_of : List ℕ → Piece → List ℕ
-bytes_of s p = take (p.to - p.from) (drop p.from s)
-
--- the attributes at an index, or none
-abbrev pub attributes_at : List (List Attribute) → Option ℕ → List Attribute
-attributes_at lists None = []
-attributes_at lists (Some k) = slice_index_or lists k []
-
 -- the event that a row stands for
-abbrev pub event_at : List ℕ → List (List Attribute) → Part → Event
-event_at s lists (parts.Doctype legacy) = doctype legacy
-event_at s lists (parts.Start name foreign attrs) = start (bytes_of s name) foreign (attributes_at lists attrs)
-event_at s lists (parts.Text p raw) = text (bytes_of s p) raw
-event_at s lists (parts.Comment p) = comment (bytes_of s p)
-event_at s lists (parts.End name foreign) = end (bytes_of s name) foreign
+abbrev pub event_at : List ℕ → List AttributePieces → Part → Event
+event_at s pieces (parts.Doctype legacy) = doctype legacy
+event_at s pieces (parts.Start name foreign attrs) = start (bytes_of s name) foreign (attributes_in s (slice_range pieces attrs.from attrs.to))
+event_at s pieces (parts.Text p raw) = text (bytes_of s p) raw
+event_at s pieces (parts.Comment p) = comment (bytes_of s p)
+event_at s pieces (parts.End name foreign) = end (bytes_of s name) foreign
 
-abbrev pub events_of : List ℕ → List (List Attribute) → List Row → List Event
-events_of s lists rows = map (λ r. event_at s lists r.part) rows
+abbrev pub events_of : List ℕ → List AttributePieces → List Row → List Event
+events_of s pieces rows = map (λ r. event_at s pieces r.part) rows
 
 -- the parent of each event: the innermost start that is open before it
 abbrev pub parents_from : List ℕ → ℕ → List Event → List (Option ℕ)
 parents_from open_starts i [] = []
 parents_from open_starts i (e ∷ w) = slice_get open_starts 0 ∷ parents_from (open_behind open_starts i e) (i + 1) w
 
--- a piece can be cut out of the text
-pub record IsPiece (s : List ℕ) (p : Piece) : Type 0 where
-  pub ordered : p.from ≤ p.to
-  pub from_boundary : IsCharBoundary s p.from
-  pub to_boundary : IsCharBoundary s p.to
-
-abbrev pub IsBelow : ℕ → Option ℕ → Type 0
-IsBelow n None = Unit {0}
-IsBelow n (Some k) = k < n
+-- the indices of some of n attributes
+abbrev pub IsRange : ℕ → AttrsRange → Type 0
+IsRange n attrs = (attrs.from ≤ attrs.to) × (attrs.to ≤ n)
 
 abbrev pub IsInside : List ℕ → ℕ → Part → Type 0
 IsInside s n (parts.Doctype legacy) = Unit {0}
-IsInside s n (parts.Start name foreign attrs) = IsPiece s name × IsBelow n attrs
+IsInside s n (parts.Start name foreign attrs) = IsPiece s name × IsRange n attrs
 IsInside s n (parts.Text p raw) = IsPiece s p
 IsInside s n (parts.Comment p) = IsPiece s p
 IsInside s n (parts.End name foreign) = IsPiece s name
@@ -68,19 +55,14 @@ LastReachesEnd s (r ∷ []) = ReachesEnd s r.part
 LastReachesEnd s (r ∷ q ∷ rows) = LastReachesEnd s (q ∷ rows)
 
 -- a table of rows, with the bytes and the attributes that they point into
-pub record IsTable (s : List ℕ) (lists : List (List Attribute)) (empty : List Attribute) (rows : List Row) : Type 0 where
-  pub inside : AreInside s (length lists) rows
-  pub parents : map (λ r. r.parent) rows ≡ parents_from [] 0 (events_of s lists rows)
+pub record IsTable (s : List ℕ) (pieces : List AttributePieces) (rows : List Row) : Type 0 where
+  pub inside : AreInside s (length pieces) rows
+  pub attributes : All (HasPieces s) pieces
+  pub parents : map (λ r. r.parent) rows ≡ parents_from [] 0 (events_of s pieces rows)
   pub last : LastReachesEnd s rows
-  pub told : IsTold (events_of s lists rows)
-  pub size : length s ≤ walk_size (events_of s lists rows)
-  pub count : length lists ≤ length rows
-  pub none : empty ≡ []
-
--- attributes are put behind the lists, where there are some, and found again
-abbrev pub IsKept : List (List Attribute) → List Attribute → Option ℕ → List (List Attribute) → Type 0
-IsKept old attributes None new = (attributes ≡ []) × (new ≡ old)
-IsKept old attributes (Some k) new = (k ≡ length old) × (new ≡ old ++ attributes ∷ [])
+  pub told : IsTold (events_of s pieces rows)
+  pub size : length s ≤ walk_size (events_of s pieces rows)
+  pub count : length pieces ≤ walk_size (events_of s pieces rows) + length rows
 
 abbrev pub is_text : Event → Bool
 is_text (doctype legacy) = false

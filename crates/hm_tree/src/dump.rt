@@ -2,9 +2,9 @@
 ghost use Rattle.std.specs.Prelude.{◌≡◌, ℕ, ◌<◌, ◌++◌, ◌∷◌, [], flat_map, List, length, string_bytes, IfOk, OnOk, MatchOption};
 ghost use Rattle.hm_base.specs.Walks.{Element, path_behind};
 ghost use Rattle.hm_tree.specs.Dump.{attribute_text, dump_of, event_text, line_of, quoted, quoted_byte, spaces_for};
-ghost use Rattle.hm_tree.specs.Views.{event_of};
+ghost use Rattle.hm_tree.specs.Views.{event_of, attributes_shown};
 
-use crate::{Attrs, EventView, Tree};
+use crate::{AttrsView, EventView, Tree};
 use hm_base::Memory;
 use std::alloc::Global;
 
@@ -78,8 +78,8 @@ fn push_event(out: &mut String, event: &EventView<'_>) -> Result<(), Memory>
     Ok(())
 }
 
-fn push_attributes(out: &mut String, attrs: &Attrs) -> Result<(), Memory>
-    ensures { OnOk result (string_bytes out.new ≡ string_bytes out.old ++ flat_map attribute_text attrs.now) }
+fn push_attributes(out: &mut String, attrs: &AttrsView<'_>) -> Result<(), Memory>
+    ensures { OnOk result (string_bytes out.new ≡ string_bytes out.old ++ flat_map attribute_text (attributes_shown attrs.now)) }
 {
     for i in 0..attrs.len() {
         let (name, value) = attrs.at(i);

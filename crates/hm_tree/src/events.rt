@@ -1,9 +1,9 @@
 //! Events as a tree shows them.
 ghost use Rattle.std.specs.Prelude.{◌≡◌, ◌↔◌, IsTrue};
 ghost use Rattle.hm_base.specs.Walks as walks;
-ghost use Rattle.hm_tree.specs.Views.{event_of};
+ghost use Rattle.hm_tree.specs.Views.{event_of, attributes_shown};
 
-use crate::Attrs;
+use crate::AttrsView;
 
 /// One event of a tree. A void element is a start directly before its end.
 #[derive(Clone, Copy, Debug)]
@@ -14,7 +14,7 @@ pub enum EventView<'t> {
     Start {
         name: &'t str,
         foreign: bool,
-        attrs: &'t Attrs,
+        attrs: AttrsView<'t>,
     },
     Text {
         text: &'t str,
@@ -56,8 +56,8 @@ impl EventView<'_> {
         }
     }
 
-    fn is_start(&self, name: &str, foreign: bool, attrs: &Attrs) -> bool
-        ensures { IsTrue result ↔ (event_of self.now ≡ walks.start name.now foreign attrs.now) }
+    fn is_start(&self, name: &str, foreign: bool, attrs: &AttrsView<'_>) -> bool
+        ensures { IsTrue result ↔ (event_of self.now ≡ walks.start name.now foreign (attributes_shown attrs.now)) }
     {
         match self {
             EventView::Start {

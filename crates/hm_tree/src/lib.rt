@@ -2,14 +2,17 @@
 #![tactic(auto)]
 
 mod attrs;
+mod attrs_view;
 mod dump;
 mod events;
 mod maker;
+mod pieces;
 mod rows;
 mod tokens;
 mod tree;
 
 pub use attrs::Attrs;
+pub use attrs_view::AttrsView;
 pub use events::EventView;
 pub use maker::Maker;
 pub use tokens::{ScanFault, Spanned, Token};

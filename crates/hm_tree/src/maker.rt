@@ -69,7 +69,7 @@ impl Maker {
         ensures err { OnErr result (self.new ≡ self.old) }
     {
         let start = self.rows.len();
-        self.rows.push_start(name, foreign, attrs, self.parent)?;
+        self.rows.push_start(name, foreign, &attrs, self.parent)?;
         self.parent = Some(start);
         self.depth += 1;
         Ok(())

@@ -1,25 +1,26 @@
 //! The events of a walk in a table: a row for each event, and all texts one behind the other.
-ghost use Rattle.std.specs.Prelude.{◌≡◌, ◌+◌, ◌*◌, ◌^◌, ◌<◌, ◌≤◌, [], ◌∷◌, ◌++◌, length, slice_get, string_bytes, string_len, string_capacity, true, Some, None, IfOk, OnOk, OnErr};
+ghost use Rattle.std.specs.Prelude.{◌≡◌, ◌+◌, ◌^◌, ◌<◌, ◌≤◌, [], ◌∷◌, ◌++◌, length, slice_get, slice_range, string_bytes, string_len, string_capacity, vec_len, vec_capacity, true, Some, OnOk, OnErr};
 ghost use Rattle.hm_base.specs.Walks as walks;
-ghost use Rattle.hm_base.specs.Walks.{start, end, doctype, comment, event_size, path_after, walk_size, with_text, has_distinct_names};
-ghost use Rattle.hm_tree.specs.Attributes.{are_texts};
-ghost use Rattle.hm_tree.specs.Rows.{IsBelow, IsKept, IsPiece, attributes_at, bytes_of, ends_in_text, extended};
+ghost use Rattle.hm_base.specs.Walks.{start, end, doctype, comment, event_size, path_after, walk_size, with_text, attributes_size};
+ghost use Rattle.hm_tree.specs.Pieces.{IsAppended};
+ghost use Rattle.hm_tree.specs.Rows.{IsRange, ends_in_text, extended};
 ghost use Rattle.hm_tree.specs.Trees.{IsTold, end_of, innermost, last_agrees, parent_of};
 ghost use Rattle.hm_tree.specs.Views.{event_of};
 
-use crate::{Attrs, EventView};
+use crate::pieces::{AttributePieces, Piece, cut};
+use crate::{Attrs, AttrsView, EventView};
 use hm_base::Memory;
 use std::alloc::Global;
 use std::marker::Model;
 
-// The bytes of a text from one place up to another.
+// Some of the attributes of a table, from one index up to another.
 #[derive(Clone, Copy, Debug)]
-struct Piece {
+struct AttrsRange {
     from: u32,
     to: u32,
 }
 
-// An event, with pieces of the table's text, and for a start the index of its attributes where it has some.
+// An event, with pieces of the table's text, and for a start the indices of its attributes.
 #[derive(Clone, Copy, Debug)]
 enum Part {
     Doctype {
@@ -28,7 +29,7 @@ enum Part {
     Start {
         name: Piece,
         foreign: bool,
-        attrs: Option<u32>,
+        attrs: AttrsRange,
     },
     Text {
         text: Piece,
@@ -54,8 +55,7 @@ struct Row {
 #[derive(Debug, Drop)]
 pub(crate) struct Rows {
     text: String,
-    lists: Vec<Attrs>,
-    none: Attrs,
+    attributes: Vec<AttributePieces>,
     rows: Vec<Row>,
 }
 
@@ -67,9 +67,9 @@ impl Model for Rows {
 
     ghost use Rattle.hm_tree.specs.Rows.{events_of, IsTable};
 
-    ghost view = { λ r. events_of (string_bytes r.text) r.lists.items r.rows.items };
+    ghost view = { λ r. events_of (string_bytes r.text) r.attributes.items r.rows.items };
 
-    ghost invariant = { λ r. IsTable (string_bytes r.text) r.lists.items r.none r.rows.items };
+    ghost invariant = { λ r. IsTable (string_bytes r.text) r.attributes.items r.rows.items };
 }
 
 impl Rows {
@@ -78,8 +78,7 @@ impl Rows {
     {
         Rows {
             text: String::new(alloc),
-            lists: Vec::new(alloc),
-            none: Attrs::new(alloc),
+            attributes: Vec::new(alloc),
             rows: Vec::new(alloc),
         }
     }
@@ -105,7 +104,10 @@ impl Rows {
             } => EventView::Start {
                 name: cut(self.text.as_str(), name),
                 foreign,
-                attrs: list_at(self.lists.as_slice(), &self.none, attrs),
+                attrs: AttrsView::of(
+                    self.text.as_str(),
+                    part_of(self.attributes.as_slice(), attrs),
+                ),
             },
             Part::Text { text, raw } => EventView::Text {
                 text: cut(self.text.as_str(), text),
@@ -143,19 +145,20 @@ impl Rows {
         &mut self,
         name: &str,
         foreign: bool,
-        attrs: Attrs,
+        attrs: &Attrs,
         parent: Option<u32>,
     ) -> Result<(), Memory>
         requires room { length self.old + 1 < 2 ^ 29 }
-        requires bytes { walk_size self.old + event_size (start name.now foreign attrs) < 2 ^ 29 }
+        requires bytes { walk_size self.old + event_size (start name.now foreign attrs.now) < 2 ^ 29 }
         requires parent { parent ≡ innermost self.old }
-        ensures ok { OnOk result (self.new ≡ self.old ++ start name.now foreign attrs ∷ []) }
+        ensures ok { OnOk result (self.new ≡ self.old ++ start name.now foreign attrs.now ∷ []) }
         ensures err { OnErr result (self.new ≡ self.old) }
     {
         self.rows.reserve(1)?;
-        self.text.reserve(name.len())?;
-        let attrs = keep(&mut self.lists, attrs)?;
+        self.attributes.reserve(attrs.len() as usize)?;
+        self.text.reserve(name.len() + text_len(attrs))?;
         let name = append(&mut self.text, name);
+        let attrs = append_attributes(&mut self.text, &mut self.attributes, attrs);
         let part = Part::Start {
             name,
             foreign,
@@ -278,46 +281,58 @@ impl Rows {
     }
 }
 
-// The bytes of a piece.
-fn cut(text: &str, piece: Piece) -> &str
-    requires { IsPiece text.now piece }
-    ensures { result.now ≡ bytes_of text.now piece }
+// Some of the attributes.
+fn part_of(attributes: &[AttributePieces], attrs: AttrsRange) -> &[AttributePieces]
+    requires { IsRange (length attributes.now) attrs }
+    ensures { result.now ≡ slice_range attributes.now attrs.from attrs.to }
 {
-    &text[piece.from as usize..piece.to as usize]
+    &attributes[attrs.from as usize..attrs.to as usize]
 }
 
-// The attributes at an index, or none.
-fn list_at<'t>(lists: &'t [Attrs], none: &'t Attrs, attrs: Option<u32>) -> &'t Attrs
-    requires within { IsBelow (length lists.now) attrs }
-    requires none { none.now ≡ [] }
-    ensures { result.now ≡ attributes_at lists.now attrs }
+// The bytes of names and values.
+fn text_len(attrs: &Attrs) -> usize
+    requires { attributes_size attrs.now < 2 ^ 32 }
+    ensures { result ≡ attributes_size attrs.now }
 {
-    match attrs {
-        Some(k) => &lists[k as usize],
-        None => none,
+    let mut len = 0;
+    for i in 0..attrs.len() {
+        let (name, value) = attrs.at(i);
+        len += name.len() + value.len();
     }
+    len
 }
 
-// Keeps the attributes, where there are some.
-fn keep(lists: &mut Vec<Attrs>, attrs: Attrs) -> Result<Option<u32>, Memory>
-    requires { length lists.old.items < 2 ^ 32 }
-    ensures kept { IfOk result (λ k. IsKept lists.old.items attrs k lists.new.items) }
-    ensures err { OnErr result (lists.new.items ≡ lists.old.items) }
-    ensures texts { are_texts attrs ≡ true }
-    ensures distinct { has_distinct_names attrs ≡ true }
+// Appends attributes for which there is room, and says where.
+fn append_attributes(
+    text: &mut String,
+    attributes: &mut Vec<AttributePieces>,
+    attrs: &Attrs,
+) -> AttrsRange
+    requires room { string_len text.old + attributes_size attrs.now ≤ string_capacity text.old }
+    requires places { length (string_bytes text.old) + attributes_size attrs.now < 2 ^ 32 }
+    requires rows { vec_len attributes.old + length attrs.now ≤ vec_capacity attributes.old }
+    requires indices { length attributes.old.items + length attrs.now < 2 ^ 32 }
+    ensures appended { IsAppended (string_bytes text.old) attributes.old.items attrs.now (string_bytes text.new) attributes.new.items }
+    ensures from { result.from ≡ length attributes.old.items }
+    ensures to { result.to ≡ length attributes.new.items }
 {
-    if attrs.len() == 0 {
-        return Ok(None);
+    let from = attributes.len() as u32;
+    for i in 0..attrs.len() {
+        let (name, value) = attrs.at(i);
+        let name = append(text, name);
+        let value = append(text, value);
+        attributes.push(AttributePieces { name, value }).unwrap();
     }
-    let k = lists.len() as u32;
-    lists.push(attrs)?;
-    Ok(Some(k))
+    let to = attributes.len() as u32;
+    AttrsRange { from, to }
 }
 
 // Appends a text for which there is room.
 fn append(text: &mut String, more: &str) -> Piece
     requires room { string_len text.old + length more.now ≤ string_capacity text.old }
     requires places { length (string_bytes text.old) + length more.now < 2 ^ 32 }
+    ensures room { string_capacity text.old ≤ string_capacity text.new }
+    ensures len { string_len text.new ≡ string_len text.old + length more.now }
     ensures bytes { string_bytes text.new ≡ string_bytes text.old ++ more.now }
     ensures from { result.from ≡ length (string_bytes text.old) }
     ensures to { result.to ≡ length (string_bytes text.old) + length more.now }

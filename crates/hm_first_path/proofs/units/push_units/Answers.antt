@@ -5,6 +5,7 @@ use Rattle.hm_first_path.specs.Units.{first_units, is_of_frame}
 use Rattle.hm_first_path.specs.Page.{begins_text}
 use Rattle.hm_first_path.proofs.Answering.{on_ok}
 use Rattle.hm_first_path.proofs.UnitSteps.{one_unit, text_units, comment_units}
+use Rattle.hm_tree.specs.Views.{attributes_shown}
 use Rattle.hm_first_path.proofs.units.push_units.Goals as goal
 
 pub returns-in-Doctype : goal.returns-in-Doctype
@@ -13,7 +14,7 @@ returns-in-Doctype c =
 
 pub returns-in-Start : goal.returns-in-Start
 returns-in-Start c =
-    let e = start c.in-Start.name.now c.in-Start.foreign c.in-Start.attrs.now in
+    let e = start c.in-Start.name.now c.in-Start.foreign (attributes_shown c.in-Start.attrs) in
     let unit = Start c.tag_of-tag.result c.is_of_frame-omits.result in
     let first : first_units (e ∷ drop (c.args.i + 1) c.args.tree.now) ≡ unit ∷ first_units (drop (c.args.i + 1) c.args.tree.now) =
     (λ j. Start (sym c.tag_of-tag.ensures j) ((ap is_of_frame (sym c.tag_of-tag.ensures) ∙ sym c.is_of_frame-omits.ensures) j) ∷ first_units (drop (c.args.i + 1) c.args.tree.now)) in

@@ -11,7 +11,7 @@ returns-in-Text c =
     let at : slice_get rows n ≡ Some c.in-Some.row.now = rw c.deref.ensures.value at (sym c.in-Some.ensures.value) in
     let within = slice_get_within rows n c.in-Some.row.now at in
     let last : n + 1 ≡ length rows = omega (arith, within) in
-    sym (last_is_text (string_bytes c.self.inside.text) c.self.inside.lists.items rows c.args.self.now c.self.view_is n c.in-Some.row.now last
+    sym (last_is_text (string_bytes c.self.inside.text) c.self.inside.attributes.items rows c.args.self.now c.self.view_is n c.in-Some.row.now last
     (sym (get_or_from_slice_get rows n c.in-Some.row.now c.in-Some.row.now at)) c.in-Text.text c.in-Text.raw c.in-Text.is)
 
 pub returns-in_default : goal.returns-in_default
@@ -21,5 +21,5 @@ returns-in_default c =
     let at : slice_get rows n ≡ Some c.in-Some.row.now = rw c.deref.ensures.value at (sym c.in-Some.ensures.value) in
     let within = slice_get_within rows n c.in-Some.row.now at in
     let last : n + 1 ≡ length rows = omega (arith, within) in
-    sym (last_is_other (string_bytes c.self.inside.text) c.self.inside.lists.items rows c.args.self.now c.self.view_is n c.in-Some.row.now last
+    sym (last_is_other (string_bytes c.self.inside.text) c.self.inside.attributes.items rows c.args.self.now c.self.view_is n c.in-Some.row.now last
     (sym (get_or_from_slice_get rows n c.in-Some.row.now c.in-Some.row.now at)) c.in_default.not-Text)

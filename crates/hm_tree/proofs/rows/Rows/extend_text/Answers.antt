@@ -11,21 +11,21 @@ unreachable-requires c =
     let rows = c.self.inside.rows.items in
     let some = some_last c.args.self.now c.requires.ends in
     let last : (c.len-last.result - 1) + 1 ≡ length rows =
-    omega (arith, some, ap length c.self.view_is, length-map rows (λ r. event_at (string_bytes c.self.inside.text) c.self.inside.lists.items r.part), c.len-last.ensures, c.self.inside.rows.ok.0) in
-    let other = last_is_other (string_bytes c.self.inside.text) c.self.inside.lists.items rows c.args.self.now c.self.view_is (c.len-last.result - 1) c.index-row.result.now last c.index-row.ensures c.in_default.not-Text in
+    omega (arith, some, ap length c.self.view_is, length-map rows (λ r. event_at (string_bytes c.self.inside.text) c.self.inside.attributes.items r.part), c.len-last.ensures, c.self.inside.rows.ok.0) in
+    let other = last_is_other (string_bytes c.self.inside.text) c.self.inside.attributes.items rows c.args.self.now c.self.view_is (c.len-last.result - 1) c.index-row.result.now last c.index-row.ensures c.in_default.not-Text in
     false≢true (sym other ∙ c.requires.ends)
 
 extends : (c : goal.After-self-1)
-    → IsTableOf (string_bytes c.push_str.new.self) c.self.inside.lists.items c.self.inside.none
+    → IsTableOf (string_bytes c.push_str.new.self) c.self.inside.attributes.items
     (set c.self.inside.rows.items (c.len-last.result - 1) (longer c.index-row.result.now (record { from = c.in-Text.text.from; to = c.len.result }) c.in-Text.raw)) (extended c.args.self.now c.args.more.now)
 extends c =
     let rows = c.self.inside.rows.items in
     let some = some_last c.args.self.now c.requires.ends in
     let last : (c.len-last.result - 1) + 1 ≡ length rows =
-    omega (arith, some, ap length c.self.view_is, length-map rows (λ r. event_at (string_bytes c.self.inside.text) c.self.inside.lists.items r.part), c.len-last.ensures, c.self.inside.rows.ok.0) in
+    omega (arith, some, ap length c.self.view_is, length-map rows (λ r. event_at (string_bytes c.self.inside.text) c.self.inside.attributes.items r.part), c.len-last.ensures, c.self.inside.rows.ok.0) in
     let to : c.len.result ≡ length (string_bytes c.push_str.new.self) = search rules in
-    IsTableOf-extended (string_bytes c.self.inside.text) c.self.inside.lists.items rows c.args.self.now c.self.view_is (c.len-last.result - 1) c.index-row.result.now last c.index-row.ensures
-    c.args.more.now (string_bytes c.push_str.new.self) c.self.inside.none c.in-Text.text (record { from = c.in-Text.text.from; to = c.len.result }) c.in-Text.raw
+    IsTableOf-extended (string_bytes c.self.inside.text) c.self.inside.attributes.items rows c.args.self.now c.self.view_is (c.len-last.result - 1) c.index-row.result.now last c.index-row.ensures
+    c.args.more.now (string_bytes c.push_str.new.self) c.in-Text.text (record { from = c.in-Text.text.from; to = c.len.result }) c.in-Text.raw
     (sym c.in_ok-push_str.ensures.bytes) c.self.invariant c.in-Text.is c.utf8.more c.requires.bytes refl to
 
 pub invariant_of-self-2 : goal.invariant_of-self-2

@@ -8,16 +8,16 @@ use Rattle.hm_tree.proofs.TableLemmas.{IsTableOf}
 use Rattle.hm_tree.proofs.rows.Rows.push_end.Goals as goal
 
 pub index-row-requires : goal.index-row-requires
-index-row-requires c = omega (arith, start_within (string_bytes c.self.inside.text) c.self.inside.lists.items c.self.inside.none c.self.inside.rows.items c.args.self.now c.self.view_is c.args.start c.requires.parent)
+index-row-requires c = omega (arith, start_within (string_bytes c.self.inside.text) c.self.inside.attributes.items c.self.inside.rows.items c.args.self.now c.self.view_is c.args.start c.requires.parent)
 
 pub unreachable-requires : goal.unreachable-requires
-unreachable-requires c = start_row (string_bytes c.self.inside.text) c.self.inside.lists.items c.self.inside.none c.self.inside.rows.items c.args.self.now c.self.view_is c.args.start c.requires.parent c.self.invariant c.index-row.result.now c.index-row.ensures c.in_default.not-Start
+unreachable-requires c = start_row (string_bytes c.self.inside.text) c.self.inside.attributes.items c.self.inside.rows.items c.args.self.now c.self.view_is c.args.start c.requires.parent c.self.invariant c.index-row.result.now c.index-row.ensures c.in_default.not-Start
 
 pushed : (c : goal.In_ok-push)
-    → IsTableOf (string_bytes c.self.inside.text) c.self.inside.lists.items c.self.inside.none
+    → IsTableOf (string_bytes c.self.inside.text) c.self.inside.attributes.items
     (c.self.inside.rows.items ++ record { part = End c.in-Start.name c.in-Start.foreign; parent = Some c.args.start } ∷ []) (c.args.self.now ++ end_of (path_after [] c.args.self.now))
 pushed c =
-    IsTableOf-end (string_bytes c.self.inside.text) c.self.inside.lists.items c.self.inside.none c.self.inside.rows.items c.args.self.now c.self.view_is c.args.start c.requires.parent c.self.invariant c.index-row.result.now c.index-row.ensures
+    IsTableOf-end (string_bytes c.self.inside.text) c.self.inside.attributes.items c.self.inside.rows.items c.args.self.now c.self.view_is c.args.start c.requires.parent c.self.invariant c.index-row.result.now c.index-row.ensures
     c.in-Start.name c.in-Start.foreign c.in-Start.attrs c.in-Start.is (IsUtf8-string_bytes c.self.inside.text) c.requires.room
 
 pub invariant_of-self-2 : goal.invariant_of-self-2

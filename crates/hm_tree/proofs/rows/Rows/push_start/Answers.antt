@@ -1,45 +1,34 @@
-use Rattle.std.proofs.Common.{◌≡◌, ◌+◌, ◌++◌, [], ◌∷◌, ◌&&◌, length, string_bytes, refl, ap, sym, ◌∙◌, arith}
-use Rattle.std.proofs.lemmas.Bool.{and_from}
-use Rattle.std.proofs.lemmas.Str.{is_utf8-from_IsUtf8}
-use Rattle.std.specs.Str.{is_utf8}
-use Rattle.hm_base.specs.Walks.{start, has_distinct_names}
-use Rattle.hm_tree.specs.Attributes.{are_texts}
-use Rattle.hm_tree.specs.Rows.{IsKept}
+use Rattle.std.proofs.Common.{◌≡◌, ◌+◌, ◌++◌, [], ◌∷◌, length, string_bytes, subst, ap, ◌∙◌, arith}
+use Rattle.hm_base.specs.Walks.{start}
+use Rattle.hm_tree.specs.Pieces.{IsAppended}
 use Rattle.hm_tree.specs.declared.rows.Part.TheVariants.{Start}
-use Rattle.hm_tree.proofs.PieceLemmas.{IsPiece-new, bytes_of-new}
-use Rattle.hm_tree.proofs.TableLemmas.{IsKept-append, IsKept-at, IsKept-below, IsTableOf, IsTableOf-push, extra_of, extra_of-one}
+use Rattle.hm_tree.proofs.ShownLemmas.{few_attributes}
+use Rattle.hm_tree.proofs.StartLemmas.{IsTableOf-start}
+use Rattle.hm_tree.proofs.TableLemmas.{IsTableOf, row_count}
 use Rattle.hm_tree.proofs.rows.Rows.push_start.Goals as goal
 
+pub append_attributes-attrs-requires-clause-indices : goal.append_attributes-attrs-requires-clause-indices
+append_attributes-attrs-requires-clause-indices c =
+    omega (arith, ap length c.reserve-2.ensures.items, row_count c.self.invariant, few_attributes c.args.attrs.now c.len.ensures.distinct, c.requires.bytes)
+
 pushed : (c : goal.After-unwrap)
-    → IsTableOf (string_bytes c.append-name.new.text) c.keep.new.lists.items c.self.inside.none
-    (c.self.inside.rows.items ++ record { part = Start c.append-name.result c.args.foreign c.in_ok-attrs.attrs; parent = c.args.parent } ∷ []) (c.args.self.now ++ start c.args.name.now c.args.foreign c.args.attrs ∷ [])
+    → IsTableOf (string_bytes c.append_attributes-attrs.new.text) c.append_attributes-attrs.new.attributes.items
+    (c.self.inside.rows.items ++ record { part = Start c.append-name.result c.args.foreign c.append_attributes-attrs.result; parent = c.args.parent } ∷ []) (c.args.self.now ++ start c.args.name.now c.args.foreign c.args.attrs.now ∷ [])
 pushed c =
     let s = string_bytes c.self.inside.text in
-    let lists = c.self.inside.lists.items in
-    let new = c.keep.new.lists.items in
-    let k = c.in_ok-attrs.attrs in
-    let kept : IsKept lists c.args.attrs k new = c.in_ok-attrs.ensures.kept in
-    let bytes : s ++ c.args.name.now ≡ string_bytes c.append-name.new.text = sym (c.append-name.ensures.bytes ∙ ap (λ t. t ++ c.args.name.now) c.reserve-2.ensures.bytes) in
-    let from : c.append-name.result.from ≡ length s = c.append-name.ensures.from ∙ ap length c.reserve-2.ensures.bytes in
-    let to : c.append-name.result.to ≡ length s + length c.args.name.now = c.append-name.ensures.to ∙ ap (λ t. length t + length c.args.name.now) c.reserve-2.ensures.bytes in
-    IsTableOf-push s c.args.name.now (string_bytes c.append-name.new.text) lists (extra_of k c.args.attrs) new c.self.inside.none c.self.inside.rows.items c.args.self.now
-    (record { part = Start c.append-name.result c.args.foreign k; parent = c.args.parent }) (start c.args.name.now c.args.foreign c.args.attrs)
-    bytes (IsKept-append lists c.args.attrs k new kept) c.self.view_is c.self.invariant (record {
-      utf8 = c.utf8.name;
-      event = rw (← bytes, bytes_of-new s c.args.name.now c.append-name.result from to, IsKept-at lists c.args.attrs k new kept) refl;
-      inside = (rw (← bytes) (IsPiece-new s c.args.name.now c.append-name.result c.utf8.name from to), IsKept-below lists c.args.attrs k new kept);
-      reaches = tt;
-      parent = c.requires.parent;
-      sound = and_from (is_utf8 c.args.name.now && are_texts c.args.attrs) (has_distinct_names c.args.attrs)
-          (and_from (is_utf8 c.args.name.now) (are_texts c.args.attrs) (is_utf8-from_IsUtf8 c.args.name.now c.utf8.name) c.keep.ensures.texts) c.keep.ensures.distinct;
-      room = c.requires.room;
-      bytes = c.requires.bytes;
-      size = omega arith;
-      count = extra_of-one k c.args.attrs;
-    })
+    let n = c.args.name.now in
+    let pieces = c.self.inside.attributes.items in
+    let t = string_bytes c.append_attributes-attrs.new.text in
+    let new = c.append_attributes-attrs.new.attributes.items in
+    let bytes : string_bytes c.append-name.new.text ≡ s ++ n = c.append-name.ensures.bytes ∙ ap (λ u. u ++ n) c.reserve-3.ensures.bytes in
+    let appended : IsAppended (s ++ n) pieces c.args.attrs.now t new =
+    subst (λ u. IsAppended u pieces c.args.attrs.now t new) bytes (subst (λ old. IsAppended (string_bytes c.append-name.new.text) old c.args.attrs.now t new) c.reserve-2.ensures.items c.append_attributes-attrs.ensures.appended) in
+    IsTableOf-start s n t pieces new c.self.inside.rows.items c.args.self.now c.args.foreign c.args.attrs.now c.args.parent c.append-name.result c.append_attributes-attrs.result
+    c.utf8.name c.len.ensures.texts c.len.ensures.distinct (c.append-name.ensures.from ∙ ap length c.reserve-3.ensures.bytes) (c.append-name.ensures.to ∙ ap (λ u. length u + length n) c.reserve-3.ensures.bytes)
+    appended (c.append_attributes-attrs.ensures.from ∙ ap length c.reserve-2.ensures.items) c.append_attributes-attrs.ensures.to c.self.view_is c.self.invariant c.requires.parent c.requires.room c.requires.bytes
 
 -- the rows that are then there
-items : (c : goal.After-unwrap) → c.push.new.self.items ≡ c.self.inside.rows.items ++ record { part = Start c.append-name.result c.args.foreign c.in_ok-attrs.attrs; parent = c.args.parent } ∷ []
+items : (c : goal.After-unwrap) → c.push.new.self.items ≡ c.self.inside.rows.items ++ record { part = Start c.append-name.result c.args.foreign c.append_attributes-attrs.result; parent = c.args.parent } ∷ []
 items c = rw (c.unwrap.ensures, c.reserve.ensures.items) at c.push.ensures.items
 
 pub invariant_of-self-2 : goal.invariant_of-self-2

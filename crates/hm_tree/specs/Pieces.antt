@@ -1,0 +1,44 @@
+-- Pieces of a text, and the attributes whose names and values are such pieces.
+use Rattle.std.specs.Prelude.{◌≡◌, ℕ, ◌-◌, ◌^◌, ◌<◌, ◌≤◌, true, List, take, drop, length, map, flat_map, All, ◌++◌, IsCharBoundary}
+use Rattle.hm_base.specs.Walks.{Attribute, has_distinct_names}
+use Rattle.hm_tree.specs.Attributes.{are_texts}
+use Rattle.hm_tree.specs.declared.pieces.Piece.{Piece}
+use Rattle.hm_tree.specs.declared.pieces.AttributePieces.{AttributePieces}
+
+-- the bytes of a piece of the text
+abbrev pub bytes_of : List ℕ → Piece → List ℕ
+bytes_of s p = take (p.to - p.from) (drop p.from s)
+
+-- a piece can be cut out of the text
+pub record IsPiece (s : List ℕ) (p : Piece) : Type 0 where
+  pub ordered : p.from ≤ p.to
+  pub from_boundary : IsCharBoundary s p.from
+  pub to_boundary : IsCharBoundary s p.to
+
+-- the attribute with these pieces
+abbrev pub attribute_in : List ℕ → AttributePieces → Attribute
+attribute_in s a = record { name = bytes_of s a.name; value = bytes_of s a.value }
+
+abbrev pub attributes_in : List ℕ → List AttributePieces → List Attribute
+attributes_in s pieces = map (attribute_in s) pieces
+
+abbrev pub HasPieces : List ℕ → AttributePieces → Type 0
+HasPieces s a = IsPiece s a.name × IsPiece s a.value
+
+-- these pieces are the attributes of an element
+pub record IsShown (s : List ℕ) (pieces : List AttributePieces) : Type 0 where
+  pub inside : All (HasPieces s) pieces
+  pub texts : are_texts (attributes_in s pieces) ≡ true
+  pub distinct : has_distinct_names (attributes_in s pieces) ≡ true
+  pub count : length pieces < 2 ^ 32
+
+-- names and values, one behind the other
+abbrev pub texts_of : List Attribute → List ℕ
+texts_of attributes = flat_map (λ a. a.name ++ a.value) attributes
+
+-- Attributes were put behind a text s and the attributes in it, so that there are then a text t and these pieces.
+pub record IsAppended (s : List ℕ) (before : List AttributePieces) (attributes : List Attribute) (t : List ℕ) (pieces : List AttributePieces) : Type 0 where
+  pub text : t ≡ s ++ texts_of attributes
+  pub kept : before ++ drop (length before) pieces ≡ pieces
+  pub inside : All (HasPieces t) (drop (length before) pieces)
+  pub shown : attributes_in t (drop (length before) pieces) ≡ attributes

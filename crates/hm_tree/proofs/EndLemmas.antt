@@ -36,26 +36,26 @@ module _ (s : List ℕ) (pieces : List AttributePieces) (rows : List Row) (w : L
         sym (part_event s pieces rows w view k within table r is part e) ∙ around.start.at in
         cc
 
-    by_part : (part : Part) → r.part ≡ part → ((name : Piece) (foreign : Bool) (attrs : AttrsRange) → r.part ≡ parts.Start name foreign attrs → ⊥) → ⊥
+    by_part : (part : Part) → r.part ≡ part → ((foreign : Bool) (name : Piece) (attrs : AttrsRange) → r.part ≡ parts.Start foreign name attrs → ⊥) → ⊥
     by_part (parts.Doctype legacy) e other = let h = same_event (parts.Doctype legacy) e in cc
-    by_part (parts.Start name foreign attrs) e other = other name foreign attrs e
+    by_part (parts.Start foreign name attrs) e other = other foreign name attrs e
     by_part (parts.Text p raw) e other = let h = same_event (parts.Text p raw) e in cc
     by_part (parts.Comment p) e other = let h = same_event (parts.Comment p) e in cc
     by_part (parts.End name foreign) e other = let h = same_event (parts.End name foreign) e in cc
 
     -- which is that of a start
-    pub start_row : ((name : Piece) (foreign : Bool) (attrs : AttrsRange) → r.part ≡ parts.Start name foreign attrs → ⊥) → ⊥
+    pub start_row : ((foreign : Bool) (name : Piece) (attrs : AttrsRange) → r.part ≡ parts.Start foreign name attrs → ⊥) → ⊥
     start_row other = by_part r.part refl other
 
-    module _ (name : Piece) (foreign : Bool) (attrs : AttrsRange) (part : r.part ≡ parts.Start name foreign attrs) (utf8 : IsUtf8 s) (room : length w + 1 < 2 ^ 29) where
+    module _ (foreign : Bool) (name : Piece) (attrs : AttrsRange) (part : r.part ≡ parts.Start foreign name attrs) (utf8 : IsUtf8 s) (room : length w + 1 < 2 ^ 29) where
       names : bytes_of s name ≡ around.element.name
-      names = let h = same_event (parts.Start name foreign attrs) part in cc
+      names = let h = same_event (parts.Start foreign name attrs) part in cc
 
       flags : foreign ≡ around.element.foreign
-      flags = let h = same_event (parts.Start name foreign attrs) part in cc
+      flags = let h = same_event (parts.Start foreign name attrs) part in cc
 
       inside : IsPiece s name
-      inside = (part_inside s pieces rows w view k within table r is (parts.Start name foreign attrs) part).0
+      inside = (part_inside s pieces rows w view k within table r is (parts.Start foreign name attrs) part).0
 
       -- the end of that element can be put behind the table
       pub IsTableOf-end : IsTableOf s pieces (rows ++ record { part = parts.End name foreign; parent = Some k } ∷ []) (w ++ end_of (path_after [] w))

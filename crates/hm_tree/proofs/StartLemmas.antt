@@ -41,7 +41,7 @@ module _ (s n t : List ℕ) (pieces new : List AttributePieces) (rows : List Row
   shows = ap (attributes_in t) own ∙ appended.shown
 
   new_row : parent ≡ innermost w → length w + 1 < 2 ^ 29 → walk_size w + event_size (start n foreign attributes) < 2 ^ 29
-      → IsNewRow (n ++ texts_of attributes) t (drop (length pieces) new) new w (record { part = parts.Start name foreign attrs; parent = parent }) (start n foreign attributes)
+      → IsNewRow (n ++ texts_of attributes) t (drop (length pieces) new) new w (record { part = parts.Start foreign name attrs; parent = parent }) (start n foreign attributes)
   new_row above room bytes = record {
     utf8 = IsUtf8-append n (texts_of attributes) utf8 texts_utf8;
     event = rw (name_is, shows) refl;
@@ -60,7 +60,7 @@ module _ (s n t : List ℕ) (pieces new : List AttributePieces) (rows : List Row
       counted = sym (length-map (drop (length pieces) new) (attribute_in t))
 
   pub IsTableOf-start : events_of s pieces rows ≡ w → IsTable s pieces rows → parent ≡ innermost w → length w + 1 < 2 ^ 29 → walk_size w + event_size (start n foreign attributes) < 2 ^ 29
-      → IsTableOf t new (rows ++ record { part = parts.Start name foreign attrs; parent = parent } ∷ []) (w ++ start n foreign attributes ∷ [])
+      → IsTableOf t new (rows ++ record { part = parts.Start foreign name attrs; parent = parent } ∷ []) (w ++ start n foreign attributes ∷ [])
   IsTableOf-start view table above room bytes =
-      IsTableOf-push s (n ++ texts_of attributes) t pieces (drop (length pieces) new) new rows w (record { part = parts.Start name foreign attrs; parent = parent }) (start n foreign attributes)
+      IsTableOf-push s (n ++ texts_of attributes) t pieces (drop (length pieces) new) new rows w (record { part = parts.Start foreign name attrs; parent = parent }) (start n foreign attributes)
       (sym (append_assoc s n (texts_of attributes)) ∙ sym appended.text) appended.kept view table (new_row above room bytes)

@@ -26,14 +26,14 @@ range_stays n m attrs le h = (h.0, omega (arith, h.1))
 
 inside_stays : (s more : List ℕ) (n m : ℕ) (part : Part) → IsUtf8 more → n ≤ m → IsInside s n part → IsInside (s ++ more) m part
 inside_stays s more n m (parts.Doctype legacy) utf8 le h = tt
-inside_stays s more n m (parts.Start name foreign attrs) utf8 le h = (IsPiece-append s more name utf8 h.0, range_stays n m attrs le h.1)
+inside_stays s more n m (parts.Start foreign name attrs) utf8 le h = (IsPiece-append s more name utf8 h.0, range_stays n m attrs le h.1)
 inside_stays s more n m (parts.Text p raw) utf8 le h = IsPiece-append s more p utf8 h
 inside_stays s more n m (parts.Comment p) utf8 le h = IsPiece-append s more p utf8 h
 inside_stays s more n m (parts.End name foreign) utf8 le h = IsPiece-append s more name utf8 h
 
 event_stays : (s more : List ℕ) (pieces extra : List AttributePieces) (part : Part) → IsInside s (length pieces) part → All (HasPieces s) pieces → event_at (s ++ more) (pieces ++ extra) part ≡ event_at s pieces part
 event_stays s more pieces extra (parts.Doctype legacy) h all = refl
-event_stays s more pieces extra (parts.Start name foreign attrs) h all =
+event_stays s more pieces extra (parts.Start foreign name attrs) h all =
     let inside = All-slice_range (HasPieces s) pieces attrs.from attrs.to all in
     rw (bytes_of-append s more name h.0, slice_range-append pieces extra attrs.from attrs.to h.1.0 h.1.1, attributes_in-append s more (slice_range pieces attrs.from attrs.to) inside) refl
 event_stays s more pieces extra (parts.Text p raw) h all = rw (bytes_of-append s more p h) refl
@@ -199,11 +199,11 @@ module _ (s : List ℕ) (pieces : List AttributePieces) (rows : List Row) (w : L
         rw (← view) (slice_get-map (λ q. event_at s pieces q.part) rows i ∙ ap (option_map (λ q. event_at s pieces q.part)) at ∙ ap (λ q. Some (event_at s pieces q)) e)
 
     -- a start shows its attributes
-    pub part_shown : (name : Piece) (foreign : Bool) (attrs : AttrsRange) → r.part ≡ parts.Start name foreign attrs → IsShown s (slice_range pieces attrs.from attrs.to)
-    part_shown name foreign attrs e =
+    pub part_shown : (foreign : Bool) (name : Piece) (attrs : AttrsRange) → r.part ≡ parts.Start foreign name attrs → IsShown s (slice_range pieces attrs.from attrs.to)
+    part_shown foreign name attrs e =
         let own = slice_range pieces attrs.from attrs.to in
-        let range : IsRange (length pieces) attrs = (part_inside (parts.Start name foreign attrs) e).1 in
-        let there : slice_get (events_of s pieces rows) i ≡ Some (start (bytes_of s name) foreign (attributes_in s own)) = rw view (part_event (parts.Start name foreign attrs) e) in
+        let range : IsRange (length pieces) attrs = (part_inside (parts.Start foreign name attrs) e).1 in
+        let there : slice_get (events_of s pieces rows) i ≡ Some (start (bytes_of s name) foreign (attributes_in s own)) = rw view (part_event (parts.Start foreign name attrs) e) in
         let sound : is_sound (start (bytes_of s name) foreign (attributes_in s own)) ≡ true = are_sound-at (events_of s pieces rows) i (start (bytes_of s name) foreign (attributes_in s own)) table.told.sound there in
         let both = and_parts (is_utf8 (bytes_of s name) && are_texts (attributes_in s own)) (has_distinct_names (attributes_in s own)) sound in
         record {

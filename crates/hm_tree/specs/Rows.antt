@@ -12,7 +12,7 @@ use Rattle.hm_tree.specs.declared.rows.Row.{Row}
 -- the event that a row stands for
 abbrev pub event_at : List ℕ → List AttributePieces → Part → Event
 event_at s pieces (parts.Doctype legacy) = doctype legacy
-event_at s pieces (parts.Start name foreign attrs) = start (bytes_of s name) foreign (attributes_in s (slice_range pieces attrs.from attrs.to))
+event_at s pieces (parts.Start foreign name attrs) = start (bytes_of s name) foreign (attributes_in s (slice_range pieces attrs.from attrs.to))
 event_at s pieces (parts.Text p raw) = text (bytes_of s p) raw
 event_at s pieces (parts.Comment p) = comment (bytes_of s p)
 event_at s pieces (parts.End name foreign) = end (bytes_of s name) foreign
@@ -31,7 +31,7 @@ IsRange n attrs = (attrs.from ≤ attrs.to) × (attrs.to ≤ n)
 
 abbrev pub IsInside : List ℕ → ℕ → Part → Type 0
 IsInside s n (parts.Doctype legacy) = Unit {0}
-IsInside s n (parts.Start name foreign attrs) = IsPiece s name × IsRange n attrs
+IsInside s n (parts.Start foreign name attrs) = IsPiece s name × IsRange n attrs
 IsInside s n (parts.Text p raw) = IsPiece s p
 IsInside s n (parts.Comment p) = IsPiece s p
 IsInside s n (parts.End name foreign) = IsPiece s name
@@ -43,7 +43,7 @@ AreInside s n (r ∷ rows) = IsInside s n r.part × AreInside s n rows
 -- a text reaches to the end of the bytes
 abbrev pub ReachesEnd : List ℕ → Part → Type 0
 ReachesEnd s (parts.Doctype legacy) = Unit {0}
-ReachesEnd s (parts.Start name foreign attrs) = Unit {0}
+ReachesEnd s (parts.Start foreign name attrs) = Unit {0}
 ReachesEnd s (parts.Text p raw) = p.to ≡ length s
 ReachesEnd s (parts.Comment p) = Unit {0}
 ReachesEnd s (parts.End name foreign) = Unit {0}

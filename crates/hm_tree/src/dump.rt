@@ -15,6 +15,8 @@ impl Tree {
         ensures { IfOk result (λ lines. string_bytes lines ≡ dump_of self.now) }
     {
         let mut out = String::new(alloc);
+        // With room for all lines the bytes aren't moved. Where so much is refused, room comes line by line.
+        let _room = out.reserve(self.lines_len());
         let mut spaces = String::new(alloc);
         for i in 0..self.len() {
             let event = self.event(i);

@@ -26,9 +26,10 @@ enum Part {
     Doctype {
         legacy: bool,
     },
+    // The flag stands first, beside the variant's mark, where it makes no row longer.
     Start {
-        name: Piece,
         foreign: bool,
+        name: Piece,
         attrs: AttrsRange,
     },
     Text {
@@ -88,6 +89,13 @@ impl Rows {
         ensures told { IsTold self.now }
     {
         self.rows.len() as u32
+    }
+
+    // The bytes of all names, values, texts and comments.
+    pub(crate) fn text_len(&self) -> u32
+        ensures { result < 2 ^ 29 }
+    {
+        self.text.len() as u32
     }
 
     pub(crate) fn event(&self, i: u32) -> EventView<'_>

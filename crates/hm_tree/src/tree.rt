@@ -52,6 +52,11 @@ impl Tree {
         self.rows.len()
     }
 
+    /// About how many bytes the lines of the tree take.
+    pub(crate) fn lines_len(&self) -> usize {
+        self.rows.text_len() as usize + 16 * self.len() as usize
+    }
+
     /// Event `i`.
     pub fn event(&self, i: u32) -> EventView<'_>
         requires { i < length self.now }

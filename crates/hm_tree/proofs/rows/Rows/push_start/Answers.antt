@@ -13,7 +13,7 @@ append_attributes-attrs-requires-clause-indices c =
 
 pushed : (c : goal.After-unwrap)
     → IsTableOf (string_bytes c.append_attributes-attrs.new.text) c.append_attributes-attrs.new.attributes.items
-    (c.self.inside.rows.items ++ record { part = Start c.append-name.result c.args.foreign c.append_attributes-attrs.result; parent = c.args.parent } ∷ []) (c.args.self.now ++ start c.args.name.now c.args.foreign c.args.attrs.now ∷ [])
+    (c.self.inside.rows.items ++ record { part = Start c.args.foreign c.append-name.result c.append_attributes-attrs.result; parent = c.args.parent } ∷ []) (c.args.self.now ++ start c.args.name.now c.args.foreign c.args.attrs.now ∷ [])
 pushed c =
     let s = string_bytes c.self.inside.text in
     let n = c.args.name.now in
@@ -28,7 +28,7 @@ pushed c =
     appended (c.append_attributes-attrs.ensures.from ∙ ap length c.reserve-2.ensures.items) c.append_attributes-attrs.ensures.to c.self.view_is c.self.invariant c.requires.parent c.requires.room c.requires.bytes
 
 -- the rows that are then there
-items : (c : goal.After-unwrap) → c.push.new.self.items ≡ c.self.inside.rows.items ++ record { part = Start c.append-name.result c.args.foreign c.append_attributes-attrs.result; parent = c.args.parent } ∷ []
+items : (c : goal.After-unwrap) → c.push.new.self.items ≡ c.self.inside.rows.items ++ record { part = Start c.args.foreign c.append-name.result c.append_attributes-attrs.result; parent = c.args.parent } ∷ []
 items c = rw (c.unwrap.ensures, c.reserve.ensures.items) at c.push.ensures.items
 
 pub invariant_of-self-2 : goal.invariant_of-self-2

@@ -115,6 +115,8 @@ impl Maker {
         requires { path_after [] self ≡ [] }
         ensures { result ≡ self }
     {
-        Tree::of(self.rows)
+        let mut rows = self.rows;
+        rows.shrink();
+        Tree::of(rows)
     }
 }

@@ -98,6 +98,15 @@ impl Rows {
         self.text.len() as u32
     }
 
+    // Gives back the room that isn't needed.
+    pub(crate) fn shrink(&mut self)
+        ensures { self.new ≡ self.old }
+    {
+        self.text.shrink_to_fit();
+        self.attributes.shrink_to_fit();
+        self.rows.shrink_to_fit();
+    }
+
     pub(crate) fn event(&self, i: u32) -> EventView<'_>
         requires { i < length self.now }
         ensures { slice_get self.now i ≡ Some (event_of result) }

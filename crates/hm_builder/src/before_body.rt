@@ -18,7 +18,7 @@ use crate::insertion::{HeadText, Phase};
 use crate::make::close_made_head;
 use crate::parts::Parts;
 use hm_base::{Memory, Rule};
-use hm_elements::{is_one_of, may_stand};
+use hm_elements::{Named, is_one_of, may_stand};
 use hm_tree::{Attrs, Maker};
 use std::alloc::Global;
 
@@ -177,7 +177,7 @@ impl Parts {
         ensures ok { OnOk result (IsDone (start_inside (phase_of self.old.phase) name.now attrs slash (state_of self.old)) self.old self.new) }
         ensures err { IfErr result (IsRefused (start_inside (phase_of self.old.phase) name.now attrs slash (state_of self.old))) }
     {
-        if may_stand(name, "head", Some("html")) {
+        if may_stand(Named::of(name), Named::of("head"), Some("html")) {
             self.reach_head(alloc)?;
             self.start_child(name, attrs)?;
             Ok(())

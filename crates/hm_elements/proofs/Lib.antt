@@ -7,3 +7,7 @@ pub mod Chain
 pub mod Gathered
 pub mod RawEnds
 pub mod NameFacts
+pub mod NestingFacts
+pub mod Listed
+pub mod KnownFacts
+pub mod ClassFacts

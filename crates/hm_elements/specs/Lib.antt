@@ -1,3 +1,6 @@
+pub mod Classes
+pub mod Kinds
+pub mod KnownNames
 pub mod Laws
 pub mod Names
 pub mod Nesting

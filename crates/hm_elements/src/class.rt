@@ -1,9 +1,10 @@
 //! Kinds of elements and attributes, by name.
 ghost use Rattle.std.specs.Prelude.{◌≡◌};
+ghost use Rattle.hm_elements.specs.Classes as classes;
 ghost use Rattle.hm_elements.specs.Tables as tables;
 
-use crate::lists::{BLOCKS, HEADINGS, PARTS, RAW, RCDATA, VOIDS};
-use crate::look_up::{is_in_one_of, is_one_of, same_name};
+use crate::kind::kind_of;
+use crate::look_up::is_one_of;
 
 /// What kind of element a name stands for.
 #[derive(Clone, Copy, Debug, PartialEq, Eq)]
@@ -25,168 +26,113 @@ pub enum Class {
     Refused,
 }
 
-/// The kind of the HTML element with this name.
-#[tactic(auto, unfolding(crate::specs::Tables::class_of))]
-pub fn class_of(name: &str) -> Class
-    ensures { result ≡ tables.class_of name.now }
-{
-    if is_root(name) {
-        Class::Root
-    } else if is_void(name) {
-        Class::Void
-    } else if is_rcdata(name) {
-        Class::Rcdata
-    } else if is_raw(name) {
-        if same_name(name, "script") {
-            Class::Script
-        } else {
-            Class::Raw
-        }
-    } else if is_table_part(name) {
-        Class::TablePart
-    } else if is_refused(name) {
-        Class::Refused
-    } else {
-        Class::Ordinary
+impl Class {
+    /// Whether its elements hold nothing.
+    fn holds_nothing(self) -> bool
+        ensures { result ≡ classes.holds_nothing self }
+    {
+        matches!(self, Class::Void)
+    }
+
+    /// Whether its elements hold one text, in which nothing is read.
+    fn holds_raw_text(self) -> bool
+        ensures { result ≡ classes.holds_raw_text self }
+    {
+        matches!(self, Class::Raw | Class::Script)
+    }
+
+    /// Whether its elements hold one text and nothing else.
+    fn holds_one_text(self) -> bool
+        ensures { result ≡ classes.holds_one_text self }
+    {
+        matches!(self, Class::Rcdata | Class::Raw | Class::Script)
+    }
+
+    /// Whether a page with one of its elements is refused.
+    fn is_not_read(self) -> bool
+        ensures { result ≡ classes.is_not_read self }
+    {
+        matches!(self, Class::Refused)
     }
 }
 
-#[tactic(auto, unfolding(crate::specs::Tables::is_root, crate::specs::Tables::roots))]
-fn is_root(name: &str) -> bool
-    ensures { result ≡ tables.is_root name.now }
+/// The kind of the HTML element with this name.
+pub fn class_of(name: &str) -> Class
+    ensures { result ≡ tables.class_of name.now }
 {
-    is_one_of(name, &["html", "head", "body"])
+    kind_of(name).class
 }
 
 /// Whether the HTML element holds nothing and has no end tag (13.1.2).
-#[tactic(auto, unfolding(crate::specs::Tables::is_void, crate::specs::Tables::voids))]
+#[tactic(auto, using(crate::proofs::ClassFacts::void_by_class))]
 pub fn is_void(name: &str) -> bool
     ensures { result ≡ tables.is_void name.now }
 {
-    is_one_of(name, &VOIDS)
-}
-
-#[tactic(auto, unfolding(crate::specs::Tables::is_rcdata, crate::specs::Tables::rcdata_names))]
-fn is_rcdata(name: &str) -> bool
-    ensures { result ≡ tables.is_rcdata name.now }
-{
-    is_one_of(name, &RCDATA)
+    kind_of(name).class.holds_nothing()
 }
 
 /// Whether the HTML element holds one text, in which nothing is read; `script` is one of them.
-#[tactic(auto, unfolding(crate::specs::Tables::is_raw, crate::specs::Tables::raw_names))]
+#[tactic(auto, using(crate::proofs::ClassFacts::raw_by_class))]
 pub fn is_raw(name: &str) -> bool
     ensures { result ≡ tables.is_raw name.now }
 {
-    is_in_one_of(name, &[&RAW, &["script"]])
+    kind_of(name).class.holds_raw_text()
 }
 
 /// Whether the HTML element holds one text and nothing else.
-#[tactic(auto, unfolding(crate::specs::Tables::holds_text))]
+#[tactic(auto, using(crate::proofs::ClassFacts::text_by_class))]
 pub fn holds_text(name: &str) -> bool
     ensures { result ≡ tables.holds_text name.now }
 {
-    is_raw(name) || is_rcdata(name)
-}
-
-#[tactic(auto, unfolding(crate::specs::Tables::is_table_part, crate::specs::Tables::parts))]
-fn is_table_part(name: &str) -> bool
-    ensures { result ≡ tables.is_table_part name.now }
-{
-    is_in_one_of(name, &[&PARTS, &["table"]])
+    kind_of(name).class.holds_one_text()
 }
 
 /// Whether a page with this element is refused.
-#[tactic(auto, unfolding(crate::specs::Tables::is_refused, crate::specs::Tables::refused_names))]
+#[tactic(auto, using(crate::proofs::ClassFacts::refused_by_class))]
 pub fn is_refused(name: &str) -> bool
     ensures { result ≡ tables.is_refused name.now }
 {
-    is_one_of(
-        name,
-        &[
-            "applet",
-            "basefont",
-            "bgsound",
-            "command",
-            "frame",
-            "frameset",
-            "image",
-            "isindex",
-            "keygen",
-            "listing",
-            "marquee",
-            "math",
-            "menuitem",
-            "noembed",
-            "noframes",
-            "plaintext",
-            "rb",
-            "rtc",
-            "template",
-            "xmp",
-        ],
-    )
+    kind_of(name).class.is_not_read()
 }
 
 /// Whether it is one of `h1` to `h6`.
-#[tactic(auto, unfolding(crate::specs::Tables::is_heading, crate::specs::Tables::headings))]
 pub fn is_heading(name: &str) -> bool
     ensures { result ≡ tables.is_heading name.now }
 {
-    is_one_of(name, &HEADINGS)
+    kind_of(name).heading
 }
 
 /// Whether the element may not stand in one of its own name.
-#[tactic(auto, unfolding(crate::specs::Tables::is_unnested, crate::specs::Tables::unnested_names))]
 pub fn is_unnested(name: &str) -> bool
     ensures { result ≡ tables.is_unnested name.now }
 {
-    is_one_of(name, &["a", "button", "form", "nobr"])
+    kind_of(name).unnested
 }
 
 /// Whether a start tag of this name closes an open paragraph (13.2.6.4.7).
-#[tactic(auto, unfolding(crate::specs::Tables::closes_p, crate::specs::Tables::paragraph_ends, crate::specs::Tables::blocks, crate::specs::Tables::headings))]
 pub fn closes_p(name: &str) -> bool
     ensures { result ≡ tables.closes_p name.now }
 {
-    is_in_one_of(
-        name,
-        &[&BLOCKS, &HEADINGS, &["table", "hr", "p", "li", "dd", "dt"]],
-    )
+    kind_of(name).closes_p
 }
 
 /// Whether a paragraph is never closed through this open element, of HTML or of SVG.
-#[tactic(auto, unfolding(crate::specs::Tables::is_boundary, crate::specs::Tables::boundaries, crate::specs::Tables::svg_boundaries))]
+#[tactic(auto, unfolding(crate::specs::Tables::is_boundary, crate::specs::Tables::svg_boundaries))]
 pub fn is_boundary(name: &str, foreign: bool) -> bool
     ensures { result ≡ tables.is_boundary name.now foreign }
 {
     if foreign {
         is_one_of(name, &["title", "desc"])
     } else {
-        is_one_of(
-            name,
-            &["html", "table", "td", "th", "caption", "object", "button"],
-        )
+        kind_of(name).boundary
     }
 }
 
 /// Whether whitespace at the edges of the HTML element isn't seen.
-#[tactic(auto, unfolding(crate::specs::Tables::is_block, crate::specs::Tables::block_names, crate::specs::Tables::blocks, crate::specs::Tables::headings))]
 pub fn is_block(name: &str) -> bool
     ensures { result ≡ tables.is_block name.now }
 {
-    is_in_one_of(
-        name,
-        &[
-            &BLOCKS,
-            &HEADINGS,
-            &["table", "hr", "p"],
-            &[
-                "body", "caption", "col", "colgroup", "dd", "dt", "head", "html", "legend", "li",
-                "optgroup", "option", "tbody", "td", "tfoot", "th", "thead", "title", "tr",
-            ],
-        ],
-    )
+    kind_of(name).block
 }
 
 /// Whether the attribute's value says nothing.

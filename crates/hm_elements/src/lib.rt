@@ -2,8 +2,9 @@
 #![tactic(auto)]
 
 mod class;
+mod kind;
+mod known;
 pub mod laws;
-mod lists;
 mod look_up;
 mod nesting;
 
@@ -11,5 +12,6 @@ pub use class::{
     Class, class_of, closes_p, holds_text, is_block, is_boolean, is_boundary, is_heading, is_raw,
     is_refused, is_unnested, is_void, svg_name,
 };
+pub use kind::{Kind, Named, kind_of};
 pub use look_up::{is_one_of, same_name};
 pub use nesting::{ends_with, may_stand, yields};

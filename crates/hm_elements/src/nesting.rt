@@ -1,26 +1,25 @@
 //! Which element may stand in which, and which closes before which tag.
-ghost use Rattle.std.specs.Prelude.{◌≡◌};
+ghost use Rattle.std.specs.Prelude.{◌≡◌, false, bytes_eq};
 ghost use Rattle.hm_elements.specs.Names as names;
-ghost use Rattle.hm_elements.specs.Names.{is_among};
+ghost use Rattle.hm_elements.specs.Kinds.{IsNamed};
+ghost use Rattle.hm_elements.specs.Names.{p};
 ghost use Rattle.hm_elements.specs.Nesting as nesting;
 ghost use Rattle.hm_elements.specs.Nesting.{is_name};
 ghost use Rattle.hm_elements.specs.Texts.{names_of, text_of};
 
-use crate::lists::{BLOCKS, HEADINGS, PARTS, SECTIONS};
+use crate::kind::{Named, kind_of};
 use crate::look_up::{Row, find, is_in_one_of, is_one_of, is_pair, same_name};
 
-/// What an open element yields to, but for `colgroup`.
-const YIELDS: [Row<'static>; 9] = [
-    Row {
-        heads: &["p"],
-        names: &[
-            &BLOCKS,
-            &HEADINGS,
-            &["table", "hr", "p", "li", "dd", "dt"],
-            &["rt", "rp"],
-            &PARTS,
-        ],
-    },
+/// The sections of a table.
+const SECTIONS: [&str; 3] = ["thead", "tbody", "tfoot"];
+
+/// The parts of a table.
+const PARTS: [&str; 9] = [
+    "caption", "col", "colgroup", "thead", "tbody", "tfoot", "tr", "td", "th",
+];
+
+/// What an open element yields to, but for `colgroup` and `p`.
+const YIELDS: [Row<'static>; 8] = [
     Row {
         heads: &["li"],
         names: &[&["li"]],
@@ -58,37 +57,33 @@ const YIELDS: [Row<'static>; 9] = [
 ];
 
 /// Whether the open element `current` closes before the start tag of an HTML element `next` (13.1.2.4, 13.2.6.4.7 and following).
-#[tactic(auto, unfolding(crate::specs::Nesting::yields))]
-pub fn yields(current: &str, next: &str) -> bool
-    ensures { result ≡ nesting.yields current.now next.now }
+#[tactic(auto, using(crate::proofs::NestingFacts::never_yields), unfolding(crate::specs::Nesting::yields))]
+pub fn yields(current: Named<'_>, next: Named<'_>) -> bool
+    requires current { IsNamed current }
+    requires next { IsNamed next }
+    ensures { result ≡ nesting.yields current.entry.name.now next.entry.name.now }
 {
-    if same_name(current, "colgroup") {
-        !same_name(next, "col")
+    if !current.kind.yields {
+        false
+    } else if same_name(current.name, "colgroup") {
+        !same_name(next.name, "col")
+    } else if same_name("p", current.name) {
+        next.kind.p_yields
     } else {
-        yields_by_rows(current, next)
+        yields_by_rows(current.name, next.name)
     }
 }
 
-#[tactic(auto, unfolding(crate::specs::Nesting::yield_rows, crate::specs::Tables::paragraph_ends, crate::specs::Tables::blocks, crate::specs::Tables::headings, crate::specs::Tables::parts, crate::specs::Names::is_among))]
+#[tactic(auto, unfolding(crate::specs::Nesting::yield_rows, crate::specs::Tables::parts, crate::specs::Names::is_among))]
 fn yields_by_rows(current: &str, next: &str) -> bool
+    requires { bytes_eq p current.now ≡ false }
     ensures { result ≡ names.is_pair nesting.yield_rows current.now next.now }
 {
     is_pair(&YIELDS, current, next)
 }
 
-/// What end tags an open element ends with.
-const ENDS: [Row<'static>; 9] = [
-    Row {
-        heads: &["p"],
-        names: &[
-            &BLOCKS,
-            &HEADINGS,
-            &[
-                "table", "button", "li", "dd", "dt", "object", "td", "th", "caption", "tr",
-            ],
-            &SECTIONS,
-        ],
-    },
+/// What end tags an open element ends with, but for `p`.
+const ENDS: [Row<'static>; 8] = [
     Row {
         heads: &["li"],
         names: &[&["ul", "ol", "menu", "dir"]],
@@ -124,8 +119,23 @@ const ENDS: [Row<'static>; 9] = [
 ];
 
 /// Whether the open element `child` ends with the end tag `ending` (13.1.2.4).
-#[tactic(auto, unfolding(crate::specs::Nesting::ends_with, crate::specs::Nesting::end_rows, crate::specs::Tables::blocks, crate::specs::Tables::headings, crate::specs::Tables::sections, crate::specs::Names::is_among))]
-pub fn ends_with(child: &str, ending: &str) -> bool
+#[tactic(auto, using(crate::proofs::NestingFacts::never_ends))]
+pub fn ends_with(child: Named<'_>, ending: &str) -> bool
+    requires { IsNamed child }
+    ensures { result ≡ nesting.ends_with child.entry.name.now ending.now }
+{
+    if !child.kind.ends {
+        false
+    } else if same_name("p", child.name) {
+        kind_of(ending).p_ends
+    } else {
+        ends_by_rows(child.name, ending)
+    }
+}
+
+#[tactic(auto, unfolding(crate::specs::Nesting::ends_with, crate::specs::Nesting::end_rows, crate::specs::Tables::sections, crate::specs::Names::is_among))]
+fn ends_by_rows(child: &str, ending: &str) -> bool
+    requires { bytes_eq p child.now ≡ false }
     ensures { result ≡ nesting.ends_with child.now ending.now }
 {
     is_pair(&ENDS, child, ending)
@@ -201,51 +211,71 @@ const PARENTS: [Row<'static>; 5] = [
 
 /// Whether an HTML element `name` may stand under the element `parent`, which itself stands under `grandparent` or at the top.
 #[tactic(auto, unfolding(crate::specs::Nesting::may_stand, crate::specs::Nesting::noscript_children))]
-pub fn may_stand(name: &str, parent: &str, grandparent: Option<&str>) -> bool
-    ensures { result ≡ nesting.may_stand name.now parent.now (text_of grandparent.entry) }
+pub fn may_stand(name: Named<'_>, parent: Named<'_>, grandparent: Option<&str>) -> bool
+    requires name { IsNamed name }
+    requires parent { IsNamed parent }
+    ensures { result ≡ nesting.may_stand name.entry.name.now parent.entry.name.now (text_of grandparent.entry) }
 {
-    if same_name(parent, "noscript") && is_named(grandparent, "head") {
-        return is_one_of(name, &["link", "meta", "style"]);
+    if same_name(parent.name, "noscript") && is_named(grandparent, "head") {
+        return is_one_of(name.name, &["link", "meta", "style"]);
     }
     match own_children(parent) {
-        Some(children) => is_in_one_of(name, children),
-        None => stands_by_parents(name, parent, grandparent),
+        Some(children) => is_in_one_of(name.name, children),
+        None => stands_by_parents(name, parent.name, grandparent),
+    }
+}
+
+/// The names of the children that the element takes, where it takes those alone.
+fn own_children(parent: Named<'_>) -> Option<&'static [&'static [&'static str]]>
+    requires { IsNamed parent }
+    ensures { names_of result ≡ names.find parent.entry.name.now nesting.children }
+{
+    if parent.kind.has_children {
+        children_by_rows(parent.name)
+    } else {
+        None
     }
 }
 
 #[tactic(auto, unfolding(crate::specs::Nesting::children, crate::specs::Tables::rcdata_names, crate::specs::Tables::raw_names, crate::specs::Tables::voids, crate::specs::Names::is_among))]
-fn own_children(parent: &str) -> Option<&'static [&'static [&'static str]]>
+fn children_by_rows(parent: &str) -> Option<&'static [&'static [&'static str]]>
     ensures { names_of result ≡ names.find parent.now nesting.children }
 {
     find(&CHILDREN, parent)
 }
 
+/// The names of the parents that the element stands in, where it stands in those alone.
+fn own_parents(child: Named<'_>) -> Option<&'static [&'static [&'static str]]>
+    requires { IsNamed child }
+    ensures { names_of result ≡ names.find child.entry.name.now nesting.own_parents }
+{
+    if child.kind.has_parents {
+        parents_by_rows(child.name)
+    } else {
+        None
+    }
+}
+
 #[tactic(auto, unfolding(crate::specs::Nesting::own_parents, crate::specs::Names::is_among))]
-fn own_parents(child: &str) -> Option<&'static [&'static [&'static str]]>
+fn parents_by_rows(child: &str) -> Option<&'static [&'static [&'static str]]>
     ensures { names_of result ≡ names.find child.now nesting.own_parents }
 {
     find(&PARENTS, child)
 }
 
-#[tactic(auto, unfolding(crate::specs::Nesting::bound_names, crate::specs::Tables::parts))]
-fn is_bound(name: &str) -> bool
-    ensures { result ≡ is_among name.now nesting.bound_names }
-{
-    is_in_one_of(name, &[&["html", "head", "body", "base", "title"], &PARTS])
-}
-
 /// The rule for a parent without children of its own.
-fn stands_by_parents(name: &str, parent: &str, grandparent: Option<&str>) -> bool
-    ensures { result ≡ nesting.stands_by_parents (names.find name.now nesting.own_parents) name.now parent.now (text_of grandparent.entry) }
+fn stands_by_parents(name: Named<'_>, parent: &str, grandparent: Option<&str>) -> bool
+    requires { IsNamed name }
+    ensures { result ≡ nesting.stands_by_parents (names.find name.entry.name.now nesting.own_parents) name.entry.name.now parent.now (text_of grandparent.entry) }
 {
     match own_parents(name) {
         Some(parents) => {
             is_in_one_of(parent, parents)
-                || (is_one_of(name, &["dt", "dd"])
+                || (is_one_of(name.name, &["dt", "dd"])
                     && same_name(parent, "div")
                     && is_named(grandparent, "dl"))
         }
-        None => !is_bound(name),
+        None => !name.kind.bound,
     }
 }
 
@@ -282,7 +312,7 @@ mod tests {
             ("optgroup", "datalist", None, false),
         ] {
             assert_eq!(rt;
-                may_stand(name, parent, grandparent),
+                may_stand(Named::of(name), Named::of(parent), grandparent),
                 want,
                 "{name} in {parent}"
             );
@@ -306,8 +336,16 @@ mod tests {
             ("option", "optgroup", true, true),
             ("b", "b", false, false),
         ] {
-            assert_eq!(rt; yields(current, next), starts, "{current} before {next}");
-            assert_eq!(rt; ends_with(current, next), ends, "{current} with {next}");
+            assert_eq!(rt;
+                yields(Named::of(current), Named::of(next)),
+                starts,
+                "{current} before {next}"
+            );
+            assert_eq!(rt;
+                ends_with(Named::of(current), next),
+                ends,
+                "{current} with {next}"
+            );
         }
     }
 }

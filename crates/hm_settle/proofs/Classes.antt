@@ -1,10 +1,10 @@
 -- What the class of a name says of it.
-use Rattle.std.proofs.Common.{◌≡◌, ℕ, Bool, true, false, not, ◌&&◌, cond, bytes_eq, List, refl, sym, ap, ◌∙◌}
+use Rattle.std.proofs.Common.{◌≡◌, ℕ, Bool, true, false, not, ◌⊎◌, inl, inr, ◌&&◌, ◌||◌, cond, bytes_eq, List, [], ◌∷◌, ◌++◌, refl, sym, ap, ◌∙◌}
 use Rattle.std.specs.List.{list_all}
 use Rattle.hm_elements.specs.declared.class.Class.{Class}
 use Rattle.hm_elements.specs.declared.class.Class.TheVariants.{Root, Void, Rcdata, Raw, Script, TablePart, Ordinary, Refused}
 use Rattle.hm_elements.specs.Names.{is_among, script}
-use Rattle.hm_elements.specs.Tables.{roots, voids, rcdata_names, raw_names, refused_names, parts, is_root, is_void, is_rcdata, is_raw, is_refused, is_table_part, class_of}
+use Rattle.hm_elements.specs.Tables.{roots, voids, rcdata_names, raw_names, refused_names, parts, is_root, is_void, is_rcdata, is_raw, is_refused, is_table_part, holds_text, class_of}
 use Rattle.hm_elements.proofs.TableTools.{entry_passes}
 
 abbrev pub is_root_class : Class → Bool
@@ -121,3 +121,63 @@ class_refused n e = sym (refused_class n) ∙ ap is_refused_class (sym e)
 
 pub class_root : (n : List ℕ) → Root ≡ class_of n → (is_refused n ≡ false) × (is_root n ≡ true)
 class_root n e = (sym (refused_class n) ∙ ap is_refused_class (sym e), sym (root_class n) ∙ ap is_root_class (sym e))
+
+-- classes of elements that hold one text and nothing else
+abbrev pub is_text_class : Class → Bool
+is_text_class Rcdata = true
+is_text_class Raw = true
+is_text_class Script = true
+is_text_class _ = false
+
+rcdata_names_hold : list_all (λ n. is_text_class (class_of n)) rcdata_names ≡ true
+unfolding rcdata_names class_of roots voids raw_names parts refused_names is_root is_void is_rcdata is_raw is_refused is_table_part is_among
+rcdata_names_hold = refl
+
+raw_names_hold : list_all (λ n. is_text_class (class_of n)) (raw_names ++ script ∷ []) ≡ true
+unfolding raw_names class_of roots voids rcdata_names parts refused_names is_root is_void is_rcdata is_raw is_refused is_table_part is_among
+raw_names_hold = refl
+
+rcdata_holds : (n : List ℕ) → is_rcdata n ≡ true → is_text_class (class_of n) ≡ true
+unfolding is_rcdata
+rcdata_holds n e = entry_passes (λ m. is_text_class (class_of m)) n rcdata_names rcdata_names_hold e
+
+raw_holds : (n : List ℕ) → is_raw n ≡ true → is_text_class (class_of n) ≡ true
+unfolding is_raw
+raw_holds n e = entry_passes (λ m. is_text_class (class_of m)) n (raw_names ++ script ∷ []) raw_names_hold e
+
+others_hold_none : (n : List ℕ) → is_raw n ≡ false → is_rcdata n ≡ false → is_text_class (class_of n) ≡ false
+unfolding class_of
+others_hold_none n raw rcdata =
+    either is_text_class (is_root n) Root _ false refl
+    (either is_text_class (is_void n) Void (last_class n) false refl
+    (rw (raw, rcdata) (either is_text_class (is_table_part n) TablePart _ false refl (either is_text_class (is_refused n) Refused Ordinary false refl refl))))
+
+pub text_class : (n : List ℕ) → is_text_class (class_of n) ≡ holds_text n
+unfolding holds_text
+text_class n = by (is_raw n) (is_rcdata n) refl refl
+  where
+    by : (r t : Bool) → is_raw n ≡ r → is_rcdata n ≡ t → is_text_class (class_of n) ≡ r || t
+    by true t raw rcdata = raw_holds n raw
+    by false true raw rcdata = rcdata_holds n rcdata
+    by false false raw rcdata = others_hold_none n raw rcdata
+
+pub other_than_text : (c : Class) → (c ≡ Rcdata → ⊥) → (c ≡ Raw → ⊥) → (c ≡ Script → ⊥) → is_text_class c ≡ false
+other_than_text Rcdata rcdata raw script_class = absurd (rcdata refl)
+other_than_text Raw rcdata raw script_class = absurd (raw refl)
+other_than_text Script rcdata raw script_class = absurd (script_class refl)
+other_than_text Root rcdata raw script_class = refl
+other_than_text Void rcdata raw script_class = refl
+other_than_text TablePart rcdata raw script_class = refl
+other_than_text Ordinary rcdata raw script_class = refl
+other_than_text Refused rcdata raw script_class = refl
+
+pub one_of_text : (c : Class) → (c ≡ Rcdata) ⊎ (c ≡ Raw) ⊎ (c ≡ Script) → is_text_class c ≡ true
+one_of_text c e =
+    elim e [
+      | inl rcdata ↦ rw rcdata refl
+      | inr rest ↦
+          elim rest [
+            | inl raw ↦ rw raw refl
+            | inr script_class ↦ rw script_class refl
+          ]
+    ]

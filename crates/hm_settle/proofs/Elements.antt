@@ -1,12 +1,14 @@
 -- Open elements that are kept one behind the other, and the path that they make.
-use Rattle.std.proofs.Common.{◌≡◌, ℕ, zero, suc, ◌+◌, ◌<◌, ◌≤◌, List, [], ◌∷◌, ◌++◌, length, take, get_or, refl, sym, ap, ◌∙◌, inl, inr, arith}
+use Rattle.std.proofs.Common.{◌≡◌, ℕ, zero, suc, ◌+◌, ◌-◌, ◌<◌, ◌≤◌, List, [], ◌∷◌, ◌++◌, length, take, get_or, refl, sym, ap, ◌∙◌, inl, inr, arith}
 use Rattle.std.proofs.lemmas.List.{take_more, take_all, take-take, take-append-le, length-take-le, length_push}
 use Rattle.std.proofs.lemmas.Bool.{cases_eq}
 use Rattle.hm_base.specs.Walks.{Element}
 use Rattle.hm_elements.specs.Names.{body}
-use Rattle.hm_elements.specs.Paths.{current}
+use Rattle.hm_elements.specs.Kinds.{kind}
+use Rattle.hm_elements.specs.Paths.{current, is_in_text}
+use Rattle.hm_settle.specs.declared.element.Marks.{Marks}
 use Rattle.hm_settle.specs.declared.element.OpenElement.{OpenElement}
-use Rattle.hm_settle.specs.Elements.{name_of, element_of, onto, path_of, marks_of, AreMarked, IsPath}
+use Rattle.hm_settle.specs.Elements.{name_of, element_of, onto, path_of, marks_of, KeepsKind, AreMarked, IsPath}
 
 onto-append : (path : List Element) (xs ys : List OpenElement) → onto path (xs ++ ys) ≡ onto (onto path xs) ys
 onto-append path [] ys = refl
@@ -38,6 +40,17 @@ marked_from path (o ∷ os) (suc i) d marked h = marked_from (element_of o ∷ p
 pub marked_at : (os : List OpenElement) (i : ℕ) (o : OpenElement) → o ≡ get_or os i o → AreMarked [] os → i + 1 ≡ length os → o.marks ≡ marks_of (path_of os)
 marked_at os i o at marked e =
     ap (λ (x : OpenElement). x.marks) at ∙ marked_from [] os i o marked (omega arith) ∙ ap (λ k. marks_of (path_of k)) (take_all (suc i) os (omega arith))
+
+-- the marks of each element keep the kind of its name
+pub known_at : (os : List OpenElement) (i : ℕ) (o : OpenElement) → o ≡ get_or os i o → AreMarked [] os → i < length os → KeepsKind o
+known_at os i o at marked h =
+    ap (λ (x : OpenElement). x.marks.kind) at
+    ∙ ap (λ (m : Marks). m.kind) (marked_from [] os i o marked h)
+    ∙ ap (λ path. kind (current path)) (path_of-last os (suc i) i o at (omega arith) h)
+
+-- and those of the innermost whether one text stands in it
+pub text_at : (os : List OpenElement) (o : OpenElement) → o ≡ get_or os (length os - 1) o → IsPath os → o.marks.text ≡ is_in_text (path_of os)
+text_at os o at path = ap (λ (m : Marks). m.text) (marked_at os (length os - 1) o at path.marked (omega (arith, path.least)))
 
 marked_first : (path : List Element) (n : ℕ) (os : List OpenElement) → AreMarked path os → AreMarked path (take n os)
 marked_first path zero os marked = tt

@@ -7,7 +7,8 @@ use Rattle.std.specs.declared.vec.Vec.{Vec}
 use Rattle.std.specs.declared.alloc.Global.{Global}
 use Rattle.hm_base.specs.Walks.{Element}
 use Rattle.hm_elements.specs.Names.{html, body, tbody, tr, colgroup}
-use Rattle.hm_elements.specs.Paths.{html_element, is_open, is_heading_open, is_p_open}
+use Rattle.hm_elements.specs.Kinds.{kind}
+use Rattle.hm_elements.specs.Paths.{html_element, current, is_in_text, is_open, is_heading_open, is_p_open}
 use Rattle.hm_settle.specs.declared.element.Name.{Name}
 use Rattle.hm_settle.specs.declared.element.Name.TheVariants.{Html, Body, Tbody, Tr, Colgroup, Given}
 use Rattle.hm_settle.specs.declared.element.Marks.{Marks}
@@ -32,7 +33,7 @@ onto path (o ∷ os) = onto (element_of o ∷ path) os
 abbrev pub path_of : List OpenElement → List Element
 path_of os = onto [] os
 
--- what is open on a path
+-- what is open on a path, and of what kind its innermost element is
 abbrev pub marks_of : List Element → Marks
 marks_of path = record {
   paragraph = is_p_open path;
@@ -41,7 +42,13 @@ marks_of path = record {
   button = is_open (codes "button") path;
   form = is_open (codes "form") path;
   nobr = is_open (codes "nobr") path;
+  kind = kind (current path);
+  text = is_in_text path;
 }
+
+-- the element's marks keep the kind of its name
+abbrev pub KeepsKind : OpenElement → Type 0
+KeepsKind o = o.marks.kind ≡ kind (name_of o.name)
 
 -- each element knows what is open at it
 abbrev pub AreMarked : List Element → List OpenElement → Type 0

@@ -2,6 +2,8 @@
 use Rattle.std.specs.Prelude.{◌≡◌, ℕ, ◌+◌, ◌<◌, ◌≤◌, Bool, not, ◌&&◌, ◌||◌, List, [], ◌∷◌, ◌++◌, length, take, Option, Some, None, Result, Ok, Err, bytes_eq}
 use Rattle.hm_base.specs.Walks.{Element}
 use Rattle.hm_base.specs.declared.rules.Rule.{Rule}
+use Rattle.hm_elements.specs.declared.kind.Kind.{Kind}
+use Rattle.hm_elements.specs.Kinds.{kind}
 use Rattle.hm_elements.specs.Names.{svg}
 use Rattle.hm_elements.specs.Tables.{is_void}
 use Rattle.hm_elements.specs.Paths.{is_in_svg, is_open}
@@ -49,6 +51,11 @@ pub record IsEnd (os : List OpenElement) (n : List ℕ) (left : ℕ) : Type 0 wh
 abbrev pub opened_by : Option Name → Bool → List Element
 opened_by None foreign = []
 opened_by (Some n) foreign = element (name_of n) foreign ∷ []
+
+-- the kind is that of the name that is kept, if any
+abbrev pub IsKindOf : Option Name → Kind → Type 0
+IsKindOf None k = Unit {0}
+IsKindOf (Some n) k = k ≡ kind (name_of n)
 
 -- an element opens behind the others
 pub record IsPushed (old : List OpenElement) (e : Element) (new : List OpenElement) : Type 0 where

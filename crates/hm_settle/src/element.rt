@@ -1,12 +1,14 @@
 //! An open element, with what is open at it.
-ghost use Rattle.std.specs.Prelude.{◌≡◌, List, [], ◌∷◌, true, IfOk};
+ghost use Rattle.std.specs.Prelude.{◌≡◌, ℕ, List, [], ◌∷◌, true, not, ◌&&◌, ◌||◌, IfOk, bytes_eq};
 ghost use Rattle.hm_base.specs.Walks.{Element};
+ghost use Rattle.hm_elements.specs.Kinds.{IsNamed};
+ghost use Rattle.hm_elements.specs.Names.{p};
 ghost use Rattle.hm_elements.specs.Paths as paths;
 ghost use Rattle.hm_elements.specs.Tables as tables;
-ghost use Rattle.hm_settle.specs.Elements.{name_of, marks_of};
+ghost use Rattle.hm_settle.specs.Elements.{KeepsKind, name_of, marks_of};
 
 use hm_base::Memory;
-use hm_elements::{closes_p, is_boundary, is_heading, is_unnested, same_name};
+use hm_elements::{Class, Kind, Named, is_boundary, kind_of, same_name};
 use std::alloc::Global;
 
 /// The name of an open element. Only one that a tag gave takes memory.
@@ -42,7 +44,7 @@ impl Name {
     }
 }
 
-/// What is open at an element, itself included, that some start tags must not meet.
+/// What is open at an element, itself included, that some start tags must not meet, and its kind.
 #[derive(Clone, Copy, Debug)]
 pub(crate) struct Marks {
     /// A `p` with no boundary above it.
@@ -53,6 +55,10 @@ pub(crate) struct Marks {
     pub button: bool,
     pub form: bool,
     pub nobr: bool,
+    /// What the tables say of the element's name, be it one of HTML or of SVG.
+    pub kind: Kind,
+    /// The element is one of HTML that holds one text and nothing else.
+    pub text: bool,
 }
 
 impl Marks {
@@ -67,39 +73,47 @@ impl Marks {
             button: false,
             form: false,
             nobr: false,
+            kind: kind_of(""),
+            text: false,
         }
     }
 
     /// The marks at an element that opens where these are.
-    pub(crate) fn at(self, name: &str, foreign: bool) -> Marks
-        ensures { (path : List Element) → self ≡ marks_of path → result ≡ marks_of (record { name = name.now; foreign = foreign } ∷ path) }
+    #[tactic(auto, unfolding(hm_elements::specs::Tables::is_unnested, hm_elements::specs::Tables::unnested_names, hm_elements::specs::Names::is_among))]
+    pub(crate) fn at(self, name: Named<'_>, foreign: bool) -> Marks
+        requires { IsNamed name }
+        ensures { (path : List Element) → self ≡ marks_of path → result ≡ marks_of (record { name = name.entry.name.now; foreign = foreign } ∷ path) }
     {
         Marks {
-            paragraph: same_name(name, "p") || (self.paragraph && !is_boundary(name, foreign)),
-            heading: is_heading(name) || self.heading,
-            a: same_name(name, "a") || self.a,
-            button: same_name(name, "button") || self.button,
-            form: same_name(name, "form") || self.form,
-            nobr: same_name(name, "nobr") || self.nobr,
+            paragraph: is_paragraph_open(name, foreign, self.paragraph),
+            heading: name.kind.heading || self.heading,
+            a: is_open(name, "a", self.a),
+            button: is_open(name, "button", self.button),
+            form: is_open(name, "form", self.form),
+            nobr: is_open(name, "nobr", self.nobr),
+            kind: name.kind,
+            text: holds_text(name, foreign),
         }
     }
 
     /// Whether a start tag of this name would close a paragraph that isn't the innermost element.
     #[tactic(auto, unfolding(hm_elements::specs::Paths::is_block_in_p))]
-    pub(crate) fn is_block_in_p(self, name: &str) -> bool
-        ensures { (path : List Element) → self ≡ marks_of path → result ≡ paths.is_block_in_p name.now path }
+    pub(crate) fn is_block_in_p(self, name: Named<'_>) -> bool
+        requires { IsNamed name }
+        ensures { (path : List Element) → self ≡ marks_of path → result ≡ paths.is_block_in_p name.entry.name.now path }
     {
-        self.paragraph && closes_p(name)
+        self.paragraph && name.kind.closes_p
     }
 
     /// Whether an element of this name would stand in one of its own kind.
-    pub(crate) fn is_nested(self, name: &str) -> bool
-        ensures { (path : List Element) → self ≡ marks_of path → result ≡ paths.is_nested name.now path }
+    pub(crate) fn is_nested(self, name: Named<'_>) -> bool
+        requires { IsNamed name }
+        ensures { (path : List Element) → self ≡ marks_of path → result ≡ paths.is_nested name.entry.name.now path }
     {
-        if is_unnested(name) {
-            self.is_unnested_open(name)
+        if name.kind.unnested {
+            self.is_unnested_open(name.name)
         } else {
-            self.heading && is_heading(name)
+            self.heading && name.kind.heading
         }
     }
 
@@ -117,10 +131,68 @@ impl Marks {
     }
 }
 
+/// Whether a `p` with no boundary above it is open at an element that opens where one is or isn't.
+fn is_paragraph_open(name: Named<'_>, foreign: bool, outside: bool) -> bool
+    requires { IsNamed name }
+    ensures { result ≡ (bytes_eq name.entry.name.now p || (not (tables.is_boundary name.entry.name.now foreign) && outside)) }
+{
+    same_name(name.name, "p") || (outside && !bounds(name, foreign))
+}
+
+/// Whether a paragraph is never closed through an open element of this name, of HTML or of SVG.
+fn bounds(name: Named<'_>, foreign: bool) -> bool
+    requires { IsNamed name }
+    ensures { result ≡ tables.is_boundary name.entry.name.now foreign }
+{
+    if foreign {
+        is_boundary(name.name, true)
+    } else {
+        name.kind.boundary
+    }
+}
+
+/// Whether `one`, which may not stand in its own name, is open at an element that opens where it is or isn't.
+fn is_open(name: Named<'_>, one: &str, outside: bool) -> bool
+    requires named { IsNamed name }
+    requires one { tables.is_unnested one.now ≡ true }
+    ensures { result ≡ (bytes_eq name.entry.name.now one.now || outside) }
+{
+    outside || (name.kind.unnested && same_name(name.name, one))
+}
+
+/// Whether the element is one of HTML that holds one text and nothing else.
+fn holds_text(name: Named<'_>, foreign: bool) -> bool
+    requires { IsNamed name }
+    ensures { result ≡ (not foreign && tables.holds_text name.entry.name.now) }
+{
+    !foreign && holds_text_by(name.kind.class)
+}
+
+/// Whether elements of this class hold one text and nothing else.
+fn holds_text_by(class: Class) -> bool
+    ensures { (name : List ℕ) → class ≡ tables.class_of name → result ≡ tables.holds_text name }
+{
+    matches!(class, Class::Rcdata | Class::Raw | Class::Script)
+}
+
 /// An open element.
 #[derive(Debug, Drop)]
 pub(crate) struct OpenElement {
     pub name: Name,
     pub foreign: bool,
     pub marks: Marks,
+}
+
+impl OpenElement {
+    /// The name with its kind, which the marks keep.
+    pub(crate) fn named(&self) -> Named<'_>
+        requires { KeepsKind self.now }
+        ensures named { IsNamed result }
+        ensures name { result.name.now ≡ name_of self.now.name }
+    {
+        Named {
+            name: self.name.as_str(),
+            kind: self.marks.kind,
+        }
+    }
 }

@@ -1,18 +1,20 @@
 //! The open elements of a page in its body.
 ghost use Rattle.std.specs.Prelude.{◌≡◌, ◌≢◌, ◌↔◌, ◌||◌, ◌+◌, ◌<◌, ◌≤◌, [], ◌∷◌, ◌++◌, length, map, reverse, take, slice_get, vec_len, vec_capacity, true, Some, Err, IfOk, OnErr, bytes_eq, if◌then◌else◌, Bool};
 ghost use Rattle.hm_base.specs.declared.rules.Rule.{Rule};
+ghost use Rattle.hm_elements.specs.Kinds as kinds;
 ghost use Rattle.hm_elements.specs.Names.{body, html, svg};
 ghost use Rattle.hm_elements.specs.Paths as paths;
 ghost use Rattle.hm_elements.specs.Paths.{html_element};
 ghost use Rattle.hm_settle.specs.Answers.{IsMoved, IsStarted, elements_of};
 ghost use Rattle.hm_settle.specs.Elements.{AreMarked, IsKept, are_names_utf8, name_of, path_of};
 ghost use Rattle.hm_settle.specs.Moves.{element, refuses, start_moves, end_moves};
-ghost use Rattle.hm_settle.specs.Plans.{IsPushed, opened_by};
+ghost use Rattle.hm_settle.specs.Plans.{IsKindOf, IsPushed, opened_by};
 
 use crate::element::{Name, OpenElement};
 use crate::plan::{DEEPEST, Plan, left_by_end, marks, plan_start};
 use crate::{Made, Moves, SettleFault};
 use hm_base::Memory;
+use hm_elements::{Kind, Named, kind_of};
 use std::alloc::Global;
 use std::marker::Model;
 
@@ -41,8 +43,8 @@ impl Path {
         ensures { IfOk result (λ path. path ≡ html_element body ∷ html_element html ∷ []) }
     {
         let mut elements = Vec::with_capacity(alloc, DEEPEST)?;
-        push(&mut elements, Name::Html, false);
-        push(&mut elements, Name::Body, false);
+        push_made(&mut elements, Name::Html);
+        push_made(&mut elements, Name::Body);
         Ok(Path { elements })
     }
 
@@ -86,6 +88,13 @@ impl Path {
         self.elements[self.elements.len() - 1].foreign
     }
 
+    /// Whether the innermost element holds one text and nothing else.
+    pub fn is_in_text(&self) -> bool
+        ensures { result ≡ paths.is_in_text self.now }
+    {
+        self.elements[self.elements.len() - 1].marks.text
+    }
+
     /// Takes a start tag of this name (HTML Standard, 13.2.6.4.7 and following, 13.2.6.5): closes the
     /// elements that yield to it, makes those that it implies, and opens its own, an element of SVG
     /// where `foreign` is set. A void element closes at once. An `svg` that is to close at once is
@@ -97,10 +106,11 @@ impl Path {
         ensures rule { (rule : Rule) → (result ≡ Err (SettleFault.Rule rule)) ↔ (start_moves name.now self.old ≡ refuses rule) }
         ensures err { OnErr result (self.new ≡ self.old) }
     {
-        let plan = plan_start(&self.elements, name)?;
+        let tag = Named::of(name);
+        let plan = plan_start(&self.elements, tag)?;
         let closes = (self.elements.len() - plan.left) as u32;
         let opened = kept_name(*self.elements.allocator(), name, plan.is_void)?;
-        carry_out(&mut self.elements, plan, opened, foreign);
+        carry_out(&mut self.elements, plan, opened, tag.kind, foreign);
         Ok(Moves {
             closes,
             made: plan.made,
@@ -129,7 +139,8 @@ impl Path {
 
 /// The name that stays open, if any.
 fn kept_name(alloc: Global, name: &str, is_void: bool) -> Result<Option<Name>, Memory>
-    ensures { IfOk result (λ kept. (foreign : Bool) → opened_by kept foreign ≡ (if is_void then [] else element name.now foreign ∷ [])) }
+    ensures opened { IfOk result (λ kept. (foreign : Bool) → opened_by kept foreign ≡ (if is_void then [] else element name.now foreign ∷ [])) }
+    ensures kind { IfOk result (λ kept. IsKindOf kept (kinds.kind name.now)) }
 {
     if is_void {
         Ok(None)
@@ -138,19 +149,26 @@ fn kept_name(alloc: Global, name: &str, is_void: bool) -> Result<Option<Name>, M
     }
 }
 
-/// Closes all but the elements that stay, and opens those that are made and one more, if any.
-fn carry_out(elements: &mut Vec<OpenElement>, plan: Plan, opened: Option<Name>, foreign: bool)
+/// Closes all but the elements that stay, and opens those that are made and one more of this kind, if any.
+fn carry_out(
+    elements: &mut Vec<OpenElement>,
+    plan: Plan,
+    opened: Option<Name>,
+    kind: Kind,
+    foreign: bool,
+)
     requires kept { IsKept elements.old }
     requires least { 2 ≤ plan.left }
     requires most { plan.left ≤ length elements.old.items }
     requires room { plan.left + length (elements_of plan.made) < 512 }
+    requires kind { IsKindOf opened kind }
     ensures kept { IsKept elements.new }
     ensures path { path_of elements.new.items ≡ opened_by opened foreign ++ (elements_of plan.made ++ path_of (take plan.left elements.old.items)) }
 {
     elements.truncate(plan.left);
     make(elements, plan.made);
     if let Some(name) = opened {
-        push(elements, name, foreign);
+        push(elements, name, kind, foreign);
     }
 }
 
@@ -163,24 +181,40 @@ fn make(elements: &mut Vec<OpenElement>, made: Made)
 {
     match made {
         Made::Nothing => {}
-        Made::Section => push(elements, Name::Tbody, false),
+        Made::Section => push_made(elements, Name::Tbody),
         Made::SectionAndRow => {
-            push(elements, Name::Tbody, false);
-            push(elements, Name::Tr, false);
+            push_made(elements, Name::Tbody);
+            push_made(elements, Name::Tr);
         }
-        Made::Row => push(elements, Name::Tr, false),
-        Made::Colgroup => push(elements, Name::Colgroup, false),
+        Made::Row => push_made(elements, Name::Tr),
+        Made::Colgroup => push_made(elements, Name::Colgroup),
     }
 }
 
-/// Opens an element, for which there is room.
-fn push(elements: &mut Vec<OpenElement>, name: Name, foreign: bool)
+/// Opens an element of HTML that no tag named, for which there is room.
+fn push_made(elements: &mut Vec<OpenElement>, name: Name)
     requires marked { AreMarked [] elements.old.items }
     requires room { vec_len elements.old < vec_capacity elements.old }
+    ensures pushed { IsPushed elements.old.items (html_element (name_of name)) elements.new.items }
+    ensures capacity { vec_capacity elements.old ≤ vec_capacity elements.new }
+{
+    let kind = kind_of(name.as_str());
+    push(elements, name, kind, false);
+}
+
+/// Opens an element of this kind, for which there is room.
+fn push(elements: &mut Vec<OpenElement>, name: Name, kind: Kind, foreign: bool)
+    requires marked { AreMarked [] elements.old.items }
+    requires room { vec_len elements.old < vec_capacity elements.old }
+    requires kind { kind ≡ kinds.kind (name_of name) }
     ensures pushed { IsPushed elements.old.items (element (name_of name) foreign) elements.new.items }
     ensures capacity { vec_capacity elements.old ≤ vec_capacity elements.new }
 {
-    let marks = marks(elements).at(name.as_str(), foreign);
+    let named = Named {
+        name: name.as_str(),
+        kind,
+    };
+    let marks = marks(elements).at(named, foreign);
     let element = OpenElement {
         name,
         foreign,

@@ -125,3 +125,20 @@ fn at_most_512_are_open(rt: HostRuntime) -> Result<(), Fail> {
     assert_eq!(rt; path.len(), 512);
     Ok(())
 }
+
+#[test]
+fn one_text_in_html_alone(rt: HostRuntime) -> Result<(), Fail> {
+    for (tags, want) in [
+        ("", false),
+        ("textarea", true),
+        ("script", true),
+        ("textarea /textarea", false),
+        ("svg title", false),
+        ("svg style", false),
+        ("p br", false),
+    ] {
+        let path = path_behind(&rt, rt.alloc(), tags)?;
+        assert_eq!(rt; path.is_in_text(), want, "{tags}");
+    }
+    Ok(())
+}

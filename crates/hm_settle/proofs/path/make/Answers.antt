@@ -6,18 +6,18 @@ use Rattle.hm_settle.proofs.path.make.Goals as goal
 
 pub returns-in-Section-clause-path : goal.returns-in-Section-clause-path
 returns-in-Section-clause-path c =
-    rw c.in-Section.is (path_of-pushed c.args.elements.now.items c.push.new.elements.items (html_element tbody) c.push.ensures.pushed)
+    rw c.in-Section.is (path_of-pushed c.args.elements.now.items c.push_made.new.elements.items (html_element tbody) c.push_made.ensures.pushed)
 
 pub returns-in-Row-clause-path : goal.returns-in-Row-clause-path
 returns-in-Row-clause-path c =
-    rw c.in-Row.is (path_of-pushed c.args.elements.now.items c.push-in-Row.new.elements.items (html_element tr) c.push-in-Row.ensures.pushed)
+    rw c.in-Row.is (path_of-pushed c.args.elements.now.items c.push_made-in-Row.new.elements.items (html_element tr) c.push_made-in-Row.ensures.pushed)
 
 pub returns-in-Colgroup-clause-path : goal.returns-in-Colgroup-clause-path
 returns-in-Colgroup-clause-path c =
-    rw c.in-Colgroup.is (path_of-pushed c.args.elements.now.items c.push-in-Colgroup.new.elements.items (html_element colgroup) c.push-in-Colgroup.ensures.pushed)
+    rw c.in-Colgroup.is (path_of-pushed c.args.elements.now.items c.push_made-in-Colgroup.new.elements.items (html_element colgroup) c.push_made-in-Colgroup.ensures.pushed)
 
 pub returns-in-SectionAndRow-clause-path : goal.returns-in-SectionAndRow-clause-path
 returns-in-SectionAndRow-clause-path c =
     rw c.in-SectionAndRow.is
-    (path_of-pushed c.push-in-SectionAndRow.new.elements.items c.push-in-SectionAndRow-2.new.elements.items (html_element tr) c.push-in-SectionAndRow-2.ensures.pushed
-    ∙ ap (λ x. html_element tr ∷ x) (path_of-pushed c.args.elements.now.items c.push-in-SectionAndRow.new.elements.items (html_element tbody) c.push-in-SectionAndRow.ensures.pushed))
+    (path_of-pushed c.push_made-in-SectionAndRow.new.elements.items c.push_made-in-SectionAndRow-2.new.elements.items (html_element tr) c.push_made-in-SectionAndRow-2.ensures.pushed
+    ∙ ap (λ x. html_element tr ∷ x) (path_of-pushed c.args.elements.now.items c.push_made-in-SectionAndRow.new.elements.items (html_element tbody) c.push_made-in-SectionAndRow.ensures.pushed))

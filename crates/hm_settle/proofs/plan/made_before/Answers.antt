@@ -10,11 +10,11 @@ use Rattle.hm_settle.proofs.plan.made_before.Goals as goal
 pub returns-then-depth-gt-DEEPEST-clause-opens : goal.returns-then-depth-gt-DEEPEST-clause-opens
 returns-then-depth-gt-DEEPEST-clause-opens c =
     let os = c.args.elements.now in
-    let n = c.args.name.now in
+    let n = c.args.tag.name.now in
     let o = c.index-elements-elements.result in
     let named : c.as_str.result.now ≡ name_of o.name = cc in
     let made : Makes n (path_of os) c.under-made.result =
-    makes_by os n o c.under-made.result c.requires c.index-elements-elements.is
+    makes_by os n o c.under-made.result c.requires.path c.index-elements-elements.is
     (sym (c.is_block_in_p.ensures (path_of os) c.marks-marks.ensures) ∙ c.if-is_block_in_p.false)
     (sym (c.is_nested.ensures (path_of os) c.marks-marks.ensures) ∙ c.if-is_nested.false) (rw named at c.under-made.ensures) in
     λ closed. made_too_deep n closed (path_of os) c.under-made.result made (omega (arith, length-path_of os, c.count.ensures))
@@ -22,11 +22,11 @@ returns-then-depth-gt-DEEPEST-clause-opens c =
 pub returns-then-not-stands-clause-opens : goal.returns-then-not-stands-clause-opens
 returns-then-not-stands-clause-opens c =
     let os = c.args.elements.now in
-    let n = c.args.name.now in
+    let n = c.args.tag.name.now in
     let o = c.index-elements-elements.result in
     let named : c.as_str.result.now ≡ name_of o.name = cc in
     let made : Makes n (path_of os) c.under-made.result =
-    makes_by os n o c.under-made.result c.requires c.index-elements-elements.is
+    makes_by os n o c.under-made.result c.requires.path c.index-elements-elements.is
     (sym (c.is_block_in_p.ensures (path_of os) c.marks-marks.ensures) ∙ c.if-is_block_in_p.false)
     (sym (c.is_nested.ensures (path_of os) c.marks-marks.ensures) ∙ c.if-is_nested.false) (rw named at c.under-made.ensures) in
     let stands : stands_on n (elements_of c.under-made.result ++ path_of os) ≡ false = cc in
@@ -35,11 +35,11 @@ returns-then-not-stands-clause-opens c =
 pub returns-then-depth-eq-DEEPEST-clause-opens : goal.returns-then-depth-eq-DEEPEST-clause-opens
 returns-then-depth-eq-DEEPEST-clause-opens c =
     let os = c.args.elements.now in
-    let n = c.args.name.now in
+    let n = c.args.tag.name.now in
     let o = c.index-elements-elements.result in
     let named : c.as_str.result.now ≡ name_of o.name = cc in
     let made : Makes n (path_of os) c.under-made.result =
-    makes_by os n o c.under-made.result c.requires c.index-elements-elements.is
+    makes_by os n o c.under-made.result c.requires.path c.index-elements-elements.is
     (sym (c.is_block_in_p.ensures (path_of os) c.marks-marks.ensures) ∙ c.if-is_block_in_p.false)
     (sym (c.is_nested.ensures (path_of os) c.marks-marks.ensures) ∙ c.if-is_nested.false) (rw named at c.under-made.ensures) in
     let stands : stands_on n (elements_of c.under-made.result ++ path_of os) ≡ true = cc in
@@ -48,11 +48,11 @@ returns-then-depth-eq-DEEPEST-clause-opens c =
 pub returns-clause-opens : goal.returns-clause-opens
 returns-clause-opens c =
     let os = c.args.elements.now in
-    let n = c.args.name.now in
+    let n = c.args.tag.name.now in
     let o = c.index-elements-elements.result in
     let named : c.as_str.result.now ≡ name_of o.name = cc in
     let made : Makes n (path_of os) c.under-made.result =
-    makes_by os n o c.under-made.result c.requires c.index-elements-elements.is
+    makes_by os n o c.under-made.result c.requires.path c.index-elements-elements.is
     (sym (c.is_block_in_p.ensures (path_of os) c.marks-marks.ensures) ∙ c.if-is_block_in_p.false)
     (sym (c.is_nested.ensures (path_of os) c.marks-marks.ensures) ∙ c.if-is_nested.false) (rw named at c.under-made.ensures) in
     let stands : stands_on n (elements_of c.under-made.result ++ path_of os) ≡ true = cc in

@@ -1,12 +1,23 @@
-use Rattle.std.proofs.Common.{◌∙◌, sym}
+use Rattle.std.proofs.Common.{◌≡◌, ◌∙◌, sym, ap, true, false}
+use Rattle.hm_elements.specs.declared.kind.Kind.{Kind}
+use Rattle.hm_elements.specs.Tables.{is_unnested}
 use Rattle.hm_settle.proofs.Nested.{nested_in_own_name, nested_heading}
 use Rattle.hm_settle.proofs.element.Marks.is_nested.Goals as goal
 
-pub returns-then-is_unnested : goal.returns-then-is_unnested
-returns-then-is_unnested c = λ path h. c.is_unnested_open.ensures path h ∙ nested_in_own_name c.args.name.now path (sym c.is_unnested.ensures ∙ c.if-is_unnested.true)
+pub returns-then-name : goal.returns-then-name
+returns-then-name c =
+    let n = c.args.name.name.now in
+    let unnested : is_unnested n ≡ true = sym (ap (λ (k : Kind). k.unnested) c.requires) ∙ c.if-name.true in
+    λ path h. c.is_unnested_open.ensures path h ∙ nested_in_own_name n path unnested
 
 pub returns-then-self : goal.returns-then-self
-returns-then-self c = λ path h. c.is_heading.ensures ∙ rw c.if-self.true at (nested_heading c.args.name.now c.args.self path (sym c.is_unnested.ensures ∙ c.if-is_unnested.false) h)
+returns-then-self c =
+    let n = c.args.name.name.now in
+    let other : is_unnested n ≡ false = sym (ap (λ (k : Kind). k.unnested) c.requires) ∙ c.if-name.false in
+    λ path h. ap (λ (k : Kind). k.heading) c.requires ∙ rw c.if-self.true at (nested_heading n c.args.self path other h)
 
 pub returns-else-self : goal.returns-else-self
-returns-else-self c = λ path h. c.if-self.false ∙ rw c.if-self.false at (nested_heading c.args.name.now c.args.self path (sym c.is_unnested.ensures ∙ c.if-is_unnested.false) h)
+returns-else-self c =
+    let n = c.args.name.name.now in
+    let other : is_unnested n ≡ false = sym (ap (λ (k : Kind). k.unnested) c.requires) ∙ c.if-name.false in
+    λ path h. c.if-self.false ∙ rw c.if-self.false at (nested_heading n c.args.self path other h)

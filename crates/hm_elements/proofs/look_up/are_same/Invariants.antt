@@ -1,0 +1,5 @@
+use Rattle.std.proofs.Common.{◌≡◌, drop, bytes_eq}
+use Rattle.hm_elements.proofs.look_up.are_same.Given as goal
+
+abbrev pub invariant-loop-i : goal.invariant-loop-i
+invariant-loop-i l = bytes_eq (drop l.i l.a) (drop l.i l.b) ≡ bytes_eq l.a l.b

@@ -1,0 +1,37 @@
+-- What the tables say of a name, all at once.
+use Rattle.std.specs.Prelude.{◌≡◌, ℕ, Bool, true, false, ◌||◌, List, Option, Some, None, bytes_eq}
+use Rattle.hm_elements.specs.declared.kind.Kind.{Kind}
+use Rattle.hm_elements.specs.declared.kind.Named.{Named}
+use Rattle.hm_elements.specs.Names.{is_among, Row, find, p, colgroup}
+use Rattle.hm_elements.specs.Nesting.{children, own_parents, bound_names, yield_rows, end_rows, yields, ends_with}
+use Rattle.hm_elements.specs.Tables.{class_of, is_heading, is_unnested, closes_p, is_boundary, is_block}
+
+abbrev pub is_found : Option (List (List ℕ)) → Bool
+is_found None = false
+is_found (Some ns) = true
+
+-- whether a row of a table of pairs begins with this name
+abbrev pub has_row : List Row → List ℕ → Bool
+has_row rows n = is_found (find n rows)
+
+-- what the tables say of a name
+abbrev pub kind : List ℕ → Kind
+kind n = record {
+  class = class_of n;
+  heading = is_heading n;
+  unnested = is_unnested n;
+  closes_p = closes_p n;
+  boundary = is_boundary n false;
+  block = is_block n;
+  yields = bytes_eq n colgroup || has_row yield_rows n;
+  p_yields = yields p n;
+  ends = has_row end_rows n;
+  p_ends = ends_with p n;
+  has_children = has_row children n;
+  has_parents = has_row own_parents n;
+  bound = is_among n bound_names;
+}
+
+-- a name stands with its own kind
+abbrev pub IsNamed : Named → Type 0
+IsNamed n = n.kind ≡ kind n.name.now

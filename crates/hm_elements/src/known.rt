@@ -1,0 +1,416 @@
+//! The names that the tables list, each with its kind.
+ghost use Rattle.std.specs.Prelude.{◌≡◌, length};
+ghost use Rattle.hm_elements.specs.KnownNames.{TellsKinds, GroupsTell};
+
+use crate::class::Class;
+use crate::kind::Kind;
+
+/// A name that some table lists, with its kind.
+pub(crate) type Known = (&'static str, Kind);
+
+/// What the tables say of a name that none of them lists.
+pub(crate) const OTHER: Kind = Kind {
+    class: Class::Ordinary,
+    heading: false,
+    unnested: false,
+    closes_p: false,
+    boundary: false,
+    block: false,
+    yields: false,
+    p_yields: false,
+    ends: false,
+    p_ends: false,
+    has_children: false,
+    has_parents: false,
+    bound: false,
+};
+
+/// `a` and `nobr`.
+const UNNESTED: Kind = Kind {
+    unnested: true,
+    ..OTHER
+};
+
+/// Most blocks.
+const BLOCK: Kind = Kind {
+    closes_p: true,
+    block: true,
+    p_yields: true,
+    p_ends: true,
+    ..OTHER
+};
+
+/// Elements with which a page is refused.
+const REFUSED: Kind = Kind {
+    class: Class::Refused,
+    ..OTHER
+};
+
+/// Most void elements.
+const VOID: Kind = Kind {
+    class: Class::Void,
+    has_children: true,
+    ..OTHER
+};
+
+const BASE: Kind = Kind {
+    class: Class::Void,
+    has_children: true,
+    bound: true,
+    ..OTHER
+};
+
+const BODY: Kind = Kind {
+    class: Class::Root,
+    block: true,
+    bound: true,
+    ..OTHER
+};
+
+const BUTTON: Kind = Kind {
+    unnested: true,
+    boundary: true,
+    p_ends: true,
+    ..OTHER
+};
+
+/// `td`, `th` and `caption`.
+const CELL: Kind = Kind {
+    class: Class::TablePart,
+    boundary: true,
+    block: true,
+    yields: true,
+    p_yields: true,
+    ends: true,
+    p_ends: true,
+    bound: true,
+    ..OTHER
+};
+
+const COL: Kind = Kind {
+    class: Class::Void,
+    block: true,
+    p_yields: true,
+    has_children: true,
+    bound: true,
+    ..OTHER
+};
+
+const COLGROUP: Kind = Kind {
+    class: Class::TablePart,
+    block: true,
+    yields: true,
+    p_yields: true,
+    ends: true,
+    has_children: true,
+    bound: true,
+    ..OTHER
+};
+
+/// `li`, `dd` and `dt`.
+const ITEM: Kind = Kind {
+    closes_p: true,
+    block: true,
+    yields: true,
+    p_yields: true,
+    ends: true,
+    p_ends: true,
+    has_parents: true,
+    ..OTHER
+};
+
+const FORM: Kind = Kind {
+    unnested: true,
+    closes_p: true,
+    block: true,
+    p_yields: true,
+    p_ends: true,
+    ..OTHER
+};
+
+/// `h1` to `h6`.
+const HEADING: Kind = Kind {
+    heading: true,
+    closes_p: true,
+    block: true,
+    p_yields: true,
+    p_ends: true,
+    ..OTHER
+};
+
+const HEAD: Kind = Kind {
+    class: Class::Root,
+    block: true,
+    has_children: true,
+    bound: true,
+    ..OTHER
+};
+
+/// `hr`.
+const RULE: Kind = Kind {
+    class: Class::Void,
+    closes_p: true,
+    block: true,
+    p_yields: true,
+    has_children: true,
+    ..OTHER
+};
+
+const HTML: Kind = Kind {
+    class: Class::Root,
+    boundary: true,
+    block: true,
+    bound: true,
+    ..OTHER
+};
+
+/// `style` and `iframe`.
+const RAW: Kind = Kind {
+    class: Class::Raw,
+    has_children: true,
+    ..OTHER
+};
+
+const LEGEND: Kind = Kind {
+    block: true,
+    ..OTHER
+};
+
+const OBJECT: Kind = Kind {
+    boundary: true,
+    p_ends: true,
+    ..OTHER
+};
+
+/// `option` and `optgroup`.
+const OPTION: Kind = Kind {
+    block: true,
+    yields: true,
+    ends: true,
+    has_children: true,
+    has_parents: true,
+    ..OTHER
+};
+
+/// `p`.
+const PARAGRAPH: Kind = Kind {
+    closes_p: true,
+    block: true,
+    yields: true,
+    p_yields: true,
+    ends: true,
+    ..OTHER
+};
+
+/// `rt` and `rp`.
+const RUBY_TEXT: Kind = Kind {
+    yields: true,
+    p_yields: true,
+    ends: true,
+    has_parents: true,
+    ..OTHER
+};
+
+const SCRIPT: Kind = Kind {
+    class: Class::Script,
+    has_children: true,
+    ..OTHER
+};
+
+const SELECT: Kind = Kind {
+    has_children: true,
+    ..OTHER
+};
+
+const TABLE: Kind = Kind {
+    class: Class::TablePart,
+    closes_p: true,
+    boundary: true,
+    block: true,
+    p_yields: true,
+    p_ends: true,
+    has_children: true,
+    ..OTHER
+};
+
+/// `thead`, `tbody`, `tfoot` and `tr`.
+const PART: Kind = Kind {
+    class: Class::TablePart,
+    block: true,
+    yields: true,
+    p_yields: true,
+    ends: true,
+    p_ends: true,
+    has_children: true,
+    bound: true,
+    ..OTHER
+};
+
+const TEXTAREA: Kind = Kind {
+    class: Class::Rcdata,
+    has_children: true,
+    ..OTHER
+};
+
+const TITLE: Kind = Kind {
+    class: Class::Rcdata,
+    block: true,
+    has_children: true,
+    bound: true,
+    ..OTHER
+};
+
+/// The names that the tables list, by their first letter, from `a` to `z`.
+static KNOWN: [&[Known]; 26] = [
+    &[
+        ("a", UNNESTED),
+        ("address", BLOCK),
+        ("applet", REFUSED),
+        ("area", VOID),
+        ("article", BLOCK),
+        ("aside", BLOCK),
+    ],
+    &[
+        ("base", BASE),
+        ("basefont", REFUSED),
+        ("bgsound", REFUSED),
+        ("blockquote", BLOCK),
+        ("body", BODY),
+        ("br", VOID),
+        ("button", BUTTON),
+    ],
+    &[
+        ("caption", CELL),
+        ("center", BLOCK),
+        ("col", COL),
+        ("colgroup", COLGROUP),
+        ("command", REFUSED),
+    ],
+    &[
+        ("dd", ITEM),
+        ("details", BLOCK),
+        ("dialog", BLOCK),
+        ("dir", BLOCK),
+        ("div", BLOCK),
+        ("dl", BLOCK),
+        ("dt", ITEM),
+    ],
+    &[("embed", VOID)],
+    &[
+        ("fieldset", BLOCK),
+        ("figcaption", BLOCK),
+        ("figure", BLOCK),
+        ("footer", BLOCK),
+        ("form", FORM),
+        ("frame", REFUSED),
+        ("frameset", REFUSED),
+    ],
+    &[],
+    &[
+        ("h1", HEADING),
+        ("h2", HEADING),
+        ("h3", HEADING),
+        ("h4", HEADING),
+        ("h5", HEADING),
+        ("h6", HEADING),
+        ("head", HEAD),
+        ("header", BLOCK),
+        ("hgroup", BLOCK),
+        ("hr", RULE),
+        ("html", HTML),
+    ],
+    &[
+        ("iframe", RAW),
+        ("image", REFUSED),
+        ("img", VOID),
+        ("input", VOID),
+        ("isindex", REFUSED),
+    ],
+    &[],
+    &[("keygen", REFUSED)],
+    &[
+        ("legend", LEGEND),
+        ("li", ITEM),
+        ("link", VOID),
+        ("listing", REFUSED),
+    ],
+    &[
+        ("main", BLOCK),
+        ("marquee", REFUSED),
+        ("math", REFUSED),
+        ("menu", BLOCK),
+        ("menuitem", REFUSED),
+        ("meta", VOID),
+    ],
+    &[
+        ("nav", BLOCK),
+        ("nobr", UNNESTED),
+        ("noembed", REFUSED),
+        ("noframes", REFUSED),
+    ],
+    &[
+        ("object", OBJECT),
+        ("ol", BLOCK),
+        ("optgroup", OPTION),
+        ("option", OPTION),
+    ],
+    &[
+        ("p", PARAGRAPH),
+        ("param", VOID),
+        ("plaintext", REFUSED),
+        ("pre", BLOCK),
+    ],
+    &[],
+    &[
+        ("rb", REFUSED),
+        ("rp", RUBY_TEXT),
+        ("rt", RUBY_TEXT),
+        ("rtc", REFUSED),
+    ],
+    &[
+        ("script", SCRIPT),
+        ("search", BLOCK),
+        ("section", BLOCK),
+        ("select", SELECT),
+        ("source", VOID),
+        ("style", RAW),
+        ("summary", BLOCK),
+    ],
+    &[
+        ("table", TABLE),
+        ("tbody", PART),
+        ("td", CELL),
+        ("template", REFUSED),
+        ("textarea", TEXTAREA),
+        ("tfoot", PART),
+        ("th", CELL),
+        ("thead", PART),
+        ("title", TITLE),
+        ("tr", PART),
+        ("track", VOID),
+    ],
+    &[("ul", BLOCK)],
+    &[],
+    &[("wbr", VOID)],
+    &[("xmp", REFUSED)],
+    &[],
+    &[],
+];
+
+/// The groups of the table.
+fn groups() -> &'static [&'static [Known]]
+    ensures len { length result.now ≡ 26 }
+    ensures groups { GroupsTell result.now }
+{
+    &KNOWN
+}
+
+/// The known names that begin with this byte.
+pub(crate) fn beginning_with(first: u8) -> &'static [Known]
+    ensures { TellsKinds first result.now }
+{
+    if first < b'a' || first > b'z' {
+        return &[];
+    }
+    groups()[usize::from(first - b'a')]
+}

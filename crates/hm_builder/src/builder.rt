@@ -8,7 +8,7 @@ ghost use Rattle.hm_builder.specs.Building.{Fits, IsBuilt, IsRefused, IsStepped,
 
 use crate::BuildFault;
 use crate::insertion::Phase;
-use crate::parts::{Parts, current, is_in_svg};
+use crate::parts::{Parts, current, is_in_svg, is_in_text};
 use hm_base::{Memory, Points};
 use hm_settle::Path;
 use hm_tree::{Attrs, Tree};
@@ -60,6 +60,14 @@ impl Builder {
         ensures { result ≡ paths.is_in_svg self.now.state.path }
     {
         is_in_svg(self.parts.phase, &self.parts.path)
+    }
+
+    /// Whether the innermost open element is one of HTML that holds one text and nothing else. No name
+    /// is looked up.
+    pub fn is_in_text(&self) -> bool
+        ensures { result ≡ paths.is_in_text self.now.state.path }
+    {
+        is_in_text(self.parts.phase, &self.parts.path)
     }
 
     /// The name of the innermost open element, and no bytes where none is open.

@@ -8,7 +8,7 @@ ghost use Rattle.hm_builder.specs.Inside.{inside_head, open_path, text_name};
 
 use crate::insertion::{HeadText, Phase};
 use hm_base::Word;
-use hm_elements::{holds_text, is_one_of, is_raw, same_name};
+use hm_elements::{is_one_of, is_raw, same_name};
 use hm_settle::Path;
 use hm_tree::Maker;
 
@@ -67,18 +67,22 @@ pub(crate) fn is_in_svg(phase: Phase, path: &Path) -> bool
     matches!(phase, Phase::InBody | Phase::AfterBody | Phase::AfterHtml) && path.is_in_svg()
 }
 
-/// Whether the innermost element holds one text and nothing else.
+/// Whether the innermost element holds one text and nothing else. No name is looked up.
 pub(crate) fn is_in_text(phase: Phase, path: &Path) -> bool
     ensures { result ≡ paths.is_in_text (open_path phase path.now) }
 {
-    !is_in_svg(phase, path) && holds_text(current(phase, path))
+    match phase {
+        Phase::Initial | Phase::BeforeHtml | Phase::BeforeHead | Phase::AfterHead => false,
+        Phase::InHead { text, .. } => text.is_some(),
+        Phase::InBody | Phase::AfterBody | Phase::AfterHtml => path.is_in_text(),
+    }
 }
 
-/// Whether a text is raw here.
+/// Whether a text is raw here. Only the name of an element that holds one text is looked up.
 pub(crate) fn is_in_raw(phase: Phase, path: &Path) -> bool
     ensures { result ≡ paths.is_in_raw (open_path phase path.now) }
 {
-    !is_in_svg(phase, path) && is_raw(current(phase, path))
+    is_in_text(phase, path) && is_raw(current(phase, path))
 }
 
 /// Whether a text is whitespace alone in the innermost element of a body.

@@ -1,11 +1,16 @@
-use Rattle.std.proofs.Common.{sym, ap, ◌∙◌, ◌≡◌, false}
-use Rattle.hm_elements.specs.Paths as paths
+use Rattle.std.proofs.Common.{sym, ap, ◌∙◌}
 use Rattle.hm_elements.specs.Tables.{is_raw}
 use Rattle.hm_builder.specs.Inside.{open_path}
 use Rattle.hm_builder.proofs.Open.{raw_by}
+use Rattle.hm_builder.proofs.Texts.{not_raw}
 use Rattle.hm_builder.proofs.parts.is_in_raw.Goals as goal
 
-pub returns-then-not-is_in_svg : goal.returns-then-not-is_in_svg
-returns-then-not-is_in_svg c =
-    let html : paths.is_in_svg (open_path c.args.phase c.args.path.now) ≡ false = sym c.is_in_svg.ensures ∙ c.if-not-is_in_svg.true in
-    c.is_raw.ensures ∙ ap is_raw c.current.ensures ∙ raw_by (open_path c.args.phase c.args.path.now) html
+pub returns-then-is_in_text : goal.returns-then-is_in_text
+returns-then-is_in_text c =
+    let path = open_path c.args.phase c.args.path.now in
+    c.is_raw.ensures ∙ ap is_raw c.current.ensures ∙ raw_by path (sym c.is_in_text.ensures ∙ c.if-is_in_text.true)
+
+pub returns-else-is_in_text : goal.returns-else-is_in_text
+returns-else-is_in_text c =
+    let path = open_path c.args.phase c.args.path.now in
+    c.if-is_in_text.false ∙ sym (not_raw path (sym c.is_in_text.ensures ∙ c.if-is_in_text.false))

@@ -1,12 +1,14 @@
 -- Elements whose text is read in a mode of its own.
-use Rattle.std.proofs.Common.{◌≡◌, ℕ, Bool, true, false, List, codes, bytes_eq, refl, sym}
+use Rattle.std.proofs.Common.{◌≡◌, ℕ, Bool, true, false, List, [], ◌∷◌, codes, bytes_eq, refl, sym}
 use Rattle.std.proofs.lemmas.Bool.{or_parts, both_ways}
 use Rattle.std.proofs.lemmas.Slice.Eq.{bytes_eq-Decides}
 use Rattle.std.specs.Bool.{Decides}
+use Rattle.hm_base.specs.Walks.{Element}
 use Rattle.hm_elements.specs.Names.{is_among, script}
 use Rattle.hm_elements.specs.Tables.{holds_text, is_raw, raw_names, is_rcdata, rcdata_names}
+use Rattle.hm_elements.specs.Paths.{is_in_svg, is_in_text}
 use Rattle.hm_tokens.specs.First.{ordinary}
-use Rattle.hm_construction.specs.Trees.{mode_of_name}
+use Rattle.hm_construction.specs.Trees.{mode_of, mode_of_name}
 
 differs : (n m : List ℕ) → (n ≡ m → ⊥) → (bytes_eq m n ≡ false) × (bytes_eq n m ≡ false)
 differs n m h = (by (bytes_eq m n) (bytes_eq-Decides m n) (λ e. h (sym e)), by (bytes_eq n m) (bytes_eq-Decides n m) h)
@@ -29,8 +31,14 @@ script_is_raw : is_raw script ≡ true
 unfolding is_raw raw_names is_among
 script_is_raw = refl
 
-pub is_ordinary_without_text : (n : List ℕ) → holds_text n ≡ false → ordinary ≡ mode_of_name n
+is_ordinary_without_text : (n : List ℕ) → holds_text n ≡ false → ordinary ≡ mode_of_name n
 unfolding holds_text
 is_ordinary_without_text n h =
     let none = or_parts (is_raw n) (is_rcdata n) h in
     rw (none.1, (differs n script (λ e. both_ways (is_raw n) none.0 (rw e script_is_raw))).1, none.0) refl
+
+-- where no element of SVG is open, and none of HTML that holds one text
+pub is_ordinary_outside : (path : List Element) → is_in_svg path ≡ false → is_in_text path ≡ false → ordinary ≡ mode_of path
+unfolding holds_text is_raw raw_names is_rcdata rcdata_names is_among
+is_ordinary_outside [] html outside = is_ordinary_without_text [] refl
+is_ordinary_outside (e ∷ path) html outside = rw html (is_ordinary_without_text e.name (rw html at outside))

@@ -8,7 +8,6 @@ ghost use Rattle.hm_builder.specs.Building.{Fits, IsRefused, IsStepped};
 ghost use Rattle.hm_build.specs.Parsing.{IsReadUnder};
 
 use hm_builder::{BuildFault, Builder};
-use hm_elements::holds_text;
 use hm_lexer::{Mode, RawName, RcdataName};
 use hm_tree::Token;
 use std::alloc::Global;
@@ -18,9 +17,6 @@ use std::alloc::Global;
 fn mode_of_name(name: &str) -> Mode
     ensures { mode_of result ≡ trees.mode_of_name name.now }
 {
-    if !holds_text(name) {
-        return Mode::Html;
-    }
     match name {
         "title" => Mode::Rcdata {
             name: RcdataName::Title,
@@ -39,14 +35,16 @@ fn mode_of_name(name: &str) -> Mode
     }
 }
 
-/// How the text that comes next is read.
+/// How the text that comes next is read. Only the name of an element that holds one text is looked up.
 pub(crate) fn mode(builder: &Builder) -> Mode
     ensures { mode_of result ≡ trees.mode_of builder.now.state.path }
 {
     if builder.is_in_svg() {
         Mode::Foreign
-    } else {
+    } else if builder.is_in_text() {
         mode_of_name(builder.current())
+    } else {
+        Mode::Html
     }
 }
 

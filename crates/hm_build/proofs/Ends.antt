@@ -5,7 +5,7 @@ use Rattle.std.specs.Str.{IsUtf8}
 use Rattle.std.proofs.lemmas.Str.{is_utf8-from_IsUtf8}
 use Rattle.hm_base.specs.Bytes.{all_pass}
 use Rattle.hm_base.specs.Source.{Source, byte_of, is_text_byte}
-use Rattle.hm_base.specs.Walks.{Event, pushes}
+use Rattle.hm_base.specs.Walks.{Event}
 use Rattle.hm_elements.specs.Settled.{Settled}
 use Rattle.hm_refs.specs.Names.{Entry}
 use Rattle.hm_refs.specs.Tables.{IsTable}
@@ -13,14 +13,14 @@ use Rattle.hm_tokens.specs.Laws.{IsPlain, SoundNames}
 use Rattle.hm_construction.proofs.Built.{what_is_built_is_settled}
 use Rattle.hm_base.specs.declared.rules.Refused.{Refused}
 use Rattle.hm_base.specs.declared.rules.Rule.{Rule}
-use Rattle.hm_construction.specs.Steps.{State, Stepped, went, stops, step_over, first_state}
+use Rattle.hm_construction.specs.Steps.{Stepped, went, stops, step_over, first_state}
 use Rattle.hm_construction.specs.Trees.{Outcome, built, refused_by, after_events, stepped, tree_from, tree_of_source}
 use Rattle.hm_lexer.specs.Reading.{Reading, text_of}
-use Rattle.hm_builder.specs.Building.{Building, first_building, Fits, IsBuilt, IsRefused, grown}
+use Rattle.hm_builder.specs.Building.{Building, first_building, Fits, IsBuilt, IsRefused}
 use Rattle.hm_builder.specs.declared.fault.BuildFault.{BuildFault}
 use Rattle.hm_builder.specs.declared.fault.BuildFault.TheVariants as faults
 use Rattle.hm_builder.proofs.Events.{grown_is}
-use Rattle.hm_build.specs.Parsing.{IsParsing, IsRead, IsFurther, IsRefusedAs, IsWithin, tree_of, place_of, answer_of, span_of}
+use Rattle.hm_build.specs.Parsing.{IsParsing, IsRead, tree_of, place_of, span_of}
 use Rattle.hm_build.proofs.Room.{first_within, over_fits, over_stops_there}
 
 pub end_fits : (r : Reading) (b : Building) (s : List ℕ) → IsRead r b → text_of r ≡ s → 6 * length s + 13 < 2 ^ 29 → Fits (step_over b.state) b.walk
@@ -33,11 +33,6 @@ end_built r b tree k done = by (step_over b.state) refl done
     by (stops rule n) e i = absurd i
     by (went es st) e i = k.ends ∙ ap (λ x. after_events b.walk (stepped (place_of r.source) (length (text_of r)) x (λ next. built []))) e ∙ ap built (sym (grown_is b.walk es) ∙ sym i)
 
-pub end_refused : (r : Reading) (b : Building) (s : List ℕ) (fault : BuildFault) → IsRead r b → text_of r ≡ s → IsRefused (step_over b.state) fault → IsRefusedAs (tree_of r) (answer_of fault (place_of r.source (length s + span_of fault)))
-end_refused r b s faults.Memory k t f = tt
-end_refused r b s (faults.Rule rule n) k t f =
-    k.ends ∙ ap (λ x. after_events b.walk (stepped (place_of r.source) (length (text_of r)) x (λ next. built []))) f ∙ ap (λ x. refused_by rule (place_of r.source (length x + n))) t
-
 pub end_inside : (b : Building) (fault : BuildFault) (n : ℕ) → IsRefused (step_over b.state) fault → n + span_of fault ≤ n
 end_inside b faults.Memory n f = omega arith
 end_inside b (faults.Rule rule k) n f = let z : k ≡ 0 = over_stops_there b.state rule k f in omega arith
@@ -45,15 +40,6 @@ end_inside b (faults.Rule rule k) n f = let z : k ≡ 0 = over_stops_there b.sta
 -- further on it is the tree of the same text
 pub same_tree : (old new : Reading) → new.names ≡ old.names → new.source ≡ old.source → tree_of new ≡ tree_of old
 same_tree old new e f = ap (λ t. tree_of (record new { names = t })) e ∙ ap (λ p. tree_of (record old { source = p })) f
-
-pub read_before : (old new : Reading) (b : Building) → new.names ≡ old.names → new.source ≡ old.source → IsRead new b → IsRead old b
-read_before old new b e f k = record {
-  ends = sym (same_tree old new e f) ∙ subst (λ p. tree_of new ≡ after_events b.walk (stepped (place_of p) (length (text_of (record old { source = p }))) (step_over b.state) (λ next. built []))) f k.ends;
-  within = subst (λ p. IsWithin (length (text_of (record old { source = p }))) b.walk b.state) f k.within;
-}
-
-pub refused_before : (old new : Reading) (answer : Refused) → new.names ≡ old.names → new.source ≡ old.source → IsRefusedAs (tree_of new) answer → IsRefusedAs (tree_of old) answer
-refused_before old new answer e f h = subst (λ o. IsRefusedAs o answer) (same_tree old new e f) h
 
 -- before the first token
 pub begins : (t : List Entry) (page : Source) → IsPlain (map byte_of page.placed) → IsParsing (record { names = t; source = page; at = 0 }) first_building

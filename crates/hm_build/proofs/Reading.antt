@@ -1,14 +1,13 @@
 -- How the tree of what is left of a text goes on with the next token.
 use Rattle.std.proofs.Common.{◌≡◌, ℕ, zero, suc, pred, ◌+◌, ◌-◌, ◌≤◌, ◌<◌, Bool, true, false, List, [], ◌∷◌, ◌++◌, length, drop, refl, sym, ap, ◌∙◌, subst, arith}
 use Rattle.std.proofs.lemmas.List.{length-drop, drop-drop}
-use Rattle.hm_base.specs.Walks.{Event, pushes}
-use Rattle.hm_base.specs.declared.rules.Rule.{Rule}
+use Rattle.hm_base.specs.Walks.{Event}
 use Rattle.hm_refs.specs.Names.{Entry}
 use Rattle.hm_tree.specs.Tokens.{Seen, taken, refused}
 use Rattle.hm_tree.specs.declared.tokens.ScanFault.{ScanFault}
-use Rattle.hm_tokens.specs.First.{Mode, ordinary, in_svg, rcdata, raw, script, Next, at_end, behind_bytes, first, rule_of}
-use Rattle.hm_construction.specs.Steps.{State, Stepped, went, stops, step, step_over}
-use Rattle.hm_construction.specs.Trees.{Outcome, built, refused_by, after_events, mode_of, stepped, over, next_step, tree_from}
+use Rattle.hm_tokens.specs.First.{Mode, ordinary, in_svg, rcdata, raw, script, at_end, behind_bytes, first, rule_of}
+use Rattle.hm_construction.specs.Steps.{State, Stepped, went, stops, step}
+use Rattle.hm_construction.specs.Trees.{Outcome, built, refused_by, after_events, mode_of, stepped, over, tree_from}
 use Rattle.hm_builder.specs.Building.{grown}
 use Rattle.hm_builder.proofs.Events.{grown_pushes}
 

@@ -1,7 +1,7 @@
 -- There is room for what is built of a page.
 use Rattle.std.proofs.Common.{◌≡◌, ℕ, suc, ◌+◌, ◌-◌, ◌*◌, ◌^◌, ◌≤◌, ◌<◌, Bool, true, false, cond, List, [], ◌∷◌, ◌++◌, length, refl, sym, ap, ◌∙◌, subst, arith}
 use Rattle.std.proofs.lemmas.List.{length-append}
-use Rattle.hm_base.specs.Walks.{Event, doctype, start, text, comment, end, Element, path_behind, path_after, text_before, pushed, pushes, walk_size}
+use Rattle.hm_base.specs.Walks.{Event, doctype, start, text, comment, end, Element, path_after, text_before, pushes, walk_size}
 use Rattle.hm_base.specs.declared.rules.Rule.{Rule}
 use Rattle.hm_tree.specs.Tokens.{Seen, doctype as doctype_token, start_tag, end_tag, slice, points, comment as comment_token}
 use Rattle.hm_tree.specs.Trees.{HasRoom}

@@ -4,19 +4,19 @@ use Rattle.std.proofs.lemmas.List.{length-drop, drop-drop}
 use Rattle.std.specs.declared.option.Option.{Option}
 use Rattle.hm_base.specs.Source.{Source, byte_of}
 use Rattle.hm_base.specs.declared.source.TheConstants.{LONGEST_PAGE}
-use Rattle.hm_base.specs.Walks.{Event, Element}
+use Rattle.hm_base.specs.Walks.{Element}
 use Rattle.hm_base.specs.declared.rules.Refused.{Refused}
 use Rattle.hm_base.specs.declared.rules.Refused.TheVariants as answers
 use Rattle.hm_base.specs.declared.rules.Rule.{Rule}
 use Rattle.hm_tree.specs.Tokens.{Seen, seen, taken, refused, doctype, start_tag, end_tag, slice, points, comment}
 use Rattle.hm_tree.specs.declared.tokens.Spanned.{Spanned}
-use Rattle.hm_tokens.specs.First.{Mode, at_end, behind_bytes, first, rule_of}
+use Rattle.hm_tokens.specs.First.{Mode, at_end, behind_bytes, first}
 use Rattle.hm_tokens.specs.Laws.{IsPlain, SoundNames, SoundToken, TakesBytes, token_size, least_size, growth}
 use Rattle.hm_tokens.proofs.Firsts.{tokens_are_small, tokens_are_sound}
 use Rattle.hm_construction.specs.Steps.{State, Stepped, went, stops, step}
-use Rattle.hm_construction.specs.Trees.{Outcome, built, refused_by, after_events, mode_of, stepped, over, tree_from}
+use Rattle.hm_construction.specs.Trees.{Outcome, refused_by, after_events, mode_of, stepped, over, tree_from}
 use Rattle.hm_construction.proofs.Modes.{is_mode, markup_no_text}
-use Rattle.hm_lexer.specs.Reading.{Reading, text_of, next_of, Gives, IsTaken, IsFaulty, Refuses}
+use Rattle.hm_lexer.specs.Reading.{Reading, text_of, next_of, Gives, IsTaken, Refuses}
 use Rattle.hm_builder.specs.Building.{Building, Fits, IsStepped, IsRefused, grown}
 use Rattle.hm_builder.specs.declared.fault.BuildFault.{BuildFault}
 use Rattle.hm_builder.specs.declared.fault.BuildFault.TheVariants as faults

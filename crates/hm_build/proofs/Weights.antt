@@ -2,18 +2,18 @@
 use Rattle.std.proofs.Common.{◌≡◌, ℕ, suc, ◌+◌, ◌*◌, ◌≤◌, ◌<◌, Bool, true, false, not, cond, ◌&&◌, ◌||◌, ◌==◌, List, [], ◌∷◌, ◌++◌, length, map, bytes_eq, codes, encode_utf8_all, refl, sym, ap, ◌∙◌, subst, arith}
 use Rattle.std.proofs.lemmas.List.{length-append}
 use Rattle.hm_base.specs.Bytes.{is_space}
-use Rattle.hm_base.specs.Walks.{Attribute, Event, doctype, start, text, comment, end, Element, attributes_size, event_size, walk_size}
+use Rattle.hm_base.specs.Walks.{Attribute, Event, doctype, start, comment, end, Element, attributes_size, walk_size}
 use Rattle.hm_base.specs.declared.rules.Rule.{Rule}
-use Rattle.hm_base.specs.declared.rules.Rule.TheVariants.{NoDoctype, SecondDoctype, RefusedName, SecondRoot, StrayEnd, NotCurrent, WrongParent, TextHere, AfterHead, AfterBody, Unclosed, TooDeep, ForeignName, BlockInParagraph, Nested, Cut}
+use Rattle.hm_base.specs.declared.rules.Rule.TheVariants.{RefusedName, SecondRoot, StrayEnd, NotCurrent, WrongParent, TextHere, AfterHead, AfterBody, Unclosed, TooDeep, ForeignName, BlockInParagraph, Nested}
 use Rattle.hm_elements.specs.Names.{html, head, body, svg, is_among, tr, tbody, colgroup, table, col, words}
 use Rattle.hm_elements.specs.Nesting.{made_under, noscript_children}
 use Rattle.hm_elements.specs.Tables.{is_section, is_svg_name, holds_svg_text, is_refused, is_root}
-use Rattle.hm_elements.specs.Paths.{html_element, current, is_in_svg, outer, front, behind, yields_to, falls_to, made_on, stands_on, is_open, is_in_raw, is_in_text, is_in_blank, is_block_in_p, is_nested, is_deep}
-use Rattle.hm_settle.specs.Moves.{Moves, moves, refuses, element, start_moves, end_moves, start_on, opens_in_place, opens, svg_start_moves, html_start_moves, end_on, ends_nothing, html_end_moves}
+use Rattle.hm_elements.specs.Paths.{html_element, current, is_in_svg, front, behind, yields_to, falls_to, made_on, stands_on, is_open, is_in_text, is_in_blank, is_block_in_p, is_nested, is_deep}
+use Rattle.hm_settle.specs.Moves.{Moves, moves, refuses, element, start_moves, end_moves, start_on, opens_in_place, opens, end_on, ends_nothing}
 use Rattle.hm_tree.specs.Tokens.{Seen}
 use Rattle.hm_tree.specs.Tokens as tokens
-use Rattle.hm_build.specs.Weights.{event_weight, weight, left, left_size, texts_size, load, load_size}
-use Rattle.hm_construction.specs.Steps.{Phase, initial, before_html, before_head, in_head, after_head, in_body, after_body, after_html, State, Stepped, went, stops, behind_events, moved, no_drop, under_html, under_head, under_body, make_html, make_head, close_head, make_body, reach_head, reach_body, is_in_noscript, keep_byte, space_byte, body_byte, other_byte, kept_byte, step_byte, behind_bytes, then_step, step_bytes, at_front, drops_behind, closes_at_once, entered, end_event, start_event, starts, after_moves, start_in_body, opened, open_html, open_head_here, open_head, open_body_here, open_body, is_metadata, start_after_head, start_in_noscript, start_in_head, start_inside, html_start, is_outside, outside_rule, step_start, after_end_moves, end_current, end_head, is_at_end, leave_body, end_body, end_html, end_inside, html_end, end_outside, step_end, step_comment, step_doctype, step, closing, leave_page, step_over}
+use Rattle.hm_build.specs.Weights.{weight, left, left_size, texts_size, load, load_size}
+use Rattle.hm_construction.specs.Steps.{Phase, initial, before_html, before_head, in_head, after_head, in_body, after_body, after_html, State, Stepped, went, stops, behind_events, moved, no_drop, under_html, under_head, under_body, make_html, make_head, close_head, make_body, reach_head, reach_body, is_in_noscript, keep_byte, space_byte, body_byte, other_byte, kept_byte, step_byte, behind_bytes, then_step, step_bytes, at_front, drops_behind, closes_at_once, entered, end_event, start_event, starts, after_moves, start_in_body, opened, open_html, open_head_here, open_head, open_body_here, open_body, is_metadata, start_after_head, start_in_head, start_inside, html_start, is_outside, outside_rule, step_start, after_end_moves, end_current, end_head, is_at_end, leave_body, end_body, end_html, end_inside, html_end, end_outside, step_end, step_comment, step_doctype, step, closing, leave_page, step_over}
 
 -- The events of a step and what is left behind it are within these bounds; it is refused within so many bytes.
 abbrev pub Within : ℕ → ℕ → ℕ → Stepped → Type 0

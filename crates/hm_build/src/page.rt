@@ -98,7 +98,8 @@ fn finish<'a>(
 
 /// The tree of a page (13.2.6), or its first refusal, with its rule and its byte of the page.
 ///
-/// The time is linear in the page, and the tree is settled: it can be written and is read back without any repair.
+/// The time is linear in the page, and the tree is settled: it keeps the rules of
+/// nesting and text of a page without repairs.
 pub fn parse(alloc: Global, text: &SourceText, table: &Table) -> Result<Tree, Refused>
     ensures built { IfOk result (λ tree. tree_of_source table.now.entries text.now ≡ built tree) }
     ensures settled { IfOk result (λ tree. Settled tree) }

@@ -28,10 +28,6 @@ use Rattle.hm_builder.proofs.Unbegun.{unbegun_fresh, at_its_phase, kept_at}
 
 -- ---- A step behind events that were put behind the walk
 
-pub fits_then : (es : List Event) (s : Stepped) (w : List Event) → Fits (behind_events es s) w → Fits s (w ++ es)
-fits_then es (went fs st) w fits = subst HasRoom (sym (append_assoc w es fs)) fits
-fits_then es (stops rule n) w fits = tt
-
 pub done_then : (es : List Event) (s : Stepped) (old mid new : Parts) → mid.maker ≡ old.maker ++ es → IsDone s mid new → IsDone (behind_events es s) old new
 unfolding grown
 done_then es (went fs st) old mid new is done = record {

@@ -36,9 +36,6 @@ HasRoom-front w v room = record {
 pub HasRoom-one : (w : List Event) (e : Event) (v : List Event) → HasRoom (w ++ e ∷ v) → HasRoom (w ++ e ∷ [])
 HasRoom-one w e v room = HasRoom-front (w ++ e ∷ []) v (rw (append_assoc w (e ∷ []) v) room)
 
-pub HasRoom-rest : (w : List Event) (e : Event) (v : List Event) → HasRoom (w ++ e ∷ v) → HasRoom ((w ++ e ∷ []) ++ v)
-HasRoom-rest w e v room = rw (append_assoc w (e ∷ []) v) room
-
 text_before-twice : (s t : List ℕ) (raw next_raw : Bool) (v : List Event) → text_before (s ++ t) raw v ≡ text_before s raw (text_before t next_raw v)
 text_before-twice s t raw next_raw [] = refl
 text_before-twice s t raw next_raw (doctype legacy ∷ v) = refl

@@ -2,7 +2,7 @@
 use Rattle.std.proofs.Common.{◌≡◌, ℕ, ◌<◌, Bool, true, false, not, cond, ◌&&◌, ◌||◌, List, [], ◌∷◌, ◌++◌, map, length, Some, None, sym, ap, ◌∙◌, refl, arith, append-nil, append_assoc, length-append, take, ◌≤◌, subst}
 use Rattle.std.proofs.lemmas.Bool.{and_parts, and_from}
 use Rattle.hm_base.specs.Walks.{Attribute, Event, start, end, Element, path_after}
-use Rattle.hm_elements.specs.Names.{is_among, words, html, head, body}
+use Rattle.hm_elements.specs.Names.{is_among, html, head, body}
 use Rattle.hm_elements.specs.Tables.{is_void, is_root, roots, is_svg_name, svg_names, is_refused, holds_svg_text}
 use Rattle.hm_elements.specs.Paths.{outer, current, is_in_svg, front, behind, yields_to}
 use Rattle.hm_elements.proofs.TableTools.{eq_self, entry_passes}
@@ -22,7 +22,7 @@ use Rattle.std.proofs.Math.Seq.{take-append_seam}
 use Rattle.hm_settle.specs.declared.moves.Made.{Made}
 use Rattle.hm_settle.specs.declared.moves.Made.TheVariants.{Nothing, Section, SectionAndRow, Row, Colgroup}
 use Rattle.hm_builder.specs.Building.{Fits, IsRefused, of_settle}
-use Rattle.hm_builder.specs.Inside.{phase_of, open_path, state_of, at_state, has_no_text, has_no_svg_root, missing, body_path, IsWalkTo, IsKept, IsDone, IsFresh, CanReach, CanMake, IsOpened, IsEntered}
+use Rattle.hm_builder.specs.Inside.{phase_of, open_path, state_of, at_state, has_no_text, has_no_svg_root, missing, body_path, IsWalkTo, IsKept, IsDone, IsFresh, CanReach, IsOpened, IsEntered}
 use Rattle.hm_builder.specs.declared.insertion.Phase.{Phase}
 use Rattle.hm_builder.specs.declared.insertion.Phase.TheVariants.{Initial, BeforeHtml, BeforeHead, InHead, AfterHead, InBody, AfterBody as PastBody, AfterHtml}
 use Rattle.hm_builder.specs.declared.parts.Parts.{Parts}
@@ -71,18 +71,6 @@ reach_walk AfterHead path w r walk = walk_any w under_html (missing AfterHead) u
 reach_walk InBody path w r walk = walk_any w path [] path walk refl refl
 reach_walk PastBody path w r walk = absurd r
 reach_walk AfterHtml path w r walk = absurd r
-
-pub reach_can_make : (ph : Phase) (path : List Element) (w : List Event) → CanReach ph → IsWalkTo w (open_path ph path) → CanMake ph (path_after [] w)
-reach_can_make Initial path w r walk = absurd r
-reach_can_make BeforeHtml path w r walk = walk.leads
-reach_can_make BeforeHead path w r walk = walk.leads
-reach_can_make (InHead false None) path w r walk = walk.leads
-reach_can_make (InHead false (Some text)) path w r walk = absurd r
-reach_can_make (InHead true inside) path w r walk = absurd r
-reach_can_make AfterHead path w r walk = walk.leads
-reach_can_make InBody path w r walk = tt
-reach_can_make PastBody path w r walk = absurd r
-reach_can_make AfterHtml path w r walk = absurd r
 
 pub reach_fresh : (p : Parts) → CanReach p.phase → IsKept p → (p.path ≡ body_path p.phase p.path) × (has_no_svg_root p.path ≡ true)
 reach_fresh p r kept = by p.phase r kept.fresh
@@ -166,14 +154,8 @@ either_way false false true = refl
 either_way false false false = refl
 
 module _ (n : List ℕ) (foreign : Bool) (p : Parts) (o : IsOpened n foreign p) where
-  here : List Element
-  here = path_after [] p.maker
-
   pub closes_by : (slash : Bool) → closes_at_once slash (path_after [] p.maker) ≡ cond foreign slash (is_void n)
   closes_by slash = ap (closes_at_once slash) o.leads ∙ either_way foreign (is_void n) slash
-
-  pub some_opened : 0 < length (path_after [] p.maker)
-  some_opened = omega (arith, ap length o.leads)
 
   ended_kept : (q : Parts) → q.phase ≡ InBody → q.path ≡ outer (path_after [] p.maker) → q.maker ≡ p.maker ++ end_of (path_after [] p.maker) → IsKept q
   ended_kept q phase path walk =
@@ -193,20 +175,6 @@ module _ (n : List ℕ) (foreign : Bool) (p : Parts) (o : IsOpened n foreign p) 
         walk = rw c walk;
         path = rw c path;
         drops = rw c drops;
-        inner = inner;
-        last = last;
-      }
-
-  pub open_entered : (slash : Bool) (q : Parts) → cond foreign slash (is_void n) ≡ false → q.phase ≡ InBody → q.path ≡ path_after [] p.maker → q.maker ≡ p.maker → q.drops_line_feed ≡ not foreign && is_among n (words "pre textarea")
-      → q.behind_body ≡ p.behind_body → q.behind_html ≡ p.behind_html → IsEntered slash p q
-  open_entered slash q closes phase path walk drops inner last =
-      let c : closes_at_once slash (path_after [] p.maker) ≡ false = closes_by slash ∙ closes in
-      record {
-        kept = kept_in_body q (path_after [] p.maker) phase path (subst (λ v. IsWalkTo v (path_after [] p.maker)) (sym walk) o.walk) o.roots;
-        phase = phase;
-        walk = rw c (walk ∙ sym (append-nil p.maker));
-        path = rw c path;
-        drops = rw c (drops ∙ sym (ap drops_behind o.leads));
         inner = inner;
         last = last;
       }
@@ -252,18 +220,9 @@ pub room_made : (w es fs gs : List Event) → HasRoom (w ++ ((es ++ fs) ++ gs)) 
 room_made w es fs gs room =
     subst HasRoom (sym (append_assoc w es fs)) (HasRoom-front (w ++ (es ++ fs)) gs (subst HasRoom (sym (append_assoc w (es ++ fs) gs)) room))
 
-pub room_start : (w es fs gs : List Event) → HasRoom (w ++ ((es ++ fs) ++ gs)) → HasRoom (((w ++ es) ++ fs) ++ gs)
-room_start w es fs gs room = subst HasRoom (sym (append_assoc w (es ++ fs) gs) ∙ ap (λ v. v ++ gs) (sym (append_assoc w es fs))) room
-
-pub three_parts : (w es fs gs : List Event) → ((w ++ es) ++ fs) ++ gs ≡ w ++ ((es ++ fs) ++ gs)
-three_parts w es fs gs = ap (λ v. v ++ gs) (append_assoc w es fs) ∙ append_assoc w (es ++ fs) gs
-
 -- ---- The whole step
 
 module _ (p : Parts) (n : List ℕ) (attributes : List Attribute) (slash : Bool) (r : CanReach p.phase) (kept : IsKept p) (all : p.drops_line_feed ≡ false) where
-  body_state : State
-  body_state = at_state InBody (body_path p.phase p.path) p.behind_body.items p.behind_html.items
-
   pub body_step : reach_body (phase_of p.phase) (start_in_body n attributes slash) (state_of p) ≡ behind_events (missing p.phase) (after_moves attributes slash (at_state InBody p.path p.behind_body.items p.behind_html.items) (start_moves n p.path))
   body_step =
       ap (reach_body (phase_of p.phase) (start_in_body n attributes slash)) (plain_state p all)
@@ -273,17 +232,11 @@ module _ (p : Parts) (n : List ℕ) (attributes : List Attribute) (slash : Bool)
   pub body_refused : (rule : Rule) → start_moves n p.path ≡ refuses rule → reach_body (phase_of p.phase) (start_in_body n attributes slash) (state_of p) ≡ stops rule 0
   body_refused rule e = body_step ∙ (rw e refl)
 
-at_once : Bool → List Event → List Event
-at_once c es = cond c es []
-
 entered_by : (n : List ℕ) (f : Bool) (attributes : List Attribute) (slash : Bool) (path rest : List Element) (inner last : List (List ℕ)) (c : Bool) → closes_at_once slash (element n f ∷ rest) ≡ c
     → entered attributes slash (at_state InBody path inner last) (element n f ∷ rest)
     ≡ went (start n f attributes ∷ cond c (end n f ∷ []) []) (record { phase = phase_of InBody; path = cond c rest (element n f ∷ rest); drops_line_feed = cond c false (drops_behind (element n f ∷ rest)); behind_body = inner; behind_html = last })
 entered_by n f attributes slash path rest inner last true e = rw e refl
 entered_by n f attributes slash path rest inner last false e = rw e refl
-
-one_more_event : (es : List Event) (e : Event) (fs : List Event) → es ++ e ∷ fs ≡ (es ++ e ∷ []) ++ fs
-one_more_event es e fs = sym (append_assoc es (e ∷ []) fs)
 
 end_no_text : (n : List ℕ) (f : Bool) (c : Bool) → has_no_text (cond c (end n f ∷ []) []) ≡ true
 end_no_text n f true = refl

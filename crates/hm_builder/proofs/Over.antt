@@ -11,7 +11,7 @@ use Rattle.hm_elements.specs.Names.{is_among}
 use Rattle.hm_elements.specs.Tables.{is_raw, is_rcdata, raw_names, rcdata_names, holds_text}
 use Rattle.hm_elements.specs.Paths.{is_in_text}
 use Rattle.hm_construction.specs.Steps as steps
-use Rattle.hm_construction.specs.Steps.{State, Stepped, went, stops, step_over, is_at_end, closing, end_event, under_body}
+use Rattle.hm_construction.specs.Steps.{State, went, stops, step_over, is_at_end, closing, end_event, under_body}
 use Rattle.hm_tree.specs.Trees.{HasRoom, end_of}
 use Rattle.hm_tree.specs.Rows.{is_text}
 use Rattle.hm_builder.specs.Building.{Fits, IsBuilt}

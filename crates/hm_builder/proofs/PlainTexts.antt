@@ -4,7 +4,7 @@ use Rattle.std.proofs.lemmas.Bool.Decides.{nat_tests}
 use Rattle.std.proofs.lemmas.List.{take_more, take-append-drop}
 use Rattle.std.proofs.lemmas.Str.{IsCharBoundary-after_ascii}
 use Rattle.std.proofs.lemmas.Bool.{ltb-true, ltb-false}
-use Rattle.hm_base.specs.Bytes.{is_space, all_pass, head_is}
+use Rattle.hm_base.specs.Bytes.{is_space, all_pass}
 use Rattle.hm_base.specs.Walks.{Event, with_text}
 use Rattle.hm_base.specs.declared.rules.Rule.{Rule}
 use Rattle.hm_elements.specs.Paths.{is_in_raw, is_in_text}
@@ -99,14 +99,3 @@ pub one_more_space : (s : List ℕ) (at : ℕ) → IsUtf8 s → at < length s �
     → (at + 1 ≤ length s) × (all_pass is_space (take (at + 1) s) ≡ true) × (IsCharBoundary s (at + 1))
 one_more_space s at utf8 inside space before =
     (omega arith, ap (all_pass is_space) (take_more s at 0 inside) ∙ all_pass-push is_space (take at s) (get_or s at 0) before.1 space, IsCharBoundary-after_ascii s at utf8 inside (space_ascii (get_or s at 0) space))
-
-pub cut_here : (s blank rest : List ℕ) (at : ℕ) → blank ≡ take at s → rest ≡ drop at s → (at ≤ length s) × (all_pass is_space (take at s) ≡ true) × (IsCharBoundary s at) → (at < length s → is_space (get_or s at 0) ≡ false) → IsCut s blank rest
-cut_here s blank rest at front back before other = record {
-  whole = rw (front, back) (sym (take-append-drop at s));
-  spaces = rw front before.1;
-  stops = ap (head_is is_space) back ∙ no_space (ltb at (length s)) refl;
-}
-  where
-    no_space : (b : Bool) → ltb at (length s) ≡ b → head_is is_space (drop at s) ≡ false
-    no_space true e = let h : at < length s = ltb-true at (length s) e in rw (drop-cons s at 0 h) (other h)
-    no_space false e = let h : length s ≤ at = ltb-false at (length s) e in rw (drop_of_length-le s h) refl

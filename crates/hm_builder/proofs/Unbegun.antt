@@ -12,7 +12,7 @@ use Rattle.hm_elements.proofs.TableTools.{same_bytes}
 use Rattle.hm_tree.specs.Trees.{end_of}
 use Rattle.hm_tree.specs.Tokens as tokens
 use Rattle.hm_construction.specs.Steps as steps
-use Rattle.hm_construction.specs.Steps.{State, Stepped, went, stops, step, step_end, html_end, end_current, is_at_end, under_html, under_head, under_body}
+use Rattle.hm_construction.specs.Steps.{went, stops, step, step_end, end_current, is_at_end, under_html, under_head, under_body}
 use Rattle.hm_builder.specs.Inside.{phase_of, open_path, text_name, inside_head, under_noscript, state_of, has_no_text, missing, head_ended, HasBodyPath, IsUnbegun, IsInner, IsKept, IsDone, is_noscript_around}
 use Rattle.hm_builder.specs.declared.insertion.HeadText.{HeadText}
 use Rattle.hm_builder.specs.declared.insertion.HeadText.TheVariants.{Title, Style, Script}

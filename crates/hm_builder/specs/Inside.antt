@@ -10,7 +10,7 @@ use Rattle.hm_settle.specs.Moves.{without_void}
 use Rattle.hm_tree.specs.Trees.{last_agrees, end_of}
 use Rattle.hm_tree.specs.Rows.{is_text}
 use Rattle.hm_construction.specs.Steps as steps
-use Rattle.hm_construction.specs.Steps.{State, Stepped, under_html, under_head, under_body, is_in_noscript, moved}
+use Rattle.hm_construction.specs.Steps.{State, Stepped, under_html, under_head, under_body}
 use Rattle.hm_elements.specs.Tables.{is_root}
 use Rattle.hm_elements.specs.Nesting.{is_name}
 use Rattle.hm_builder.specs.Building.{Building, IsStepped, grown}

@@ -1,17 +1,15 @@
 //! Start tags before the body (HTML Standard, 13.2.6.4.2 to 13.2.6.4.6).
 ghost use Rattle.std.specs.Prelude.{◌≡◌, [], ◌∷◌, ◌++◌, false, true, Some, None, OnOk, IfErr};
-ghost use Rattle.hm_base.specs.Walks.{path_after};
 ghost use Rattle.hm_construction.specs.Steps as steps;
 ghost use Rattle.hm_construction.specs.Steps.{html_start, opened, start_inside, under_head};
-ghost use Rattle.hm_elements.specs.Names.{html, noscript};
+ghost use Rattle.hm_elements.specs.Names.{noscript};
 ghost use Rattle.hm_elements.specs.Paths.{is_in_svg, is_in_text, stands_on};
 ghost use Rattle.hm_elements.specs.Tables.{is_root, is_void};
 ghost use Rattle.hm_tree.specs.Trees.{HasRoom};
 ghost use Rattle.hm_builder.specs.BeforeBody as before_body;
 ghost use Rattle.hm_builder.specs.BeforeBody.{IsBefore, TakesChildren, html_opened, head_opened, in_open_head};
 ghost use Rattle.hm_builder.specs.Building.{Fits, IsRefused};
-ghost use Rattle.hm_builder.specs.Inside as inside;
-ghost use Rattle.hm_builder.specs.Inside.{CanMake, IsDone, IsKept, IsUnbegun, open_path, phase_of, state_of, text_name};
+ghost use Rattle.hm_builder.specs.Inside.{IsDone, IsKept, IsUnbegun, open_path, phase_of, state_of, text_name};
 
 use crate::BuildFault;
 use crate::insertion::{HeadText, Phase};
@@ -162,7 +160,8 @@ impl Parts {
         self.start_in_body(alloc, name, attrs, slash)
     }
 
-    /// Where `head` can take a child, which opens in it; else `head` closes and the body begins.
+    /// Takes a start tag where `head` can take a child. One that may stand in `head` opens in it; before any other `head`
+    /// closes and the body begins.
     fn start_in_head(
         &mut self,
         alloc: Global,

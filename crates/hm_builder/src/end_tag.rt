@@ -134,7 +134,7 @@ impl Parts {
         Ok(())
     }
 
-    /// Takes an end tag whose innermost elements are those of a body.
+    /// Takes an end tag where the innermost elements are those of a body.
     fn end_in_body(&mut self, name: &str) -> Result<(), BuildFault>
         requires kept { IsKept self.old }
         requires body { HasBodyPath self.old.phase }

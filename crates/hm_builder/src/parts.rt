@@ -67,7 +67,7 @@ pub(crate) fn is_in_svg(phase: Phase, path: &Path) -> bool
     matches!(phase, Phase::InBody | Phase::AfterBody | Phase::AfterHtml) && path.is_in_svg()
 }
 
-/// Whether the innermost element holds one text and nothing else. No name is looked up.
+/// Whether the innermost element is one of HTML that holds one text and nothing else. No name is looked up.
 pub(crate) fn is_in_text(phase: Phase, path: &Path) -> bool
     ensures { result ≡ paths.is_in_text (open_path phase path.now) }
 {

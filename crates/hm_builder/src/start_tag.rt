@@ -115,7 +115,8 @@ impl Parts {
         self.close_at_once(name, foreign, slash)
     }
 
-    /// Closes a void element, and one of SVG whose tag closes itself; else the element stays open.
+    /// Closes a void element, and one of SVG whose tag closes itself; else the element stays open. Behind `pre` and
+    /// `textarea` a line feed is dropped.
     fn close_at_once(&mut self, name: &str, foreign: bool, slash: bool) -> Result<(), BuildFault>
         requires { IsOpened name.now foreign self.old }
         ensures ok { OnOk result (IsEntered slash self.old self.new) }

@@ -1,7 +1,7 @@
 -- A raw text is read as one piece, and behind it stands its end tag.
 use Rattle.std.proofs.Common.{◌≡◌, ℕ, zero, suc, ◌+◌, Bool, true, false, cond, List, [], ◌∷◌, drop, Option, Some, None, refl, codes, arith}
 use Rattle.std.proofs.lemmas.Bool.{both_ways}
-use Rattle.hm_base.specs.Bytes.{is_null, strip, strip_word}
+use Rattle.hm_base.specs.Bytes.{strip}
 use Rattle.hm_base.specs.RawText.{begins_end_tag, place_from, raw_end, Mark, opens_comment, closes_comment, opens_script, closes_script, mark_at, with_mark, marks_from, ScriptState, unescaped, escaped, double_escaped, state_behind, ends_script, first_end, script_end}
 use Rattle.hm_refs.specs.Names.{Entry}
 use Rattle.hm_tree.specs.Tokens.{doctype, start_tag, end_tag, slice, points, comment, Scanned, taken, refused}

@@ -11,7 +11,7 @@ use Rattle.hm_tree.specs.Tokens.{Seen, start_tag, end_tag, Scanned, taken, refus
 use Rattle.hm_tree.specs.declared.tokens.ScanFault.{ScanFault}
 use Rattle.hm_tag_scan.specs.Tags.{Tag, tag_from, cut_tag, is_name_byte, is_tag_end, attribute_at, with_attribute, with_slash, attribute_then, Written}
 use Rattle.hm_tag_scan.specs.Reading.{read_tag, read_by, read_start, read_end, start_of, end_of, tag_name, tag_fault, unless_fault, begins_tag, read_attributes}
-use Rattle.hm_text_scan.specs.Texts.{read_text, read_plain, plain_front, reference_in, begins_markup}
+use Rattle.hm_text_scan.specs.Texts.{read_text, plain_front, reference_in, begins_markup}
 use Rattle.hm_text_scan.specs.Texts as texts
 use Rattle.hm_mark_scan.specs.Comments.{read_comment, comment_at, cut_comment, cut_where, behind_end, at_once, begins, read_cdata, begins_cdata}
 use Rattle.hm_mark_scan.specs.Doctypes.{read_doctype, begins_doctype, as_doctype, by_form, doctype_form}

@@ -4,9 +4,9 @@ use lib.Utf8.{encode}
 use Rattle.hm_base.specs.Bytes.{is_letter, is_space, is_alnum, is_digit_of, lower}
 use Rattle.hm_base.specs.Forms.{is_tag_name, is_small, is_tag_byte}
 use Rattle.hm_base.specs.RawText.{begins_end_tag, is_name_end, mark_at}
-use Rattle.hm_base.specs.Walks.{Event, Attribute, doctype, start, text, comment, end}
+use Rattle.hm_base.specs.Walks.{Event, doctype, start, text, comment, end}
 use Rattle.hm_base.specs.declared.rules.Rule.TheVariants as rules
-use Rattle.hm_elements.specs.Names.{is_among, html, head, body, p, html as html_name}
+use Rattle.hm_elements.specs.Names.{is_among, html, head, body, p}
 use Rattle.hm_elements.specs.Tables.{roots, refused_names, headings, sections, parts, blocks, paragraph_ends, boundaries, svg_boundaries, svg_names, unnested_names, voids, rcdata_names, raw_names, is_root, is_void, is_refused, is_rcdata, is_raw, holds_text, is_heading, is_section, is_unnested, closes_p, is_boundary, is_svg_name, holds_svg_text}
 use Rattle.hm_elements.specs.Nesting.{children, noscript_children, own_parents, bound_names, may_stand, yield_rows, yields, end_rows, ends_with, made_under}
 use Rattle.hm_elements.specs.Paths.{is_block_in_p, is_nested, is_deep, blank_parents, is_in_blank}

@@ -8,10 +8,10 @@ use Rattle.hm_base.specs.Walks.{Attribute, Event, doctype, start, text, comment,
 use Rattle.hm_base.specs.declared.rules.Rule.{Rule}
 use Rattle.hm_base.specs.declared.rules.Rule.TheVariants.{Cut, NoDoctype, SecondDoctype, RefusedName, SecondRoot, StrayEnd, NotCurrent, WrongParent, TextHere, AfterHead, AfterBody, Unclosed}
 use Rattle.hm_elements.specs.Names.{words, is_among, html, head, body, noscript, p}
-use Rattle.hm_elements.specs.Tables.{is_void, is_refused}
-use Rattle.hm_elements.specs.Nesting.{may_stand, noscript_children}
-use Rattle.hm_elements.specs.Paths.{html_element, current, current_name, is_in_svg, outer, stands_on, is_open, is_in_raw, is_in_text, is_in_blank}
-use Rattle.hm_settle.specs.Moves.{Moves, moves, refuses, element, start_moves, end_moves, is_void_open}
+use Rattle.hm_elements.specs.Tables.{is_refused}
+use Rattle.hm_elements.specs.Nesting.{noscript_children}
+use Rattle.hm_elements.specs.Paths.{html_element, current, is_in_svg, stands_on, is_open, is_in_raw, is_in_text, is_in_blank}
+use Rattle.hm_settle.specs.Moves.{Moves, moves, refuses, start_moves, end_moves, is_void_open}
 use Rattle.hm_tree.specs.Tokens.{Seen}
 use Rattle.hm_tree.specs.Tokens as tokens
 

@@ -7,7 +7,7 @@ use Rattle.hm_elements.specs.Names.{script as script_name}
 use Rattle.hm_elements.specs.Tables.{is_rcdata, is_raw}
 use Rattle.hm_elements.specs.Paths.{current, is_in_svg}
 use Rattle.hm_refs.specs.Names.{Entry}
-use Rattle.hm_tree.specs.Tokens.{Scanned, taken, refused}
+use Rattle.hm_tree.specs.Tokens.{taken, refused}
 use Rattle.hm_tokens.specs.First.{Mode, ordinary, in_svg, rcdata, raw, script, Next, at_end, behind_bytes, first, rule_of}
 use Rattle.hm_construction.specs.Steps.{State, Stepped, went, stops, step, step_over, first_state}
 

@@ -1,4 +1,4 @@
--- Settled walks: trees that are written and read back without any repair. Each rule is a test of an event,
+-- Settled walks: trees of pages that are read without any repair. Each rule is a test of an event,
 -- with the open elements and the events behind it, or a recursion over the events.
 use Rattle.std.specs.Prelude.{◌≡◌, ℕ, Bool, true, false, not, ◌&&◌, ◌||◌, ◌==◌, nat_le, List, [], ◌∷◌, ◌++◌, length, Option, Some, None, if◌then◌else◌, codes, bytes_eq}
 use Rattle.std.specs.Str.{is_utf8}

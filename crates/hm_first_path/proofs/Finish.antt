@@ -3,7 +3,7 @@ use Rattle.std.proofs.Common.{◌≡◌, ◌≤◌, ℕ, Bool, true, false, List
 use Rattle.std.proofs.Math.Seq.{drop-length}
 use Rattle.hm_base.specs.Walks.{Event, end, Element, path_after}
 use Rattle.hm_tree.specs.Trees.{end_of}
-use Rattle.hm_first_path.specs.Page.{built, behind_events, read_items, end_of_p, begins_text, html, body, page_tree, frame}
+use Rattle.hm_first_path.specs.Page.{built, behind_events, read_items, end_of_p, begins_text, html, body, page_tree}
 use Rattle.hm_first_path.specs.Reading.{IsReadTo, open_path, body_path}
 use Rattle.hm_first_path.proofs.Joined.{path_after-append, pushes_joined}
 
@@ -31,15 +31,3 @@ page_ends page inside w a b c read a_is b_is c_is =
     c_is ∙ ap (λ x. x ++ end html false ∷ []) (b_is ∙ ap (λ x. x ++ end body false ∷ []) a_is)
     ∙ append_assoc (w ++ end_of_p inside) (end body false ∷ []) (end html false ∷ []) ∙ append_assoc w (end_of_p inside) (end body false ∷ end html false ∷ []) in
     sym read.whole ∙ ap (λ x. behind_events w (read_items inside (length page) 0 x)) none ∙ ap built (pushes_joined w ends read.joined (ends_no_text inside) ∙ sym all)
-
--- the events of the frame are read up to the doctype's end
-pub frame_read : (page : List ℕ) → 15 ≤ length page → behind_events frame (read_items false 15 0 (drop 15 page)) ≡ page_tree page → IsReadTo page 15 false frame
-frame_read page long e = record {
-  whole = e;
-  path = refl;
-  events = omega arith;
-  bytes = omega arith;
-  texts = refl;
-  joined = refl;
-  within = long;
-}

@@ -8,19 +8,6 @@ use Rattle.hm_base.specs.Bytes.{front}
 use Rattle.hm_first_path.specs.Page.{is_plain, all_plain, is_text}
 use Rattle.hm_first_path.proofs.EdgeCases.{and_true}
 
-pub plain_more : (s : List ℕ) (k : ℕ) → k < length s → is_plain (get_or s k 0) ≡ true → 1 + length (front is_plain (drop (k + 1) s)) ≡ length (front is_plain (drop k s))
-plain_more s k h e =
-    let cut : drop k s ≡ get_or s k 0 ∷ drop (k + 1) s = rw add-one (drop-cons s k 0 h) in
-    let goes : front is_plain (get_or s k 0 ∷ drop (k + 1) s) ≡ get_or s k 0 ∷ front is_plain (drop (k + 1) s) = rw e refl in
-    let len : length (front is_plain (drop k s)) ≡ length (get_or s k 0 ∷ front is_plain (drop (k + 1) s)) = ap (λ x. length (front is_plain x)) cut ∙ ap length goes in
-    omega arith
-
-pub plain_stops : (s : List ℕ) (k : ℕ) → k < length s → is_plain (get_or s k 0) ≡ false → length (front is_plain (drop k s)) ≡ 0
-plain_stops s k h e =
-    let cut : drop k s ≡ get_or s k 0 ∷ drop (k + 1) s = rw add-one (drop-cons s k 0 h) in
-    let stops : front is_plain (get_or s k 0 ∷ drop (k + 1) s) ≡ [] = rw e refl in
-    ap (λ x. length (front is_plain x)) cut ∙ ap length stops
-
 plain_low : (c : ℕ) → is_plain c ≡ true → c < 128
 unfolding is_plain
 plain_low c h = let k : nat_le c 126 ≡ true = (and_true (nat_le c 126) _ (and_true (nat_le 32 c) _ h).1).0 in grind (arith, nat_tests)

@@ -12,22 +12,16 @@ use Rattle.hm_base.specs.Walks.{Event}
 use Rattle.hm_base.specs.declared.plain.TreeOptions.{TreeOptions}
 use Rattle.hm_base.specs.declared.rules.Rule.{Rule}
 use Rattle.hm_base.specs.declared.rules.Rule.TheVariants as rules
-use Rattle.hm_store.specs.Files.{FileMap, file_of, Takes, IsMissing}
-use Rattle.hm_store.specs.Causes.{Rose}
+use Rattle.hm_store.specs.Files.{FileMap, file_of}
 use Rattle.hm_refs.specs.Json.{names}
 use Rattle.hm_refs.specs.Names.{Entry}
 use Rattle.hm_refs.specs.declared.fault.TableFault.{TableFault}
 use Rattle.hm_refs.specs.declared.fault.TableFault.TheVariants.{TooLong}
 use Rattle.hm_construction.specs.Trees.{Outcome, built, refused_by, page_tree, tree_of_source}
 use Rattle.hm_input.specs.Inputs.{IsInput, tree, bad_table, bad_page, is_none, table_names, page_limit, page_outcome, rewritten_input, input_from}
-use Rattle.hm_input.specs.Loads.{IsLoaded, IsTableOf, IsTextOf, IsRefusedPage, IsTreeRead, NoTable, NoText, NoTreeRead, NoInput, IsFileMissing}
+use Rattle.hm_input.specs.Loads.{IsLoaded, IsTableOf, IsTextOf, IsRefusedPage, IsTreeRead, NoTable, NoText, NoTreeRead, NoInput}
 use Rattle.hm_input.specs.declared.unread.Unread.{Unread}
 use Rattle.hm_input.specs.declared.unread.Unread.TheVariants as reasons
-
-pub is_loaded : (told : Option FileMap) (name : List ℕ) (limit : ℕ) (bytes : List ℕ) (o : Option (List ℕ)) → file_of told name ≡ o → Takes o (limit + 1) bytes → length bytes ≤ limit + 1 → (IsSome told → IsSome o) → IsLoaded told name limit bytes
-is_loaded None name limit bytes o e t short s = record { content = bytes; there = λ i. cc; front = sym (take_all (limit + 1) bytes short) }
-is_loaded (Some files) name limit bytes None e t short s = cc (s refl)
-is_loaded (Some files) name limit bytes (Some content) e t short s = record { content = content; there = λ i. e; front = t }
 
 -- ---- a table
 
@@ -195,11 +189,3 @@ told_text old new name unread e n = subst (λ told. NoText told name unread) e n
 
 pub told_page : (old new : Option FileMap) (name : List ℕ) (text : Source) → new ≡ old → IsTextOf new name text → IsTextOf old name text
 told_page old new name text e n = subst (λ told. IsTextOf told name text) e n
-
-rose_before : (a b c : ℕ) → a ≤ b → Rose b c → Rose a c
-rose_before a b c h (inl r) = inl (omega arith)
-rose_before a b c h (inr r) = inr r
-
-pub page_missing : (old new : Option FileMap) (table page : List ℕ) (t : List Entry) (a b c : ℕ) → a ≤ b → IsTableOf old table (Ok t) → new ≡ old → Rose b c ⊎ IsMissing new page → Rose a c ⊎ IsFileMissing old table page
-page_missing old new table page t a b c h read same (inl r) = inl (rose_before a b c h r)
-page_missing old new table page t a b c h read same (inr m) = inr (inr (record { entries = t; read = read }, subst (λ told. IsMissing told page) same m))

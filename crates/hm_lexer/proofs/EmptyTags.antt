@@ -4,8 +4,8 @@ use Rattle.std.specs.Str.{IsUtf8, IsCharBoundary}
 use Rattle.std.proofs.lemmas.Str.{IsCharBoundary-after_ascii}
 use Rattle.std.proofs.lemmas.List.{drop-drop, get_or-drop}
 use Rattle.std.proofs.lemmas.Bool.Decides.{Decides-eqb}
-use Rattle.hm_tokens.specs.First.{Behind, behind_empty_tags, behind_none, ordinary}
-use Rattle.hm_lexer.specs.Steps.{begins_empty_tag, IsBehind}
+use Rattle.hm_tokens.specs.First.{Behind, behind_empty_tags}
+use Rattle.hm_lexer.specs.Steps.{begins_empty_tag}
 
 -- so many bytes more before
 abbrev pub more_by : ℕ → Behind → Behind
@@ -28,25 +28,11 @@ empty_tag (a ∷ b ∷ c ∷ s) h = record { long = omega arith; last = by_tests
     by_tests true false z e h = absurd (cc)
     by_tests false y z e h = absurd (cc)
 
-pub none_there : (s : List ℕ) → begins_empty_tag s ≡ false → behind_empty_tags s ≡ behind_none s
-none_there [] h = refl
-none_there (a ∷ []) h = refl
-none_there (a ∷ b ∷ []) h = refl
-none_there (a ∷ b ∷ c ∷ s) h = rw h refl
-
 -- from a place on nothing but `</>` stands before another
 pub record IsPassed (s : List ℕ) (at from : ℕ) : Type 0 where
   pub low : at ≤ from
   pub boundary : IsCharBoundary s from
   pub is : behind_empty_tags (drop at s) ≡ more_by (from - at) (behind_empty_tags (drop from s))
-
-pub passed_none : (s : List ℕ) (at : ℕ) → IsCharBoundary s at → IsPassed s at at
-passed_none s at starts =
-    let none : at - at ≡ 0 = omega arith in
-    record { low = omega arith; boundary = starts; is = rw none (by_none (behind_empty_tags (drop at s))) }
-  where
-    by_none : (k : Behind) → k ≡ more_by 0 k
-    by_none k = rw zero-add refl
 
 pub passed_more : (s : List ℕ) (at from : ℕ) → IsUtf8 s → IsPassed s at from → begins_empty_tag (drop from s) ≡ true → IsPassed s at (from + 3)
 passed_more s at from u p h =
@@ -66,13 +52,3 @@ passed_more s at from u p h =
   where
     more_twice : (n m : ℕ) (k : Behind) → more_by n (more_by m k) ≡ more_by (n + m) k
     more_twice n m k = let same : n + (m + k.count) ≡ n + m + k.count = omega arith in rw same refl
-
-pub passed_all : (s : List ℕ) (at from : ℕ) → IsPassed s at from → begins_empty_tag (drop from s) ≡ false → IsBehind ordinary s at from
-passed_all s at from p h =
-    let same : from - at + 0 ≡ from - at = omega arith in
-    record {
-      is = p.is ∙ ap (more_by (from - at)) (none_there (drop from s) h) ∙ rw same refl;
-      forward = p.low;
-      boundary = p.boundary;
-      real = h;
-    }

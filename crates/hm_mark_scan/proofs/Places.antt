@@ -34,9 +34,6 @@ module _ (s : List ℕ) (utf8 : IsUtf8 s) (start : ℕ) (cut : Option Cut) (p : 
   pub slice_read : Reads (as_slice cut) s (tokens.Slice p.from p.to) p.behind
   slice_read = record { is = rw h.found.is refl; inside = piece_cuts; boundary = end_cuts }
 
-  pub goes_on : start < p.behind
-  goes_on = omega (arith, h.beyond, h.found.ordered, h.found.ends)
-
 -- a piece from a place on that stands behind an ASCII byte
 pub found_behind : (s : List ℕ) (start from : ℕ) (cut : Option Cut) (p : Piece) → start < from → get_or s (from - 1) 0 < 128 → IsFound s from cut p → IsFoundBehind s start cut p
 found_behind s start from cut p beyond ascii found =

@@ -10,14 +10,14 @@ use Rattle.hm_first_path.specs.Certificate.{certificate_text}
 use denote.Ref.{Bor}
 use Rattle.std.specs.Prelude.{Ok}
 use Rattle.hm_base.specs.declared.plain.TreeOptions.{TreeOptions}
-use Rattle.hm_input.specs.Inputs.{Input, missing as missing_input, input_of, input_from, table_names, is_none, IsInput}
+use Rattle.hm_input.specs.Inputs.{missing as missing_input, input_of, input_from, table_names, is_none}
 use Rattle.hm_input.specs.Loads.{IsFileMissing}
 use Rattle.hm_words.specs.Words.{minify, tree as show_tree, asked}
 use Rattle.hm_words.specs.Answers.{request_of}
 use Rattle.hm_words.specs.declared.words.Asked as requests
 use Rattle.hm_words.specs.declared.words.Asked.TheVariants as variants
-use Rattle.hm_minify.specs.Lines.{usage_line, store_line}
-use Rattle.hm_minify.specs.Runs.{Ending, ends, page_ending, loaded_ending, asked_ending, ending, is_answer, EndsAs, Works, Stops, HasMinified, HasRefused, Shows, HasShown, shown_ending, asks_missing}
+use Rattle.hm_minify.specs.Lines.{store_line}
+use Rattle.hm_minify.specs.Runs.{Ending, ends, page_ending, loaded_ending, asked_ending, ending, is_answer, EndsAs, Works, Stops, HasMinified, HasRefused, shown_ending}
 use Rattle.hm_minify.specs.declared.status.Status.{Status}
 use Rattle.hm_minify.specs.declared.status.Status.TheVariants as status
 use Rattle.hm_minify.proofs.Loaded.{form_of_outcome}
@@ -97,18 +97,6 @@ ends_of_work old new words sink_old sink_new page_name out_name cert_name line e
       sink = put ∙ ap (λ (x : Ending). append_known sink_old x.line) is;
     }
 
--- so does one whose words have no meaning
-pub ends_of_usage : (old new : Option FileMap) (words : List (List ℕ)) (sink_old sink_new : Option (List ℕ)) (result : Status) (files : FileMap)
-    → asked words ≡ None → old ≡ Some files → new ≡ old → result ≡ status.Usage → sink_new ≡ append_known sink_old usage_line
-    → EndsAs (ending words files) result new sink_old sink_new
-ends_of_usage old new words sink_old sink_new result files asks told same r put =
-    let is : ends status.Usage usage_line (Some files) ≡ ending words files = ap (asked_ending (Some files)) (sym asks) in
-    record {
-      status = r ∙ ap (λ (x : Ending). x.status) is;
-      files = same ∙ told ∙ ap (λ (x : Ending). x.files) is;
-      sink = put ∙ ap (λ (x : Ending). append_known sink_old x.line) is;
-    }
-
 -- and one whose page isn't there
 pub ends_of_missing : (old new : Option FileMap) (words : List (List ℕ)) (sink_old sink_new : Option (List ℕ)) (page_name out_name cert_name : List ℕ) (result : Status) (files : FileMap)
     → asked words ≡ Some (minify page_name out_name cert_name) → IsMissing old page_name → (new ≡ old) ⊎ Stops old new page_name out_name cert_name → old ≡ Some files → result ≡ status.StoreFault → sink_new ≡ append_known sink_old store_line
@@ -159,38 +147,6 @@ asks_tree words a table page o e f = e ∙ ap (λ x. Some (request_of x)) f
 
 -- ---- a tree that is shown
 
--- where the store tells its files, the input is theirs
-told_input : (old : Option FileMap) (table page : List ℕ) (o : TreeOptions) (input : Input) → IsSome old → IsInput old table page o input → input_of old table page o ≡ input
-told_input old table page o input some i = ap (λ c. input_from o (table_names (is_none table) c) (file_of old page)) (i.table_told some) ∙ ap (input_from o (table_names (is_none table) i.table_content)) (i.page_told some) ∙ i.is
-
-pub ends_of_shown : (old new : Option FileMap) (words : List (List ℕ)) (sink_old sink_new : Option (List ℕ)) (table page line : List ℕ) (o : TreeOptions) (ended result : Status) (files : FileMap)
-    → asked words ≡ Some (show_tree table page o) → Shows old table page o ended line → new ≡ old → old ≡ Some files → result ≡ ended → sink_new ≡ append_known sink_old line
-    → EndsAs (ending words files) result new sink_old sink_new
-ends_of_shown old new words sink_old sink_new table page line o ended result files asks w same told r put =
-    let input : input_of old table page o ≡ w.input = told_input old table page o w.input (subst IsSome (sym told) refl) w.reads in
-    let is : ends ended line old ≡ ending words files = w.is ∙ ap (shown_ending old) (sym input) ∙ ap (λ t. shown_ending t (input_of t table page o)) told ∙ ap (asked_ending (Some files)) (sym asks) in
-    record {
-      status = r ∙ ap (λ (x : Ending). x.status) is;
-      files = same ∙ ap (λ (x : Ending). x.files) is;
-      sink = put ∙ ap (λ (x : Ending). append_known sink_old x.line) is;
-    }
-
-pub shown_of : (old new : Option FileMap) (words : List (List ℕ)) (sink_old sink_new : Option (List ℕ)) (table page line : List ℕ) (o : TreeOptions) (ended result : Status)
-    → asked words ≡ Some (show_tree table page o) → Shows old table page o ended line → new ≡ old → result ≡ ended → sink_new ≡ append_known sink_old line → HasShown old new words sink_old sink_new result
-shown_of old new words sink_old sink_new table page line o ended result asks w same r put = record {
-  table = table;
-  page = page;
-  options = o;
-  asks = asks;
-  input = w.input;
-  reads = w.reads;
-  is = record {
-    status = r ∙ ap (λ (x : Ending). x.status) w.is;
-    files = same ∙ ap (λ (x : Ending). x.files) w.is;
-    sink = put ∙ ap (λ (x : Ending). append_known sink_old x.line) w.is;
-  };
-}
-
 no_input : (old : Option FileMap) (table page : List ℕ) (o : TreeOptions) → IsSome old → IsFileMissing old table page → input_of old table page o ≡ missing_input
 no_input old table page o some (inl (none, absent)) = ap (λ b. input_from o (table_names b (file_of old table)) (file_of old page)) none ∙ ap (λ c. input_from o (table_names false c) (file_of old page)) absent.1
 no_input old table page o some (inr (names, absent)) =
@@ -207,9 +163,6 @@ ends_of_no_file old new words sink_old sink_new table page o result files asks a
       files = same ∙ ap (λ (x : Ending). x.files) is;
       sink = put ∙ ap (λ (x : Ending). append_known sink_old x.line) is;
     }
-
-pub missing_of : (old : Option FileMap) (words : List (List ℕ)) (table page : List ℕ) (o : TreeOptions) → asked words ≡ Some (show_tree table page o) → IsFileMissing old table page → asks_missing old (asked words)
-missing_of old words table page o asks m = subst (asks_missing old) (sym asks) m
 
 pub no_store_fault : (said : Status) → is_answer said ≡ true → said ≡ status.StoreFault → ⊥
 no_store_fault said a e = let f : is_answer said ≡ false = ap is_answer e in cc

@@ -12,7 +12,7 @@ use Rattle.hm_space.specs.Copies.{event_before, are_texts_apart}
 use Rattle.hm_space.proofs.Apart.{text_there}
 use Rattle.hm_space.proofs.Behind.{some_null}
 use Rattle.hm_space.proofs.Collapsing.{stays_no_longer}
-use Rattle.hm_space.proofs.Rewriting.{NoLonger, IsCopied, IsCopied-none, IsCopied-more, HasRoom-next, IsCopied-all, IsCopied-closed, ends_match-at}
+use Rattle.hm_space.proofs.Rewriting.{NoLonger, IsCopied, IsCopied-more, HasRoom-next, IsCopied-all, IsCopied-closed, ends_match-at}
 use Rattle.hm_tree.specs.Rows.{is_text, ends_in_text, extended}
 use Rattle.hm_tree.specs.Trees.{HasRoom, IsWalk, last_agrees}
 use Rattle.hm_tree.proofs.LastLemmas.{ends_in_text-push}
@@ -229,9 +229,6 @@ anywhere path before next (comment s) = refl
 anywhere path before next (end n foreign) = refl
 
 module _ (w : List Event) where
-  pub IsUncommented-none : IsUncommented w 0 [] None
-  IsUncommented-none = record { events = []; copied = IsCopied-none no_comment w; joined = refl; last_told = refl }
-
   module _ (i : ℕ) (m : List Event) (last : Option Bool) (e : Event) (at : slice_get w i ≡ Some e) (walk : IsWalk w) (h : IsUncommented w i m last) where
     pub uncommented_room : HasRoom (m ++ e ∷ [])
     uncommented_room = joined_room h.events m e h.joined (HasRoom-next no_comment w i h.events e at h.copied walk)

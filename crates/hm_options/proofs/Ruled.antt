@@ -9,7 +9,7 @@ use Rattle.hm_options.proofs.Kept.{rule_each, rule_size}
 use Rattle.hm_space.specs.Copies.{event_before, are_texts_apart, may_follow}
 use Rattle.hm_space.proofs.Apart.{EndsAlike, EndsAlike-more, may_follow-next}
 use Rattle.hm_space.proofs.Collapsing.{stays_no_longer}
-use Rattle.hm_space.proofs.Rewriting.{NoLonger, IsCopied, IsCopied-none, IsCopied-more, HasRoom-next, IsCopied-all, IsCopied-closed}
+use Rattle.hm_space.proofs.Rewriting.{NoLonger, IsCopied, IsCopied-more, HasRoom-next, IsCopied-all, IsCopied-closed}
 use Rattle.hm_tree.specs.Rows.{is_text, ends_in_text}
 use Rattle.hm_tree.specs.Trees.{HasRoom, IsWalk}
 use Rattle.hm_tree.proofs.LastLemmas.{ends_in_text-push}
@@ -28,12 +28,6 @@ svg_by PlainDoctype n attributes path before next = refl
 svg_by BooleanValues n attributes path before next = refl
 svg_by EmptyAttributes n attributes path before next = refl
 svg_by RedundantAttributes n attributes path before next = refl
-
-pub becomes_html : (rule : Rule) (n : List ℕ) (attributes made : List Attribute) (foreign : Bool) → foreign ≡ false → made ≡ attributes_rule rule n attributes → event_rule rule [] None (start n foreign attributes) None ≡ start n foreign made ∷ []
-becomes_html rule n attributes made foreign html is = rw (html, is) (start_by rule n attributes [] None None)
-
-pub becomes_svg : (rule : Rule) (n : List ℕ) (attributes made : List Attribute) (foreign : Bool) → foreign ≡ true → made ≡ attributes → event_rule rule [] None (start n foreign attributes) None ≡ start n foreign made ∷ []
-becomes_svg rule n attributes made foreign svg is = rw (svg, is) (svg_by rule n attributes [] None None)
 
 pub attributes_short : (rule : Rule) (n : List ℕ) (attributes : List Attribute) → attributes_size (attributes_rule rule n attributes) ≤ attributes_size attributes
 attributes_short rule n attributes = rw (rule_each rule n attributes) (rule_size rule n attributes)
@@ -123,9 +117,6 @@ pub record IsRuled (rule : Rule) (w : List Event) (i : ℕ) (v : List Event) : T
   pub alike : EndsAlike w i v
 
 module _ (rule : Rule) (w : List Event) where
-  pub IsRuled-none : IsRuled rule w 0 []
-  IsRuled-none = record { copied = IsCopied-none (event_rule rule) w; alike = λ h. h }
-
   module _ (i : ℕ) (v : List Event) (e : Event) (at : slice_get w i ≡ Some e) (walk : IsWalk w) (h : IsRuled rule w i v) where
     pub ruled_room : HasRoom (v ++ e ∷ [])
     ruled_room = HasRoom-next (event_rule rule) w i v e at h.copied walk

@@ -24,10 +24,6 @@ use Rattle.hm_space.proofs.Collapsed.{text_before_others}
 fewer : (n m : ℕ) → nat_le n 256 ≡ true → m ≤ n → nat_le m 256 ≡ true
 fewer n m h le = grind (arith, h, le)
 
-first_otherwise : (r : Bool) (has : Bool) → (if r then true else has) ≡ false → (r ≡ false) × (has ≡ false)
-first_otherwise true has h = absurd (cc)
-first_otherwise false has h = (refl, h)
-
 not_true : (b : Bool) → not b ≡ true → b ≡ false
 not_true true h = absurd (cc)
 not_true false h = refl

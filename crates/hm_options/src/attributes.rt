@@ -1,5 +1,5 @@
 //! Attributes that say nothing.
-ghost use Rattle.std.specs.Prelude.{◌≡◌, ◌++◌, ◌∷◌, ◌+◌, ◌<◌, ◌^◌, length, map, codes, false, IfOk, OnOk};
+ghost use Rattle.std.specs.Prelude.{◌≡◌, ◌++◌, ◌∷◌, ◌+◌, ◌<◌, ◌^◌, length, map, false, IfOk, OnOk};
 ghost use Rattle.std.specs.Str.{str_eq_ignore_ascii_case};
 ghost use Rattle.hm_base.specs.Bytes.{all_pass, lower};
 ghost use Rattle.hm_base.specs.Bytes as bytes;
@@ -109,7 +109,7 @@ fn is_redundant(element: &str, name: &str, value: &str) -> bool
         || is_default(element, name, value, "style", "type", "text/css")
 }
 
-// Whether the element has this attribute, on that element, with that value in any ASCII case.
+// Whether this is that attribute of that element, with that value in any ASCII case.
 #[tactic(auto, unfolding(crate::specs::Rewrites::is_default), using(crate::proofs::Defaults::same_but_case))]
 fn is_default(element: &str, name: &str, value: &str, of: &str, called: &str, default: &str) -> bool
     requires { map lower default.now ≡ default.now }

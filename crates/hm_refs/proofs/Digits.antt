@@ -39,9 +39,6 @@ all_pass_at p [] i all h = absurd (omega arith)
 all_pass_at p (c ∷ s) zero all h = (and_parts (p c) (all_pass p s) all).0
 all_pass_at p (c ∷ s) (suc i) all h = all_pass_at p s i (and_parts (p c) (all_pass p s) all).1 (omega arith)
 
-pub number_none : (base : ℕ) (ds : List ℕ) → IsNumber base 0 (take 0 ds)
-number_none base ds = record { fits = omega arith; is = inl refl }
-
 pub step_fits : (number base d : ℕ) → number ≤ 0x10FFFF → base ≤ 16 → d < base → number * base + d < 2 ^ 25
 step_fits number base d n b h = omega (arith, mul-le-mul_left number b)
 

@@ -2,8 +2,8 @@
 use Rattle.std.proofs.Common.{◌≡◌, ℕ, ◌<◌, ◌≤◌, Bool, true, false, cond, ◌&&◌, ◌||◌, ◌==◌, List, [], ◌∷◌, ◌++◌, length, Option, Some, None, refl, sym, ap, ◌∙◌, subst, append_assoc, append-nil, inl, inr, ◌⊎◌, arith, bytes_eq, is_some}
 use Rattle.std.proofs.lemmas.Bool.{cases_lt}
 use Rattle.std.proofs.lemmas.Slice.Eq.{bytes_eq-Decides}
-use Rattle.hm_base.specs.Bytes.{is_digit_of, is_letter, is_alnum, is_null}
-use Rattle.hm_refs.specs.Names.{Entry, points_of, is_name, begins, is_front, Found, found_by, or_else, found_here, found, found_longer, longest, last_is, is_tail, is_good}
+use Rattle.hm_base.specs.Bytes.{is_letter, is_alnum, is_null}
+use Rattle.hm_refs.specs.Names.{Entry, points_of, is_name, begins, is_front, Found, found_by, or_else, found_here, found, found_longer, longest, is_tail, is_good}
 use Rattle.hm_refs.specs.Tables.{IsIn, first, later, IsTable}
 use Rattle.hm_refs.specs.Laws.{IsLongest}
 use Rattle.hm_refs.proofs.Bools.{and_left, and_right, no_second, eq_of}
@@ -53,14 +53,6 @@ pub front_longer : (t : List Entry) (q s : List ℕ) → is_front t q ≡ false 
 front_longer [] q s h = refl
 front_longer (e ∷ t) q s h = grind (arith, front_longer t q s, begins_shorter q s e.name)
 
--- a front of a front
-pub front_shorter : (t : List Entry) (q s : List ℕ) → is_front t (q ++ s) ≡ true → is_front t q ≡ true
-front_shorter t q s h = by_test (is_front t q) refl
-  where
-    by_test : (b : Bool) → is_front t q ≡ b → b ≡ true
-    by_test true e = refl
-    by_test false e = absurd (let f = front_longer t q s e in cc)
-
 points_step : (e : Entry) (t : List Entry) (q : List ℕ) (b : Bool) → b ≡ bytes_eq e.name q → (is_front t q ≡ false → points_of t q ≡ None) → is_front (e ∷ t) q ≡ false → cond b (Some e.points) (points_of t q) ≡ None
 points_step e t q false k more h = more (grind arith)
 points_step e t q true k more h =
@@ -71,14 +63,6 @@ points_step e t q true k more h =
 pub points_front : (t : List Entry) (q : List ℕ) → is_front t q ≡ false → points_of t q ≡ None
 points_front [] q h = refl
 points_front (e ∷ t) q h = points_step e t q (bytes_eq e.name q) refl (points_front t q) h
-
-pub name_front : (t : List Entry) (q : List ℕ) → is_name t q ≡ true → is_front t q ≡ true
-unfolding is_name
-name_front t q h = by_test (is_front t q) refl
-  where
-    by_test : (b : Bool) → is_front t q ≡ b → b ≡ true
-    by_test true e = refl
-    by_test false e = absurd (let p = points_front t q e in let i : is_some (points_of t q) ≡ false = rw p refl in cc)
 
 -- behind what begins no name, nothing is found
 pub found_none : (t : List Entry) (q s : List ℕ) → is_front t q ≡ false → found t q s ≡ None
@@ -171,10 +155,6 @@ good_tail a b c s h =
     let t' = and_right (is_alnum c) (is_tail s) h2 in
     rw (l, a', t') refl
 
-semicolon_no : is_alnum 59 ≡ false
-unfolding is_alnum is_letter is_digit_of
-semicolon_no = refl
-
 good_front : (q n : List ℕ) (c : ℕ) → is_null q ≡ false → begins (q ++ c ∷ []) n ≡ true → is_good n ≡ true → Next q n c
 good_front [] n c e b g = absurd (cc)
 good_front (x ∷ q) [] c e b g = absurd (cc)
@@ -196,52 +176,15 @@ child_is t k q c e f = let b = front_name t (q ++ c ∷ []) f in by_next b.entry
     by_next e o (inl a) = inl a
     by_next e o (inr (i, n)) = inr (i, entered t (q ++ c ∷ []) e.points (subst (λ m. points_of t m ≡ Some e.points) n o))
 
-not_longer : (n : List ℕ) (c : ℕ) → begins (n ++ c ∷ []) n ≡ false
-not_longer [] c = refl
-not_longer (x ∷ n) c = grind (arith, not_longer n c)
-
 pub null_append : (q : List ℕ) (c : ℕ) → is_null (q ++ c ∷ []) ≡ false
 null_append [] c = refl
 null_append (x ∷ q) c = refl
-
--- nothing goes on behind a ';'
-pub semicolon_last : (t : List Entry) → IsTable t → (q : List ℕ) (c : ℕ) → is_null q ≡ false → is_front t ((q ++ 59 ∷ []) ++ c ∷ []) ≡ false
-semicolon_last t k q c e = by_test (is_front t ((q ++ 59 ∷ []) ++ c ∷ [])) refl
-  where
-    by_next : (n : List ℕ) → begins ((q ++ 59 ∷ []) ++ c ∷ []) n ≡ true → Next q n 59 → ⊥
-    by_next n b (inl a) = let s = semicolon_no in cc
-    by_next n b (inr (i, m)) = let s = not_longer n c in let b' = subst (λ x. begins (x ++ c ∷ []) n ≡ true) (sym m) b in cc
-
-    by_test : (b : Bool) → b ≡ is_front t ((q ++ 59 ∷ []) ++ c ∷ []) → b ≡ false
-    by_test false h = refl
-    by_test true h = let b = front_name t ((q ++ 59 ∷ []) ++ c ∷ []) (sym h) in
-        absurd (by_next b.entry.name b.begins_so (good_front q b.entry.name 59 e (begins_shorter (q ++ 59 ∷ []) (c ∷ []) b.entry.name b.begins_so) (good_entry t k b.entry b.among)))
 
 -- ---- the longest
 
 pub found_over : (t : List Entry) (q s : List ℕ) → found t q s ≡ or_else (found_longer t q s) (found_here t q s)
 found_over t q [] = refl
 found_over t q (c ∷ s) = refl
-
--- what is no name itself begins only longer ones
-pub found_not_name : (t : List Entry) (q s : List ℕ) → is_name t q ≡ false → found t q s ≡ found_longer t q s
-found_not_name t q [] h = here_none t q [] h
-found_not_name t q (c ∷ s) h = rw (here_none t q (c ∷ s) h) (or_else_none (found t (q ++ c ∷ []) s))
-
--- behind a name that ends in ';' nothing longer is found
-pub semicolon_longer : (t : List Entry) → IsTable t → (q s : List ℕ) → is_null q ≡ false → found_longer t (q ++ 59 ∷ []) s ≡ None
-semicolon_longer t k q [] h = refl
-semicolon_longer t k q (c ∷ s) h = found_none t ((q ++ 59 ∷ []) ++ c ∷ []) s (semicolon_last t k q c h)
-
--- a name that ends in ';' is found as it stands
-pub semicolon_found : (t : List Entry) → IsTable t → (q s : List ℕ) → is_null q ≡ false → is_name t (q ++ 59 ∷ []) ≡ true → IsFound (q ++ 59 ∷ []) s (found t (q ++ 59 ∷ []) s)
-semicolon_found t k q s h n = let f = here_some t (q ++ 59 ∷ []) s n in
-    record { points = f.points; is = rw (found_over t (q ++ 59 ∷ []) s, semicolon_longer t k q s h) f.is }
-
-pub last_append : (q : List ℕ) (c d : ℕ) → last_is d (q ++ c ∷ []) ≡ (d == c)
-last_append [] c d = refl
-last_append (x ∷ []) c d = refl
-last_append (x ∷ y ∷ q) c d = last_append (y ∷ q) c d
 
 -- a found name is a name, and behind it nothing longer is found
 pub record IsLast (t : List Entry) (s : List ℕ) (f : Found) : Type 0 where

@@ -286,9 +286,6 @@ walk_ends t k j at start nodes x w a l e is =
 
 -- ---- names as the code keeps them
 
-pub entry_read : (ns : List Name) (i : ℕ) (x : Name) → i < length ns → x ≡ get_or ns i x → entry_at (entries_of ns) i ≡ entry_of x
-entry_read ns i x l e = get_or-map entry_of ns i x no_entry l ∙ ap entry_of (sym e)
-
 pub length_entries : (ns : List Name) → length (entries_of ns) ≡ length ns
 length_entries ns = length-map ns entry_of
 
@@ -314,18 +311,3 @@ put_first t x d e empty = record {
   as_long = refl;
   placed = λ i l. absurd (omega arith);
 }
-
-pub put_more : (t : List Entry) (k at : ℕ) (old new : List TrieNode) (places : List ℕ) → IsPut t k old places → Adds t k at old new → IsPut t (k + 1) new (places ++ at ∷ [])
-put_more t k at old new places p a = record {
-  grown = subst (λ n. IsGrown t n new) (sym (add-one k)) a.grown;
-  as_long = omega (arith, length_push places at, p.as_long);
-  placed = λ i l. by_order i (cases_lt i k) l;
-}
-  where
-    by_order : (i : ℕ) → (i < k) ⊎ (k ≤ i) → i < k + 1 → place (entry_at t i).name (fronts_of t new) ≡ Some (get_or (places ++ at ∷ []) i 0)
-    by_order i (inl b) l =
-        let inside : i < length places = omega (arith, p.as_long) in
-        rw (get_or_append_left places (at ∷ []) 0 i inside) (a.keeps (entry_at t i).name (get_or places i 0) (p.placed i b))
-    by_order i (inr b) l =
-        let j : i ≡ k = omega arith in
-        rw (j, get_or_push places at 0 k p.as_long) a.placed

@@ -9,7 +9,6 @@ pub mod NameForms
 pub mod NumberLaws
 pub mod Places
 pub mod ReadingLaws
-pub mod References
 pub mod Seeking
 pub mod Webs
 pub mod Whole

@@ -16,7 +16,7 @@ use Rattle.serde_json.specs.Find.{as_object, as_array, as_number, as_u64, get}
 use Rattle.hm_refs.specs.Names.{Entry, is_good_name}
 use Rattle.hm_refs.specs.Tables.{is_point, are_points, names_in, IsTable, IsGathered}
 use Rattle.hm_refs.specs.Json as refs
-use Rattle.hm_refs.specs.Json.{if_point, point_in, points_in, codepoints, with_entry, entries_in, first_bad_name, first_bad_points, keys_in, unless, checked, names_of_members, names_of_object, names_of_data, names}
+use Rattle.hm_refs.specs.Json.{if_point, point_in, points_in, codepoints, entries_in, first_bad_name, first_bad_points, keys_in, unless, checked, names_of_members, names_of_object, names_of_data, names}
 use Rattle.hm_refs.specs.declared.fault.TableFault.TheVariants.{TooLong, BadName, BadPoints}
 use Rattle.hm_refs.proofs.Gathered.{checked_table}
 
@@ -28,9 +28,6 @@ Above k ms = AllByRecursion (λ l. text_cmp k l ≡ Less) (keys_in ms)
 
 abbrev Ascends : Members → Type 0
 Ascends ms = IsStrictlySortedBy text_cmp (keys_in ms)
-
-same_keys : (k l : List ℕ) → text_cmp k l ≡ Equal → k ≡ l
-same_keys k l h = (bytes_eq-Decides k l).0 (sym (is_eq-slice_cmp k l) ∙ ap is_eq h)
 
 turned : (k l : List ℕ) → text_cmp k l ≡ Greater → text_cmp l k ≡ Less
 turned k l h = nat_list_cmp_total.antisymm l k ∙ ap ordering_reverse h

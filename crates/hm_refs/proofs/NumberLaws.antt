@@ -134,30 +134,6 @@ best_least m c e = by_test (c == 0xFFFD) refl
     by_test true g = record { best = 0; is = rw g refl; le = omega arith; high = λ h. absurd (omega arith) }
     by_test false g = by_back (look_back c replaced) (look_up m replaced) refl refl g (gives_of m c e g).is
 
--- a large code point is what its own number gives
-pub itself_high : (c : ℕ) → 0xDFFF < c → c ≤ 0x10FFFF → point_of c ≡ c
-unfolding point_of
-itself_high c h k = by_up (look_up c replaced) refl
-  where
-    low : (nat_le c 0xDFFF) ≡ false
-    low = grind arith
-
-    high : (nat_lt 0x10FFFF c) ≡ false
-    high = grind arith
-
-    zero_no : (c == 0) ≡ false
-    zero_no = grind arith
-
-    by_up : (u : Option ℕ) → look_up c replaced ≡ u → cond (c == 0 || (nat_le 0xD800 c && nat_le c 0xDFFF) || nat_lt 0x10FFFF c) 0xFFFD (or_number u c) ≡ c
-    by_up None e = rw (zero_no, low, high) (by_bool (nat_le 0xD800 c))
-      where
-        by_bool : (b : Bool) → cond (b && false || false) 0xFFFD c ≡ c
-        by_bool true = refl
-        by_bool false = refl
-    by_up (Some d) e =
-        let t = le_of c 255 (and_left (nat_le c 255) (nat_le c d) (and_right (point_of c == d) (nat_le c 255 && nat_le c d) (up_passes goes_back c d replaced all_go_back e))) in
-        absurd (omega arith)
-
 -- a number above all code points stands for U+FFFD, so that a reader of digits may stop at 0x110000
 pub point_above : (n : ℕ) → 0x10FFFF < n → point_of n ≡ 0xFFFD
 unfolding point_of

@@ -8,9 +8,9 @@ use Rattle.serde_json.specs.Find.{as_object}
 use Rattle.serde_json.specs.View.{items_view}
 use Rattle.serde_json.specs.declared.value.Value.{Value}
 use Rattle.hm_refs.specs.Names.{Entry}
-use Rattle.hm_refs.specs.Json.{json, points_in, entries_in, first_bad_name, first_bad_points, unless, checked, names_of_members, names_of_object, names_of_data, names}
+use Rattle.hm_refs.specs.Json.{json, points_in, names_of_members, names_of_object, names_of_data, names}
 use Rattle.hm_refs.specs.declared.fault.TableFault.{TableFault}
-use Rattle.hm_refs.specs.declared.fault.TableFault.TheVariants.{TooLong, NotJson, NotObject, BadName, BadPoints}
+use Rattle.hm_refs.specs.declared.fault.TableFault.TheVariants.{TooLong, NotJson, NotObject}
 
 pub json_read : (bytes : List ℕ) (d : Data) → IsUtf8 bytes → read bytes ≡ Some d → json bytes ≡ Some d
 unfolding json
@@ -31,23 +31,6 @@ many_points (a ∷ b ∷ []) l = absurd (omega arith)
 many_points (a ∷ b ∷ c ∷ vs) l = refl
 
 -- ---- the faults of members
-
-pub bad_name : (ms : Members) (f : TableFault) → option_map BadName (first_bad_name ms) ≡ Some f → names_of_members ms ≡ Err f
-bad_name ms f h = by_name (first_bad_name ms) h
-  where
-    by_name : (o : Option (List ℕ)) → option_map BadName o ≡ Some f → unless o BadName (unless (first_bad_points ms) BadPoints (checked (entries_in ms))) ≡ Err f
-    by_name None k = absurd (cc)
-    by_name (Some n) k = cc
-
-pub bad_points : (ms : Members) (f : TableFault) → first_bad_name ms ≡ None → option_map BadPoints (first_bad_points ms) ≡ Some f → names_of_members ms ≡ Err f
-bad_points ms f n h = rw n (by_points (first_bad_points ms) h)
-  where
-    by_points : (o : Option (List ℕ)) → option_map BadPoints o ≡ Some f → unless o BadPoints (checked (entries_in ms)) ≡ Err f
-    by_points None k = absurd (cc)
-    by_points (Some p) k = cc
-
-pub all_passed : (ms : Members) (t : List Entry) (r : Result (List Entry) TableFault) → first_bad_name ms ≡ None → first_bad_points ms ≡ None → t ≡ entries_in ms → checked t ≡ r → names_of_members ms ≡ r
-all_passed ms t r n p e h = rw (n, p) (ap checked (sym e) ∙ h)
 
 -- ---- the faults of bytes
 

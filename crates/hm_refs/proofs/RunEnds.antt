@@ -2,7 +2,6 @@
 use Rattle.std.proofs.Common.{◌≡◌, ℕ, ◌+◌, ◌-◌, ◌<◌, ◌≤◌, Bool, true, false, cond, List, [], ◌∷◌, ◌++◌, length, take, drop, get_or, slice_range, refl, ap, sym, ◌∙◌, arith, drop-cons, drop_of_length-le, add-one, append-nil, append_assoc, length-drop}
 use Rattle.std.proofs.lemmas.List.{take_more, get_or-drop}
 use Rattle.hm_base.specs.Bytes.{all_pass, front, behind}
-use Rattle.hm_refs.specs.Reads.{IsEndOf}
 
 pub range_more : (s : List ℕ) (from at : ℕ) → from ≤ at → at < length s → slice_range s from (at + 1) ≡ slice_range s from at ++ get_or s at 0 ∷ []
 range_more s from at low high =
@@ -19,11 +18,6 @@ pub record Runs (p : ℕ → Bool) (s : List ℕ) (from at : ℕ) : Type 0 where
   pub front : front p (drop from s) ≡ slice_range s from at ++ front p (drop at s)
   pub behind : behind p (drop from s) ≡ behind p (drop at s)
 
-pub run_none : (p : ℕ → Bool) (s : List ℕ) (from : ℕ) → from ≤ length s → Runs p s from from
-run_none p s from h =
-    let none : slice_range s from from ≡ [] = let zero_long : from - from ≡ 0 = omega arith in rw zero_long refl in
-    record { forward = omega arith; inside = h; front = rw none refl; behind = refl }
-
 pub run_more : (p : ℕ → Bool) (s : List ℕ) (from at : ℕ) → Runs p s from at → at < length s → p (get_or s at 0) ≡ true → Runs p s from (at + 1)
 run_more p s from at r h e =
     let cut : drop at s ≡ get_or s at 0 ∷ drop (at + 1) s = rw add-one (drop-cons s at 0 h) in
@@ -33,28 +27,6 @@ run_more p s from at r h e =
       inside = omega arith;
       front = r.front ∙ ap (λ x. slice_range s from at ++ front p x) cut ∙ rw (e, longer) (sym (append_assoc (slice_range s from at) (get_or s at 0 ∷ []) (front p (drop (at + 1) s))));
       behind = r.behind ∙ ap (behind p) cut ∙ rw e refl;
-    }
-
-pub run_stops : (p : ℕ → Bool) (s : List ℕ) (from at : ℕ) → Runs p s from at → at < length s → p (get_or s at 0) ≡ false → IsEndOf p s from at
-run_stops p s from at r h e =
-    let cut : drop at s ≡ get_or s at 0 ∷ drop (at + 1) s = rw add-one (drop-cons s at 0 h) in
-    record {
-      forward = r.forward;
-      inside = r.inside;
-      front = r.front ∙ ap (λ x. slice_range s from at ++ front p x) cut ∙ rw e (append-nil (slice_range s from at));
-      behind = r.behind ∙ ap (behind p) cut ∙ rw e (sym cut);
-      stops = λ l. e;
-    }
-
-pub run_ends : (p : ℕ → Bool) (s : List ℕ) (from at : ℕ) → Runs p s from at → length s ≤ at → IsEndOf p s from at
-run_ends p s from at r h =
-    let none : drop at s ≡ [] = drop_of_length-le s h in
-    record {
-      forward = r.forward;
-      inside = r.inside;
-      front = r.front ∙ ap (λ x. slice_range s from at ++ front p x) none ∙ append-nil (slice_range s from at);
-      behind = r.behind ∙ ap (behind p) none ∙ sym none;
-      stops = λ l. absurd (omega arith);
     }
 
 -- the bytes of a front pass

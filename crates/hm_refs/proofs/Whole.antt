@@ -179,12 +179,6 @@ module _ (t : List Entry) (nodes : List TrieNode) (places : List ℕ) (w : IsWho
     all = λ q e h. node_at t nodes places w q (front_placed t nodes places w q e h);
   }
 
-  pub root_is : IsNode seen 0
-  root_is = node_is t nodes places w 0 (omega (arith, length_fronts t nodes, w.put.grown.web.some))
-
-  pub root_front_is : front_at seen 0 ≡ 38 ∷ []
-  root_front_is = w.put.grown.web.root
-
   pub node_leads : (n byte : ℕ) (x : TrieNode) (o : Option ℕ) → n < length nodes → x ≡ get_or nodes n x → o ≡ get nat_cmp x.children byte → option_map (front_at seen) o ≡ child_of t (front_at seen n) byte
   node_leads n byte x o l e f = child_leads t nodes places w n byte x l (sym e) o f
 
@@ -194,11 +188,6 @@ module _ (t : List Entry) (nodes : List TrieNode) (places : List ℕ) (w : IsWho
       let p = found_place t nodes places w n byte x l (sym e) (Some m) f in
       let s = place_stands (front_at seen n ++ byte ∷ []) (fronts_of t nodes) m (sym p) in
       node_is t nodes places w m s.inside
-
-  pub node_ends : (n : ℕ) (x : TrieNode) → n < length nodes → x ≡ get_or nodes n x → x.ends ≡ place (front_at seen n) (names_in t)
-  node_ends n x l e =
-      subst (λ u. x.ends ≡ place (front_at seen n) (names_in u)) (take_all (length t) t (omega arith))
-      (w.put.grown.names.ended n x l (sym e) ∙ ap (λ q. place q (names_in (take (length t) t))) (sym (front_at_place t nodes n x l (sym e))))
 
   pub place_node : (i : ℕ) → i < length t → IsNode seen (get_or places i 0)
   place_node i l = let s = place_stands (entry_at t i).name (fronts_of t nodes) (get_or places i 0) (w.put.placed i l) in node_is t nodes places w (get_or places i 0) s.inside

@@ -2,7 +2,7 @@
 use Rattle.std.specs.Prelude.{ℕ, ◌+◌, Bool, not, ◌&&◌, ◌||◌, ◌==◌, List, [], ◌∷◌, length, Option, Some, None, if◌then◌else◌, bytes_eq, codes}
 use Rattle.std.specs.Str.Parse.{digits_value}
 use Rattle.hm_base.specs.Bytes.{front, behind, strip, head_is, is_digit, is_hex, is_alnum}
-use Rattle.hm_refs.specs.Names.{Entry, Found, is_closed, found, longest}
+use Rattle.hm_refs.specs.Names.{Entry, Found, is_closed, longest}
 use Rattle.hm_refs.specs.Numbers.{point_of}
 
 -- the code points that a reference gives, and how many bytes it has
@@ -52,11 +52,3 @@ reference_by t value None whole = named value (longest t whole)
 -- the reference at the front of a text that begins with '&'
 unfoldable pub reference : List Entry → Bool → List ℕ → Option Reference
 reference t value s = reference_by t value (strip (codes "&#") s) s
-
-unfoldable pub is_root : List ℕ → Bool
-is_root q = bytes_eq q (38 ∷ [])
-
--- the reference at the front of q ++ s, where q is '&' or what was read of a name
-unfoldable pub reference_behind : List Entry → Bool → List ℕ → List ℕ → Option Reference
-reference_behind t value q [] = named value (found t q [])
-reference_behind t value q (c ∷ s) = if is_root q && 35 == c then hash s else named value (found t q (c ∷ s))

@@ -6,7 +6,7 @@ use Rattle.hm_space.specs.Marks.{IsBefore, kept_count}
 use Rattle.hm_space.specs.Space.{spaced, keeps_space, is_kept, hides_space, is_edge, without_leading, without_trailing, is_one_space, text_of, trimmed, collapsed_event, collapsed}
 use Rattle.hm_space.specs.declared.walk.Before.{Before}
 use Rattle.hm_space.proofs.Apart.{EndsAlike, EndsAlike-more, may_follow-next}
-use Rattle.hm_space.proofs.Rewriting.{NoLonger, IsCopied, IsCopied-none, IsCopied-more, HasRoom-next, IsCopied-all, IsCopied-closed, ends_match-at, event_before-next}
+use Rattle.hm_space.proofs.Rewriting.{NoLonger, IsCopied, IsCopied-more, HasRoom-next, IsCopied-all, IsCopied-closed, ends_match-at, event_before-next}
 use Rattle.hm_space.proofs.Trims.{spaced_short, both_short}
 use Rattle.hm_tree.specs.Rows.{is_text, ends_in_text}
 use Rattle.hm_tree.specs.Trees.{HasRoom, IsWalk}
@@ -72,13 +72,6 @@ pub record IsCollapsed (conservative : Bool) (w : List Event) (i : ℕ) (v : Lis
   pub known : IsBefore w i before
 
 module _ (conservative : Bool) (w : List Event) where
-  pub IsCollapsed-none : (before : Before) → before.kept ≡ 0 → before.edge ≡ false → IsCollapsed conservative w 0 [] before
-  IsCollapsed-none before kept edge = record {
-    copied = IsCopied-none (collapsed_event conservative) w;
-    alike = λ h. h;
-    known = record { kept = kept; edge = edge };
-  }
-
   module _ (i : ℕ) (v : List Event) (before : Before) (e : Event) (at : slice_get w i ≡ Some e) (walk : IsWalk w) (h : IsCollapsed conservative w i v before) where
     pub has_room : HasRoom (v ++ e ∷ [])
     has_room = HasRoom-next (collapsed_event conservative) w i v e at h.copied walk

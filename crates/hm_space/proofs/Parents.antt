@@ -47,9 +47,6 @@ module _ (w : List Event) (i k : ℕ) (within : k < i) (n : List ℕ) (foreign :
       let kind : e.foreign ≡ foreign = cc in
       (path, rw (← name, ← kind) refl)
 
-  pub parent_name : IsStartAt w k (path_after [] (take i w)) → current_name (path_after [] (take i w)) ≡ Some n
-  parent_name is = rw ((parent_first (path_after [] (take i w)) is).1) refl
-
   hidden_by : (path : List Element) → (rest : List Element) × (path ≡ record { name = n; foreign = foreign } ∷ rest) → ((e : Element) (rest : List Element) → path ≡ e ∷ rest → current_name rest ≡ current_name (path_after [] (take k w)))
       → hides_space path ≡ not foreign && (is_among n space_parents || (bytes_eq n noscript && is_name head (current_name (path_after [] (take k w)))))
   unfolding hides_space

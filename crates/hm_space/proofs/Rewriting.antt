@@ -49,9 +49,6 @@ path_after-append path [] v = refl
 path_after-append path (e ∷ w) v = path_after-append (path_behind path e) w v
 
 module _ (f : Rewrite) (w : List Event) where
-  pub IsCopied-none : IsCopied f w 0 []
-  IsCopied-none = record { whole = refl; path = refl; count = omega arith; size = omega arith }
-
   module _ (i : ℕ) (v : List Event) (e : Event) (at : slice_get w i ≡ Some e) (before : IsCopied f w i v) where
     -- one event more
     pub IsCopied-more : (u es : List Event) → es ≡ f (path_after [] (take i w)) (event_before w i) e (slice_get w (i + 1)) → NoLonger e es → u ≡ v ++ es → IsCopied f w (i + 1) u

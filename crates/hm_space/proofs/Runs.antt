@@ -136,18 +136,7 @@ pub no_bytes : (s : List ℕ) (r : Bool) → r ≡ (length s == 0) → r ≡ tru
 no_bytes [] r is h = refl
 no_bytes (c ∷ s) r is h = grind (arith, is, h)
 
-pub not_true : (b : Bool) → (b ≡ true → ⊥) → b ≡ false
-not_true true h = absurd (h refl)
-not_true false h = refl
-
-pub not_false : (b : Bool) → (b ≡ false → ⊥) → b ≡ true
-not_false true h = refl
-not_false false h = absurd (h refl)
-
 module _ (s : List ℕ) where
-  pub last_place : 0 < length s → length s - 1 + 1 ≡ length s
-  last_place some = omega arith
-
   pub trailing_goes : (bytes : List ℕ) (cut : List ℕ) (edge : Bool) → bytes ≡ s → edge ≡ true → 0 < length bytes → get_or bytes (length bytes - 1) 0 ≡ 32 → cut ≡ take (length bytes - 1 - 0) (drop 0 s) → cut ≡ without_trailing edge s
   trailing_goes bytes cut edge same on some is of =
       let last : length s - 1 + 1 ≡ length s = omega (arith, some, ap length same) in

@@ -62,9 +62,6 @@ pub seen_otherwise : (one hides r : Bool) → r ≡ one → r ≡ false → one 
 seen_otherwise one hides r is off = rw (← is, off) refl
 
 module _ (path : List Element) (before next : Option Event) (s : List ℕ) where
-  pub trimmed_hidden : (one hides : Bool) → one ≡ is_one_space s → one ≡ true → hides ≡ hides_space path → hides ≡ true → trimmed path before next s ≡ []
-  trimmed_hidden one hides is on there here = rw (← is, on, ← there, here) refl
-
   pub trimmed_seen : (first second : Bool) (t u : List ℕ) → is_one_space s && hides_space path ≡ false → first ≡ is_edge before → second ≡ is_edge next → t ≡ without_leading first s → u ≡ without_trailing second t
       → trimmed path before next s ≡ text_of u
   trimmed_seen first second t u seen a b c d = rw (seen, d, c, a, b) refl
@@ -75,9 +72,6 @@ module _ (path : List Element) (before next : Option Event) (s : List ℕ) where
   pub text_spaced : is_kept path ≡ false → collapsed_text true path before next s ≡ text (spaced false s) false ∷ []
   text_spaced kept = rw kept refl
 
-  pub text_trimmed : is_kept path ≡ false → collapsed_text false path before next s ≡ trimmed path before next (spaced false s)
-  text_trimmed kept = rw kept refl
-
 one_kept : (b : Bool) (n : ℕ) → (if b then suc n else n) ≡ 0 → (b ≡ false) × (n ≡ 0)
 one_kept true n h = absurd (omega arith)
 one_kept false n h = (refl, h)
@@ -87,10 +81,6 @@ none_kept [] h = refl
 none_kept (e ∷ path) h =
     let parts = one_kept (keeps_space e) (kept_count path) h in
     rw (parts.0) (none_kept path parts.1)
-
-or_true : (b : Bool) → b || true ≡ true
-or_true true = refl
-or_true false = refl
 
 kept_by : (b q : Bool) (n : ℕ) → ((n ≡ 0 → ⊥) → q ≡ true) → ((if b then suc n else n) ≡ 0 → ⊥) → b || q ≡ true
 kept_by true q n more h = refl

@@ -21,7 +21,7 @@ pub(crate) fn push_spaced(out: &mut String, text: &str) -> Result<(), Memory>
     Ok(())
 }
 
-// Without a space in front.
+// Without a space in front, where `edge` is set.
 pub(crate) fn without_leading(text: &str, edge: bool) -> &str
     ensures { result.now ≡ without_leading edge text.now }
 {
@@ -32,7 +32,7 @@ pub(crate) fn without_leading(text: &str, edge: bool) -> &str
     text
 }
 
-// Without a space at the end.
+// Without a space at the end, where `edge` is set.
 pub(crate) fn without_trailing(text: &str, edge: bool) -> &str
     ensures { result.now ≡ without_trailing edge text.now }
 {

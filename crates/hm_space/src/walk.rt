@@ -162,7 +162,8 @@ fn put_collapsed(
     put(alloc, maker, event)
 }
 
-// Puts what a text becomes that isn't kept as it is, as event `i`. An edge of a block may stand before it.
+// Puts what a text becomes that isn't kept as it is, as event `i`. `edge` tells whether an edge of a
+// block stands before it.
 fn put_text(
     maker: &mut Maker,
     scratch: &mut String,
@@ -189,7 +190,8 @@ fn put_text(
     }
 }
 
-// Puts a text whose runs of whitespace are single spaces, as event `i`, as far as it is seen. An edge of a block may stand before it.
+// Puts a text whose runs of whitespace are single spaces, as event `i`, as far as it is seen. `edge` tells whether an edge of a
+// block stands before it.
 fn put_trimmed(maker: &mut Maker, text: &str, tree: &Tree, i: u32, edge: bool) -> Result<(), Memory>
     requires inside { i < length tree.now }
     requires edge { edge ≡ space.is_edge (event_before tree.now i) }

@@ -59,8 +59,3 @@ front_put old mid new name target bytes e h (inr p) = record {
   taken = p.taken;
   files = p.files ∙ ap (λ o. with_more o target (take p.taken bytes)) e ∙ put_first old name target (take p.taken bytes) h;
 }
-
--- two known fronts are one
-pub prepend_twice : (a b : List ℕ) (rest : Option (List ℕ)) → prepend_known a (prepend_known b rest) ≡ prepend_known (a ++ b) rest
-prepend_twice a b None = refl
-prepend_twice a b (Some xs) = ap Some (sym (append_assoc a b xs))

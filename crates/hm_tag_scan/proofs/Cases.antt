@@ -2,11 +2,11 @@
 use Rattle.std.proofs.Common.{◌≡◌, ℕ, ◌+◌, ◌≤◌, ◌⊎◌, Bool, true, false, cond, not, ◌&&◌, ◌||◌, ◌==◌, nat_le, List, [], ◌∷◌, map, refl, inl, inr, arith}
 use Rattle.std.proofs.lemmas.Bool.{and_parts}
 use Rattle.std.proofs.lemmas.Bool.Decides.{Decides-eqb}
-use Rattle.hm_base.specs.Bytes.{is_space, is_letter, is_digit, is_digit_of, lower, all_pass, some_passes, head_is, is_null}
+use Rattle.hm_base.specs.Bytes.{is_space, is_letter, is_digit_of, lower, all_pass, some_passes, head_is}
 use Rattle.hm_base.specs.RawText.{is_name_end}
 use Rattle.hm_base.specs.Forms.{is_small, is_tag_byte, is_tag_name, is_attribute_byte, is_attribute_name}
 use Rattle.hm_tag_scan.specs.Tags.{is_name_byte, is_later_byte}
-use Rattle.hm_tag_scan.specs.Reading.{is_bad_byte, is_bad_name, is_equals}
+use Rattle.hm_tag_scan.specs.Reading.{is_bad_byte, is_bad_name}
 
 -- what passes differs from what doesn't
 pub differs : (p : ℕ → Bool) (c d : ℕ) → p c ≡ true → p d ≡ false → (c == d) ≡ false

@@ -1,12 +1,12 @@
 -- A tag that ends is read the same, whatever follows it.
 use Rattle.std.proofs.Common.{◌≡◌, ℕ, zero, suc, ◌+◌, ◌-◌, ◌⊎◌, Bool, true, false, cond, ◌==◌, List, [], ◌∷◌, ◌++◌, length, drop, map, Option, Some, None, refl, inl, inr, arith, length-append}
-use Rattle.hm_base.specs.Bytes.{Cut, front, behind, head_is, is_space, lower, strip}
+use Rattle.hm_base.specs.Bytes.{Cut, front, behind, head_is, is_space}
 use Rattle.hm_base.specs.Walks.{Attribute}
 use Rattle.hm_refs.specs.Names.{Entry}
-use Rattle.hm_tree.specs.Tokens.{Seen, Scanned, taken, refused, start_tag, end_tag, Extends}
+use Rattle.hm_tree.specs.Tokens.{Seen, start_tag, end_tag, Extends}
 use Rattle.hm_tree.specs.declared.tokens.ScanFault.{ScanFault}
 use Rattle.hm_tree.specs.declared.tokens.ScanFault.TheVariants as faults
-use Rattle.hm_tag_scan.specs.Tags.{is_name_byte, is_later_byte, is_unquoted_byte, is_inside, is_quote, is_tag_end, cut_behind, cut_quoted, cut_value, cut_assigned, Written, with_name, named, attribute_at, Tag, with_attribute, with_slash, attribute_then, tag_from, cut_tag}
+use Rattle.hm_tag_scan.specs.Tags.{is_name_byte, is_later_byte, is_unquoted_byte, is_inside, is_quote, is_tag_end, cut_behind, cut_quoted, cut_value, cut_assigned, Written, with_name, attribute_at, Tag, with_attribute, with_slash, attribute_then, tag_from}
 use Rattle.hm_tag_scan.specs.Reading.{tag_fault, unless_fault, start_of, end_of, tag_name, read_attributes, read_start, read_end, read_by, read_tag}
 use Rattle.hm_tag_scan.specs.Laws.{WhateverFollows}
 use Rattle.hm_tag_scan.proofs.Fronts.{cond_both, cases_list, front_append, behind_append}

@@ -8,7 +8,6 @@ use Rattle.hm_tag_scan.specs.Parts.{written_in, IsTagEnd, IsPair}
 use Rattle.hm_tag_scan.specs.Collected.{IsCollected, IsTagBody}
 use Rattle.hm_tag_scan.specs.declared.attribute.Attribute as places
 use Rattle.hm_tag_scan.specs.declared.collected.Collected.{Collected}
-use Rattle.hm_tag_scan.specs.declared.tag_body.TagBody.{TagBody}
 use Rattle.hm_tag_scan.proofs.Written.{with_attributes}
 use Rattle.hm_tag_scan.proofs.WrittenTags.{with_all}
 

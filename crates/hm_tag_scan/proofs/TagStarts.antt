@@ -3,10 +3,9 @@ use Rattle.std.proofs.Common.{◌≡◌, ℕ, ◌+◌, ◌-◌, ◌<◌, ◌≤�
 use Rattle.std.specs.Char.{is_ascii_alphabetic}
 use Rattle.std.proofs.lemmas.List.{get_or-drop, drop-drop}
 use Rattle.std.proofs.lemmas.Bool.Decides.{Decides-eqb}
-use Rattle.hm_base.specs.Bytes.{head_is, is_letter, strip}
+use Rattle.hm_base.specs.Bytes.{head_is, is_letter}
 use Rattle.hm_refs.specs.Names.{Entry}
-use Rattle.hm_tree.specs.Tokens.{Scanned}
-use Rattle.hm_tag_scan.specs.Reading.{read_start, read_end, read_by, read_tag, followed_by_letter, begins_tag}
+use Rattle.hm_tag_scan.specs.Reading.{read_start, read_end, read_tag, followed_by_letter, begins_tag}
 
 -- where a tag begins
 

@@ -6,7 +6,7 @@ use Rattle.std.proofs.lemmas.List.{drop-drop, get_or-drop}
 use Rattle.std.proofs.lemmas.Bool.Decides.{Decides-eqb}
 use Rattle.memchr.specs.Find.{IsFirstByte, is_byte}
 use Rattle.hm_base.specs.Bytes.{front, behind, is_space}
-use Rattle.hm_tag_scan.specs.Tags.{is_later_byte, is_unquoted_byte, is_inside, is_quote, cut_behind, cut_quoted, cut_value, cut_assigned, no_more, named, attribute_at}
+use Rattle.hm_tag_scan.specs.Tags.{is_later_byte, is_unquoted_byte, is_inside, is_quote, cut_behind, cut_quoted, cut_value, cut_assigned, named, attribute_at}
 use Rattle.hm_refs.specs.Reads.{IsEndOf}
 use Rattle.hm_refs.proofs.RunEnds.{rest_cons}
 use Rattle.hm_tag_scan.specs.Places.{IsCutAt, IsAttributeAt}
@@ -85,19 +85,6 @@ pub take_none : (n : ℕ) → take {A = ℕ} n [] ≡ []
 take_none zero = refl
 take_none (suc n) = refl
 
-pub nothing_left : (s : List ℕ) → IsCutAt no_more s (record { from = length s; to = length s; behind = length s })
-nothing_left s =
-    let none : drop (length s) s ≡ [] = drop_of_length-le s (omega arith) in
-    record {
-      before = rw none (sym (take_none (length s - length s)));
-      behind = sym none;
-      ordered = omega arith;
-      forward = omega arith;
-      starts = IsCharBoundary-end s;
-      ends = IsCharBoundary-end s;
-      rest = IsCharBoundary-end s;
-    }
-
 -- what begins with no quote
 pub unquoted_at : (s : List ℕ) (from to : ℕ) → IsCharBoundary s from → from < length s → is_quote (get_or s from 0) ≡ false → IsEndOf is_unquoted_byte s from to
     → IsCutAt (cut_value (drop from s)) s (record { from = from; to = to; behind = to })
@@ -127,28 +114,6 @@ assigned_at s from equals at v e h is f k =
     let cut : cut_assigned (drop from s) (behind is_space (drop from s)) ≡ cut_value (drop at s) =
     ap (cut_assigned (drop from s)) (e.behind ∙ rest_cons s equals h) ∙ rw same (ap cut_value f.behind) in
     rw cut k
-
-pub bare_at : (s : List ℕ) (from equals : ℕ) → IsCharBoundary s from → IsEndOf is_space s from equals → equals < length s → (get_or s equals 0 == 61) ≡ false
-    → IsCutAt (cut_assigned (drop from s) (behind is_space (drop from s))) s (record { from = from; to = from; behind = from })
-bare_at s from equals b e h differs =
-    let cut : cut_assigned (drop from s) (behind is_space (drop from s)) ≡ record { before = []; behind = drop from s } =
-    ap (cut_assigned (drop from s)) (e.behind ∙ rest_cons s equals h) ∙ rw differs refl in
-    let zero_long : from - from ≡ 0 = omega arith in
-    record {
-      before = ap (λ k. k.before) cut ∙ sym (ap (λ n. take n (drop from s)) zero_long);
-      behind = ap (λ k. k.behind) cut;
-      ordered = omega arith;
-      forward = omega arith;
-      starts = b;
-      ends = b;
-      rest = b;
-    }
-
-pub ended_at : (s : List ℕ) (from : ℕ) → IsEndOf is_space s from (length s)
-    → IsCutAt (cut_assigned (drop from s) (behind is_space (drop from s))) s (record { from = length s; to = length s; behind = length s })
-ended_at s from e =
-    let cut : cut_assigned (drop from s) (behind is_space (drop from s)) ≡ no_more = ap (cut_assigned (drop from s)) (e.behind ∙ drop_of_length-le s (omega arith)) in
-    rw cut (nothing_left s)
 
 -- a whole attribute
 pub attribute_is : (s : List ℕ) (at : ℕ) (a : Attribute) → at < length s → IsEndOf is_later_byte s (at + 1) a.name_to

@@ -44,11 +44,6 @@ other_bytes t [] (suc n) h none = absurd (omega arith)
 other_bytes t (c ∷ s) (suc n) h none =
     other_byte t c s (none 0 (omega arith)) ∙ ap (λ r. c ∷ r) (other_bytes t s n (omega arith) (λ k l. none (suc k) (omega arith)))
 
-pub passed_none : (t : List Entry) (s : List ℕ) (from : ℕ) → from ≤ length s → IsPassed t s from from
-passed_none t s from h =
-    let none : from - from ≡ 0 = omega arith in
-    record { forward = omega arith; inside = h; read = rw none refl }
-
 take_split : (n m k : ℕ) (s : List ℕ) → k ≡ n + m → take k s ≡ take n s ++ take m (drop n s)
 take_split zero m k s e = ap (λ i. take i s) (omega arith)
 take_split (suc n) m zero s e = absurd (omega arith)

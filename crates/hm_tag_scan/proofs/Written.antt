@@ -1,15 +1,15 @@
 -- A written tag is read as its name and its attributes.
 use Rattle.std.proofs.Common.{◌≡◌, ℕ, zero, suc, ◌+◌, ◌-◌, ◌≤◌, ◌⊎◌, Bool, true, false, cond, not, ◌&&◌, ◌||◌, ◌==◌, List, [], ◌∷◌, ◌++◌, map, length, drop, Option, Some, None, refl, sym, ap, ap₂, subst, ◌∙◌, append_assoc, append-nil, arith, length-append}
 use Rattle.std.proofs.lemmas.Bool.{and_parts}
-use Rattle.hm_base.specs.Bytes.{Cut, front, behind, head_is, is_space, is_letter, lower, all_pass, is_null}
+use Rattle.hm_base.specs.Bytes.{behind, head_is, is_space, lower, all_pass, is_null}
 use Rattle.hm_base.specs.RawText.{is_name_end}
 use Rattle.hm_base.specs.Forms.{is_blank, is_attribute_name}
 use Rattle.hm_base.specs.Walks.{Attribute}
 use Rattle.hm_refs.specs.Names.{Entry}
 use Rattle.hm_tag_scan.specs.Values.{read_value}
-use Rattle.hm_tag_scan.specs.Tags.{is_name_byte, is_later_byte, is_unquoted_byte, is_inside, is_quote, is_tag_end, cut_behind, cut_quoted, cut_value, cut_assigned, Written, with_name, named, attribute_at, Tag, with_attribute, with_slash, attribute_then, tag_from, cut_tag}
+use Rattle.hm_tag_scan.specs.Tags.{is_name_byte, is_later_byte, is_unquoted_byte, is_inside, is_quote, is_tag_end, cut_quoted, cut_value, cut_assigned, with_name, named, attribute_at, Tag, with_attribute, tag_from, cut_tag}
 use Rattle.hm_tag_scan.specs.Reading.{is_bad_name, has_bad_name, read_attribute}
-use Rattle.hm_tag_scan.specs.Spellings.{Form, bare, unquoted, double, single, parts_attributes, parts_slash, is_gap, IsAssigned, is_unquoted, IsQuoted, IsUnquoted, WritesValue, WritesAttribute, WritesAttributes, tag_end, are_attribute_names}
+use Rattle.hm_tag_scan.specs.Spellings.{Form, bare, unquoted, double, single, parts_attributes, is_gap, IsAssigned, is_unquoted, IsQuoted, IsUnquoted, WritesValue, WritesAttribute, WritesAttributes, are_attribute_names}
 use Rattle.hm_tag_scan.proofs.Fronts.{front_all, behind_all}
 use Rattle.hm_tag_scan.proofs.Cases.{differs, IsPlain, IsWrittenAttribute, attribute_name_written}
 

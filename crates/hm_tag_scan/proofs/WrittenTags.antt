@@ -3,18 +3,18 @@ use Rattle.std.proofs.Common.{◌≡◌, ℕ, zero, suc, ◌+◌, ◌-◌, ◌�
 use Rattle.std.proofs.lemmas.List.{length-map}
 use Rattle.std.proofs.lemmas.Bool.{and_parts}
 use Rattle.std.proofs.lemmas.Bool.Decides.{Decides-eqb}
-use Rattle.hm_base.specs.Bytes.{front, behind, head_is, is_space, is_letter, lower, all_pass, is_null, strip}
+use Rattle.hm_base.specs.Bytes.{behind, head_is, is_space, is_letter, lower, all_pass, is_null}
 use Rattle.hm_base.specs.RawText.{is_name_end}
 use Rattle.hm_base.specs.Forms.{is_blank, is_tag_name}
 use Rattle.hm_base.specs.Walks.{Attribute, has_name, has_distinct_names}
 use Rattle.hm_refs.specs.Names.{Entry}
-use Rattle.hm_tree.specs.Tokens.{Scanned, taken, start_tag, end_tag}
-use Rattle.hm_tag_scan.specs.Tags.{is_name_byte, is_unquoted_byte, is_tag_end, Tag, with_attribute, with_slash, tag_from, cut_tag}
-use Rattle.hm_tag_scan.specs.Reading.{attribute_limit, has_bad_name, read_attribute, without_name, without_repeats, read_attributes, tag_fault, start_of, end_of, tag_name, read_start, read_end, read_by, read_tag, followed_by_letter, begins_tag}
-use Rattle.hm_tag_scan.specs.Spellings.{Form, bare, unquoted, double, single, parts_slash, is_gap, WritesAttributes, tag_end, WritesStart, WritesEnd, IsAttributes}
+use Rattle.hm_tree.specs.Tokens.{taken, start_tag}
+use Rattle.hm_tag_scan.specs.Tags.{is_name_byte, is_unquoted_byte, is_tag_end, Tag, cut_tag}
+use Rattle.hm_tag_scan.specs.Reading.{attribute_limit, has_bad_name, read_attribute, without_name, without_repeats, tag_fault, start_of, end_of, read_start, read_end, read_tag, begins_tag}
+use Rattle.hm_tag_scan.specs.Spellings.{Form, bare, unquoted, double, single, parts_slash, is_gap, tag_end, IsAttributes}
 use Rattle.hm_tag_scan.specs.Laws.{WrittenStartsAreRead, WrittenEndsAreRead}
 use Rattle.hm_tag_scan.proofs.Fronts.{front_all, behind_all}
-use Rattle.hm_tag_scan.proofs.Cases.{differs, IsWrittenName, tag_name_written}
+use Rattle.hm_tag_scan.proofs.Cases.{IsWrittenName, tag_name_written}
 use Rattle.hm_tag_scan.proofs.Written.{space_no_name, space_no_unquoted, tag_gap, Stops, attributes_stop, with_attributes, AreRead, attributes_read}
 
 -- the end of a tag

@@ -9,7 +9,7 @@ use Rattle.hm_refs.specs.Names.{found_here}
 use Rattle.hm_refs.specs.Numbers.{point_of}
 use Rattle.hm_refs.specs.References.{reference, value_of, is_blocked}
 use Rattle.hm_refs.specs.Examples.{seven}
-use Rattle.hm_tree.specs.Tokens.{Scanned, taken, refused, start_tag, end_tag}
+use Rattle.hm_tree.specs.Tokens.{taken, refused, start_tag, end_tag}
 use Rattle.hm_tree.specs.declared.tokens.ScanFault.TheVariants as faults
 use Rattle.hm_tag_scan.specs.Values.{reference_at}
 use Rattle.hm_tag_scan.specs.Tags.{is_name_byte, is_later_byte, is_unquoted_byte, is_inside, is_quote, is_tag_end, attribute_at}

@@ -79,9 +79,3 @@ pub here_other : (t : List Entry) (s : List ℕ) → (get_or s 0 0 ≡ 38 → �
 unfolding reference_in
 here_other t [] never = refl
 here_other t (c ∷ s) never = elim (c == 38) as (λ b. (c == 38) ≡ b → cond b (refs.reference t false (c ∷ s)) None ≡ None) [ true ↦ λ e. absurd (never ((Decides-eqb c 38).0 e)) | false ↦ λ e. refl ] refl
-
-pub ends_is : (t : List Entry) (rcdata : Bool) (s : List ℕ) → ends_before t rcdata s ≡ ((not rcdata && begins_markup s) || is_some (reference_here t s))
-unfolding begins_markup
-ends_is t true [] = refl
-ends_is t false [] = refl
-ends_is t rcdata (c ∷ s) = refl

@@ -49,11 +49,6 @@ end_tag_begins name h = rw (strip_itself name (codes ">") (name_bytes name h)) r
 
 -- ---- the whole text and the end tag behind it
 
--- the text before an end tag
-pub record TextCut (name text tail : List ℕ) : Type 0 where
-  pub some : is_null text ≡ false
-  pub ends : EndTagHere name tail
-
 cut_plain : (s text tail name : List ℕ) → s ≡ text ++ tail → EndTagHere name tail → IsPlain s → IsPlain text × IsPlain tail
 cut_plain s text tail name e k h =
     let h' = subst (λ x. IsPlain (text ++ x)) k.is (subst IsPlain e h) in

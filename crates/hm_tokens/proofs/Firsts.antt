@@ -9,7 +9,7 @@ use Rattle.hm_text_scan.specs.Texts.{begins_markup, read_text}
 use Rattle.hm_mark_scan.specs.Comments.{read_comment, begins_cdata, read_cdata}
 use Rattle.hm_mark_scan.specs.Doctypes.{begins_doctype, read_doctype}
 use Rattle.hm_tree.specs.Tokens.{Seen, Scanned, taken}
-use Rattle.hm_tokens.specs.First.{Mode, ordinary, in_svg, rcdata, raw, script, Next, behind_bytes, read_markup, read_here, Behind, three_more, behind_none, behind_empty_tags, next_here, read_inside, read_references, read_nothing, unless_end, first}
+use Rattle.hm_tokens.specs.First.{Mode, ordinary, in_svg, rcdata, raw, script, behind_bytes, read_markup, read_here, Behind, three_more, behind_none, behind_empty_tags, next_here, read_inside, read_references, read_nothing, unless_end, first}
 use Rattle.hm_tokens.specs.First as next
 use Rattle.hm_tokens.specs.Laws.{IsPlain, SoundNames, reads_markup, reads_references, EndsElement, IsWhole, SoundToken, TokensAreSound, TakesBytes, TokensAreSmall}
 use Rattle.hm_tokens.proofs.Plain.{plain_behind_all}

@@ -124,11 +124,6 @@ abbrev TagFits : List ℕ → Option Tag → Type 0
 TagFits s None = Unit {0}
 TagFits s (Some g) = Fits s (attributes_size g.attributes + 1) g.rest
 
-pub drop_fits : (k : ℕ) (s : List ℕ) (size : ℕ) (rest : List ℕ) → Fits (drop k s) size rest → Fits s size rest
-drop_fits zero s size rest f = f
-drop_fits (suc k) [] size rest f = f
-drop_fits (suc k) (c ∷ s) size rest f = fits_less (c ∷ s) (1 + size) size rest (omega arith) (fits_more (c ∷ []) s size rest (drop_fits k s size rest f))
-
 with_slash_fits : (slash : Bool) (s : List ℕ) (o : Option Tag) → TagFits s o → TagFits s (with_slash slash o)
 with_slash_fits slash s None f = tt
 with_slash_fits slash s (Some g) f = f

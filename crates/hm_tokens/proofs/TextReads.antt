@@ -10,7 +10,7 @@ use Rattle.hm_refs.specs.Tables.{IsTable}
 use Rattle.hm_text_scan.specs.Places.{reference_here}
 use Rattle.hm_text_scan.specs.Texts.{begins_markup, reference_in, ends_plain, plain_front, read_by, read_text}
 use Rattle.hm_tree.specs.Tokens.{Seen, slice, points, taken}
-use Rattle.hm_tokens.specs.First.{Mode, ordinary, in_svg, raw, script, Next, behind_bytes, read_here, Behind, three_more, behind_none, behind_empty_tags, next_here, before_rest, read_inside, read_references, unless_end, first}
+use Rattle.hm_tokens.specs.First.{Mode, ordinary, in_svg, raw, script, behind_bytes, three_more, behind_none, behind_empty_tags, next_here, before_rest, first}
 use Rattle.hm_tokens.specs.First as modes
 use Rattle.hm_tokens.specs.Laws.{reads_markup}
 use Rattle.hm_tokens.specs.Readings.{ReadsAs}

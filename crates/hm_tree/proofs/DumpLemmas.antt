@@ -59,10 +59,6 @@ pub lines_from-step : (path : List Element) (w : List Event) (i : ℕ) (e : Even
 lines_from-step path w i e at =
     rw (drop_more w i e (slice_get_within w i e at), get_or_from_slice_get w i e e at) refl
 
--- quotes around what was written between them
-pub quoted_whole : (before opened written whole s : List ℕ) → opened ≡ before ++ 34 ∷ [] → written ≡ opened ++ s → whole ≡ written ++ 34 ∷ [] → whole ≡ before ++ 34 ∷ (s ++ 34 ∷ [])
-quoted_whole before opened written whole s a b c = rw (c, b, a) (simp append_assoc)
-
 -- what is written up to event i, with the lines that are left, is the whole, and these are the spaces of the next line
 pub record IsWritten (w : List Event) (i : ℕ) (spaces out : List ℕ) : Type 0 where
   pub spaced : spaces ≡ spaces_for (length (path_after [] (take i w)))

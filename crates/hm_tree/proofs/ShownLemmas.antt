@@ -77,17 +77,6 @@ few_attributes (a ∷ attributes) h =
     let parts = and_parts (not (has_name a.name attributes)) (has_distinct_names attributes) h in
     by_name a attributes a.name refl (is_false (has_name a.name attributes) parts.0) (few_attributes attributes parts.1)
 
--- nothing is put behind
-pub IsAppended-none : (s : List ℕ) (before : List AttributePieces) → IsAppended s before [] s before
-IsAppended-none s before =
-    let none : drop (length before) before ≡ [] = drop_all (length before) before (omega arith) in
-    record {
-      text = sym (append-nil s);
-      kept = rw (none) (append-nil before);
-      inside = rw none (All-nil (HasPieces s));
-      shown = rw none refl;
-    }
-
 -- one more attribute
 module _ (s : List ℕ) (before : List AttributePieces) (attributes : List Attribute) (t : List ℕ) (pieces : List AttributePieces) (h : IsAppended s before attributes t pieces)
     (a : Attribute) (name_utf8 : IsUtf8 a.name) (value_utf8 : IsUtf8 a.value) (p : AttributePieces)

@@ -1,7 +1,7 @@
 //! The events of a walk in a table: a row for each event, and all texts one behind the other.
 ghost use Rattle.std.specs.Prelude.{◌≡◌, ◌+◌, ◌^◌, ◌<◌, ◌≤◌, [], ◌∷◌, ◌++◌, length, slice_get, slice_range, string_bytes, string_len, string_capacity, vec_len, vec_capacity, true, Some, OnOk, OnErr};
 ghost use Rattle.hm_base.specs.Walks as walks;
-ghost use Rattle.hm_base.specs.Walks.{start, end, doctype, comment, event_size, path_after, walk_size, with_text, attributes_size};
+ghost use Rattle.hm_base.specs.Walks.{start, doctype, comment, event_size, path_after, walk_size, with_text, attributes_size};
 ghost use Rattle.hm_tree.specs.Pieces.{IsAppended};
 ghost use Rattle.hm_tree.specs.Rows.{IsRange, ends_in_text, extended};
 ghost use Rattle.hm_tree.specs.Trees.{IsTold, end_of, innermost, last_agrees, parent_of};

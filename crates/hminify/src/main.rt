@@ -1,4 +1,4 @@
-//! The program: `hminify minify none PAGE OUT CERT --omit --unquote`.
+//! The program: `hminify tree TABLE PAGE` and `hminify minify none PAGE OUT CERT --omit --unquote`.
 #![tactic(auto)]
 
 use hm_base::Word;

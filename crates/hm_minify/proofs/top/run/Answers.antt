@@ -4,7 +4,7 @@ use Rattle.std.specs.Io.KnownBytes.{append_known}
 use Rattle.hm_minify.specs.declared.lines.TheConstants.{STORE_FAULT}
 use Rattle.hm_minify.specs.declared.status.Status.TheVariants as status
 use Rattle.hm_minify.specs.declared.work.Stop.TheVariants.{Store}
-use Rattle.hm_minify.proofs.Endings.{asks_minify, asks_tree, ends_of_shown, shown_of, ends_of_no_file, no_store_fault, done_of, refused_of, ends_of_work, ends_of_missing, put_says, is_not_sink, answer_is_not_sink, quiet_says, still_missing}
+use Rattle.hm_minify.proofs.Endings.{asks_minify, asks_tree, ends_of_no_file, no_store_fault, done_of, refused_of, ends_of_work, ends_of_missing, put_says, is_not_sink, answer_is_not_sink, quiet_says, still_missing}
 use Rattle.hm_minify.proofs.Others.{works_other, stopped_other}
 use Rattle.hm_minify.proofs.top.run.Goals as goal
 

@@ -1,7 +1,7 @@
 use Rattle.std.proofs.Common.{◌≡◌, ◌+◌, ◌≤◌, get_or, arith, length}
 use Rattle.std.proofs.lemmas.Str.{IsCharBoundary-after_ascii}
 use Rattle.hm_tag_scan.proofs.Boundaries.{space_ends}
-use Rattle.hm_tag_scan.proofs.ValuePlaces.{assigned_at, bare_at, ended_at}
+use Rattle.hm_tag_scan.proofs.ValuePlaces.{assigned_at}
 use Rattle.hm_tag_scan.proofs.attribute.assigned_value.Goals as goal
 
 pub value_at-requires-clause-boundary : goal.value_at-requires-clause-boundary

@@ -1,6 +1,6 @@
 use Rattle.std.proofs.Common.{sym, ◌∙◌, arith, get_or}
 use Rattle.std.proofs.lemmas.Str.{IsCharBoundary-after_ascii}
-use Rattle.hm_tag_scan.proofs.ValuePlaces.{quote_ascii, quoted_at, unquoted_at, nothing_left}
+use Rattle.hm_tag_scan.proofs.ValuePlaces.{quote_ascii, quoted_at, unquoted_at}
 use Rattle.hm_tag_scan.proofs.attribute.value_at.Goals as goal
 
 pub quoted_value-requires-clause-boundary : goal.quoted_value-requires-clause-boundary

@@ -1,6 +1,5 @@
 use Rattle.std.proofs.Common.{◌≡◌, ◌≤◌, ◌<◌, true, false, not, length, sym, ap, ◌∙◌, subst, arith}
 use Rattle.hm_base.specs.Forms.{is_tag_name}
-use Rattle.hm_tag_scan.specs.Reading.{attribute_limit}
 use Rattle.hm_tag_scan.proofs.Faults.{bad_tag_name, bad_attribute, too_many, no_fault}
 use Rattle.hm_tag_scan.proofs.scan.fault_of.Goals as goal
 

@@ -1,6 +1,6 @@
 use Rattle.std.proofs.Common.{◌≡◌, ◌||◌, true, false, cond, sym, ap, ◌∙◌, refl}
 use Rattle.hm_tag_scan.specs.Reading as reading
-use Rattle.hm_tag_scan.proofs.Kept.{Takes, collected_more}
+use Rattle.hm_tag_scan.proofs.Kept.{collected_more}
 use Rattle.hm_tag_scan.proofs.collected.Collected.take.Goals as goal
 use Rattle.hm_tag_scan.proofs.collected.Collected.take.Goals.{then-self, else-self}
 

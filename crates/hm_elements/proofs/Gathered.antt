@@ -74,9 +74,6 @@ root_stands path wanted n foreign attributes w fits a =
       utf8 = all.utf8;
     }
 
-root_is_html : (wanted n : List ℕ) (foreign : Bool) (attributes : List Attribute) → RootAllowed wanted n foreign attributes → is_html wanted n foreign ≡ true
-root_is_html wanted n foreign attributes a = rw (a.kind, a.name) (eq_self wanted)
-
 element_is_same : (e : Element) (n : List ℕ) (foreign : Bool) → e ≡ record { name = n; foreign = foreign } → is_same_element e n foreign ≡ true
 element_is_same e n foreign h = rw h (and_from (bytes_eq n n) (same_flag foreign foreign) (eq_self n) (is_same foreign foreign refl))
 

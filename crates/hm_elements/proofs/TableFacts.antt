@@ -113,10 +113,6 @@ stands_beside_colgroup n g h = false_from_ne_true (bytes_eq n col) (λ e. differ
     differ : table ≡ colgroup → ⊥
     differ e = cc
 
-pub table_yields : (k : List ℕ) → yields table k ≡ false
-unfolding yields yield_rows is_among
-table_yields k = refl
-
 ends_differ : each_pair (λ c t. not (bytes_eq c t)) end_rows ≡ true
 unfolding end_rows blocks headings sections is_among
 ends_differ = refl

@@ -96,9 +96,6 @@ is_heading n = is_among n headings
 unfoldable pub is_section : List ℕ → Bool
 is_section n = is_among n sections
 
-unfoldable pub is_part : List ℕ → Bool
-is_part n = is_among n parts
-
 unfoldable pub is_unnested : List ℕ → Bool
 is_unnested n = is_among n unnested_names
 

@@ -7,7 +7,7 @@ use Rattle.std.specs.declared.alloc.Global.{Global}
 use Rattle.std.specs.Option.{option_map}
 use Rattle.std.specs.Str.{is_utf8, chars}
 use Rattle.std.proofs.lemmas.Bool.{and_from}
-use Rattle.std.proofs.lemmas.List.{append-nil, reverse-append, take-map, length_push}
+use Rattle.std.proofs.lemmas.List.{append-nil, reverse-append, take-map}
 use Rattle.std.proofs.lemmas.Option.{slice_get-map, slice_get_read}
 use Rattle.std.proofs.lemmas.Str.{is_utf8-from_IsUtf8, IsUtf8-string_bytes}
 use Rattle.hm_base.specs.Walks.{Element}
@@ -26,9 +26,6 @@ path_of-pushed old new e p = ap path_of p.items ∙ path_of-push old p.last ∙ 
 pub IsPath-pushed : (old new : List OpenElement) (e : Element) → IsPath old → length old < 512 → IsPushed old e new → IsPath new
 IsPath-pushed old new e path room p =
     let marked : AreMarked [] (old ++ p.last ∷ []) = rw p.items at p.marked in rw p.items (IsPath-push old p.last path room marked)
-
-pub length-pushed : (old new : List OpenElement) (e : Element) → IsPushed old e new → length new ≡ length old + 1
-length-pushed old new e p = ap length p.items ∙ length_push old p.last
 
 pub IsKept-pushed : (old new : Vec OpenElement Global) (e : Element) → IsKept old → length old.items < 512 → IsPushed old.items e new.items → vec_capacity old ≤ vec_capacity new → IsKept new
 IsKept-pushed old new e kept room p grown =

@@ -2,7 +2,7 @@
 use Rattle.std.proofs.Common.{◌≡◌, ℕ, ◌+◌, ◌<◌, ◌≤◌, true, false, List, [], ◌∷◌, ◌++◌, length, refl, Ok, bytes_eq, arith, length-append}
 use Rattle.std.proofs.lemmas.Bool.{lt-ltb, le-ltb}
 use Rattle.hm_base.specs.Walks.{Element}
-use Rattle.hm_base.specs.declared.rules.Rule.TheVariants.{RefusedName, SecondRoot, BlockInParagraph, Nested, WrongParent, TooDeep, ForeignName}
+use Rattle.hm_base.specs.declared.rules.Rule.TheVariants.{RefusedName, SecondRoot, WrongParent, TooDeep, ForeignName}
 use Rattle.hm_elements.specs.Names.{svg}
 use Rattle.hm_elements.specs.Tables.{is_root, is_refused, is_svg_name, holds_svg_text}
 use Rattle.hm_elements.specs.Paths.{current, is_in_svg, front, behind, yields_to, is_block_in_p, is_nested, is_deep, made_on, stands_on}
@@ -18,12 +18,6 @@ deep path h = lt-ltb 512 (length path) h
 pub shallow : (path : List Element) → length path ≤ 512 → is_deep path ≡ false
 unfolding is_deep
 shallow path h = le-ltb 512 (length path) h
-
-pub block_is_refused : (n : List ℕ) (closed path : List Element) → is_block_in_p n path ≡ true → start_on n closed path ≡ refuses BlockInParagraph
-block_is_refused n closed path h = rw h refl
-
-pub nested_is_refused : (n : List ℕ) (closed path : List Element) → is_block_in_p n path ≡ false → is_nested n path ≡ true → start_on n closed path ≡ refuses Nested
-nested_is_refused n closed path other h = rw (other, h) refl
 
 -- the tests that come before elements are made, and what is made
 pub record Makes (n : List ℕ) (path : List Element) (made : Made) : Type 0 where

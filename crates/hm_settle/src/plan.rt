@@ -4,7 +4,7 @@ ghost use Rattle.hm_base.specs.Walks.{Element};
 ghost use Rattle.hm_elements.specs.Kinds.{IsNamed};
 ghost use Rattle.hm_elements.specs.Names.{body};
 ghost use Rattle.hm_elements.specs.Paths as paths;
-ghost use Rattle.hm_elements.specs.Paths.{behind, yields_to, falls_to, made_on, stands_on};
+ghost use Rattle.hm_elements.specs.Paths.{behind, yields_to, falls_to, stands_on};
 ghost use Rattle.hm_settle.specs.Answers.{elements_of};
 ghost use Rattle.hm_settle.specs.Elements.{path_of, marks_of, IsPath, AreMarked};
 ghost use Rattle.hm_settle.specs.Moves.{refuses, start_moves, end_moves, start_on};

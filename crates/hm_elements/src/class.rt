@@ -1,4 +1,4 @@
-//! Kinds of elements and attributes, by name.
+//! Classes of elements, and lists of elements and attributes, by name.
 ghost use Rattle.std.specs.Prelude.{◌≡◌};
 ghost use Rattle.hm_elements.specs.Classes as classes;
 ghost use Rattle.hm_elements.specs.Tables as tables;
@@ -41,8 +41,8 @@ impl Class {
         matches!(self, Class::Raw | Class::Script)
     }
 
-    /// Whether its elements hold one text and nothing else.
-    fn holds_one_text(self) -> bool
+    /// Whether elements of this class hold one text and nothing else.
+    pub fn holds_one_text(self) -> bool
         ensures { result ≡ classes.holds_one_text self }
     {
         matches!(self, Class::Rcdata | Class::Raw | Class::Script)
@@ -56,7 +56,7 @@ impl Class {
     }
 }
 
-/// The kind of the HTML element with this name.
+/// The class of the HTML element with this name.
 pub fn class_of(name: &str) -> Class
     ensures { result ≡ tables.class_of name.now }
 {

@@ -1,4 +1,4 @@
-//! The names that the tables list, each with its kind.
+//! The names of HTML elements of which some table says something, each with what all tables say of it.
 ghost use Rattle.std.specs.Prelude.{◌≡◌, length};
 ghost use Rattle.hm_elements.specs.KnownNames.{TellsKinds, GroupsTell};
 

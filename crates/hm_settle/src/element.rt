@@ -1,5 +1,5 @@
 //! An open element, with what is open at it.
-ghost use Rattle.std.specs.Prelude.{◌≡◌, ℕ, List, [], ◌∷◌, true, not, ◌&&◌, ◌||◌, IfOk, bytes_eq};
+ghost use Rattle.std.specs.Prelude.{◌≡◌, List, [], ◌∷◌, true, not, ◌&&◌, ◌||◌, IfOk, bytes_eq};
 ghost use Rattle.hm_base.specs.Walks.{Element};
 ghost use Rattle.hm_elements.specs.Kinds.{IsNamed};
 ghost use Rattle.hm_elements.specs.Names.{p};
@@ -8,7 +8,7 @@ ghost use Rattle.hm_elements.specs.Tables as tables;
 ghost use Rattle.hm_settle.specs.Elements.{KeepsKind, name_of, marks_of};
 
 use hm_base::Memory;
-use hm_elements::{Class, Kind, Named, is_boundary, kind_of, same_name};
+use hm_elements::{Kind, Named, is_boundary, kind_of, same_name};
 use std::alloc::Global;
 
 /// The name of an open element. Only one that a tag gave takes memory.
@@ -44,7 +44,7 @@ impl Name {
     }
 }
 
-/// What is open at an element, itself included, that some start tags must not meet, and its kind.
+/// What is open at an element, itself included, that some start tags must not meet; its kind; and whether it holds one text.
 #[derive(Clone, Copy, Debug)]
 pub(crate) struct Marks {
     /// A `p` with no boundary above it.
@@ -105,7 +105,7 @@ impl Marks {
         self.paragraph && name.kind.closes_p
     }
 
-    /// Whether an element of this name would stand in one of its own kind.
+    /// Whether an element of this name would stand in one of its own name that it may not stand in, or a heading in a heading.
     pub(crate) fn is_nested(self, name: Named<'_>) -> bool
         requires { IsNamed name }
         ensures { (path : List Element) → self ≡ marks_of path → result ≡ paths.is_nested name.entry.name.now path }
@@ -151,7 +151,7 @@ fn bounds(name: Named<'_>, foreign: bool) -> bool
     }
 }
 
-/// Whether `one`, which may not stand in its own name, is open at an element that opens where it is or isn't.
+/// Whether an element named `one`, which may not stand in one of its own name, is open at an element that opens where it is or isn't.
 fn is_open(name: Named<'_>, one: &str, outside: bool) -> bool
     requires named { IsNamed name }
     requires one { tables.is_unnested one.now ≡ true }
@@ -161,18 +161,12 @@ fn is_open(name: Named<'_>, one: &str, outside: bool) -> bool
 }
 
 /// Whether the element is one of HTML that holds one text and nothing else.
+#[tactic(auto, using(hm_elements::proofs::ClassFacts::text_by_class))]
 fn holds_text(name: Named<'_>, foreign: bool) -> bool
     requires { IsNamed name }
     ensures { result ≡ (not foreign && tables.holds_text name.entry.name.now) }
 {
-    !foreign && holds_text_by(name.kind.class)
-}
-
-/// Whether elements of this class hold one text and nothing else.
-fn holds_text_by(class: Class) -> bool
-    ensures { (name : List ℕ) → class ≡ tables.class_of name → result ≡ tables.holds_text name }
-{
-    matches!(class, Class::Rcdata | Class::Raw | Class::Script)
+    !foreign && name.kind.class.holds_one_text()
 }
 
 /// An open element.

@@ -88,7 +88,7 @@ impl Path {
         self.elements[self.elements.len() - 1].foreign
     }
 
-    /// Whether the innermost element holds one text and nothing else.
+    /// Whether the innermost element is one of HTML that holds one text and nothing else.
     pub fn is_in_text(&self) -> bool
         ensures { result ≡ paths.is_in_text self.now }
     {

@@ -1,8 +1,9 @@
 use Rattle.std.proofs.Common.{true, false, Ok, Err, ap, sym, ◌∙◌}
 use Rattle.std.proofs.lemmas.Result.{err_from_is_err_and}
+use Rattle.hm_elements.specs.Classes.{holds_nothing}
 use Rattle.hm_elements.specs.declared.kind.Kind.{Kind}
 use Rattle.hm_settle.specs.Elements.{path_of}
-use Rattle.hm_settle.proofs.Classes.{class_refused, class_root, class_known, other_than_void, is_void_class}
+use Rattle.hm_settle.proofs.Classes.{class_refused, class_root, class_known, other_than_void}
 use Rattle.hm_settle.proofs.Elements.{IsPath-take}
 use Rattle.hm_settle.proofs.Plans.{html_opens, html_plan}
 use Rattle.hm_settle.proofs.Starts.{html_refused, html_root}
@@ -37,7 +38,7 @@ returns-in-Void c =
     let left = c.left_by_start-left.ensures in
     let opens = html_opens os n c.left_by_start-left.result (Ok c.in_ok-made.made) c.requires.html known.not_refused known.not_root left.left c.in_ok-made.ensures.opens in
     record {
-      ok = html_plan os n c.left_by_start-left.result c.in_ok-made.made true c.requires.html opens left.least left.most left.left c.in_ok-made.ensures.room (known.void ∙ ap is_void_class c.in-Void.is);
+      ok = html_plan os n c.left_by_start-left.result c.in_ok-made.made true c.requires.html opens left.least left.most left.left c.in_ok-made.ensures.room (known.void ∙ ap holds_nothing c.in-Void.is);
       rule = tt;
     }
 

@@ -10,7 +10,7 @@ use Rattle.std.proofs.lemmas.List.Quantifiers.{all_pairs_push}
 use Rattle.std.proofs.lemmas.List.Sums.{sum_by-cons, sum_by_push}
 use Rattle.hm_base.specs.Source.{Placed, Source, byte_of, numbered, place_in, is_text_byte}
 use Rattle.hm_base.specs.Bytes.{all_pass}
-use Rattle.hm_base.specs.declared.source.TheConstants.{LONGEST_PAGE}
+use Rattle.hm_base.specs.declared.limits.TheConstants.{OUTPUT_LIMIT}
 use Rattle.hm_base.proofs.Bytes.{all_pass-append}
 use Rattle.hm_base.specs.Places.{IsSourceText, is_below, place_at, placed_from, source_from, with_bytes, with_pair}
 
@@ -79,7 +79,7 @@ unfolding source_from
 source_from-end start pairs text = refl
 
 -- what a text keeps when bytes or a pair come behind it
-pub IsSourceText-append : (start : ℕ) (pairs text s : List ℕ) → IsSourceText start pairs text → all_pass is_text_byte s ≡ true → (source_from start pairs text).end + length s ≤ LONGEST_PAGE → IsSourceText start pairs (text ++ s)
+pub IsSourceText-append : (start : ℕ) (pairs text s : List ℕ) → IsSourceText start pairs text → all_pass is_text_byte s ≡ true → (source_from start pairs text).end + length s ≤ OUTPUT_LIMIT → IsSourceText start pairs (text ++ s)
 IsSourceText-append start pairs text s kept plain room = record {
   rising = kept.rising;
   inside = All-weaker (λ j. j < length text) (λ j. j < length (text ++ s)) (λ j h. omega (arith, length-append text s)) pairs kept.inside;
@@ -87,7 +87,7 @@ IsSourceText-append start pairs text s kept plain room = record {
   plain = all_pass-append is_text_byte text s kept.plain plain;
 }
 
-pub IsSourceText_pair : (start : ℕ) (pairs text : List ℕ) → IsSourceText start pairs text → (source_from start pairs text).end + 2 ≤ LONGEST_PAGE → IsSourceText start (pairs ++ length text ∷ []) (text ++ 10 ∷ [])
+pub IsSourceText_pair : (start : ℕ) (pairs text : List ℕ) → IsSourceText start pairs text → (source_from start pairs text).end + 2 ≤ OUTPUT_LIMIT → IsSourceText start (pairs ++ length text ∷ []) (text ++ 10 ∷ [])
 IsSourceText_pair start pairs text kept room = record {
   rising = all_pairs_push (λ i j. i < j) pairs (length text) kept.rising (λ k d h. All-get_or (λ j. j < length text) pairs k d h kept.inside);
   inside = All-push (λ j. j < length (text ++ 10 ∷ [])) pairs (length text) (All-weaker (λ j. j < length text) (λ j. j < length (text ++ 10 ∷ [])) (λ j h. omega (arith, length-append text (10 ∷ []))) pairs kept.inside) (omega (arith, length-append text (10 ∷ [])));

@@ -2,7 +2,7 @@
 use Rattle.std.specs.Prelude.{ℕ, ◌≡◌, ◌+◌, ◌<◌, ◌≤◌, Bool, true, not, ◌==◌, List, [], ◌∷◌, ◌++◌, length, nat_lt, All, AllPairs, count_by, if◌then◌else◌}
 use Rattle.hm_base.specs.Bytes.{all_pass}
 use Rattle.hm_base.specs.Source.{Placed, Source, numbered, pairs_joined, returns_replaced, is_text_byte}
-use Rattle.hm_base.specs.declared.source.TheConstants.{LONGEST_PAGE}
+use Rattle.hm_base.specs.declared.limits.TheConstants.{OUTPUT_LIMIT}
 
 -- a text starts behind the mark, where there is one
 abbrev pub start_of : Bool → ℕ
@@ -33,7 +33,7 @@ is_nonzero c = not (c == 0)
 pub record IsSourceText (start : ℕ) (pairs text : List ℕ) : Type 0 where
   pub rising : AllPairs (λ i j. i < j) pairs
   pub inside : All (λ j. j < length text) pairs
-  pub short : start + length text + length pairs ≤ LONGEST_PAGE
+  pub short : start + length text + length pairs ≤ OUTPUT_LIMIT
   pub plain : all_pass is_text_byte text ≡ true
 
 -- a source, and behind it bytes that stand in the page as they are

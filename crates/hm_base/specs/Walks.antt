@@ -100,3 +100,31 @@ pushed (end n foreign) w = end n foreign ∷ w
 abbrev pub pushes : List Event → List Event → List Event
 pushes [] w = w
 pushes (e ∷ es) w = pushed e (pushes es w)
+
+-- ---- What comes first in a walk
+
+abbrev pub begins_text : List Event → Bool
+begins_text (text s raw ∷ w) = true
+begins_text w = false
+
+abbrev pub begins_comment : List Event → Bool
+begins_comment (comment s ∷ w) = true
+begins_comment w = false
+
+abbrev pub begins_start : List Event → Bool
+begins_start (start n foreign attributes ∷ w) = true
+begins_start w = false
+
+abbrev pub begins_end : List Event → Bool
+begins_end (end n foreign ∷ w) = true
+begins_end w = false
+
+-- the start of an HTML element of that name
+abbrev pub begins_start_of : List ℕ → List Event → Bool
+begins_start_of m (start n foreign attributes ∷ w) = not foreign && bytes_eq n m
+begins_start_of m w = false
+
+-- the end of an HTML element of that name
+abbrev pub begins_end_of : List ℕ → List Event → Bool
+begins_end_of m (end n foreign ∷ w) = not foreign && bytes_eq n m
+begins_end_of m w = false

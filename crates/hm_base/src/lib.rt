@@ -1,10 +1,14 @@
-//! What every crate of hminify speaks of: rules of refusal, plain types, and whitespace.
+//! What every crate of hminify speaks of: rules of refusal, limits, plain types, and the text of a page.
 #![tactic(auto)]
 
+mod limits;
 mod plain;
 mod rules;
 mod source;
 
+pub use limits::{
+    ATTRIBUTE_LIMIT, CERTIFICATE_LIMIT, DEPTH_LIMIT, OUTPUT_LIMIT, PAGE_LIMIT, TABLE_LIMIT,
+};
 pub use plain::{Memory, Points, SpellRules, TreeOptions, Word, is_space};
 pub use rules::{Refused, Rule};
-pub use source::{LONGEST_PAGE, SourceText, TextFault};
+pub use source::{SourceText, TextFault};

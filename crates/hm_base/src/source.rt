@@ -5,15 +5,13 @@ ghost use Rattle.hm_base.specs.Faults.{HasText, IsRefusedBy};
 ghost use Rattle.hm_base.specs.Places.{is_nonzero, mark_of, start_of, with_bytes, with_lines, with_pair};
 ghost use Rattle.hm_base.specs.Source.{byte_of, is_text_byte, numbered, place_in, source_of, text_fault, without_mark};
 
+use crate::limits::OUTPUT_LIMIT;
 use crate::plain::Memory;
 use memchr::memchr;
 use std::alloc::Global;
 use std::marker::Model;
 use std::str;
 use thiserror::Error;
-
-/// The bytes of the longest page that is read, whatever its limit.
-pub const LONGEST_PAGE: u32 = 67_108_864;
 
 /// Why a page has no text. Places count bytes of the page.
 #[derive(Clone, Copy, Debug, PartialEq, Eq, Error)]
@@ -71,7 +69,7 @@ impl SourceText {
     /// The fault is `TooLong` where there are more bytes than `limit`, else that of the lesser
     /// place. `Memory` comes only where the page has a text.
     pub fn read(alloc: Global, bytes: &[u8], limit: u32) -> Result<SourceText, TextFault>
-        requires { limit ≤ LONGEST_PAGE }
+        requires { limit ≤ OUTPUT_LIMIT }
         ensures read { IfOk result (λ text. text ≡ source_of bytes.now) }
         ensures sound { OnOk result (HasText limit bytes.now) }
         ensures refused { IfErr result (λ fault. IsRefusedBy fault limit bytes.now) }
@@ -87,7 +85,7 @@ impl SourceText {
         ensures len { length result.now ≡ length self.now.placed }
         ensures plain { all_pass is_text_byte result.now ≡ true }
         ensures within { length result.now ≤ self.now.end }
-        ensures short { self.now.end ≤ LONGEST_PAGE }
+        ensures short { self.now.end ≤ OUTPUT_LIMIT }
     {
         self.text.as_str()
     }
@@ -104,7 +102,7 @@ impl SourceText {
 
     // The text of a page that is UTF-8.
     fn of_page(alloc: Global, page: &str) -> Result<SourceText, Memory>
-        requires short { length page.now ≤ LONGEST_PAGE }
+        requires short { length page.now ≤ OUTPUT_LIMIT }
         requires sound { text_fault page.now ≡ None }
         ensures { IfOk result (λ text. text ≡ source_of page.now) }
     {
@@ -120,7 +118,7 @@ impl SourceText {
 
     // Adds what is left of a page, each of its line ends as LF.
     fn push_lines(&mut self, page: &str) -> Result<(), Memory>
-        requires room { self.old.end + length page.now ≤ LONGEST_PAGE }
+        requires room { self.old.end + length page.now ≤ OUTPUT_LIMIT }
         requires no_zero { all_pass is_nonzero page.now ≡ true }
         ensures { OnOk result (self.new ≡ with_lines self.old page.now) }
     {
@@ -143,7 +141,7 @@ impl SourceText {
 
     // Adds bytes that stand in the page as they are, or an LF for a CR.
     fn push_bytes(&mut self, bytes: &str) -> Result<(), Memory>
-        requires room { self.old.end + length bytes.now ≤ LONGEST_PAGE }
+        requires room { self.old.end + length bytes.now ≤ OUTPUT_LIMIT }
         requires plain { all_pass is_text_byte bytes.now ≡ true }
         ensures { OnOk result (self.new ≡ with_bytes self.old bytes.now) }
     {
@@ -153,7 +151,7 @@ impl SourceText {
 
     // Adds the LF of a CR LF.
     fn push_pair(&mut self) -> Result<(), Memory>
-        requires { self.old.end + 2 ≤ LONGEST_PAGE }
+        requires { self.old.end + 2 ≤ OUTPUT_LIMIT }
         ensures { OnOk result (self.new ≡ with_pair self.old) }
     {
         let at = self.text.len() as u32;
@@ -183,7 +181,7 @@ fn without_mark(page: &str) -> (bool, &str)
 
 // The bytes of a page as text, where they have one.
 fn checked(bytes: &[u8], limit: u32) -> Result<&str, TextFault>
-    requires { limit ≤ LONGEST_PAGE }
+    requires { limit ≤ OUTPUT_LIMIT }
     ensures text { IfOk result (λ page. page.now ≡ bytes.now) }
     ensures sound { OnOk result (HasText limit bytes.now) }
     ensures refused { IfErr result (λ fault. IsRefusedBy fault limit bytes.now) }

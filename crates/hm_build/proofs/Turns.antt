@@ -3,7 +3,7 @@ use Rattle.std.proofs.Common.{◌≡◌, ℕ, ◌+◌, ◌-◌, ◌*◌, ◌^◌
 use Rattle.std.proofs.lemmas.List.{length-drop, drop-drop}
 use Rattle.std.specs.declared.option.Option.{Option}
 use Rattle.hm_base.specs.Source.{Source, byte_of}
-use Rattle.hm_base.specs.declared.source.TheConstants.{LONGEST_PAGE}
+use Rattle.hm_base.specs.declared.limits.TheConstants.{OUTPUT_LIMIT}
 use Rattle.hm_base.specs.Walks.{Element}
 use Rattle.hm_base.specs.declared.rules.Refused.{Refused}
 use Rattle.hm_base.specs.declared.rules.Refused.TheVariants as answers
@@ -169,7 +169,7 @@ fault_inside r b m token new s (faults.Rule rule n) names p e k t f =
 pub same_text : (r : Reading) (page : Source) (s : List ℕ) → r.source ≡ page → s ≡ map byte_of page.placed → text_of r ≡ s
 same_text r page s e f = ap (λ (p : Source). map byte_of p.placed) e ∙ sym f
 
-pub short_text : (n end : ℕ) → n ≤ end → end ≤ LONGEST_PAGE → 6 * n + 13 < 2 ^ 29
+pub short_text : (n end : ℕ) → n ≤ end → end ≤ OUTPUT_LIMIT → 6 * n + 13 < 2 ^ 29
 short_text n end h k = omega arith
 
 pub answer_here : (r : Reading) (page : Source) (fault : BuildFault) (at : ℕ) → r.source ≡ page → IsRefusedAs (tree_of r) (answer_of fault (place_of r.source at)) → IsRefusedAs (tree_of r) (answer_of fault (place_of page at))

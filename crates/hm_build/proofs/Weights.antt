@@ -13,7 +13,7 @@ use Rattle.hm_settle.specs.Moves.{Moves, moves, refuses, element, start_moves, e
 use Rattle.hm_tree.specs.Tokens.{Seen}
 use Rattle.hm_tree.specs.Tokens as tokens
 use Rattle.hm_build.specs.Weights.{weight, left, left_size, texts_size, load, load_size}
-use Rattle.hm_construction.specs.Steps.{Phase, initial, before_html, before_head, in_head, after_head, in_body, after_body, after_html, State, Stepped, went, stops, behind_events, moved, no_drop, under_html, under_head, under_body, make_html, make_head, close_head, make_body, reach_head, reach_body, is_in_noscript, keep_byte, space_byte, body_byte, other_byte, kept_byte, step_byte, behind_bytes, then_step, step_bytes, at_front, drops_behind, closes_at_once, entered, end_event, start_event, starts, after_moves, start_in_body, opened, open_html, open_head_here, open_head, open_body_here, open_body, is_metadata, start_after_head, start_in_head, start_inside, html_start, is_outside, outside_rule, step_start, after_end_moves, end_current, end_head, is_at_end, leave_body, end_body, end_html, end_inside, html_end, end_outside, step_end, step_comment, step_doctype, step, closing, leave_page, step_over}
+use Rattle.hm_construction.specs.Steps.{InsertionMode, initial, before_html, before_head, in_head, after_head, in_body, after_body, after_html, State, Stepped, went, stops, behind_events, moved, no_drop, under_html, under_head, under_body, make_html, make_head, close_head, make_body, reach_head, reach_body, is_in_noscript, keep_byte, space_byte, body_byte, other_byte, kept_byte, step_byte, behind_bytes, then_step, step_bytes, at_front, drops_behind, closes_at_once, entered, end_event, start_event, starts, after_moves, start_in_body, opened, open_html, open_head_here, open_head, open_body_here, open_body, is_metadata, start_after_head, start_in_head, start_inside, html_start, is_outside, outside_rule, step_start, after_end_moves, end_current, end_head, is_at_end, leave_body, end_body, end_html, end_inside, html_end, end_outside, step_end, step_comment, step_doctype, step, closing, leave_page, step_over}
 
 -- The events of a step and what is left behind it are within these bounds; it is refused within so many bytes.
 abbrev pub Within : ℕ → ℕ → ℕ → Stepped → Type 0
@@ -43,32 +43,32 @@ within_behind a b m es (stops rule n) w = w
 
 -- ---- one element is made or closed
 
-pub html_within : (c d m : ℕ) (more : State → Stepped) (st : State) → ((s : State) → s.phase ≡ before_head → Within (load s + c) (load_size s + d) m (more s)) → st.phase ≡ before_html → Within (load st + c) (load_size st + d) m (make_html more st)
+pub html_within : (c d m : ℕ) (more : State → Stepped) (st : State) → ((s : State) → s.insertion_mode ≡ before_head → Within (load s + c) (load_size s + d) m (more s)) → st.insertion_mode ≡ before_html → Within (load st + c) (load_size st + d) m (make_html more st)
 html_within c d m more st h e =
     let next : State = moved st before_head under_html in
     let w : Within (2 + (load next + c)) (4 + (load_size next + d)) m (make_html more st) = within_behind (load next + c) (load_size next + d) m (start html false [] ∷ []) (more next) (h next refl) in
     within_more (2 + (load next + c)) (4 + (load_size next + d)) m (load st + c) (load_size st + d) m (make_html more st) (rw e (omega arith)) (rw e (omega arith)) (omega arith) w
 
-pub head_within : (c d m : ℕ) (more : State → Stepped) (st : State) → ((s : State) → s.phase ≡ in_head → Within (load s + c) (load_size s + d) m (more s)) → st.phase ≡ before_head → Within (load st + c) (load_size st + d) m (make_head more st)
+pub head_within : (c d m : ℕ) (more : State → Stepped) (st : State) → ((s : State) → s.insertion_mode ≡ in_head → Within (load s + c) (load_size s + d) m (more s)) → st.insertion_mode ≡ before_head → Within (load st + c) (load_size st + d) m (make_head more st)
 head_within c d m more st h e =
     let next : State = moved st in_head under_head in
     let w : Within (2 + (load next + c)) (4 + (load_size next + d)) m (make_head more st) = within_behind (load next + c) (load_size next + d) m (start head false [] ∷ []) (more next) (h next refl) in
     within_more (2 + (load next + c)) (4 + (load_size next + d)) m (load st + c) (load_size st + d) m (make_head more st) (rw e (omega arith)) (rw e (omega arith)) (omega arith) w
 
-pub close_within : (c d m : ℕ) (more : State → Stepped) (st : State) → ((s : State) → s.phase ≡ after_head → Within (load s + c) (load_size s + d) m (more s)) → st.phase ≡ in_head → Within (load st + c) (load_size st + d) m (close_head more st)
+pub close_within : (c d m : ℕ) (more : State → Stepped) (st : State) → ((s : State) → s.insertion_mode ≡ after_head → Within (load s + c) (load_size s + d) m (more s)) → st.insertion_mode ≡ in_head → Within (load st + c) (load_size st + d) m (close_head more st)
 close_within c d m more st h e =
     let next : State = moved st after_head under_html in
     let w : Within (1 + (load next + c)) (0 + (load_size next + d)) m (close_head more st) = within_behind (load next + c) (load_size next + d) m (end head false ∷ []) (more next) (h next refl) in
     within_more (1 + (load next + c)) (0 + (load_size next + d)) m (load st + c) (load_size st + d) m (close_head more st) (rw e (omega arith)) (rw e (omega arith)) (omega arith) w
 
-pub body_within : (c d m : ℕ) (more : State → Stepped) (st : State) → ((s : State) → s.phase ≡ in_body → Within (load s + c) (load_size s + d) m (more s)) → st.phase ≡ after_head → Within (load st + c) (load_size st + d) m (make_body more st)
+pub body_within : (c d m : ℕ) (more : State → Stepped) (st : State) → ((s : State) → s.insertion_mode ≡ in_body → Within (load s + c) (load_size s + d) m (more s)) → st.insertion_mode ≡ after_head → Within (load st + c) (load_size st + d) m (make_body more st)
 body_within c d m more st h e =
     let next : State = moved st in_body under_body in
     let w : Within (2 + (load next + c)) (4 + (load_size next + d)) m (make_body more st) = within_behind (load next + c) (load_size next + d) m (start body false [] ∷ []) (more next) (h next refl) in
     within_more (2 + (load next + c)) (4 + (load_size next + d)) m (load st + c) (load_size st + d) m (make_body more st) (rw e (omega arith)) (rw e (omega arith)) (omega arith) w
 
--- in the body the state's phase is that of the body, wherever the step began
-pub reach_body_within : (c d m : ℕ) (more : State → Stepped) → ((s : State) → s.phase ≡ in_body → Within (load s + c) (load_size s + d) m (more s)) → (p : Phase) (st : State) → st.phase ≡ p → Within (load st + c) (load_size st + d) m (reach_body p more st)
+-- in the body the state's insertion mode is that of the body, wherever the step began
+pub reach_body_within : (c d m : ℕ) (more : State → Stepped) → ((s : State) → s.insertion_mode ≡ in_body → Within (load s + c) (load_size s + d) m (more s)) → (p : InsertionMode) (st : State) → st.insertion_mode ≡ p → Within (load st + c) (load_size st + d) m (reach_body p more st)
 reach_body_within c d m more h initial st e = omega arith
 reach_body_within c d m more h before_html st e =
     html_within c d m (make_head (close_head (make_body more))) st (λ s a. head_within c d m (close_head (make_body more)) s (λ t b. close_within c d m (make_body more) t (λ u k. body_within c d m more u h k) b) a) e
@@ -79,7 +79,7 @@ reach_body_within c d m more h in_body st e = h st e
 reach_body_within c d m more h after_body st e = omega arith
 reach_body_within c d m more h after_html st e = omega arith
 
-pub reach_head_within : (c d m : ℕ) (rule : Rule) (more : State → Stepped) → ((s : State) → s.phase ≡ in_head → Within (load s + c) (load_size s + d) m (more s)) → (p : Phase) (st : State) → st.phase ≡ p → Within (load st + c) (load_size st + d) m (reach_head p rule more st)
+pub reach_head_within : (c d m : ℕ) (rule : Rule) (more : State → Stepped) → ((s : State) → s.insertion_mode ≡ in_head → Within (load s + c) (load_size s + d) m (more s)) → (p : InsertionMode) (st : State) → st.insertion_mode ≡ p → Within (load st + c) (load_size st + d) m (reach_head p rule more st)
 reach_head_within c d m rule more h initial st e = omega arith
 reach_head_within c d m rule more h before_html st e = html_within c d m (make_head more) st (λ s a. head_within c d m more s h a) e
 reach_head_within c d m rule more h before_head st e = head_within c d m more st h e
@@ -95,7 +95,7 @@ reach_head_within c d m rule more h after_html st e = omega arith
 pub keep_within : (c : ℕ) (st : State) → Within (load st + 1) (load_size st + 1) 0 (keep_byte c st)
 keep_within c st = (omega arith, omega arith)
 
-pub space_within : (p : Phase) (c : ℕ) (st : State) → Within (load st + 1) (load_size st + 1) 0 (space_byte p c st)
+pub space_within : (p : InsertionMode) (c : ℕ) (st : State) → Within (load st + 1) (load_size st + 1) 0 (space_byte p c st)
 space_within initial c st = (omega arith, omega arith)
 space_within before_html c st = (omega arith, omega arith)
 space_within before_head c st = (omega arith, omega arith)
@@ -113,18 +113,18 @@ body_byte_within c st = by (is_in_blank st.path)
     by false = keep_within c st
 
 pub other_within : (c : ℕ) (st : State) → Within (load st + 1) (load_size st + 1) 0 (other_byte c st)
-other_within c st = by (is_in_noscript st.phase st.path)
+other_within c st = by (is_in_noscript st.insertion_mode st.path)
   where
-    by : (b : Bool) → Within (load st + 1) (load_size st + 1) 0 (cond b (stops TextHere 0) (reach_body st.phase (body_byte c) st))
+    by : (b : Bool) → Within (load st + 1) (load_size st + 1) 0 (cond b (stops TextHere 0) (reach_body st.insertion_mode (body_byte c) st))
     by true = omega arith
-    by false = reach_body_within 1 1 0 (body_byte c) (λ s e. body_byte_within c s) st.phase st refl
+    by false = reach_body_within 1 1 0 (body_byte c) (λ s e. body_byte_within c s) st.insertion_mode st refl
 
 pub kept_within : (c : ℕ) (st : State) → Within (load st + 1) (load_size st + 1) 0 (kept_byte c st)
 kept_within c st = by (is_in_text st.path) (is_space c)
   where
-    by : (b k : Bool) → Within (load st + 1) (load_size st + 1) 0 (cond b (keep_byte c st) (cond k (space_byte st.phase c st) (other_byte c st)))
+    by : (b k : Bool) → Within (load st + 1) (load_size st + 1) 0 (cond b (keep_byte c st) (cond k (space_byte st.insertion_mode c st) (other_byte c st)))
     by true k = keep_within c st
-    by false true = space_within st.phase c st
+    by false true = space_within st.insertion_mode c st
     by false false = other_within c st
 
 pub byte_within : (c : ℕ) (st : State) → Within (load st + 1) (load_size st + 1) 0 (step_byte c st)
@@ -185,10 +185,10 @@ starts_weight (e ∷ path) =
     (omega arith, omega arith)
 
 pub entered_within : (attributes : List Attribute) (slash : Bool) (st : State) (e : Element) (path : List Element)
-    → Within (length path + (length st.behind_body + length st.behind_html) + left st.phase + 3) (load_size st + (length e.name + attributes_size attributes)) 0 (entered attributes slash st (e ∷ path))
+    → Within (length path + (length st.behind_body + length st.behind_html) + left st.insertion_mode + 3) (load_size st + (length e.name + attributes_size attributes)) 0 (entered attributes slash st (e ∷ path))
 entered_within attributes slash st e path = by (closes_at_once slash (e ∷ path))
   where
-    by : (b : Bool) → Within (length path + (length st.behind_body + length st.behind_html) + left st.phase + 3) (load_size st + (length e.name + attributes_size attributes)) 0 (cond b (went (start e.name e.foreign attributes ∷ end e.name e.foreign ∷ []) (record st { path = path })) (went (start e.name e.foreign attributes ∷ []) (record st { path = e ∷ path; drops_line_feed = drops_behind (e ∷ path) })))
+    by : (b : Bool) → Within (length path + (length st.behind_body + length st.behind_html) + left st.insertion_mode + 3) (load_size st + (length e.name + attributes_size attributes)) 0 (cond b (went (start e.name e.foreign attributes ∷ end e.name e.foreign ∷ []) (record st { path = path })) (went (start e.name e.foreign attributes ∷ []) (record st { path = e ∷ path; drops_line_feed = drops_behind (e ∷ path) })))
     by true = (omega arith, omega arith)
     by false = (omega arith, omega arith)
 
@@ -206,7 +206,7 @@ after_within n attributes slash st (moves closed made (e ∷ path)) w =
     let d : (weight (starts made) ≡ 2 * length made) × (walk_size (starts made) ≡ names_size made) = starts_weight made in
     let x : weight (map end_event closed ++ starts made) ≡ weight (map end_event closed) + weight (starts made) = weight-append (map end_event closed) (starts made) in
     let y : walk_size (map end_event closed ++ starts made) ≡ walk_size (map end_event closed) + walk_size (starts made) = walk_size-append (map end_event closed) (starts made) in
-    let a : ℕ = length path + (length st.behind_body + length st.behind_html) + left st.phase + 3 in
+    let a : ℕ = length path + (length st.behind_body + length st.behind_html) + left st.insertion_mode + 3 in
     let b : ℕ = load_size st + (length e.name + attributes_size attributes) in
     let v : Within (weight (map end_event closed ++ starts made) + a) (walk_size (map end_event closed ++ starts made) + b) 0 (after_moves attributes slash st (moves closed made (e ∷ path))) = within_behind a b 0 (map end_event closed ++ starts made) (entered attributes slash st (e ∷ path)) (entered_within attributes slash st e path) in
     let few : length closed + length path ≤ length st.path + length made = w.0 in
@@ -297,17 +297,17 @@ in_body_within n attributes slash st = after_within n attributes slash st (start
 
 opened_within : (n : List ℕ) (attributes : List Attribute) (st : State) → StartWithin n attributes st (opened n attributes st)
 opened_within n attributes st =
-    within_more (length st.path + (length st.behind_body + length st.behind_html) + left st.phase + 3) (load_size st + (length n + attributes_size attributes)) 0 (load st + 9) (load_size st + (length n + attributes_size attributes + 8)) 0 (opened n attributes st) (omega arith) (omega arith) (omega arith)
+    within_more (length st.path + (length st.behind_body + length st.behind_html) + left st.insertion_mode + 3) (load_size st + (length n + attributes_size attributes)) 0 (load st + 9) (load_size st + (length n + attributes_size attributes + 8)) 0 (opened n attributes st) (omega arith) (omega arith) (omega arith)
     (entered_within attributes false st (html_element n) st.path)
 
-after_head_within : (n : List ℕ) (attributes : List Attribute) (slash : Bool) (st : State) → st.phase ≡ after_head → StartWithin n attributes st (start_after_head n attributes slash st)
+after_head_within : (n : List ℕ) (attributes : List Attribute) (slash : Bool) (st : State) → st.insertion_mode ≡ after_head → StartWithin n attributes st (start_after_head n attributes slash st)
 after_head_within n attributes slash st e = by (is_metadata n)
   where
     by : (b : Bool) → StartWithin n attributes st (cond b (stops AfterHead 0) (make_body (start_in_body n attributes slash) st))
     by true = omega arith
     by false = body_within 9 (length n + attributes_size attributes + 8) 0 (start_in_body n attributes slash) st (λ s h. in_body_within n attributes slash s) e
 
-in_head_within : (n : List ℕ) (attributes : List Attribute) (slash : Bool) (st : State) → st.phase ≡ in_head → StartWithin n attributes st (start_in_head n attributes slash st)
+in_head_within : (n : List ℕ) (attributes : List Attribute) (slash : Bool) (st : State) → st.insertion_mode ≡ in_head → StartWithin n attributes st (start_in_head n attributes slash st)
 in_head_within n attributes slash st e = by (is_in_noscript in_head st.path) (is_among n noscript_children) (stands_on n st.path)
   where
     by : (a b c : Bool) → StartWithin n attributes st (cond a (cond b (opened n attributes st) (stops WrongParent 0)) (cond c (opened n attributes st) (close_head (start_after_head n attributes slash) st)))
@@ -316,7 +316,7 @@ in_head_within n attributes slash st e = by (is_in_noscript in_head st.path) (is
     by false b true = opened_within n attributes st
     by false b false = close_within 9 (length n + attributes_size attributes + 8) 0 (start_after_head n attributes slash) st (λ s h. after_head_within n attributes slash s h) e
 
-inside_within : (n : List ℕ) (attributes : List Attribute) (slash : Bool) (p : Phase) (st : State) → st.phase ≡ p → StartWithin n attributes st (start_inside p n attributes slash st)
+inside_within : (n : List ℕ) (attributes : List Attribute) (slash : Bool) (p : InsertionMode) (st : State) → st.insertion_mode ≡ p → StartWithin n attributes st (start_inside p n attributes slash st)
 inside_within n attributes slash initial st e = in_body_within n attributes slash st
 inside_within n attributes slash before_html st e = html_within 9 (length n + attributes_size attributes + 8) 0 (make_head (start_in_head n attributes slash)) st (λ s a. head_within 9 (length n + attributes_size attributes + 8) 0 (start_in_head n attributes slash) s (λ t b. in_head_within n attributes slash t b) a) e
 inside_within n attributes slash before_head st e = head_within 9 (length n + attributes_size attributes + 8) 0 (start_in_head n attributes slash) st (λ t b. in_head_within n attributes slash t b) e
@@ -326,7 +326,7 @@ inside_within n attributes slash in_body st e = in_body_within n attributes slas
 inside_within n attributes slash after_body st e = in_body_within n attributes slash st
 inside_within n attributes slash after_html st e = in_body_within n attributes slash st
 
-open_html_within : (n : List ℕ) (attributes : List Attribute) (p : Phase) (st : State) → st.phase ≡ p → StartWithin n attributes st (open_html p attributes st)
+open_html_within : (n : List ℕ) (attributes : List Attribute) (p : InsertionMode) (st : State) → st.insertion_mode ≡ p → StartWithin n attributes st (open_html p attributes st)
 open_html_within n attributes initial st e = omega arith
 open_html_within n attributes before_html st e = rw e (omega arith, omega arith)
 open_html_within n attributes before_head st e = omega arith
@@ -336,10 +336,10 @@ open_html_within n attributes in_body st e = omega arith
 open_html_within n attributes after_body st e = omega arith
 open_html_within n attributes after_html st e = omega arith
 
-head_here_within : (n : List ℕ) (attributes : List Attribute) (st : State) → st.phase ≡ before_head → StartWithin n attributes st (open_head_here attributes st)
+head_here_within : (n : List ℕ) (attributes : List Attribute) (st : State) → st.insertion_mode ≡ before_head → StartWithin n attributes st (open_head_here attributes st)
 head_here_within n attributes st e = rw e (omega arith, omega arith)
 
-open_head_within : (n : List ℕ) (attributes : List Attribute) (p : Phase) (st : State) → st.phase ≡ p → StartWithin n attributes st (open_head p attributes st)
+open_head_within : (n : List ℕ) (attributes : List Attribute) (p : InsertionMode) (st : State) → st.insertion_mode ≡ p → StartWithin n attributes st (open_head p attributes st)
 open_head_within n attributes initial st e = omega arith
 open_head_within n attributes before_html st e = html_within 9 (length n + attributes_size attributes + 8) 0 (open_head_here attributes) st (λ s h. head_here_within n attributes s h) e
 open_head_within n attributes before_head st e = head_here_within n attributes st e
@@ -349,13 +349,13 @@ open_head_within n attributes in_body st e = omega arith
 open_head_within n attributes after_body st e = omega arith
 open_head_within n attributes after_html st e = omega arith
 
-body_here_within : (n : List ℕ) (attributes : List Attribute) (st : State) → st.phase ≡ after_head → StartWithin n attributes st (open_body_here attributes st)
+body_here_within : (n : List ℕ) (attributes : List Attribute) (st : State) → st.insertion_mode ≡ after_head → StartWithin n attributes st (open_body_here attributes st)
 body_here_within n attributes st e = rw e (omega arith, omega arith)
 
-body_behind_head : (n : List ℕ) (attributes : List Attribute) (st : State) → st.phase ≡ in_head → StartWithin n attributes st (close_head (open_body_here attributes) st)
+body_behind_head : (n : List ℕ) (attributes : List Attribute) (st : State) → st.insertion_mode ≡ in_head → StartWithin n attributes st (close_head (open_body_here attributes) st)
 body_behind_head n attributes st e = close_within 9 (length n + attributes_size attributes + 8) 0 (open_body_here attributes) st (λ s h. body_here_within n attributes s h) e
 
-open_body_within : (n : List ℕ) (attributes : List Attribute) (p : Phase) (st : State) → st.phase ≡ p → StartWithin n attributes st (open_body p attributes st)
+open_body_within : (n : List ℕ) (attributes : List Attribute) (p : InsertionMode) (st : State) → st.insertion_mode ≡ p → StartWithin n attributes st (open_body p attributes st)
 open_body_within n attributes initial st e = omega arith
 open_body_within n attributes before_html st e = html_within 9 (length n + attributes_size attributes + 8) 0 (make_head (close_head (open_body_here attributes))) st (λ s a. head_within 9 (length n + attributes_size attributes + 8) 0 (close_head (open_body_here attributes)) s (λ t b. body_behind_head n attributes t b) a) e
 open_body_within n attributes before_head st e = head_within 9 (length n + attributes_size attributes + 8) 0 (close_head (open_body_here attributes)) st (λ t b. body_behind_head n attributes t b) e
@@ -372,18 +372,18 @@ open_body_within n attributes after_html st e = omega arith
 html_start_within : (n : List ℕ) (attributes : List Attribute) (slash : Bool) (st : State) → StartWithin n attributes st (html_start n attributes slash st)
 html_start_within n attributes slash st = by (is_refused n) (bytes_eq n html) (bytes_eq n head) (bytes_eq n body)
   where
-    by : (a b c d : Bool) → StartWithin n attributes st (cond a (stops RefusedName 0) (cond b (open_html st.phase attributes st) (cond c (open_head st.phase attributes st) (cond d (open_body st.phase attributes st) (start_inside st.phase n attributes slash st)))))
+    by : (a b c d : Bool) → StartWithin n attributes st (cond a (stops RefusedName 0) (cond b (open_html st.insertion_mode attributes st) (cond c (open_head st.insertion_mode attributes st) (cond d (open_body st.insertion_mode attributes st) (start_inside st.insertion_mode n attributes slash st)))))
     by true b c d = omega arith
-    by false true c d = open_html_within n attributes st.phase st refl
-    by false false true d = open_head_within n attributes st.phase st refl
-    by false false false true = open_body_within n attributes st.phase st refl
-    by false false false false = inside_within n attributes slash st.phase st refl
+    by false true c d = open_html_within n attributes st.insertion_mode st refl
+    by false false true d = open_head_within n attributes st.insertion_mode st refl
+    by false false false true = open_body_within n attributes st.insertion_mode st refl
+    by false false false false = inside_within n attributes slash st.insertion_mode st refl
 
 pub start_within : (n : List ℕ) (attributes : List Attribute) (slash : Bool) (st : State) → StartWithin n attributes st (step_start n attributes slash st)
 unfolding step_start
-start_within n attributes slash st = by (is_outside st.phase) (is_in_svg st.path)
+start_within n attributes slash st = by (is_outside st.insertion_mode) (is_in_svg st.path)
   where
-    by : (a b : Bool) → StartWithin n attributes st (cond a (stops (outside_rule st.phase) 0) (cond b (start_in_body n attributes slash st) (html_start n attributes slash st)))
+    by : (a b : Bool) → StartWithin n attributes st (cond a (stops (outside_rule st.insertion_mode) 0) (cond b (start_in_body n attributes slash st) (html_start n attributes slash st)))
     by true b = omega arith
     by false true = in_body_within n attributes slash st
     by false false = html_start_within n attributes slash st
@@ -438,20 +438,20 @@ after_end_within st (moves closed made path) w =
     let cs : walk_size (map end_event closed) ≡ 0 = c.1 in
     (omega arith, omega arith)
 
-leave_within : (p : Phase) (st : State) → left p ≡ 0 → left_size p ≡ 0 → EndWithin st (leave_body p st)
+leave_within : (p : InsertionMode) (st : State) → left p ≡ 0 → left_size p ≡ 0 → EndWithin st (leave_body p st)
 leave_within p st h k = by (is_at_end st.path)
   where
-    by : (b : Bool) → EndWithin st (cond b (went [] (record st { phase = p })) (stops Unclosed 0))
+    by : (b : Bool) → EndWithin st (cond b (went [] (record st { insertion_mode = p })) (stops Unclosed 0))
     by true = (omega arith, omega arith)
     by false = omega arith
 
-end_head_within : (p : Phase) (st : State) → st.phase ≡ p → EndWithin st (end_head p st)
+end_head_within : (p : InsertionMode) (st : State) → st.insertion_mode ≡ p → EndWithin st (end_head p st)
 end_head_within p st e = reach_head_within 0 0 0 StrayEnd (λ here. went (end head false ∷ []) (moved here after_head under_html)) (λ s h. rw h (omega arith, omega arith)) p st e
 
-end_body_within : (p : Phase) (st : State) → st.phase ≡ p → EndWithin st (end_body p st)
+end_body_within : (p : InsertionMode) (st : State) → st.insertion_mode ≡ p → EndWithin st (end_body p st)
 end_body_within p st e = reach_body_within 0 0 0 (leave_body after_body) (λ s h. leave_within after_body s refl refl) p st e
 
-end_html_within : (p : Phase) (st : State) → st.phase ≡ p → EndWithin st (end_html p st)
+end_html_within : (p : InsertionMode) (st : State) → st.insertion_mode ≡ p → EndWithin st (end_html p st)
 end_html_within initial st e = omega arith
 end_html_within before_html st e = reach_body_within 0 0 0 (leave_body after_html) (λ s h. leave_within after_html s refl refl) before_html st e
 end_html_within before_head st e = reach_body_within 0 0 0 (leave_body after_html) (λ s h. leave_within after_html s refl refl) before_head st e
@@ -461,7 +461,7 @@ end_html_within in_body st e = reach_body_within 0 0 0 (leave_body after_html) (
 end_html_within after_body st e = (omega arith, omega arith)
 end_html_within after_html st e = omega arith
 
-end_inside_within : (n : List ℕ) (p : Phase) (st : State) → EndWithin st (end_inside p n st)
+end_inside_within : (n : List ℕ) (p : InsertionMode) (st : State) → EndWithin st (end_inside p n st)
 end_inside_within n in_body st = after_end_within st (end_moves n st.path) (end_moves_within n st.path)
 end_inside_within n initial st = omega arith
 end_inside_within n before_html st = omega arith
@@ -474,13 +474,13 @@ end_inside_within n after_html st = omega arith
 html_end_within : (n : List ℕ) (st : State) → EndWithin st (html_end n st)
 html_end_within n st = by (bytes_eq n head) (bytes_eq n body) (bytes_eq n html)
   where
-    by : (a b c : Bool) → EndWithin st (cond a (end_head st.phase st) (cond b (end_body st.phase st) (cond c (end_html st.phase st) (end_inside st.phase n st))))
-    by true b c = end_head_within st.phase st refl
-    by false true c = end_body_within st.phase st refl
-    by false false true = end_html_within st.phase st refl
-    by false false false = end_inside_within n st.phase st
+    by : (a b c : Bool) → EndWithin st (cond a (end_head st.insertion_mode st) (cond b (end_body st.insertion_mode st) (cond c (end_html st.insertion_mode st) (end_inside st.insertion_mode n st))))
+    by true b c = end_head_within st.insertion_mode st refl
+    by false true c = end_body_within st.insertion_mode st refl
+    by false false true = end_html_within st.insertion_mode st refl
+    by false false false = end_inside_within n st.insertion_mode st
 
-outside_within : (n : List ℕ) (p : Phase) (st : State) → EndWithin st (end_outside p n st)
+outside_within : (n : List ℕ) (p : InsertionMode) (st : State) → EndWithin st (end_outside p n st)
 outside_within n after_body st = by (bytes_eq n html)
   where
     by : (b : Bool) → EndWithin st (cond b (end_html after_body st) (stops AfterBody 0))
@@ -496,11 +496,11 @@ outside_within n after_html st = omega arith
 
 pub end_within : (n : List ℕ) (st : State) → EndWithin st (step_end n st)
 unfolding step_end
-end_within n st = by (is_in_text st.path) (is_outside st.phase) (is_in_svg st.path || is_in_noscript st.phase st.path)
+end_within n st = by (is_in_text st.path) (is_outside st.insertion_mode) (is_in_svg st.path || is_in_noscript st.insertion_mode st.path)
   where
-    by : (a b c : Bool) → EndWithin st (cond a (end_current n st st.path) (cond b (end_outside st.phase n st) (cond c (end_current n st st.path) (html_end n st))))
+    by : (a b c : Bool) → EndWithin st (cond a (end_current n st st.path) (cond b (end_outside st.insertion_mode n st) (cond c (end_current n st st.path) (html_end n st))))
     by true b c = end_current_within n st st.path refl
-    by false true c = outside_within n st.phase st
+    by false true c = outside_within n st.insertion_mode st
     by false false true = end_current_within n st st.path refl
     by false false false = html_end_within n st
 
@@ -531,7 +531,7 @@ span (tokens.slice s) = length s
 span (tokens.points ps) = 0
 span (tokens.comment s) = 0
 
-doctype_within : (legacy : Bool) (p : Phase) (st : State) → st.phase ≡ p → Within (load st + 1) (load_size st + 0) 0 (step_doctype p legacy st)
+doctype_within : (legacy : Bool) (p : InsertionMode) (st : State) → st.insertion_mode ≡ p → Within (load st + 1) (load_size st + 0) 0 (step_doctype p legacy st)
 doctype_within legacy initial st e = rw e (omega arith, omega arith)
 doctype_within legacy before_html st e = omega arith
 doctype_within legacy before_head st e = omega arith
@@ -545,7 +545,7 @@ texts_size-append : (ss ts : List (List ℕ)) → texts_size (ss ++ ts) ≡ text
 texts_size-append [] ts = omega arith
 texts_size-append (s ∷ ss) ts = let h : texts_size (ss ++ ts) ≡ texts_size ss + texts_size ts = texts_size-append ss ts in omega arith
 
-comment_within : (s : List ℕ) (p : Phase) (st : State) → Within (load st + 1) (load_size st + length s) 0 (step_comment p s st)
+comment_within : (s : List ℕ) (p : InsertionMode) (st : State) → Within (load st + 1) (load_size st + length s) 0 (step_comment p s st)
 comment_within s after_body st =
     let a : length (st.behind_body ++ s ∷ []) ≡ length st.behind_body + 1 = length-append st.behind_body (s ∷ []) in
     let b : texts_size (st.behind_body ++ s ∷ []) ≡ texts_size st.behind_body + texts_size (s ∷ []) = texts_size-append st.behind_body (s ∷ []) in
@@ -567,12 +567,12 @@ text_is_within a b n (stops rule k) w = omega arith
 
 pub step_within : (st : State) (token : Seen) → Within (load st + cost token) (load_size st + size_cost token) (span token) (step st token)
 unfolding step
-step_within st (tokens.doctype legacy) = doctype_within legacy st.phase (no_drop st) refl
+step_within st (tokens.doctype legacy) = doctype_within legacy st.insertion_mode (no_drop st) refl
 step_within st (tokens.start_tag n attributes slash) = start_within n attributes slash (no_drop st)
 step_within st (tokens.end_tag n) = end_within n (no_drop st)
 step_within st (tokens.slice s) = text_is_within (load st + length s) (load_size st + length s) (length s) (step_bytes s st) (bytes_within s st)
 step_within st (tokens.points ps) = front_within (load st + length (encode_utf8_all ps)) (load_size st + length (encode_utf8_all ps)) (length (encode_utf8_all ps)) (step_bytes (encode_utf8_all ps) st) (bytes_within (encode_utf8_all ps) st)
-step_within st (tokens.comment s) = comment_within s st.phase (no_drop st)
+step_within st (tokens.comment s) = comment_within s st.insertion_mode (no_drop st)
 
 -- ---- the end of the page
 
@@ -612,7 +612,7 @@ abbrev pub WithinAll : ℕ → ℕ → Stepped → Type 0
 WithinAll a b (went es st) = (weight es ≤ a) × (walk_size es ≤ b)
 WithinAll a b (stops rule n) = n ≡ 0
 
-leave_page_within : (p : Phase) (st : State) → st.phase ≡ p → EndWithin st (leave_page p st)
+leave_page_within : (p : InsertionMode) (st : State) → st.insertion_mode ≡ p → EndWithin st (leave_page p st)
 leave_page_within after_body st e = (omega arith, omega arith)
 leave_page_within after_html st e = (omega arith, omega arith)
 leave_page_within initial st e = by (is_in_noscript initial st.path)
@@ -648,9 +648,9 @@ leave_page_within in_body st e = by (is_in_noscript in_body st.path)
 
 pub over_within : (st : State) → WithinAll (load st) (load_size st) (step_over st)
 unfolding step_over
-over_within st = by (is_in_text st.path) (leave_page st.phase st) refl refl (leave_page_within st.phase st refl)
+over_within st = by (is_in_text st.path) (leave_page st.insertion_mode st) refl refl (leave_page_within st.insertion_mode st refl)
   where
-    by : (b : Bool) (x : Stepped) → is_in_text st.path ≡ b → leave_page st.phase st ≡ x → EndWithin st x → WithinAll (load st) (load_size st) (step_over st)
+    by : (b : Bool) (x : Stepped) → is_in_text st.path ≡ b → leave_page st.insertion_mode st ≡ x → EndWithin st x → WithinAll (load st) (load_size st) (step_over st)
     by true x e f w = rw e refl
     by false (stops rule n) e f w = rw (e, f) (omega arith)
     by false (went es at_end) e f w =

@@ -7,7 +7,7 @@ ghost use Rattle.hm_build.specs.Parsing.{IsFurther, IsParsing, IsRead, IsRefused
 
 use crate::tokens::{mode, take};
 use hm_base::{Memory, Refused, SourceText};
-use hm_builder::{BuildFault, Builder};
+use hm_builder::{BuildFault, TreeBuilder};
 use hm_lexer::Lexer;
 use hm_refs::Table;
 use hm_refs::laws::every_table;
@@ -34,7 +34,7 @@ fn turn<'a>(
     alloc: Global,
     text: &SourceText,
     lexer: &mut Lexer<'a>,
-    builder: &mut Builder,
+    builder: &mut TreeBuilder,
 ) -> Result<bool, Refused>
     requires names { SoundNames lexer.old.names }
     requires source { lexer.old.source ≡ text.now }
@@ -58,7 +58,7 @@ fn turns<'a>(
     alloc: Global,
     text: &SourceText,
     lexer: &mut Lexer<'a>,
-    builder: &mut Builder,
+    builder: &mut TreeBuilder,
 ) -> Result<(), Refused>
     requires names { SoundNames lexer.old.names }
     requires source { lexer.old.source ≡ text.now }
@@ -82,7 +82,7 @@ fn finish<'a>(
     alloc: Global,
     text: &SourceText,
     lexer: &Lexer<'a>,
-    builder: Builder,
+    builder: TreeBuilder,
 ) -> Result<Tree, Refused>
     requires source { lexer.now.source ≡ text.now }
     requires read { IsRead lexer.now builder }
@@ -108,7 +108,7 @@ pub fn parse(alloc: Global, text: &SourceText, table: &Table) -> Result<Tree, Re
     every_table(table);
     let _plain = text.text();
     let mut lexer = Lexer::new(text, table);
-    let mut builder = match Builder::new(alloc) {
+    let mut builder = match TreeBuilder::new(alloc) {
         Ok(builder) => builder,
         Err(Memory) => return Err(Refused::Memory),
     };

@@ -7,7 +7,7 @@ ghost use Rattle.hm_construction.specs.Trees as trees;
 ghost use Rattle.hm_builder.specs.Building.{Fits, IsRefused, IsStepped};
 ghost use Rattle.hm_build.specs.Parsing.{IsReadUnder};
 
-use hm_builder::{BuildFault, Builder};
+use hm_builder::{BuildFault, TreeBuilder};
 use hm_lexer::{Mode, RawName, RcdataName};
 use hm_tree::Token;
 use std::alloc::Global;
@@ -36,7 +36,7 @@ fn mode_of_name(name: &str) -> Mode
 }
 
 /// How the text that comes next is read. Only the name of an element that holds one text is looked up.
-pub(crate) fn mode(builder: &Builder) -> Mode
+pub(crate) fn mode(builder: &TreeBuilder) -> Mode
     ensures { mode_of result ≡ trees.mode_of builder.now.state.path }
 {
     if builder.is_in_svg() {
@@ -51,7 +51,7 @@ pub(crate) fn mode(builder: &Builder) -> Mode
 /// Takes a token of this text.
 pub(crate) fn take(
     alloc: Global,
-    builder: &mut Builder,
+    builder: &mut TreeBuilder,
     text: &str,
     token: Token,
 ) -> Result<(), BuildFault>

@@ -15,16 +15,16 @@ use Rattle.hm_construction.specs.Steps as steps
 use Rattle.hm_construction.specs.Steps.{State, Stepped, went, stops, behind_events, moved, html_start, start_inside, reach_body, opened, is_metadata, closes_at_once, under_html, under_head, under_body}
 use Rattle.hm_builder.specs.Building.{Fits, grown}
 use Rattle.hm_builder.specs.BeforeBody.{TakesChildren, html_opened, head_opened, in_open_head, has_begun}
-use Rattle.hm_builder.specs.Inside.{phase_of, open_path, text_name, inside_head, under_noscript, state_of, has_no_text, head_ended, IsUnbegun, IsKept, IsDone}
+use Rattle.hm_builder.specs.Inside.{insertion_mode_of, open_path, text_name, inside_head, under_noscript, state_of, has_no_text, head_ended, IsUnbegun, IsKept, IsDone}
 use Rattle.hm_builder.specs.declared.insertion.HeadText.{HeadText}
 use Rattle.hm_builder.specs.declared.insertion.HeadText.TheVariants.{Title, Style, Script}
-use Rattle.hm_builder.specs.declared.insertion.Phase.{Phase}
-use Rattle.hm_builder.specs.declared.insertion.Phase.TheVariants.{Initial, BeforeHtml, BeforeHead, InHead, AfterHead, InBody, AfterBody as PastBody, AfterHtml}
+use Rattle.hm_builder.specs.declared.insertion.InsertionMode.{InsertionMode}
+use Rattle.hm_builder.specs.declared.insertion.InsertionMode.TheVariants.{Initial, BeforeHtml, BeforeHead, InHead, AfterHead, InBody, AfterBody as PastBody, AfterHtml}
 use Rattle.hm_builder.specs.declared.parts.Parts.{Parts}
 use Rattle.hm_builder.proofs.Events.{HasRoom-front, path_after-append, walk_any}
 use Rattle.hm_builder.proofs.Others.{any_done}
 use Rattle.hm_builder.proofs.Texts.{behind_nothing}
-use Rattle.hm_builder.proofs.Unbegun.{unbegun_fresh, at_its_phase, kept_at}
+use Rattle.hm_builder.proofs.Unbegun.{unbegun_fresh, at_its_mode, kept_at}
 
 -- ---- A step behind events that were put behind the walk
 
@@ -48,15 +48,15 @@ not_named n m h = false_from_ne_true (bytes_eq n m) (λ e. h (same_bytes n m e))
 
 -- ---- html, head and body
 
-html_first : (attributes : List Attribute) (st : State) → html_start html attributes false st ≡ steps.open_html st.phase attributes st
+html_first : (attributes : List Attribute) (st : State) → html_start html attributes false st ≡ steps.open_html st.insertion_mode attributes st
 unfolding is_refused refused_names is_among
 html_first attributes st = refl
 
-head_first : (attributes : List Attribute) (st : State) → html_start head attributes false st ≡ steps.open_head st.phase attributes st
+head_first : (attributes : List Attribute) (st : State) → html_start head attributes false st ≡ steps.open_head st.insertion_mode attributes st
 unfolding is_refused refused_names is_among
 head_first attributes st = refl
 
-body_first : (attributes : List Attribute) (st : State) → html_start body attributes false st ≡ steps.open_body st.phase attributes st
+body_first : (attributes : List Attribute) (st : State) → html_start body attributes false st ≡ steps.open_body st.insertion_mode attributes st
 unfolding is_refused refused_names is_among
 body_first attributes st = refl
 
@@ -65,52 +65,52 @@ unfolding is_root roots
 one_of_roots n h = entry_passes (λ x. bytes_eq x html || (bytes_eq x head || bytes_eq x body)) n roots refl h
 
 module _ (n : List ℕ) (attributes : List Attribute) (st : State) where
-  pub html_step : n ≡ html → html_start n attributes false st ≡ steps.open_html st.phase attributes st
+  pub html_step : n ≡ html → html_start n attributes false st ≡ steps.open_html st.insertion_mode attributes st
   html_step is = ap (λ m. html_start m attributes false st) is ∙ html_first attributes st
 
-  pub head_step : n ≡ head → html_start n attributes false st ≡ steps.open_head st.phase attributes st
+  pub head_step : n ≡ head → html_start n attributes false st ≡ steps.open_head st.insertion_mode attributes st
   head_step is = ap (λ m. html_start m attributes false st) is ∙ head_first attributes st
 
-  pub body_step : is_root n ≡ true → (n ≡ html → ⊥) → (n ≡ head → ⊥) → html_start n attributes false st ≡ steps.open_body st.phase attributes st
+  pub body_step : is_root n ≡ true → (n ≡ html → ⊥) → (n ≡ head → ⊥) → html_start n attributes false st ≡ steps.open_body st.insertion_mode attributes st
   body_step root h k =
       ap (λ m. html_start m attributes false st) (same_bytes n body (second_of (bytes_eq n head) (bytes_eq n body) (second_of (bytes_eq n html) (bytes_eq n head || bytes_eq n body) (one_of_roots n root) (not_named n html h)) (not_named n head k)))
       ∙ body_first attributes st
 
 module _ (p : Parts) (attributes : List Attribute) (v : List Event) (kept : IsKept p) where
-  pub html_done : p.phase ≡ BeforeHtml → v ≡ p.maker ++ start html false attributes ∷ [] → IsDone (steps.open_html (phase_of p.phase) attributes (state_of p)) p (record p { maker = v; phase = BeforeHead })
+  pub html_done : p.insertion_mode ≡ BeforeHtml → v ≡ p.maker ++ start html false attributes ∷ [] → IsDone (steps.open_html (insertion_mode_of p.insertion_mode) attributes (state_of p)) p (record p { maker = v; insertion_mode = BeforeHead })
   html_done e is =
-      at_its_phase (λ q. IsDone (steps.open_html (phase_of q.phase) attributes (state_of q)) q (record p { maker = v; phase = BeforeHead })) p BeforeHtml e
-      (any_done _ (start html false attributes ∷ []) (moved (state_of p) steps.before_head under_html) (record p { phase = BeforeHtml }) (record p { maker = v; phase = BeforeHead }) refl (kept_at p BeforeHtml e kept) refl refl refl (kept_at p BeforeHtml e kept).fresh is)
+      at_its_mode (λ q. IsDone (steps.open_html (insertion_mode_of q.insertion_mode) attributes (state_of q)) q (record p { maker = v; insertion_mode = BeforeHead })) p BeforeHtml e
+      (any_done _ (start html false attributes ∷ []) (moved (state_of p) steps.before_head under_html) (record p { insertion_mode = BeforeHtml }) (record p { maker = v; insertion_mode = BeforeHead }) refl (kept_at p BeforeHtml e kept) refl refl refl (kept_at p BeforeHtml e kept).fresh is)
 
-  pub head_done_first : p.phase ≡ BeforeHtml → v ≡ (p.maker ++ html_opened p.phase) ++ start head false attributes ∷ [] → IsDone (steps.open_head (phase_of p.phase) attributes (state_of p)) p (record p { maker = v; phase = InHead false None })
+  pub head_done_first : p.insertion_mode ≡ BeforeHtml → v ≡ (p.maker ++ html_opened p.insertion_mode) ++ start head false attributes ∷ [] → IsDone (steps.open_head (insertion_mode_of p.insertion_mode) attributes (state_of p)) p (record p { maker = v; insertion_mode = InHead false None })
   head_done_first e is =
-      at_its_phase (λ q. IsDone (steps.open_head (phase_of q.phase) attributes (state_of q)) q (record p { maker = v; phase = InHead false None })) p BeforeHtml e
-      (any_done _ (start html false [] ∷ start head false attributes ∷ []) (moved (state_of p) steps.in_head under_head) (record p { phase = BeforeHtml }) (record p { maker = v; phase = InHead false None }) refl (kept_at p BeforeHtml e kept) refl refl refl (kept_at p BeforeHtml e kept).fresh
+      at_its_mode (λ q. IsDone (steps.open_head (insertion_mode_of q.insertion_mode) attributes (state_of q)) q (record p { maker = v; insertion_mode = InHead false None })) p BeforeHtml e
+      (any_done _ (start html false [] ∷ start head false attributes ∷ []) (moved (state_of p) steps.in_head under_head) (record p { insertion_mode = BeforeHtml }) (record p { maker = v; insertion_mode = InHead false None }) refl (kept_at p BeforeHtml e kept) refl refl refl (kept_at p BeforeHtml e kept).fresh
       (is ∙ ap (λ ph. (p.maker ++ html_opened ph) ++ start head false attributes ∷ []) e ∙ append_assoc p.maker (html_opened BeforeHtml) (start head false attributes ∷ [])))
 
-  pub head_done_next : p.phase ≡ BeforeHead → v ≡ (p.maker ++ html_opened p.phase) ++ start head false attributes ∷ [] → IsDone (steps.open_head (phase_of p.phase) attributes (state_of p)) p (record p { maker = v; phase = InHead false None })
+  pub head_done_next : p.insertion_mode ≡ BeforeHead → v ≡ (p.maker ++ html_opened p.insertion_mode) ++ start head false attributes ∷ [] → IsDone (steps.open_head (insertion_mode_of p.insertion_mode) attributes (state_of p)) p (record p { maker = v; insertion_mode = InHead false None })
   head_done_next e is =
-      at_its_phase (λ q. IsDone (steps.open_head (phase_of q.phase) attributes (state_of q)) q (record p { maker = v; phase = InHead false None })) p BeforeHead e
-      (any_done _ (start head false attributes ∷ []) (moved (state_of p) steps.in_head under_head) (record p { phase = BeforeHead }) (record p { maker = v; phase = InHead false None }) refl (kept_at p BeforeHead e kept) refl refl refl (kept_at p BeforeHead e kept).fresh
+      at_its_mode (λ q. IsDone (steps.open_head (insertion_mode_of q.insertion_mode) attributes (state_of q)) q (record p { maker = v; insertion_mode = InHead false None })) p BeforeHead e
+      (any_done _ (start head false attributes ∷ []) (moved (state_of p) steps.in_head under_head) (record p { insertion_mode = BeforeHead }) (record p { maker = v; insertion_mode = InHead false None }) refl (kept_at p BeforeHead e kept) refl refl refl (kept_at p BeforeHead e kept).fresh
       (is ∙ ap (λ ph. (p.maker ++ html_opened ph) ++ start head false attributes ∷ []) e ∙ append_assoc p.maker (html_opened BeforeHead) (start head false attributes ∷ [])))
 
 -- room for html where it is made
-pub html_room : (p : Parts) (attributes : List Attribute) → (p.phase ≡ BeforeHtml) ⊎ (p.phase ≡ BeforeHead) → Fits (steps.open_head (phase_of p.phase) attributes (state_of p)) p.maker → HasRoom (p.maker ++ html_opened p.phase)
-html_room p attributes which fits = by p.phase which fits
+pub html_room : (p : Parts) (attributes : List Attribute) → (p.insertion_mode ≡ BeforeHtml) ⊎ (p.insertion_mode ≡ BeforeHead) → Fits (steps.open_head (insertion_mode_of p.insertion_mode) attributes (state_of p)) p.maker → HasRoom (p.maker ++ html_opened p.insertion_mode)
+html_room p attributes which fits = by p.insertion_mode which fits
   where
-    by : (ph : Phase) → (ph ≡ BeforeHtml) ⊎ (ph ≡ BeforeHead) → Fits (steps.open_head (phase_of ph) attributes (state_of (record p { phase = ph }))) p.maker → HasRoom (p.maker ++ html_opened ph)
+    by : (ph : InsertionMode) → (ph ≡ BeforeHtml) ⊎ (ph ≡ BeforeHead) → Fits (steps.open_head (insertion_mode_of ph) attributes (state_of (record p { insertion_mode = ph }))) p.maker → HasRoom (p.maker ++ html_opened ph)
     by ph (inl e) f = subst (λ x. HasRoom (p.maker ++ html_opened x)) (sym e)
         (HasRoom-front (p.maker ++ start html false [] ∷ []) (start head false attributes ∷ []) (subst HasRoom (sym (append_assoc p.maker (start html false [] ∷ []) (start head false attributes ∷ [])))
-        (subst (λ x. Fits (steps.open_head (phase_of x) attributes (state_of (record p { phase = x }))) p.maker) e f)))
+        (subst (λ x. Fits (steps.open_head (insertion_mode_of x) attributes (state_of (record p { insertion_mode = x }))) p.maker) e f)))
     by ph (inr e) f = subst (λ x. HasRoom (p.maker ++ html_opened x)) (sym e)
         (HasRoom-front (p.maker ++ []) (start head false attributes ∷ []) (subst HasRoom (sym (append_assoc p.maker [] (start head false attributes ∷ [])))
-        (subst (λ x. Fits (steps.open_head (phase_of x) attributes (state_of (record p { phase = x }))) p.maker) e f)))
+        (subst (λ x. Fits (steps.open_head (insertion_mode_of x) attributes (state_of (record p { insertion_mode = x }))) p.maker) e f)))
 
 module _ (w : List Event) (path : List Element) (drops : Bool) (inner last : Vec (List ℕ) Global) where
-  abbrev pub parts : Phase → Parts
-  parts ph = record { maker = w; phase = ph; path = path; drops_line_feed = drops; behind_body = inner; behind_html = last }
+  abbrev pub parts : InsertionMode → Parts
+  parts ph = record { maker = w; insertion_mode = ph; path = path; drops_line_feed = drops; behind_body = inner; behind_html = last }
 
-  pub body_went : (attributes : List Attribute) (ph : Phase) → IsUnbegun ph → steps.open_body (phase_of ph) attributes (state_of (parts ph)) ≡ went (head_ended ph ++ start body false attributes ∷ []) (moved (state_of (parts ph)) steps.in_body under_body)
+  pub body_went : (attributes : List Attribute) (ph : InsertionMode) → IsUnbegun ph → steps.open_body (insertion_mode_of ph) attributes (state_of (parts ph)) ≡ went (head_ended ph ++ start body false attributes ∷ []) (moved (state_of (parts ph)) steps.in_body under_body)
   body_went attributes Initial u = absurd u
   body_went attributes BeforeHtml u = refl
   body_went attributes BeforeHead u = refl
@@ -122,7 +122,7 @@ module _ (w : List Event) (path : List Element) (drops : Bool) (inner last : Vec
   body_went attributes PastBody u = absurd u
   body_went attributes AfterHtml u = absurd u
 
-  body_leads : (attributes : List Attribute) (ph : Phase) → IsUnbegun ph → (path_after (open_path ph path) (head_ended ph ++ start body false attributes ∷ []) ≡ under_body) × (has_no_text (head_ended ph ++ start body false attributes ∷ []) ≡ true)
+  body_leads : (attributes : List Attribute) (ph : InsertionMode) → IsUnbegun ph → (path_after (open_path ph path) (head_ended ph ++ start body false attributes ∷ []) ≡ under_body) × (has_no_text (head_ended ph ++ start body false attributes ∷ []) ≡ true)
   body_leads attributes Initial u = absurd u
   body_leads attributes BeforeHtml u = (refl, refl)
   body_leads attributes BeforeHead u = (refl, refl)
@@ -134,14 +134,14 @@ module _ (w : List Event) (path : List Element) (drops : Bool) (inner last : Vec
   body_leads attributes PastBody u = absurd u
   body_leads attributes AfterHtml u = absurd u
 
-  pub body_done : (attributes : List Attribute) (ph : Phase) (v : List Event) → IsUnbegun ph → IsKept (parts ph) → v ≡ (w ++ head_ended ph) ++ start body false attributes ∷ [] → IsDone (steps.open_body (phase_of ph) attributes (state_of (parts ph))) (parts ph) (record (parts InBody) { maker = v })
+  pub body_done : (attributes : List Attribute) (ph : InsertionMode) (v : List Event) → IsUnbegun ph → IsKept (parts ph) → v ≡ (w ++ head_ended ph) ++ start body false attributes ∷ [] → IsDone (steps.open_body (insertion_mode_of ph) attributes (state_of (parts ph))) (parts ph) (record (parts InBody) { maker = v })
   body_done attributes ph v u kept is =
       let fresh : path ≡ under_body = unbegun_fresh w path drops inner last ph u kept in
       any_done _ (head_ended ph ++ start body false attributes ∷ []) (moved (state_of (parts ph)) steps.in_body under_body) (parts ph) (record (parts InBody) { maker = v })
       (body_went attributes ph u) kept (body_leads attributes ph u).1 (ap (λ x. moved (state_of (parts ph)) steps.in_body x) fresh) ((body_leads attributes ph u).0 ∙ sym fresh)
       (rw fresh refl) (is ∙ append_assoc w (head_ended ph) (start body false attributes ∷ []))
 
-  pub body_refused : (attributes : List Attribute) (ph : Phase) → has_begun ph ≡ true → is_in_text (open_path ph path) ≡ false → steps.open_body (phase_of ph) attributes (state_of (parts ph)) ≡ stops SecondRoot 0
+  pub body_refused : (attributes : List Attribute) (ph : InsertionMode) → has_begun ph ≡ true → is_in_text (open_path ph path) ≡ false → steps.open_body (insertion_mode_of ph) attributes (state_of (parts ph)) ≡ stops SecondRoot 0
   unfolding holds_text is_raw is_rcdata raw_names rcdata_names is_among
   body_refused attributes Initial h k = refl
   body_refused attributes BeforeHtml h k = absurd (cc)
@@ -156,7 +156,7 @@ module _ (w : List Event) (path : List Element) (drops : Bool) (inner last : Vec
   body_refused attributes PastBody h k = refl
   body_refused attributes AfterHtml h k = refl
 
-  pub not_begun : (ph : Phase) → has_begun ph ≡ false → is_in_text (open_path ph path) ≡ false → IsUnbegun ph
+  pub not_begun : (ph : InsertionMode) → has_begun ph ≡ false → is_in_text (open_path ph path) ≡ false → IsUnbegun ph
   unfolding holds_text is_raw is_rcdata raw_names rcdata_names is_among
   not_begun Initial h k = absurd (cc)
   not_begun BeforeHtml h k = tt
@@ -177,7 +177,7 @@ module _ (w : List Event) (path : List Element) (drops : Bool) (inner last : Vec
   nested es fs (went gs st) = ap (λ x. went x st) (sym (append_assoc es fs gs))
   nested es fs (stops rule n) = refl
 
-  pub child_step : (n : List ℕ) (attributes : List Attribute) (slash : Bool) (ph : Phase) → TakesChildren ph → may_stand n head (Some html) ≡ true → start_inside (phase_of ph) n attributes slash (state_of (parts ph)) ≡ behind_events (head_opened ph) (opened n attributes (state_of (parts (InHead false None))))
+  pub child_step : (n : List ℕ) (attributes : List Attribute) (slash : Bool) (ph : InsertionMode) → TakesChildren ph → may_stand n head (Some html) ≡ true → start_inside (insertion_mode_of ph) n attributes slash (state_of (parts ph)) ≡ behind_events (head_opened ph) (opened n attributes (state_of (parts (InHead false None))))
   child_step n attributes slash Initial t stands = absurd t
   child_step n attributes slash BeforeHtml t stands = (rw stands refl) ∙ nested (start html false [] ∷ []) (start head false [] ∷ []) (opened n attributes (state_of (parts (InHead false None))))
   child_step n attributes slash BeforeHead t stands = rw stands refl
@@ -189,7 +189,7 @@ module _ (w : List Event) (path : List Element) (drops : Bool) (inner last : Vec
   child_step n attributes slash PastBody t stands = absurd t
   child_step n attributes slash AfterHtml t stands = absurd t
 
-  pub no_child_step : (n : List ℕ) (attributes : List Attribute) (slash : Bool) (ph : Phase) → TakesChildren ph → may_stand n head (Some html) ≡ false → is_metadata n ≡ false → start_inside (phase_of ph) n attributes slash (state_of (parts ph)) ≡ reach_body (phase_of ph) (steps.start_in_body n attributes slash) (state_of (parts ph))
+  pub no_child_step : (n : List ℕ) (attributes : List Attribute) (slash : Bool) (ph : InsertionMode) → TakesChildren ph → may_stand n head (Some html) ≡ false → is_metadata n ≡ false → start_inside (insertion_mode_of ph) n attributes slash (state_of (parts ph)) ≡ reach_body (insertion_mode_of ph) (steps.start_in_body n attributes slash) (state_of (parts ph))
   no_child_step n attributes slash Initial t stands other = absurd t
   no_child_step n attributes slash BeforeHtml t stands other = rw (stands, other) refl
   no_child_step n attributes slash BeforeHead t stands other = rw (stands, other) refl
@@ -201,7 +201,7 @@ module _ (w : List Event) (path : List Element) (drops : Bool) (inner last : Vec
   no_child_step n attributes slash PastBody t stands other = absurd t
   no_child_step n attributes slash AfterHtml t stands other = absurd t
 
-  pub kept_open : (ph : Phase) → TakesChildren ph → IsKept (parts ph) → IsKept (in_open_head (parts ph))
+  pub kept_open : (ph : InsertionMode) → TakesChildren ph → IsKept (parts ph) → IsKept (in_open_head (parts ph))
   kept_open Initial t kept = absurd t
   kept_open BeforeHtml t kept = record { walk = walk_any w [] (head_opened BeforeHtml) under_head kept.walk refl refl; fresh = kept.fresh }
   kept_open BeforeHead t kept = record { walk = walk_any w under_html (head_opened BeforeHead) under_head kept.walk refl refl; fresh = kept.fresh }
@@ -247,57 +247,57 @@ void_child n stands a b c d =
 
 -- ---- A child opens in head, or in noscript in it
 
-module _ (p : Parts) (attributes : List Attribute) (here : Bool) (at : p.phase ≡ InHead here None) (kept : IsKept p) (all : p.drops_line_feed ≡ false) where
-  here_kept : IsKept (record p { phase = InHead here None })
+module _ (p : Parts) (attributes : List Attribute) (here : Bool) (at : p.insertion_mode ≡ InHead here None) (kept : IsKept p) (all : p.drops_line_feed ≡ false) where
+  here_kept : IsKept (record p { insertion_mode = InHead here None })
   here_kept = kept_at p (InHead here None) at kept
 
-  text_opened : (text : HeadText) → opened (text_name text) attributes (state_of (record p { phase = InHead here None })) ≡ went (start (text_name text) false attributes ∷ []) (record (state_of p) { phase = steps.in_head; path = inside_head here (Some text); drops_line_feed = false })
+  text_opened : (text : HeadText) → opened (text_name text) attributes (state_of (record p { insertion_mode = InHead here None })) ≡ went (start (text_name text) false attributes ∷ []) (record (state_of p) { insertion_mode = steps.in_head; path = inside_head here (Some text); drops_line_feed = false })
   unfolding is_void voids is_among
   text_opened Title = refl
   text_opened Style = refl
   text_opened Script = refl
 
   pub text_room : (text : HeadText) → Fits (opened (text_name text) attributes (state_of p)) p.maker → HasRoom (p.maker ++ start (text_name text) false attributes ∷ [])
-  text_room text fits = subst (λ s. Fits s p.maker) (text_opened text) (subst (λ ph. Fits (opened (text_name text) attributes (state_of (record p { phase = ph }))) p.maker) at fits)
+  text_room text fits = subst (λ s. Fits s p.maker) (text_opened text) (subst (λ ph. Fits (opened (text_name text) attributes (state_of (record p { insertion_mode = ph }))) p.maker) at fits)
 
-  pub text_done : (text : HeadText) (v : List Event) → v ≡ p.maker ++ start (text_name text) false attributes ∷ [] → IsDone (opened (text_name text) attributes (state_of p)) p (record p { maker = v; phase = InHead here (Some text) })
+  pub text_done : (text : HeadText) (v : List Event) → v ≡ p.maker ++ start (text_name text) false attributes ∷ [] → IsDone (opened (text_name text) attributes (state_of p)) p (record p { maker = v; insertion_mode = InHead here (Some text) })
   text_done text v is =
-      at_its_phase (λ q. IsDone (opened (text_name text) attributes (state_of q)) q (record p { maker = v; phase = InHead here (Some text) })) p (InHead here None) at
-      (any_done _ (start (text_name text) false attributes ∷ []) (record (state_of p) { phase = steps.in_head; path = inside_head here (Some text); drops_line_feed = false }) (record p { phase = InHead here None }) (record p { maker = v; phase = InHead here (Some text) })
-      (text_opened text) here_kept refl (ap (λ d. let st : State = record { phase = steps.in_head; path = inside_head here (Some text); drops_line_feed = d; behind_body = p.behind_body.items; behind_html = p.behind_html.items } in st) all) refl here_kept.fresh is)
+      at_its_mode (λ q. IsDone (opened (text_name text) attributes (state_of q)) q (record p { maker = v; insertion_mode = InHead here (Some text) })) p (InHead here None) at
+      (any_done _ (start (text_name text) false attributes ∷ []) (record (state_of p) { insertion_mode = steps.in_head; path = inside_head here (Some text); drops_line_feed = false }) (record p { insertion_mode = InHead here None }) (record p { maker = v; insertion_mode = InHead here (Some text) })
+      (text_opened text) here_kept refl (ap (λ d. let st : State = record { insertion_mode = steps.in_head; path = inside_head here (Some text); drops_line_feed = d; behind_body = p.behind_body.items; behind_html = p.behind_html.items } in st) all) refl here_kept.fresh is)
 
-  void_opened : (n : List ℕ) → is_void n ≡ true → opened n attributes (state_of (record p { phase = InHead here None })) ≡ went (start n false attributes ∷ end n false ∷ []) (state_of (record p { phase = InHead here None }))
+  void_opened : (n : List ℕ) → is_void n ≡ true → opened n attributes (state_of (record p { insertion_mode = InHead here None })) ≡ went (start n false attributes ∷ end n false ∷ []) (state_of (record p { insertion_mode = InHead here None }))
   void_opened n void = rw void refl
 
   pub void_room : (n : List ℕ) → is_void n ≡ true → Fits (opened n attributes (state_of p)) p.maker → HasRoom (p.maker ++ start n false attributes ∷ [])
   void_room n void fits =
       HasRoom-front (p.maker ++ start n false attributes ∷ []) (end n false ∷ [])
       (subst HasRoom (sym (append_assoc p.maker (start n false attributes ∷ []) (end n false ∷ [])))
-      (subst (λ s. Fits s p.maker) (void_opened n void) (subst (λ ph. Fits (opened n attributes (state_of (record p { phase = ph }))) p.maker) at fits)))
+      (subst (λ s. Fits s p.maker) (void_opened n void) (subst (λ ph. Fits (opened n attributes (state_of (record p { insertion_mode = ph }))) p.maker) at fits)))
 
   pub void_done : (n : List ℕ) (u v : List Event) → is_void n ≡ true → u ≡ p.maker ++ start n false attributes ∷ [] → v ≡ u ++ end_of (path_after [] u) → IsDone (opened n attributes (state_of p)) p (record p { maker = v })
   void_done n u v void first is =
-      at_its_phase (λ q. IsDone (opened n attributes (state_of q)) q (record q { maker = v })) p (InHead here None) at
-      (any_done _ (start n false attributes ∷ end n false ∷ []) (state_of (record p { phase = InHead here None })) (record p { phase = InHead here None }) (record p { maker = v; phase = InHead here None })
+      at_its_mode (λ q. IsDone (opened n attributes (state_of q)) q (record q { maker = v })) p (InHead here None) at
+      (any_done _ (start n false attributes ∷ end n false ∷ []) (state_of (record p { insertion_mode = InHead here None })) (record p { insertion_mode = InHead here None }) (record p { maker = v; insertion_mode = InHead here None })
       (void_opened n void) here_kept refl refl refl here_kept.fresh
       (is ∙ ap (λ x. x ++ end_of (path_after [] x)) first ∙ ap (λ x. (p.maker ++ start n false attributes ∷ []) ++ end_of x) (path_after-append [] p.maker (start n false attributes ∷ [])) ∙ append_assoc p.maker (start n false attributes ∷ []) (end n false ∷ [])))
 
   pub some_started : (n : List ℕ) (u : List Event) → u ≡ p.maker ++ start n false attributes ∷ [] → 0 < length (path_after [] u)
   some_started n u first = omega (arith, ap (λ x. length (path_after [] x)) first, ap length (path_after-append [] p.maker (start n false attributes ∷ [])))
 
-module _ (p : Parts) (attributes : List Attribute) (at : p.phase ≡ InHead false None) (kept : IsKept p) (all : p.drops_line_feed ≡ false) where
-  noscript_opened : opened noscript attributes (state_of (record p { phase = InHead false None })) ≡ went (start noscript false attributes ∷ []) (record (state_of p) { phase = steps.in_head; path = under_noscript true; drops_line_feed = false })
+module _ (p : Parts) (attributes : List Attribute) (at : p.insertion_mode ≡ InHead false None) (kept : IsKept p) (all : p.drops_line_feed ≡ false) where
+  noscript_opened : opened noscript attributes (state_of (record p { insertion_mode = InHead false None })) ≡ went (start noscript false attributes ∷ []) (record (state_of p) { insertion_mode = steps.in_head; path = under_noscript true; drops_line_feed = false })
   unfolding is_void voids is_among
   noscript_opened = refl
 
   pub noscript_room : Fits (opened noscript attributes (state_of p)) p.maker → HasRoom (p.maker ++ start noscript false attributes ∷ [])
-  noscript_room fits = subst (λ s. Fits s p.maker) noscript_opened (subst (λ ph. Fits (opened noscript attributes (state_of (record p { phase = ph }))) p.maker) at fits)
+  noscript_room fits = subst (λ s. Fits s p.maker) noscript_opened (subst (λ ph. Fits (opened noscript attributes (state_of (record p { insertion_mode = ph }))) p.maker) at fits)
 
-  pub noscript_done : (v : List Event) → v ≡ p.maker ++ start noscript false attributes ∷ [] → IsDone (opened noscript attributes (state_of p)) p (record p { maker = v; phase = InHead true None })
+  pub noscript_done : (v : List Event) → v ≡ p.maker ++ start noscript false attributes ∷ [] → IsDone (opened noscript attributes (state_of p)) p (record p { maker = v; insertion_mode = InHead true None })
   noscript_done v is =
-      at_its_phase (λ q. IsDone (opened noscript attributes (state_of q)) q (record p { maker = v; phase = InHead true None })) p (InHead false None) at
-      (any_done _ (start noscript false attributes ∷ []) (record (state_of p) { phase = steps.in_head; path = under_noscript true; drops_line_feed = false }) (record p { phase = InHead false None }) (record p { maker = v; phase = InHead true None })
-      noscript_opened (kept_at p (InHead false None) at kept) refl (ap (λ d. let st : State = record { phase = steps.in_head; path = under_noscript true; drops_line_feed = d; behind_body = p.behind_body.items; behind_html = p.behind_html.items } in st) all) refl (kept_at p (InHead false None) at kept).fresh is)
+      at_its_mode (λ q. IsDone (opened noscript attributes (state_of q)) q (record p { maker = v; insertion_mode = InHead true None })) p (InHead false None) at
+      (any_done _ (start noscript false attributes ∷ []) (record (state_of p) { insertion_mode = steps.in_head; path = under_noscript true; drops_line_feed = false }) (record p { insertion_mode = InHead false None }) (record p { maker = v; insertion_mode = InHead true None })
+      noscript_opened (kept_at p (InHead false None) at kept) refl (ap (λ d. let st : State = record { insertion_mode = steps.in_head; path = under_noscript true; drops_line_feed = d; behind_body = p.behind_body.items; behind_html = p.behind_html.items } in st) all) refl (kept_at p (InHead false None) at kept).fresh is)
 
 -- ---- In noscript in head
 
@@ -335,21 +335,21 @@ module _ (n : List ℕ) (attributes : List Attribute) (st : State) where
   pub other_there : is_among n noscript_children ≡ false → steps.start_in_noscript n attributes st ≡ stops WrongParent 0
   other_there h = rw h refl
 
--- ---- By phase
+-- ---- By insertion mode
 
-pub noscript_alone : (ph : Phase) (path : List Element) (here : Bool) (text : Option HeadText) → ph ≡ InHead here text → here ≡ true → is_in_text (open_path ph path) ≡ false → ph ≡ InHead true None
+pub noscript_alone : (ph : InsertionMode) (path : List Element) (here : Bool) (text : Option HeadText) → ph ≡ InHead here text → here ≡ true → is_in_text (open_path ph path) ≡ false → ph ≡ InHead true None
 unfolding holds_text is_raw is_rcdata raw_names rcdata_names is_among
 noscript_alone ph path here None is flag h = is ∙ ap (λ b. InHead b None) flag
 noscript_alone ph path here (Some Title) is flag h = let wrong = sym (ap (λ x. is_in_text (open_path x path)) is) ∙ h in absurd (cc)
 noscript_alone ph path here (Some Style) is flag h = let wrong = sym (ap (λ x. is_in_text (open_path x path)) is) ∙ h in absurd (cc)
 noscript_alone ph path here (Some Script) is flag h = let wrong = sym (ap (λ x. is_in_text (open_path x path)) is) ∙ h in absurd (cc)
 
-pub head_alone : (ph : Phase) (path : List Element) (here : Bool) (text : Option HeadText) → ph ≡ InHead here text → here ≡ false → is_in_text (open_path ph path) ≡ false → TakesChildren ph
+pub head_alone : (ph : InsertionMode) (path : List Element) (here : Bool) (text : Option HeadText) → ph ≡ InHead here text → here ≡ false → is_in_text (open_path ph path) ≡ false → TakesChildren ph
 unfolding holds_text is_raw is_rcdata raw_names rcdata_names is_among
 head_alone ph path here None is flag h = subst TakesChildren (sym (is ∙ ap (λ b. InHead b None) flag)) tt
 head_alone ph path here (Some Title) is flag h = let wrong = sym (ap (λ x. is_in_text (open_path x path)) is) ∙ h in absurd (cc)
 head_alone ph path here (Some Style) is flag h = let wrong = sym (ap (λ x. is_in_text (open_path x path)) is) ∙ h in absurd (cc)
 head_alone ph path here (Some Script) is flag h = let wrong = sym (ap (λ x. is_in_text (open_path x path)) is) ∙ h in absurd (cc)
 
-pub noscript_step : (p : Parts) (n : List ℕ) (attributes : List Attribute) (slash : Bool) → p.phase ≡ InHead true None → start_inside (phase_of p.phase) n attributes slash (state_of p) ≡ steps.start_in_noscript n attributes (state_of p)
-noscript_step p n attributes slash e = at_its_phase (λ q. start_inside (phase_of q.phase) n attributes slash (state_of q) ≡ steps.start_in_noscript n attributes (state_of q)) p (InHead true None) e refl
+pub noscript_step : (p : Parts) (n : List ℕ) (attributes : List Attribute) (slash : Bool) → p.insertion_mode ≡ InHead true None → start_inside (insertion_mode_of p.insertion_mode) n attributes slash (state_of p) ≡ steps.start_in_noscript n attributes (state_of p)
+noscript_step p n attributes slash e = at_its_mode (λ q. start_inside (insertion_mode_of q.insertion_mode) n attributes slash (state_of q) ≡ steps.start_in_noscript n attributes (state_of q)) p (InHead true None) e refl

@@ -21,13 +21,13 @@ use Rattle.hm_settle.proofs.Shapes.{IsEndOn, end_means}
 use Rattle.hm_construction.specs.Steps as steps
 use Rattle.hm_construction.specs.Steps.{State, Stepped, went, stops, step_end, end_current, after_end_moves, end_event}
 use Rattle.hm_builder.specs.Building.{IsRefused, of_settle}
-use Rattle.hm_builder.specs.Inside.{phase_of, open_path, state_of, has_no_text, has_no_svg_root, HasBodyPath, IsKept, IsDone, IsFresh}
-use Rattle.hm_builder.specs.declared.insertion.Phase.{Phase}
-use Rattle.hm_builder.specs.declared.insertion.Phase.TheVariants.{Initial, BeforeHtml, BeforeHead, InHead, AfterHead, InBody, AfterBody as PastBody, AfterHtml}
+use Rattle.hm_builder.specs.Inside.{insertion_mode_of, open_path, state_of, has_no_text, has_no_svg_root, HasBodyPath, IsKept, IsDone, IsFresh}
+use Rattle.hm_builder.specs.declared.insertion.InsertionMode.{InsertionMode}
+use Rattle.hm_builder.specs.declared.insertion.InsertionMode.TheVariants.{Initial, BeforeHtml, BeforeHead, InHead, AfterHead, InBody, AfterBody as PastBody, AfterHtml}
 use Rattle.hm_builder.specs.declared.parts.Parts.{Parts}
 use Rattle.hm_builder.proofs.Others.{any_done, silent_done}
 
-pub body_open : (ph : Phase) (path : List Element) → HasBodyPath ph → open_path ph path ≡ path
+pub body_open : (ph : InsertionMode) (path : List Element) → HasBodyPath ph → open_path ph path ≡ path
 body_open Initial path h = absurd h
 body_open BeforeHtml path h = absurd h
 body_open BeforeHead path h = absurd h
@@ -37,7 +37,7 @@ body_open InBody path h = refl
 body_open PastBody path h = refl
 body_open AfterHtml path h = refl
 
-pub body_fresh : (ph : Phase) (path : List Element) → HasBodyPath ph → has_no_svg_root path ≡ true → IsFresh ph path
+pub body_fresh : (ph : InsertionMode) (path : List Element) → HasBodyPath ph → has_no_svg_root path ≡ true → IsFresh ph path
 body_fresh Initial path h k = absurd h
 body_fresh BeforeHtml path h k = absurd h
 body_fresh BeforeHead path h k = absurd h
@@ -47,7 +47,7 @@ body_fresh InBody path h k = k
 body_fresh PastBody path h k = k
 body_fresh AfterHtml path h k = k
 
-pub no_svg_root : (ph : Phase) (path : List Element) → HasBodyPath ph → IsFresh ph path → has_no_svg_root path ≡ true
+pub no_svg_root : (ph : InsertionMode) (path : List Element) → HasBodyPath ph → IsFresh ph path → has_no_svg_root path ≡ true
 no_svg_root Initial path h k = absurd h
 no_svg_root BeforeHtml path h k = absurd h
 no_svg_root BeforeHead path h k = absurd h
@@ -70,24 +70,24 @@ ends_are_tags [] = refl
 ends_are_tags (e ∷ closed) = ends_are_tags closed
 
 -- the elements that an end tag closes were ended
-pub ends_done : (p : Parts) (n : List ℕ) (answer : plain.Moves) (after : List Element) (w : List Event) → HasBodyPath p.phase → IsKept p → IsMoved (end_moves n p.path) answer after → w ≡ p.maker ++ map end_event (take answer.closes (path_after [] p.maker))
+pub ends_done : (p : Parts) (n : List ℕ) (answer : plain.Moves) (after : List Element) (w : List Event) → HasBodyPath p.insertion_mode → IsKept p → IsMoved (end_moves n p.path) answer after → w ≡ p.maker ++ map end_event (take answer.closes (path_after [] p.maker))
     → IsDone (after_end_moves (state_of p) (end_moves n p.path)) p (record p { maker = w; path = after })
 ends_done p n answer after w in_body kept moved is =
     let closed = moved.closed in
     let shape : IsEndOn p.path closed (answers.elements_of answer.made) after = end_means n p.path closed (answers.elements_of answer.made) after moved.does_move in
-    let here : open_path p.phase p.path ≡ p.path = body_open p.phase p.path in_body in
-    let there : open_path p.phase after ≡ after = body_open p.phase after in_body in
+    let here : open_path p.insertion_mode p.path ≡ p.path = body_open p.insertion_mode p.path in_body in
+    let there : open_path p.insertion_mode after ≡ after = body_open p.insertion_mode after in_body in
     let taken : take answer.closes (path_after [] p.maker) ≡ closed = rw (moved.closes, kept.walk.leads, here, shape.splits) (take-append_seam closed after) in
     any_done (after_end_moves (state_of p) (end_moves n p.path)) (map end_event closed) (record (state_of p) { path = after }) p (record p { maker = w; path = after })
     (ap (after_end_moves (state_of p)) moved.does_move) kept (ends_are_tags closed) (ap (λ x. record (state_of p) { path = x }) there)
     (ap (λ x. path_after x (map end_event closed)) (here ∙ shape.splits) ∙ ends_lead closed after ∙ sym there)
-    (body_fresh p.phase after in_body (outer_no_root closed after (subst (λ x. has_no_svg_root x ≡ true) shape.splits (no_svg_root p.phase p.path in_body kept.fresh))))
+    (body_fresh p.insertion_mode after in_body (outer_no_root closed after (subst (λ x. has_no_svg_root x ≡ true) shape.splits (no_svg_root p.insertion_mode p.path in_body kept.fresh))))
     (is ∙ ap (λ x. p.maker ++ map end_event x) taken)
 
-pub ends_within : (p : Parts) (n : List ℕ) (answer : plain.Moves) (after : List Element) → HasBodyPath p.phase → IsKept p → IsMoved (end_moves n p.path) answer after → answer.closes ≤ length (path_after [] p.maker)
+pub ends_within : (p : Parts) (n : List ℕ) (answer : plain.Moves) (after : List Element) → HasBodyPath p.insertion_mode → IsKept p → IsMoved (end_moves n p.path) answer after → answer.closes ≤ length (path_after [] p.maker)
 ends_within p n answer after in_body kept moved =
     let shape : IsEndOn p.path moved.closed (answers.elements_of answer.made) after = end_means n p.path moved.closed (answers.elements_of answer.made) after moved.does_move in
-    omega (arith, moved.closes, ap length (kept.walk.leads ∙ body_open p.phase p.path in_body ∙ shape.splits), length-append moved.closed after)
+    omega (arith, moved.closes, ap length (kept.walk.leads ∙ body_open p.insertion_mode p.path in_body ∙ shape.splits), length-append moved.closed after)
 
 -- a fault of the open elements is the rule of the step
 pub settle_refused : (fault : SettleFault) (does : Moves) (step : Moves → Stepped) → ((rule : Rule) → step (refuses rule) ≡ stops rule 0) → ((rule : Rule) → fault ≡ settle.Rule rule → does ≡ refuses rule) → IsRefused (step does) (of_settle fault)
@@ -233,13 +233,13 @@ step_end_text : (n : List ℕ) (st : State) → is_in_text st.path ≡ true → 
 unfolding step_end
 step_end_text n st h = by (is_in_text st.path) h
   where
-    by : (b : Bool) → b ≡ true → cond b (end_current n st st.path) (cond (steps.is_outside st.phase) (steps.end_outside st.phase n st) (cond (is_in_svg st.path || steps.is_in_noscript st.phase st.path) (end_current n st st.path) (steps.html_end n st))) ≡ end_current n st st.path
+    by : (b : Bool) → b ≡ true → cond b (end_current n st st.path) (cond (steps.is_outside st.insertion_mode) (steps.end_outside st.insertion_mode n st) (cond (is_in_svg st.path || steps.is_in_noscript st.insertion_mode st.path) (end_current n st st.path) (steps.html_end n st))) ≡ end_current n st st.path
     by true k = refl
     by false k = absurd (cc)
 
 -- the step behind the tests of a text
 abbrev end_no_text : List ℕ → State → Stepped
-end_no_text n st = cond (steps.is_outside st.phase) (steps.end_outside st.phase n st) (cond (is_in_svg st.path || steps.is_in_noscript st.phase st.path) (end_current n st st.path) (steps.html_end n st))
+end_no_text n st = cond (steps.is_outside st.insertion_mode) (steps.end_outside st.insertion_mode n st) (cond (is_in_svg st.path || steps.is_in_noscript st.insertion_mode st.path) (end_current n st st.path) (steps.html_end n st))
 
 step_end_no_text : (n : List ℕ) (st : State) → is_in_text st.path ≡ false → step_end n st ≡ end_no_text n st
 unfolding step_end
@@ -249,54 +249,54 @@ step_end_no_text n st h = by (is_in_text st.path) h
     by true k = absurd (cc)
     by false k = refl
 
--- the state in the phase that the parts have
-in_its_phase : (P : State → Type 0) (p : Parts) (ph : Phase) → p.phase ≡ ph → P (state_of (record p { phase = ph })) → P (state_of p)
-in_its_phase P p ph e h = subst (λ x. P (state_of (record p { phase = x }))) (sym e) h
+-- the state in the insertion mode that the parts have
+in_its_mode : (P : State → Type 0) (p : Parts) (ph : InsertionMode) → p.insertion_mode ≡ ph → P (state_of (record p { insertion_mode = ph })) → P (state_of p)
+in_its_mode P p ph e h = subst (λ x. P (state_of (record p { insertion_mode = x }))) (sym e) h
 
 module _ (p : Parts) (n : List ℕ) where
-  pub end_in_text : HasBodyPath p.phase → is_in_text (open_path p.phase p.path) ≡ true → step_end n (state_of p) ≡ end_current n (state_of p) p.path
-  end_in_text in_body h = step_end_text n (state_of p) h ∙ ap (end_current n (state_of p)) (body_open p.phase p.path in_body)
+  pub end_in_text : HasBodyPath p.insertion_mode → is_in_text (open_path p.insertion_mode p.path) ≡ true → step_end n (state_of p) ≡ end_current n (state_of p) p.path
+  end_in_text in_body h = step_end_text n (state_of p) h ∙ ap (end_current n (state_of p)) (body_open p.insertion_mode p.path in_body)
 
-  pub end_past_body : p.phase ≡ PastBody → is_in_text p.path ≡ false → step_end n (state_of p) ≡ cond (bytes_eq n html) (went [] (record (state_of p) { phase = steps.after_html })) (stops AfterBody 0)
+  pub end_past_body : p.insertion_mode ≡ PastBody → is_in_text p.path ≡ false → step_end n (state_of p) ≡ cond (bytes_eq n html) (went [] (record (state_of p) { insertion_mode = steps.after_html })) (stops AfterBody 0)
   end_past_body e h =
-      in_its_phase (λ st. step_end n st ≡ cond (bytes_eq n html) (went [] (record st { phase = steps.after_html })) (stops AfterBody 0)) p PastBody e (step_end_no_text n (state_of (record p { phase = PastBody })) h)
+      in_its_mode (λ st. step_end n st ≡ cond (bytes_eq n html) (went [] (record st { insertion_mode = steps.after_html })) (stops AfterBody 0)) p PastBody e (step_end_no_text n (state_of (record p { insertion_mode = PastBody })) h)
 
-  pub end_past_html : p.phase ≡ AfterHtml → is_in_text p.path ≡ false → step_end n (state_of p) ≡ stops AfterBody 0
-  end_past_html e h = in_its_phase (λ st. step_end n st ≡ stops AfterBody 0) p AfterHtml e (step_end_no_text n (state_of (record p { phase = AfterHtml })) h)
+  pub end_past_html : p.insertion_mode ≡ AfterHtml → is_in_text p.path ≡ false → step_end n (state_of p) ≡ stops AfterBody 0
+  end_past_html e h = in_its_mode (λ st. step_end n st ≡ stops AfterBody 0) p AfterHtml e (step_end_no_text n (state_of (record p { insertion_mode = AfterHtml })) h)
 
-  pub end_in_svg : p.phase ≡ InBody → is_in_text p.path ≡ false → is_in_svg p.path ≡ true → step_end n (state_of p) ≡ end_current n (state_of p) p.path
+  pub end_in_svg : p.insertion_mode ≡ InBody → is_in_text p.path ≡ false → is_in_svg p.path ≡ true → step_end n (state_of p) ≡ end_current n (state_of p) p.path
   end_in_svg e h svg =
-      in_its_phase (λ st. step_end n st ≡ end_current n st p.path) p InBody e (step_end_no_text n (state_of (record p { phase = InBody })) h ∙ (rw svg refl))
+      in_its_mode (λ st. step_end n st ≡ end_current n st p.path) p InBody e (step_end_no_text n (state_of (record p { insertion_mode = InBody })) h ∙ (rw svg refl))
 
-  pub end_in_html : p.phase ≡ InBody → is_in_text p.path ≡ false → is_in_svg p.path ≡ false → step_end n (state_of p)
+  pub end_in_html : p.insertion_mode ≡ InBody → is_in_text p.path ≡ false → is_in_svg p.path ≡ false → step_end n (state_of p)
       ≡ cond (bytes_eq n head) (stops StrayEnd 0) (cond (bytes_eq n body) (steps.leave_body steps.after_body (state_of p)) (cond (bytes_eq n html) (steps.leave_body steps.after_html (state_of p)) (after_end_moves (state_of p) (end_moves n p.path))))
   end_in_html e h html_is =
-      in_its_phase (λ st. step_end n st ≡ cond (bytes_eq n head) (stops StrayEnd 0) (cond (bytes_eq n body) (steps.leave_body steps.after_body st) (cond (bytes_eq n html) (steps.leave_body steps.after_html st) (after_end_moves st (end_moves n p.path))))) p InBody e
-      (step_end_no_text n (state_of (record p { phase = InBody })) h ∙ (rw html_is refl))
+      in_its_mode (λ st. step_end n st ≡ cond (bytes_eq n head) (stops StrayEnd 0) (cond (bytes_eq n body) (steps.leave_body steps.after_body st) (cond (bytes_eq n html) (steps.leave_body steps.after_html st) (after_end_moves st (end_moves n p.path))))) p InBody e
+      (step_end_no_text n (state_of (record p { insertion_mode = InBody })) h ∙ (rw html_is refl))
 
 -- the body is left
-pub left_done : (p : Parts) (ph : Phase) → p.phase ≡ InBody → HasBodyPath ph → IsKept p → steps.is_at_end p.path ≡ true → IsDone (steps.leave_body (phase_of ph) (state_of p)) p (record p { phase = ph })
+pub left_done : (p : Parts) (ph : InsertionMode) → p.insertion_mode ≡ InBody → HasBodyPath ph → IsKept p → steps.is_at_end p.path ≡ true → IsDone (steps.leave_body (insertion_mode_of ph) (state_of p)) p (record p { insertion_mode = ph })
 left_done p ph here there kept at_end =
-    let open_same : open_path p.phase p.path ≡ p.path = ap (λ x. open_path x p.path) here in
+    let open_same : open_path p.insertion_mode p.path ≡ p.path = ap (λ x. open_path x p.path) here in
     let open_then : open_path ph p.path ≡ p.path = body_open ph p.path there in
-    silent_done (steps.leave_body (phase_of ph) (state_of p)) (record (state_of p) { phase = phase_of ph }) p (record p { phase = ph })
-    (ap (λ path. cond (steps.is_at_end path) (went [] (record (state_of p) { phase = phase_of ph })) (stops Unclosed 0)) open_same ∙ (rw at_end refl))
-    kept (ap (λ path. record (state_of p) { phase = phase_of ph; path = path }) (open_then ∙ sym open_same)) (open_then ∙ sym open_same)
+    silent_done (steps.leave_body (insertion_mode_of ph) (state_of p)) (record (state_of p) { insertion_mode = insertion_mode_of ph }) p (record p { insertion_mode = ph })
+    (ap (λ path. cond (steps.is_at_end path) (went [] (record (state_of p) { insertion_mode = insertion_mode_of ph })) (stops Unclosed 0)) open_same ∙ (rw at_end refl))
+    kept (ap (λ path. record (state_of p) { insertion_mode = insertion_mode_of ph; path = path }) (open_then ∙ sym open_same)) (open_then ∙ sym open_same)
     (body_fresh ph p.path there (subst (λ x. IsFresh x p.path) here kept.fresh)) refl
 
-pub unclosed : (p : Parts) (ph : Phase) → p.phase ≡ InBody → steps.is_at_end p.path ≡ false → steps.leave_body (phase_of ph) (state_of p) ≡ stops Unclosed 0
+pub unclosed : (p : Parts) (ph : InsertionMode) → p.insertion_mode ≡ InBody → steps.is_at_end p.path ≡ false → steps.leave_body (insertion_mode_of ph) (state_of p) ≡ stops Unclosed 0
 unclosed p ph here at_end =
-    ap (λ path. cond (steps.is_at_end path) (went [] (record (state_of p) { phase = phase_of ph })) (stops Unclosed 0)) (ap (λ x. open_path x p.path) here) ∙ (rw at_end refl)
+    ap (λ path. cond (steps.is_at_end path) (went [] (record (state_of p) { insertion_mode = insertion_mode_of ph })) (stops Unclosed 0)) (ap (λ x. open_path x p.path) here) ∙ (rw at_end refl)
 
-pub past_body_done : (p : Parts) (n : List ℕ) → p.phase ≡ PastBody → is_in_text p.path ≡ false → bytes_eq n html ≡ true → IsKept p → IsDone (step_end n (state_of p)) p (record p { phase = AfterHtml })
+pub past_body_done : (p : Parts) (n : List ℕ) → p.insertion_mode ≡ PastBody → is_in_text p.path ≡ false → bytes_eq n html ≡ true → IsKept p → IsDone (step_end n (state_of p)) p (record p { insertion_mode = AfterHtml })
 past_body_done p n e h is kept =
-    silent_done (step_end n (state_of p)) (record (state_of p) { phase = steps.after_html }) p (record p { phase = AfterHtml })
-    (end_past_body p n e h ∙ (rw is refl)) kept (ap (λ ph. record (state_of p) { phase = steps.after_html; path = open_path ph p.path }) (sym e)) (ap (λ ph. open_path ph p.path) (sym e)) (subst (λ x. IsFresh x p.path) e kept.fresh) refl
+    silent_done (step_end n (state_of p)) (record (state_of p) { insertion_mode = steps.after_html }) p (record p { insertion_mode = AfterHtml })
+    (end_past_body p n e h ∙ (rw is refl)) kept (ap (λ ph. record (state_of p) { insertion_mode = steps.after_html; path = open_path ph p.path }) (sym e)) (ap (λ ph. open_path ph p.path) (sym e)) (subst (λ x. IsFresh x p.path) e kept.fresh) refl
 
 pub unlike : (n m : List ℕ) → bytes_eq n m ≡ false → n ≡ m → ⊥
 unlike n m differs is = both_ways (bytes_eq n m) differs (rw is (eq_self m))
 
-module _ (p : Parts) (n : List ℕ) (here : p.phase ≡ InBody) (no_text : is_in_text p.path ≡ false) (no_svg : is_in_svg p.path ≡ false) where
+module _ (p : Parts) (n : List ℕ) (here : p.insertion_mode ≡ InBody) (no_text : is_in_text p.path ≡ false) (no_svg : is_in_svg p.path ≡ false) where
   pub head_in_body : n ≡ head → step_end n (state_of p) ≡ stops StrayEnd 0
   head_in_body is = end_in_html p n here no_text no_svg ∙ (rw is refl)
 

@@ -1,13 +1,13 @@
 -- Events put behind a walk.
 use Rattle.std.proofs.Common.{◌≡◌, ℕ, ◌+◌, ◌≤◌, Bool, true, false, not, List, [], ◌∷◌, ◌++◌, length, sym, ap, subst, ◌∙◌, refl, arith, length-append, append_assoc, append-nil}
 use Rattle.std.proofs.lemmas.Bool.{and_parts}
-use Rattle.hm_base.specs.Walks.{Event, doctype, start, text, comment, end, Element, path_behind, path_after, walk_size, with_text, text_before, pushed, pushes}
+use Rattle.hm_base.specs.Walks.{Event, doctype, start, text, comment, end, Element, path_behind, path_after, walk_size, with_text, text_before, pushed, pushes, begins_text}
 use Rattle.hm_elements.specs.Paths.{is_in_raw}
 use Rattle.hm_tree.specs.Trees.{HasRoom, last_agrees, agrees}
 use Rattle.hm_tree.specs.Rows.{is_text}
 use Rattle.hm_tree.proofs.RoomLemmas.{last_agrees-push, last_agrees-with_text, path_after-with_text}
 use Rattle.hm_builder.specs.Building.{grown}
-use Rattle.hm_builder.specs.Inside.{begins_text, is_apart, each_byte, has_no_text, IsWalkTo}
+use Rattle.hm_builder.specs.Inside.{is_apart, each_byte, has_no_text, IsWalkTo}
 
 pub path_after-append : (path : List Element) (w v : List Event) → path_after path (w ++ v) ≡ path_after (path_after path w) v
 path_after-append path [] v = refl

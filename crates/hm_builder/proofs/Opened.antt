@@ -22,9 +22,9 @@ use Rattle.std.proofs.Math.Seq.{take-append_seam}
 use Rattle.hm_settle.specs.declared.moves.Made.{Made}
 use Rattle.hm_settle.specs.declared.moves.Made.TheVariants.{Nothing, Section, SectionAndRow, Row, Colgroup}
 use Rattle.hm_builder.specs.Building.{Fits, IsRefused, of_settle}
-use Rattle.hm_builder.specs.Inside.{phase_of, open_path, state_of, at_state, has_no_text, has_no_svg_root, missing, body_path, IsWalkTo, IsKept, IsDone, IsFresh, CanReach, IsOpened, IsEntered}
-use Rattle.hm_builder.specs.declared.insertion.Phase.{Phase}
-use Rattle.hm_builder.specs.declared.insertion.Phase.TheVariants.{Initial, BeforeHtml, BeforeHead, InHead, AfterHead, InBody, AfterBody as PastBody, AfterHtml}
+use Rattle.hm_builder.specs.Inside.{insertion_mode_of, open_path, state_of, at_state, has_no_text, has_no_svg_root, missing, body_path, IsWalkTo, IsKept, IsDone, IsFresh, CanReach, IsOpened, IsEntered}
+use Rattle.hm_builder.specs.declared.insertion.InsertionMode.{InsertionMode}
+use Rattle.hm_builder.specs.declared.insertion.InsertionMode.TheVariants.{Initial, BeforeHtml, BeforeHead, InHead, AfterHead, InBody, AfterBody as PastBody, AfterHtml}
 use Rattle.hm_builder.specs.declared.parts.Parts.{Parts}
 use Rattle.hm_builder.proofs.Events.{path_after-append, walk_any, HasRoom-front, grown_tags}
 use Rattle.hm_builder.proofs.PlainTexts.{plain_state, done_by}
@@ -35,7 +35,7 @@ use Rattle.hm_builder.proofs.EndTags.{ends_are_tags, ends_lead, outer_no_root, m
 -- ---- All that is missing up to body is made
 
 module _ (path : List Element) (inner last : List (List ℕ)) where
-  pub reach_went : (ph : Phase) (more : State → Stepped) → CanReach ph → reach_body (phase_of ph) more (at_state ph (open_path ph path) inner last) ≡ behind_events (missing ph) (more (at_state InBody (body_path ph path) inner last))
+  pub reach_went : (ph : InsertionMode) (more : State → Stepped) → CanReach ph → reach_body (insertion_mode_of ph) more (at_state ph (open_path ph path) inner last) ≡ behind_events (missing ph) (more (at_state InBody (body_path ph path) inner last))
   reach_went Initial more r = absurd r
   reach_went BeforeHtml more r = nested (more (at_state InBody under_body inner last))
     where
@@ -60,7 +60,7 @@ module _ (path : List Element) (inner last : List (List ℕ)) where
   reach_went AfterHtml more r = absurd r
 
 -- the walk then, and where it can be made
-pub reach_walk : (ph : Phase) (path : List Element) (w : List Event) → CanReach ph → IsWalkTo w (open_path ph path) → IsWalkTo (w ++ missing ph) (body_path ph path)
+pub reach_walk : (ph : InsertionMode) (path : List Element) (w : List Event) → CanReach ph → IsWalkTo w (open_path ph path) → IsWalkTo (w ++ missing ph) (body_path ph path)
 reach_walk Initial path w r walk = absurd r
 reach_walk BeforeHtml path w r walk = walk_any w [] (missing BeforeHtml) under_body walk refl refl
 reach_walk BeforeHead path w r walk = walk_any w under_html (missing BeforeHead) under_body walk refl refl
@@ -72,10 +72,10 @@ reach_walk InBody path w r walk = walk_any w path [] path walk refl refl
 reach_walk PastBody path w r walk = absurd r
 reach_walk AfterHtml path w r walk = absurd r
 
-pub reach_fresh : (p : Parts) → CanReach p.phase → IsKept p → (p.path ≡ body_path p.phase p.path) × (has_no_svg_root p.path ≡ true)
-reach_fresh p r kept = by p.phase r kept.fresh
+pub reach_fresh : (p : Parts) → CanReach p.insertion_mode → IsKept p → (p.path ≡ body_path p.insertion_mode p.path) × (has_no_svg_root p.path ≡ true)
+reach_fresh p r kept = by p.insertion_mode r kept.fresh
   where
-    by : (ph : Phase) → CanReach ph → IsFresh ph p.path → (p.path ≡ body_path ph p.path) × (has_no_svg_root p.path ≡ true)
+    by : (ph : InsertionMode) → CanReach ph → IsFresh ph p.path → (p.path ≡ body_path ph p.path) × (has_no_svg_root p.path ≡ true)
     by Initial r' f = absurd r'
     by BeforeHtml r' f = (f, rw f refl)
     by BeforeHead r' f = (f, rw f refl)
@@ -87,12 +87,12 @@ reach_fresh p r kept = by p.phase r kept.fresh
     by PastBody r' f = absurd r'
     by AfterHtml r' f = absurd r'
 
-pub kept_in_body : (q : Parts) (path : List Element) → q.phase ≡ InBody → q.path ≡ path → IsWalkTo q.maker path → has_no_svg_root path ≡ true → IsKept q
-kept_in_body q path phase is walk roots =
-    let opens_here : open_path q.phase q.path ≡ path = ap (λ ph. open_path ph q.path) phase ∙ is in
+pub kept_in_body : (q : Parts) (path : List Element) → q.insertion_mode ≡ InBody → q.path ≡ path → IsWalkTo q.maker path → has_no_svg_root path ≡ true → IsKept q
+kept_in_body q path insertion_mode is walk roots =
+    let opens_here : open_path q.insertion_mode q.path ≡ path = ap (λ ph. open_path ph q.path) insertion_mode ∙ is in
     record {
       walk = subst (IsWalkTo q.maker) (sym opens_here) walk;
-      fresh = subst (λ ph. IsFresh ph q.path) (sym phase) (subst (λ x. has_no_svg_root x ≡ true) (sym is) roots);
+      fresh = subst (λ ph. IsFresh ph q.path) (sym insertion_mode) (subst (λ x. has_no_svg_root x ≡ true) (sym is) roots);
     }
 
 -- ---- The element opens
@@ -157,21 +157,21 @@ module _ (n : List ℕ) (foreign : Bool) (p : Parts) (o : IsOpened n foreign p) 
   pub closes_by : (slash : Bool) → closes_at_once slash (path_after [] p.maker) ≡ cond foreign slash (is_void n)
   closes_by slash = ap (closes_at_once slash) o.leads ∙ either_way foreign (is_void n) slash
 
-  ended_kept : (q : Parts) → q.phase ≡ InBody → q.path ≡ outer (path_after [] p.maker) → q.maker ≡ p.maker ++ end_of (path_after [] p.maker) → IsKept q
-  ended_kept q phase path walk =
+  ended_kept : (q : Parts) → q.insertion_mode ≡ InBody → q.path ≡ outer (path_after [] p.maker) → q.maker ≡ p.maker ++ end_of (path_after [] p.maker) → IsKept q
+  ended_kept q insertion_mode path walk =
       let ends : end_of (path_after [] p.maker) ≡ end n foreign ∷ [] = ap end_of o.leads in
       let leads : path_after (path_after [] p.maker) (end n foreign ∷ []) ≡ outer (path_after [] p.maker) = ap (λ x. path_after x (end n foreign ∷ [])) o.leads in
-      kept_in_body q (outer (path_after [] p.maker)) phase path
+      kept_in_body q (outer (path_after [] p.maker)) insertion_mode path
       (subst (λ v. IsWalkTo v (outer (path_after [] p.maker))) (sym (walk ∙ ap (λ es. p.maker ++ es) ends)) (walk_any p.maker (path_after [] p.maker) (end n foreign ∷ []) (outer (path_after [] p.maker)) o.walk refl leads))
       (outer_no_root (element n foreign ∷ []) (outer (path_after [] p.maker)) (subst (λ x. has_no_svg_root x ≡ true) o.leads o.roots))
 
-  pub closed_entered : (slash : Bool) (q : Parts) → cond foreign slash (is_void n) ≡ true → q.phase ≡ InBody → q.path ≡ outer (path_after [] p.maker) → q.maker ≡ p.maker ++ end_of (path_after [] p.maker) → q.drops_line_feed ≡ false
+  pub closed_entered : (slash : Bool) (q : Parts) → cond foreign slash (is_void n) ≡ true → q.insertion_mode ≡ InBody → q.path ≡ outer (path_after [] p.maker) → q.maker ≡ p.maker ++ end_of (path_after [] p.maker) → q.drops_line_feed ≡ false
       → q.behind_body ≡ p.behind_body → q.behind_html ≡ p.behind_html → IsEntered slash p q
-  closed_entered slash q closes phase path walk drops inner last =
+  closed_entered slash q closes insertion_mode path walk drops inner last =
       let c : closes_at_once slash (path_after [] p.maker) ≡ true = closes_by slash ∙ closes in
       record {
-        kept = ended_kept q phase path walk;
-        phase = phase;
+        kept = ended_kept q insertion_mode path walk;
+        insertion_mode = insertion_mode;
         walk = rw c walk;
         path = rw c path;
         drops = rw c drops;
@@ -222,19 +222,19 @@ room_made w es fs gs room =
 
 -- ---- The whole step
 
-module _ (p : Parts) (n : List ℕ) (attributes : List Attribute) (slash : Bool) (r : CanReach p.phase) (kept : IsKept p) (all : p.drops_line_feed ≡ false) where
-  pub body_step : reach_body (phase_of p.phase) (start_in_body n attributes slash) (state_of p) ≡ behind_events (missing p.phase) (after_moves attributes slash (at_state InBody p.path p.behind_body.items p.behind_html.items) (start_moves n p.path))
+module _ (p : Parts) (n : List ℕ) (attributes : List Attribute) (slash : Bool) (r : CanReach p.insertion_mode) (kept : IsKept p) (all : p.drops_line_feed ≡ false) where
+  pub body_step : reach_body (insertion_mode_of p.insertion_mode) (start_in_body n attributes slash) (state_of p) ≡ behind_events (missing p.insertion_mode) (after_moves attributes slash (at_state InBody p.path p.behind_body.items p.behind_html.items) (start_moves n p.path))
   body_step =
-      ap (reach_body (phase_of p.phase) (start_in_body n attributes slash)) (plain_state p all)
-      ∙ reach_went p.path p.behind_body.items p.behind_html.items p.phase (start_in_body n attributes slash) r
-      ∙ ap (λ x. behind_events (missing p.phase) (start_in_body n attributes slash (at_state InBody x p.behind_body.items p.behind_html.items))) (sym (reach_fresh p r kept).0)
+      ap (reach_body (insertion_mode_of p.insertion_mode) (start_in_body n attributes slash)) (plain_state p all)
+      ∙ reach_went p.path p.behind_body.items p.behind_html.items p.insertion_mode (start_in_body n attributes slash) r
+      ∙ ap (λ x. behind_events (missing p.insertion_mode) (start_in_body n attributes slash (at_state InBody x p.behind_body.items p.behind_html.items))) (sym (reach_fresh p r kept).0)
 
-  pub body_refused : (rule : Rule) → start_moves n p.path ≡ refuses rule → reach_body (phase_of p.phase) (start_in_body n attributes slash) (state_of p) ≡ stops rule 0
+  pub body_refused : (rule : Rule) → start_moves n p.path ≡ refuses rule → reach_body (insertion_mode_of p.insertion_mode) (start_in_body n attributes slash) (state_of p) ≡ stops rule 0
   body_refused rule e = body_step ∙ (rw e refl)
 
 entered_by : (n : List ℕ) (f : Bool) (attributes : List Attribute) (slash : Bool) (path rest : List Element) (inner last : List (List ℕ)) (c : Bool) → closes_at_once slash (element n f ∷ rest) ≡ c
     → entered attributes slash (at_state InBody path inner last) (element n f ∷ rest)
-    ≡ went (start n f attributes ∷ cond c (end n f ∷ []) []) (record { phase = phase_of InBody; path = cond c rest (element n f ∷ rest); drops_line_feed = cond c false (drops_behind (element n f ∷ rest)); behind_body = inner; behind_html = last })
+    ≡ went (start n f attributes ∷ cond c (end n f ∷ []) []) (record { insertion_mode = insertion_mode_of InBody; path = cond c rest (element n f ∷ rest); drops_line_feed = cond c false (drops_behind (element n f ∷ rest)); behind_body = inner; behind_html = last })
 entered_by n f attributes slash path rest inner last true e = rw e refl
 entered_by n f attributes slash path rest inner last false e = rw e refl
 
@@ -275,10 +275,10 @@ opens_no_root n path closed made after does = rw (opened_no_root n path closed m
     by true = refl
     by false = refl
 
-is_opened : (n : List ℕ) (f : Bool) (q : Parts) (there after : List Element) → q.phase ≡ InBody → q.path ≡ after → q.drops_line_feed ≡ false → IsWalkTo q.maker there → after ≡ without_void there → has_no_svg_root there ≡ true
+is_opened : (n : List ℕ) (f : Bool) (q : Parts) (there after : List Element) → q.insertion_mode ≡ InBody → q.path ≡ after → q.drops_line_feed ≡ false → IsWalkTo q.maker there → after ≡ without_void there → has_no_svg_root there ≡ true
     → there ≡ element n f ∷ outer there → IsOpened n f q
-is_opened n f q there after phase path drops walk after_is roots leads = record {
-  phase = phase;
+is_opened n f q there after insertion_mode path drops walk after_is roots leads = record {
+  insertion_mode = insertion_mode;
   leads = walk.leads ∙ leads ∙ ap (λ y. element n f ∷ outer y) (sym walk.leads);
   walk = subst (IsWalkTo q.maker) (sym walk.leads) walk;
   path = path ∙ after_is ∙ ap without_void (sym walk.leads);
@@ -287,20 +287,20 @@ is_opened n f q there after phase path drops walk after_is roots leads = record 
 }
 
 entered_state : (slash : Bool) (q new : Parts) (there : List Element) (inner last : List (List ℕ)) → path_after [] q.maker ≡ there → IsEntered slash q new → q.behind_body.items ≡ inner → q.behind_html.items ≡ last
-    → state_of new ≡ record { phase = phase_of InBody; path = cond (closes_at_once slash there) (outer there) there; drops_line_feed = cond (closes_at_once slash there) false (drops_behind there); behind_body = inner; behind_html = last }
+    → state_of new ≡ record { insertion_mode = insertion_mode_of InBody; path = cond (closes_at_once slash there) (outer there) there; drops_line_feed = cond (closes_at_once slash there) false (drops_behind there); behind_body = inner; behind_html = last }
 entered_state slash q new there inner last leads e inner_is last_is =
-    rw (e.phase, e.path, e.drops, e.inner, e.last, leads, inner_is, last_is) refl
+    rw (e.insertion_mode, e.path, e.drops, e.inner, e.last, leads, inner_is, last_is) refl
 
 -- what a start tag in the body does, in the order in which it is done
 pub record BodyStart (p : Parts) (n : List ℕ) (attributes : List Attribute) (slash : Bool) (answer : plain.Moves) (after : List Element) : Type 0 where
-  pub made_room : HasRoom (p.maker ++ missing p.phase)
-  pub closes : answer.closes ≤ length (path_after [] (p.maker ++ missing p.phase))
-  pub room : HasRoom ((p.maker ++ missing p.phase) ++ ((map end_event (take answer.closes (path_after [] (p.maker ++ missing p.phase))) ++ starts (elements_of answer.made)) ++ start n (opens_as_svg n p.path) attributes ∷ []))
-  pub opened : (q : Parts) → q.phase ≡ InBody → q.path ≡ after → q.drops_line_feed ≡ false
-      → q.maker ≡ (p.maker ++ missing p.phase) ++ ((map end_event (take answer.closes (path_after [] (p.maker ++ missing p.phase))) ++ starts (elements_of answer.made)) ++ start n (opens_as_svg n p.path) attributes ∷ []) → IsOpened n (opens_as_svg n p.path) q
+  pub made_room : HasRoom (p.maker ++ missing p.insertion_mode)
+  pub closes : answer.closes ≤ length (path_after [] (p.maker ++ missing p.insertion_mode))
+  pub room : HasRoom ((p.maker ++ missing p.insertion_mode) ++ ((map end_event (take answer.closes (path_after [] (p.maker ++ missing p.insertion_mode))) ++ starts (elements_of answer.made)) ++ start n (opens_as_svg n p.path) attributes ∷ []))
+  pub opened : (q : Parts) → q.insertion_mode ≡ InBody → q.path ≡ after → q.drops_line_feed ≡ false
+      → q.maker ≡ (p.maker ++ missing p.insertion_mode) ++ ((map end_event (take answer.closes (path_after [] (p.maker ++ missing p.insertion_mode))) ++ starts (elements_of answer.made)) ++ start n (opens_as_svg n p.path) attributes ∷ []) → IsOpened n (opens_as_svg n p.path) q
   pub done : (q new : Parts) → q.behind_body.items ≡ p.behind_body.items → q.behind_html.items ≡ p.behind_html.items
-      → q.maker ≡ (p.maker ++ missing p.phase) ++ ((map end_event (take answer.closes (path_after [] (p.maker ++ missing p.phase))) ++ starts (elements_of answer.made)) ++ start n (opens_as_svg n p.path) attributes ∷ [])
-      → IsEntered slash q new → IsDone (reach_body (phase_of p.phase) (start_in_body n attributes slash) (state_of p)) p new
+      → q.maker ≡ (p.maker ++ missing p.insertion_mode) ++ ((map end_event (take answer.closes (path_after [] (p.maker ++ missing p.insertion_mode))) ++ starts (elements_of answer.made)) ++ start n (opens_as_svg n p.path) attributes ∷ [])
+      → IsEntered slash q new → IsDone (reach_body (insertion_mode_of p.insertion_mode) (start_in_body n attributes slash) (state_of p)) p new
 
 taken_front : (k : ℕ) (path closed left : List Element) → k ≡ length closed → path ≡ closed ++ left → take k path ≡ closed
 taken_front k path closed left count is = rw (count, is) (take-append_seam closed left)
@@ -312,25 +312,25 @@ made_roots SectionAndRow path h = h
 made_roots Row path h = h
 made_roots Colgroup path h = h
 
-pub body_start : (p : Parts) (n : List ℕ) (attributes : List Attribute) (slash : Bool) (answer : plain.Moves) (after : List Element) → CanReach p.phase → IsKept p → p.drops_line_feed ≡ false → IsStarted (start_moves n p.path) answer after
-    → not (opens_as_svg n p.path && is_root n) ≡ true → Fits (reach_body (phase_of p.phase) (start_in_body n attributes slash) (state_of p)) p.maker → BodyStart p n attributes slash answer after
+pub body_start : (p : Parts) (n : List ℕ) (attributes : List Attribute) (slash : Bool) (answer : plain.Moves) (after : List Element) → CanReach p.insertion_mode → IsKept p → p.drops_line_feed ≡ false → IsStarted (start_moves n p.path) answer after
+    → not (opens_as_svg n p.path && is_root n) ≡ true → Fits (reach_body (insertion_mode_of p.insertion_mode) (start_in_body n attributes slash) (state_of p)) p.maker → BodyStart p n attributes slash answer after
 body_start p n attributes slash answer after r kept all started root fits =
     let f = opens_as_svg n p.path in
-    let m = missing p.phase in
+    let m = missing p.insertion_mode in
     let inner = p.behind_body.items in
     let last = p.behind_html.items in
     let made = elements_of answer.made in
     let o : Opens n p.path after attributes slash answer = opens n p.path after attributes slash answer started in
     let fresh = reach_fresh p r kept in
-    let walk : IsWalkTo (p.maker ++ m) p.path = subst (IsWalkTo (p.maker ++ m)) (sym fresh.0) (reach_walk p.phase p.path p.maker r kept.walk) in
+    let walk : IsWalkTo (p.maker ++ m) p.path = subst (IsWalkTo (p.maker ++ m)) (sym fresh.0) (reach_walk p.insertion_mode p.path p.maker r kept.walk) in
     let taken : map end_event (take answer.closes (path_after [] (p.maker ++ m))) ≡ map end_event o.closed = ap (map end_event) (taken_front answer.closes (path_after [] (p.maker ++ m)) o.closed o.left o.closes (walk.leads ∙ o.splits)) in
     let es = map end_event o.closed ++ starts made in
     let one = start n f attributes ∷ [] in
     let there : List Element = element n f ∷ (made ++ o.left) in
     let c = closes_at_once slash there in
     let x : List Event = cond c (end n f ∷ []) [] in
-    let st : State = record { phase = phase_of InBody; path = cond c (made ++ o.left) there; drops_line_feed = cond c false (drops_behind there); behind_body = inner; behind_html = last } in
-    let step : reach_body (phase_of p.phase) (start_in_body n attributes slash) (state_of p) ≡ went (m ++ (es ++ (start n f attributes ∷ x))) st =
+    let st : State = record { insertion_mode = insertion_mode_of InBody; path = cond c (made ++ o.left) there; drops_line_feed = cond c false (drops_behind there); behind_body = inner; behind_html = last } in
+    let step : reach_body (insertion_mode_of p.insertion_mode) (start_in_body n attributes slash) (state_of p) ≡ went (m ++ (es ++ (start n f attributes ∷ x))) st =
     body_step p n attributes slash r kept all
     ∙ ap (λ y. behind_events m (after_moves attributes slash (at_state InBody p.path inner last) y)) o.does_move
     ∙ ap (λ y. behind_events m (behind_events es y)) (entered_by n f attributes slash p.path (made ++ o.left) inner last c refl) in
@@ -346,20 +346,20 @@ body_start p n attributes slash answer after r kept all started root fits =
       made_room = HasRoom-front (p.maker ++ m) (es ++ (start n f attributes ∷ x)) two;
       closes = omega (arith, o.closes, ap length (walk.leads ∙ o.splits), length-append o.closed o.left);
       room = rw taken (HasRoom-front ((p.maker ++ m) ++ (es ++ one)) x three);
-      opened = λ q phase path drops maker. is_opened n f q there after phase path drops
+      opened = λ q insertion_mode path drops maker. is_opened n f q there after insertion_mode path drops
           (subst (λ v. IsWalkTo v there) (sym (maker ∙ ap (λ y. (p.maker ++ m) ++ ((y ++ starts made) ++ one)) taken)) walk_there) o.after_is opened_roots refl;
       done = λ q new inner_is last_is maker entered_is.
           let maker_is : q.maker ≡ (p.maker ++ m) ++ (es ++ one) = maker ∙ ap (λ y. (p.maker ++ m) ++ ((y ++ starts made) ++ one)) taken in
           let leads : path_after [] q.maker ≡ there = ap (path_after []) maker_is ∙ walk_there.leads in
-          done_by (reach_body (phase_of p.phase) (start_in_body n attributes slash) (state_of p)) (m ++ (es ++ (start n f attributes ∷ x))) st p new step entered_is.kept
+          done_by (reach_body (insertion_mode_of p.insertion_mode) (start_in_body n attributes slash) (state_of p)) (m ++ (es ++ (start n f attributes ∷ x))) st p new step entered_is.kept
           (entered_state slash q new there inner last leads entered_is inner_is last_is)
           (entered_is.walk ∙ ap (λ y. q.maker ++ cond (closes_at_once slash y) (end_of y) []) leads ∙ ap (λ v. v ++ x) maker_is
           ∙ append_assoc (p.maker ++ m) (es ++ one) x ∙ ap (λ v. (p.maker ++ m) ++ v) (append_assoc es one x) ∙ append_assoc p.maker m (es ++ (start n f attributes ∷ x))
-          ∙ sym (grown_tags p.maker (m ++ (es ++ (start n f attributes ∷ x))) kept.walk.apart (no_text_append m (es ++ (start n f attributes ∷ x)) (missing_has_no_text p.phase)
+          ∙ sym (grown_tags p.maker (m ++ (es ++ (start n f attributes ∷ x))) kept.walk.apart (no_text_append m (es ++ (start n f attributes ∷ x)) (missing_has_no_text p.insertion_mode)
           (no_text_append es (start n f attributes ∷ x) (no_text_append (map end_event o.closed) (starts made) (ends_are_tags o.closed) (made_has_no_text made)) (end_no_text n f c)))));
     }
 
-pub refused_start : (p : Parts) (n : List ℕ) (attributes : List Attribute) (slash : Bool) → CanReach p.phase → IsKept p → p.drops_line_feed ≡ false → (fault : SettleFault) → ((rule : Rule) → fault ≡ settle.Rule rule → start_moves n p.path ≡ refuses rule)
-    → IsRefused (reach_body (phase_of p.phase) (start_in_body n attributes slash) (state_of p)) (of_settle fault)
+pub refused_start : (p : Parts) (n : List ℕ) (attributes : List Attribute) (slash : Bool) → CanReach p.insertion_mode → IsKept p → p.drops_line_feed ≡ false → (fault : SettleFault) → ((rule : Rule) → fault ≡ settle.Rule rule → start_moves n p.path ≡ refuses rule)
+    → IsRefused (reach_body (insertion_mode_of p.insertion_mode) (start_in_body n attributes slash) (state_of p)) (of_settle fault)
 refused_start p n attributes slash r kept all (settle.Rule rule) means = body_refused p n attributes slash r kept all rule (means rule refl)
 refused_start p n attributes slash r kept all settle.Memory means = tt

@@ -17,8 +17,8 @@ use Rattle.hm_tree.specs.Rows.{is_text}
 use Rattle.hm_builder.specs.Building.{Fits, IsBuilt}
 use Rattle.hm_builder.specs.Inside.{open_path, state_of, has_no_text, missing, html_made, head_made, head_closed, body_made, end_rule, IsFresh, IsKept, CanMake, IsWalkTo}
 use Rattle.hm_builder.specs.declared.insertion.HeadText.TheVariants.{Title, Style, Script}
-use Rattle.hm_builder.specs.declared.insertion.Phase.{Phase}
-use Rattle.hm_builder.specs.declared.insertion.Phase.TheVariants.{Initial, BeforeHtml, BeforeHead, InHead, AfterHead, InBody, AfterBody as PastBody, AfterHtml}
+use Rattle.hm_builder.specs.declared.insertion.InsertionMode.{InsertionMode}
+use Rattle.hm_builder.specs.declared.insertion.InsertionMode.TheVariants.{Initial, BeforeHtml, BeforeHead, InHead, AfterHead, InBody, AfterBody as PastBody, AfterHtml}
 use Rattle.hm_builder.specs.declared.parts.Parts.{Parts}
 use Rattle.hm_builder.proofs.Events.{path_after-append, HasRoom-front, grown_tags}
 use Rattle.hm_builder.proofs.EndTags.{ends_lead}
@@ -28,15 +28,15 @@ use Rattle.hm_builder.proofs.AtEnd.{Begins}
 -- ---- What the step is
 
 module _ (w : List Event) (path : List Element) (drops : Bool) (inner last : Vec (List ℕ) Global) where
-  abbrev pub Over : Phase → Option Rule → Type 0
+  abbrev pub Over : InsertionMode → Option Rule → Type 0
   Over ph (Some rule) = step_over (state_of (parts w path drops inner last ph)) ≡ stops rule 0
   Over ph None = (st : State) × (step_over (state_of (parts w path drops inner last ph)) ≡ went (missing ph ++ closing path inner.items last.items) st)
 
-  pub over_text : (ph : Phase) → is_in_text (open_path ph path) ≡ true → step_over (state_of (parts w path drops inner last ph)) ≡ stops Cut 0
+  pub over_text : (ph : InsertionMode) → is_in_text (open_path ph path) ≡ true → step_over (state_of (parts w path drops inner last ph)) ≡ stops Cut 0
   unfolding step_over
   over_text ph h = rw h refl
 
-  over_at_end : is_in_text path ≡ false → is_at_end path ≡ true → step_over (state_of (parts w path drops inner last InBody)) ≡ went (closing path inner.items last.items) (record (state_of (parts w path drops inner last InBody)) { phase = steps.after_html })
+  over_at_end : is_in_text path ≡ false → is_at_end path ≡ true → step_over (state_of (parts w path drops inner last InBody)) ≡ went (closing path inner.items last.items) (record (state_of (parts w path drops inner last InBody)) { insertion_mode = steps.after_html })
   unfolding step_over
   over_at_end h e = rw (h, e) refl
 
@@ -52,20 +52,20 @@ module _ (w : List Event) (path : List Element) (drops : Bool) (inner last : Vec
   unfolding step_over
   over_past_html h = rw h refl
 
-  at_body_closing : (ph : Phase) (st : State) → path ≡ under_body → step_over (state_of (parts w path drops inner last ph)) ≡ went (missing ph ++ closing under_body inner.items last.items) st → Over ph None
+  at_body_closing : (ph : InsertionMode) (st : State) → path ≡ under_body → step_over (state_of (parts w path drops inner last ph)) ≡ went (missing ph ++ closing under_body inner.items last.items) st → Over ph None
   at_body_closing ph st fresh h = (st, subst (λ x. step_over (state_of (parts w path drops inner last ph)) ≡ went (missing ph ++ closing x inner.items last.items) st) (sym fresh) h)
 
   abbrev pub made_state : State
-  made_state = record { phase = steps.after_html; path = under_body; drops_line_feed = drops; behind_body = inner.items; behind_html = last.items }
+  made_state = record { insertion_mode = steps.after_html; path = under_body; drops_line_feed = drops; behind_body = inner.items; behind_html = last.items }
 
   over_body : is_in_text path ≡ false → Over InBody (end_rule InBody path)
   over_body h = by (is_at_end path) refl
     where
       by : (b : Bool) → is_at_end path ≡ b → Over InBody (cond (not b) (Some Unclosed) None)
-      by true e = (record (state_of (parts w path drops inner last InBody)) { phase = steps.after_html }, over_at_end h e)
+      by true e = (record (state_of (parts w path drops inner last InBody)) { insertion_mode = steps.after_html }, over_at_end h e)
       by false e = over_unclosed h e
 
-  pub over : (ph : Phase) → is_in_text (open_path ph path) ≡ false → IsFresh ph path → Over ph (end_rule ph path)
+  pub over : (ph : InsertionMode) → is_in_text (open_path ph path) ≡ false → IsFresh ph path → Over ph (end_rule ph path)
   unfolding step_over is_at_end holds_text is_raw is_rcdata raw_names rcdata_names is_among
   over Initial h fresh = refl
   over BeforeHtml h fresh = at_body_closing BeforeHtml made_state fresh refl
@@ -176,7 +176,7 @@ some_path [] begins = absurd (cc)
 some_path (e ∷ path) begins = omega arith
 
 -- where the page may end, all that is missing up to body can be made
-pub over_makes : (ph : Phase) (path : List Element) (w : List Event) → is_in_text (open_path ph path) ≡ false → None ≡ end_rule ph path → IsFresh ph path → IsWalkTo w (open_path ph path) → CanMake ph (path_after [] w) × (path_after [] (w ++ missing ph) ≡ path) × (has_no_text (missing ph) ≡ true)
+pub over_makes : (ph : InsertionMode) (path : List Element) (w : List Event) → is_in_text (open_path ph path) ≡ false → None ≡ end_rule ph path → IsFresh ph path → IsWalkTo w (open_path ph path) → CanMake ph (path_after [] w) × (path_after [] (w ++ missing ph) ≡ path) × (has_no_text (missing ph) ≡ true)
 unfolding holds_text is_raw is_rcdata raw_names rcdata_names is_among
 over_makes Initial path w h none fresh walk = absurd (cc)
 over_makes BeforeHtml path w h none fresh walk = (walk.leads, path_after-append [] w html_made ∙ ap (λ p. path_after p html_made) walk.leads ∙ sym fresh, refl)
@@ -195,31 +195,31 @@ over_makes PastBody path w h none fresh walk = (tt, path_after-append [] w [] �
 over_makes AfterHtml path w h none fresh walk = (tt, path_after-append [] w [] ∙ walk.leads, refl)
 
 pub record Finishes (p : Parts) (tree : List Event) : Type 0 where
-  pub made_room : HasRoom (p.maker ++ missing p.phase)
-  pub can : CanMake p.phase (path_after [] p.maker)
-  pub open_still : 0 < length (path_after [] (p.maker ++ missing p.phase))
-  pub room : HasRoom ((p.maker ++ missing p.phase) ++ closing (path_after [] (p.maker ++ missing p.phase)) p.behind_body.items p.behind_html.items)
-  pub closes : path_after [] ((p.maker ++ missing p.phase) ++ closing (path_after [] (p.maker ++ missing p.phase)) p.behind_body.items p.behind_html.items) ≡ []
-  pub built : tree ≡ (p.maker ++ missing p.phase) ++ closing (path_after [] (p.maker ++ missing p.phase)) p.behind_body.items p.behind_html.items → IsBuilt (step_over (state_of p)) p.maker tree
+  pub made_room : HasRoom (p.maker ++ missing p.insertion_mode)
+  pub can : CanMake p.insertion_mode (path_after [] p.maker)
+  pub open_still : 0 < length (path_after [] (p.maker ++ missing p.insertion_mode))
+  pub room : HasRoom ((p.maker ++ missing p.insertion_mode) ++ closing (path_after [] (p.maker ++ missing p.insertion_mode)) p.behind_body.items p.behind_html.items)
+  pub closes : path_after [] ((p.maker ++ missing p.insertion_mode) ++ closing (path_after [] (p.maker ++ missing p.insertion_mode)) p.behind_body.items p.behind_html.items) ≡ []
+  pub built : tree ≡ (p.maker ++ missing p.insertion_mode) ++ closing (path_after [] (p.maker ++ missing p.insertion_mode)) p.behind_body.items p.behind_html.items → IsBuilt (step_over (state_of p)) p.maker tree
 
-over_none : (p : Parts) → is_in_text (open_path p.phase p.path) ≡ false → None ≡ end_rule p.phase p.path → IsKept p → Over p.maker p.path p.drops_line_feed p.behind_body p.behind_html p.phase None
-over_none p h none kept = subst (λ o. Over p.maker p.path p.drops_line_feed p.behind_body p.behind_html p.phase o) (sym none) (over p.maker p.path p.drops_line_feed p.behind_body p.behind_html p.phase h kept.fresh)
+over_none : (p : Parts) → is_in_text (open_path p.insertion_mode p.path) ≡ false → None ≡ end_rule p.insertion_mode p.path → IsKept p → Over p.maker p.path p.drops_line_feed p.behind_body p.behind_html p.insertion_mode None
+over_none p h none kept = subst (λ o. Over p.maker p.path p.drops_line_feed p.behind_body p.behind_html p.insertion_mode o) (sym none) (over p.maker p.path p.drops_line_feed p.behind_body p.behind_html p.insertion_mode h kept.fresh)
 
-pub finishes : (p : Parts) (tree : List Event) → is_in_text (open_path p.phase p.path) ≡ false → None ≡ end_rule p.phase p.path → IsKept p → Begins p.path → Fits (step_over (state_of p)) p.maker → Finishes p tree
+pub finishes : (p : Parts) (tree : List Event) → is_in_text (open_path p.insertion_mode p.path) ≡ false → None ≡ end_rule p.insertion_mode p.path → IsKept p → Begins p.path → Fits (step_over (state_of p)) p.maker → Finishes p tree
 finishes p tree h none kept begins fits =
-    let makes = over_makes p.phase p.path p.maker h none kept.fresh kept.walk in
+    let makes = over_makes p.insertion_mode p.path p.maker h none kept.fresh kept.walk in
     let o = over_none p h none kept in
     let end_events = closing p.path p.behind_body.items p.behind_html.items in
-    let whole : HasRoom (p.maker ++ (missing p.phase ++ end_events)) = subst (λ s. Fits s p.maker) o.1 fits in
-    let two : HasRoom ((p.maker ++ missing p.phase) ++ end_events) = subst HasRoom (sym (append_assoc p.maker (missing p.phase) end_events)) whole in
-    let same : closing (path_after [] (p.maker ++ missing p.phase)) p.behind_body.items p.behind_html.items ≡ end_events = ap (λ x. closing x p.behind_body.items p.behind_html.items) makes.1 in
+    let whole : HasRoom (p.maker ++ (missing p.insertion_mode ++ end_events)) = subst (λ s. Fits s p.maker) o.1 fits in
+    let two : HasRoom ((p.maker ++ missing p.insertion_mode) ++ end_events) = subst HasRoom (sym (append_assoc p.maker (missing p.insertion_mode) end_events)) whole in
+    let same : closing (path_after [] (p.maker ++ missing p.insertion_mode)) p.behind_body.items p.behind_html.items ≡ end_events = ap (λ x. closing x p.behind_body.items p.behind_html.items) makes.1 in
     record {
-      made_room = HasRoom-front (p.maker ++ missing p.phase) end_events two;
+      made_room = HasRoom-front (p.maker ++ missing p.insertion_mode) end_events two;
       can = makes.0;
       open_still = rw makes.1 (some_path p.path begins);
       room = rw same two;
-      closes = rw same (path_after-append [] (p.maker ++ missing p.phase) end_events ∙ ap (λ x. path_after x end_events) makes.1 ∙ closing_leads p.path p.behind_body.items p.behind_html.items);
+      closes = rw same (path_after-append [] (p.maker ++ missing p.insertion_mode) end_events ∙ ap (λ x. path_after x end_events) makes.1 ∙ closing_leads p.path p.behind_body.items p.behind_html.items);
       built = λ is. subst (λ s. IsBuilt s p.maker tree) (sym o.1)
-          (is ∙ ap (λ es. (p.maker ++ missing p.phase) ++ es) same ∙ append_assoc p.maker (missing p.phase) end_events
-          ∙ sym (grown_tags p.maker (missing p.phase ++ end_events) kept.walk.apart (no_text_append (missing p.phase) end_events makes.2 (closing_no_text p.path p.behind_body.items p.behind_html.items))));
+          (is ∙ ap (λ es. (p.maker ++ missing p.insertion_mode) ++ es) same ∙ append_assoc p.maker (missing p.insertion_mode) end_events
+          ∙ sym (grown_tags p.maker (missing p.insertion_mode ++ end_events) kept.walk.apart (no_text_append (missing p.insertion_mode) end_events makes.2 (closing_no_text p.path p.behind_body.items p.behind_html.items))));
     }

@@ -1,4 +1,4 @@
--- Start tags by the phase and by their name.
+-- Start tags by the insertion mode and by their name.
 use Rattle.std.proofs.Common.{◌≡◌, ℕ, Bool, true, false, cond, ◌||◌, ◌⊎◌, inl, inr, List, Some, None, bytes_eq, sym, ap, ◌∙◌, refl}
 use Rattle.std.proofs.lemmas.Bool.{false_from_ne_true, both_ways}
 use Rattle.hm_base.specs.Walks.{Attribute, Element}
@@ -11,9 +11,9 @@ use Rattle.hm_settle.specs.Moves.{refuses, start_moves, svg_start_moves, start_o
 use Rattle.hm_tree.specs.Tokens as tokens
 use Rattle.hm_construction.specs.Steps.{State, Stepped, stops, step, step_start, html_start, start_in_body, start_inside, after_moves, open_html, open_head, open_body, reach_body}
 use Rattle.hm_builder.specs.BeforeBody.{IsBefore}
-use Rattle.hm_builder.specs.Inside.{phase_of, open_path, state_of}
-use Rattle.hm_builder.specs.declared.insertion.Phase.{Phase}
-use Rattle.hm_builder.specs.declared.insertion.Phase.TheVariants.{Initial, BeforeHtml, BeforeHead, InHead, AfterHead, InBody, AfterBody as PastBody, AfterHtml}
+use Rattle.hm_builder.specs.Inside.{insertion_mode_of, open_path, state_of}
+use Rattle.hm_builder.specs.declared.insertion.InsertionMode.{InsertionMode}
+use Rattle.hm_builder.specs.declared.insertion.InsertionMode.TheVariants.{Initial, BeforeHtml, BeforeHead, InHead, AfterHead, InBody, AfterBody as PastBody, AfterHtml}
 use Rattle.hm_builder.specs.declared.parts.Parts.{Parts}
 use Rattle.hm_builder.proofs.Dropped.{undropped}
 
@@ -22,7 +22,7 @@ pub start_step : (p : Parts) (n : List ℕ) (attributes : List Attribute) (slash
 unfolding step
 start_step p n attributes slash = refl
 
-pub before_body : (ph : Phase) → (ph ≡ Initial → ⊥) → (ph ≡ PastBody → ⊥) → (ph ≡ AfterHtml → ⊥) → (ph ≡ InBody → ⊥) → IsBefore ph
+pub before_body : (ph : InsertionMode) → (ph ≡ Initial → ⊥) → (ph ≡ PastBody → ⊥) → (ph ≡ AfterHtml → ⊥) → (ph ≡ InBody → ⊥) → IsBefore ph
 before_body Initial i b h y = i refl
 before_body BeforeHtml i b h y = tt
 before_body BeforeHead i b h y = tt
@@ -33,7 +33,7 @@ before_body PastBody i b h y = b refl
 before_body AfterHtml i b h y = h refl
 
 -- nothing of SVG is open before the body
-pub no_svg_before : (ph : Phase) (path : List Element) → IsBefore ph → is_in_svg (open_path ph path) ≡ false
+pub no_svg_before : (ph : InsertionMode) (path : List Element) → IsBefore ph → is_in_svg (open_path ph path) ≡ false
 no_svg_before Initial path b = absurd b
 no_svg_before BeforeHtml path b = refl
 no_svg_before BeforeHead path b = refl
@@ -65,7 +65,7 @@ module _ (n : List ℕ) (attributes : List Attribute) (slash : Bool) (st : State
     false_from_ne_true (bytes_eq n body) (λ e. both_ways (is_root n) h (root_named n body html_root.2 e)),
   )
 
-  pub name_inside : is_refused n ≡ false → is_root n ≡ false → html_start n attributes slash st ≡ start_inside st.phase n attributes slash st
+  pub name_inside : is_refused n ≡ false → is_root n ≡ false → html_start n attributes slash st ≡ start_inside st.insertion_mode n attributes slash st
   name_inside f r = let no = no_root_name r in rw (f, no.0, no.1, no.2) refl
 
   -- a slash plays no part at html, head and body
@@ -73,15 +73,15 @@ module _ (n : List ℕ) (attributes : List Attribute) (slash : Bool) (st : State
   unfolding is_root roots
   name_root r = by (is_refused n) (bytes_eq n html) (bytes_eq n head) (bytes_eq n body) (entry_passes (λ m. bytes_eq m html || (bytes_eq m head || bytes_eq m body)) n roots refl r)
     where
-      by : (a b c d : Bool) → b || (c || d) ≡ true → cond a (stops RefusedName 0) (cond b (open_html st.phase attributes st) (cond c (open_head st.phase attributes st) (cond d (open_body st.phase attributes st) (start_inside st.phase n attributes slash st))))
-          ≡ cond a (stops RefusedName 0) (cond b (open_html st.phase attributes st) (cond c (open_head st.phase attributes st) (cond d (open_body st.phase attributes st) (start_inside st.phase n attributes false st))))
+      by : (a b c d : Bool) → b || (c || d) ≡ true → cond a (stops RefusedName 0) (cond b (open_html st.insertion_mode attributes st) (cond c (open_head st.insertion_mode attributes st) (cond d (open_body st.insertion_mode attributes st) (start_inside st.insertion_mode n attributes slash st))))
+          ≡ cond a (stops RefusedName 0) (cond b (open_html st.insertion_mode attributes st) (cond c (open_head st.insertion_mode attributes st) (cond d (open_body st.insertion_mode attributes st) (start_inside st.insertion_mode n attributes false st))))
       by true b c d e = refl
       by false true c d e = refl
       by false false true d e = refl
       by false false false true e = refl
       by false false false false e = absurd (cc)
 
--- ---- By the phase
+-- ---- By the insertion mode
 
 -- in the body html, head and body don't open
 in_body_name : (n : List ℕ) (attributes : List Attribute) (slash : Bool) (st : State) → is_in_svg st.path ≡ false → cond (is_refused n) (stops RefusedName 0) (cond (bytes_eq n html) (stops SecondRoot 0) (cond (bytes_eq n head) (stops SecondRoot 0) (cond (bytes_eq n body) (stops SecondRoot 0) (start_in_body n attributes slash st))))
@@ -102,20 +102,20 @@ in_body_name n attributes slash st no_svg =
     by false false false false r e hb hc hd = refl
 
 module _ (p : Parts) (n : List ℕ) (attributes : List Attribute) (slash : Bool) where
-  pub start_initial : p.phase ≡ Initial → step_start n attributes slash (state_of p) ≡ stops NoDoctype 0
+  pub start_initial : p.insertion_mode ≡ Initial → step_start n attributes slash (state_of p) ≡ stops NoDoctype 0
   unfolding step_start
-  start_initial e = ap (λ ph. step_start n attributes slash (state_of (record p { phase = ph }))) e
+  start_initial e = ap (λ ph. step_start n attributes slash (state_of (record p { insertion_mode = ph }))) e
 
-  pub start_behind_body : (p.phase ≡ PastBody) ⊎ (p.phase ≡ AfterHtml) → step_start n attributes slash (state_of p) ≡ stops AfterBody 0
+  pub start_behind_body : (p.insertion_mode ≡ PastBody) ⊎ (p.insertion_mode ≡ AfterHtml) → step_start n attributes slash (state_of p) ≡ stops AfterBody 0
   unfolding step_start
-  start_behind_body (inl e) = ap (λ ph. step_start n attributes slash (state_of (record p { phase = ph }))) e
-  start_behind_body (inr e) = ap (λ ph. step_start n attributes slash (state_of (record p { phase = ph }))) e
+  start_behind_body (inl e) = ap (λ ph. step_start n attributes slash (state_of (record p { insertion_mode = ph }))) e
+  start_behind_body (inr e) = ap (λ ph. step_start n attributes slash (state_of (record p { insertion_mode = ph }))) e
 
-  pub start_before : IsBefore p.phase → step_start n attributes slash (state_of p) ≡ html_start n attributes slash (state_of p)
+  pub start_before : IsBefore p.insertion_mode → step_start n attributes slash (state_of p) ≡ html_start n attributes slash (state_of p)
   unfolding step_start
-  start_before b = by p.phase b (no_svg_before p.phase p.path b)
+  start_before b = by p.insertion_mode b (no_svg_before p.insertion_mode p.path b)
     where
-      by : (ph : Phase) → IsBefore ph → is_in_svg (open_path ph p.path) ≡ false → step_start n attributes slash (state_of (record p { phase = ph })) ≡ html_start n attributes slash (state_of (record p { phase = ph }))
+      by : (ph : InsertionMode) → IsBefore ph → is_in_svg (open_path ph p.path) ≡ false → step_start n attributes slash (state_of (record p { insertion_mode = ph })) ≡ html_start n attributes slash (state_of (record p { insertion_mode = ph }))
       by Initial h k = absurd h
       by BeforeHtml h k = refl
       by BeforeHead h k = refl
@@ -125,15 +125,15 @@ module _ (p : Parts) (n : List ℕ) (attributes : List Attribute) (slash : Bool)
       by PastBody h k = absurd h
       by AfterHtml h k = absurd h
 
-  pub start_here : p.phase ≡ InBody → step_start n attributes slash (state_of p) ≡ reach_body (phase_of p.phase) (start_in_body n attributes slash) (state_of p)
+  pub start_here : p.insertion_mode ≡ InBody → step_start n attributes slash (state_of p) ≡ reach_body (insertion_mode_of p.insertion_mode) (start_in_body n attributes slash) (state_of p)
   unfolding step_start
   start_here e =
-      ap (λ ph. step_start n attributes slash (state_of (record p { phase = ph }))) e
+      ap (λ ph. step_start n attributes slash (state_of (record p { insertion_mode = ph }))) e
       ∙ by (is_in_svg p.path) refl
-      ∙ sym (ap (λ ph. reach_body (phase_of ph) (start_in_body n attributes slash) (state_of (record p { phase = ph }))) e)
+      ∙ sym (ap (λ ph. reach_body (insertion_mode_of ph) (start_in_body n attributes slash) (state_of (record p { insertion_mode = ph }))) e)
     where
       st : State
-      st = state_of (record p { phase = InBody })
+      st = state_of (record p { insertion_mode = InBody })
 
       by : (b : Bool) → is_in_svg p.path ≡ b → cond b (start_in_body n attributes slash st)
           (cond (is_refused n) (stops RefusedName 0) (cond (bytes_eq n html) (stops SecondRoot 0) (cond (bytes_eq n head) (stops SecondRoot 0) (cond (bytes_eq n body) (stops SecondRoot 0) (start_in_body n attributes slash st)))))

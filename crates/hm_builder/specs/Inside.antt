@@ -1,7 +1,7 @@
 -- How the parts of a builder stand for a state and a walk.
 use Rattle.std.specs.Prelude.{◌≡◌, ℕ, Bool, true, false, not, ◌&&◌, List, [], ◌∷◌, ◌++◌, bytes_eq, map, codes, Option, Some, None, if◌then◌else◌}
 use Rattle.hm_base.specs.Bytes.{is_space, all_pass, head_is}
-use Rattle.hm_base.specs.Walks.{with_text, Event, doctype, start, text, comment, end, Element, path_after}
+use Rattle.hm_base.specs.Walks.{with_text, Event, doctype, start, text, comment, end, Element, path_after, begins_text}
 use Rattle.hm_base.specs.declared.rules.Rule.{Rule}
 use Rattle.hm_base.specs.declared.rules.Rule.TheVariants.{NoDoctype, AfterBody, TextHere, Unclosed}
 use Rattle.hm_elements.specs.Names.{html, head, body, noscript}
@@ -16,19 +16,19 @@ use Rattle.hm_elements.specs.Nesting.{is_name}
 use Rattle.hm_builder.specs.Building.{Building, IsStepped, grown}
 use Rattle.hm_builder.specs.declared.insertion.HeadText.{HeadText}
 use Rattle.hm_builder.specs.declared.insertion.HeadText.TheVariants.{Title, Style, Script}
-use Rattle.hm_builder.specs.declared.insertion.Phase.{Phase}
-use Rattle.hm_builder.specs.declared.insertion.Phase.TheVariants.{Initial, BeforeHtml, BeforeHead, InHead, AfterHead, InBody, AfterBody as PastBody, AfterHtml}
+use Rattle.hm_builder.specs.declared.insertion.InsertionMode.{InsertionMode}
+use Rattle.hm_builder.specs.declared.insertion.InsertionMode.TheVariants.{Initial, BeforeHtml, BeforeHead, InHead, AfterHead, InBody, AfterBody as PastBody, AfterHtml}
 use Rattle.hm_builder.specs.declared.parts.Parts.{Parts}
 
-abbrev pub phase_of : Phase → steps.Phase
-phase_of Initial = steps.initial
-phase_of BeforeHtml = steps.before_html
-phase_of BeforeHead = steps.before_head
-phase_of (InHead here inner) = steps.in_head
-phase_of AfterHead = steps.after_head
-phase_of InBody = steps.in_body
-phase_of PastBody = steps.after_body
-phase_of AfterHtml = steps.after_html
+abbrev pub insertion_mode_of : InsertionMode → steps.InsertionMode
+insertion_mode_of Initial = steps.initial
+insertion_mode_of BeforeHtml = steps.before_html
+insertion_mode_of BeforeHead = steps.before_head
+insertion_mode_of (InHead here inner) = steps.in_head
+insertion_mode_of AfterHead = steps.after_head
+insertion_mode_of InBody = steps.in_body
+insertion_mode_of PastBody = steps.after_body
+insertion_mode_of AfterHtml = steps.after_html
 
 abbrev pub text_name : HeadText → List ℕ
 text_name Title = codes "title"
@@ -45,7 +45,7 @@ inside_head here None = under_noscript here
 inside_head here (Some inner) = html_element (text_name inner) ∷ under_noscript here
 
 -- the open elements, of which the path knows only those of a page in its body
-abbrev pub open_path : Phase → List Element → List Element
+abbrev pub open_path : InsertionMode → List Element → List Element
 open_path Initial path = []
 open_path BeforeHtml path = []
 open_path BeforeHead path = under_html
@@ -56,7 +56,7 @@ open_path PastBody path = path
 open_path AfterHtml path = path
 
 abbrev pub state_of : Parts → State
-state_of p = record { phase = phase_of p.phase; path = open_path p.phase p.path; drops_line_feed = p.drops_line_feed; behind_body = p.behind_body.items; behind_html = p.behind_html.items }
+state_of p = record { insertion_mode = insertion_mode_of p.insertion_mode; path = open_path p.insertion_mode p.path; drops_line_feed = p.drops_line_feed; behind_body = p.behind_body.items; behind_html = p.behind_html.items }
 
 abbrev pub building_of : Parts → Building
 building_of p = record { state = state_of p; walk = p.maker }
@@ -67,19 +67,11 @@ has_no_svg_root [] = true
 has_no_svg_root (e ∷ path) = not (e.foreign && is_root e.name) && has_no_svg_root path
 
 -- before the body only html and body are on the path
-abbrev pub IsFresh : Phase → List Element → Type 0
+abbrev pub IsFresh : InsertionMode → List Element → Type 0
 IsFresh InBody path = has_no_svg_root path ≡ true
 IsFresh PastBody path = has_no_svg_root path ≡ true
 IsFresh AfterHtml path = has_no_svg_root path ≡ true
-IsFresh phase path = path ≡ under_body
-
-abbrev pub begins_text : List Event → Bool
-begins_text [] = false
-begins_text (doctype legacy ∷ w) = false
-begins_text (start n foreign attributes ∷ w) = false
-begins_text (text s raw ∷ w) = true
-begins_text (comment s ∷ w) = false
-begins_text (end n foreign ∷ w) = false
+IsFresh insertion_mode path = path ≡ under_body
 
 -- no two texts touch
 abbrev pub is_apart : List Event → Bool
@@ -98,8 +90,8 @@ pub record IsWalkTo (w : List Event) (path : List Element) : Type 0 where
 
 -- what is true of the parts between two tokens
 pub record IsKept (p : Parts) : Type 0 where
-  pub walk : IsWalkTo p.maker (open_path p.phase p.path)
-  pub fresh : IsFresh p.phase p.path
+  pub walk : IsWalkTo p.maker (open_path p.insertion_mode p.path)
+  pub fresh : IsFresh p.insertion_mode p.path
 
 -- each byte as a text of its own
 abbrev pub each_byte : List ℕ → Bool → List Event
@@ -123,45 +115,45 @@ head_made = start head false [] ∷ head_closed
 abbrev pub html_made : List Event
 html_made = start html false [] ∷ head_made
 
-abbrev pub missing : Phase → List Event
+abbrev pub missing : InsertionMode → List Event
 missing BeforeHtml = html_made
 missing BeforeHead = head_made
 missing (InHead here inner) = head_closed
 missing AfterHead = body_made
-missing phase = []
+missing insertion_mode = []
 
 -- the elements that are open where the missing ones can be made
-abbrev pub CanMake : Phase → List Element → Type 0
+abbrev pub CanMake : InsertionMode → List Element → Type 0
 CanMake BeforeHtml path = path ≡ []
 CanMake BeforeHead path = path ≡ under_html
 CanMake (InHead here inner) path = path ≡ under_head
 CanMake AfterHead path = path ≡ under_html
-CanMake phase path = Unit {0}
+CanMake insertion_mode path = Unit {0}
 
 -- whitespace stands where it is
-abbrev pub keeps_space : Phase → Bool
+abbrev pub keeps_space : InsertionMode → Bool
 keeps_space Initial = false
 keeps_space BeforeHtml = false
 keeps_space BeforeHead = false
-keeps_space phase = true
+keeps_space insertion_mode = true
 
 -- why a text that isn't whitespace is refused
-abbrev pub text_rule : Phase → List Element → Option Rule
+abbrev pub text_rule : InsertionMode → List Element → Option Rule
 text_rule Initial path = Some NoDoctype
 text_rule (InHead true None) path = Some TextHere
 text_rule InBody path = if is_in_blank path then Some TextHere else None
 text_rule PastBody path = Some AfterBody
 text_rule AfterHtml path = Some AfterBody
-text_rule phase path = None
+text_rule insertion_mode path = None
 
 -- the open elements once all is made up to body
-abbrev pub body_path : Phase → List Element → List Element
+abbrev pub body_path : InsertionMode → List Element → List Element
 body_path InBody path = path
-body_path phase path = under_body
+body_path insertion_mode path = under_body
 
 -- a state in which no line feed is dropped
-abbrev pub at_state : Phase → List Element → List (List ℕ) → List (List ℕ) → State
-at_state phase path inner last = record { phase = phase_of phase; path = path; drops_line_feed = false; behind_body = inner; behind_html = last }
+abbrev pub at_state : InsertionMode → List Element → List (List ℕ) → List (List ℕ) → State
+at_state insertion_mode path inner last = record { insertion_mode = insertion_mode_of insertion_mode; path = path; drops_line_feed = false; behind_body = inner; behind_html = last }
 
 -- noscript in head is the innermost element
 abbrev pub is_noscript_in_head : List Element → Bool
@@ -174,8 +166,8 @@ pub record IsCut (s blank rest : List ℕ) : Type 0 where
   pub stops : head_is is_space rest ≡ false
 
 -- a walk with whitespace behind it, where that stands
-abbrev pub with_blank : Phase → List Event → List ℕ → List Event
-with_blank phase w s = if keeps_space phase then with_text w s false else w
+abbrev pub with_blank : InsertionMode → List Event → List ℕ → List Event
+with_blank insertion_mode w s = if keeps_space insertion_mode then with_text w s false else w
 
 -- whitespace byte by byte, where it stands
 abbrev pub kept_bytes : Bool → List ℕ → Bool → List Event
@@ -183,8 +175,8 @@ kept_bytes true s raw = each_byte s raw
 kept_bytes false s raw = []
 
 -- whitespace, what is missing, and a text of the body
-abbrev pub mixed_events : Phase → List ℕ → List ℕ → List Event
-mixed_events phase front s = kept_bytes (keeps_space phase) front false ++ (missing phase ++ each_byte s false)
+abbrev pub mixed_events : InsertionMode → List ℕ → List ℕ → List Event
+mixed_events insertion_mode front s = kept_bytes (keeps_space insertion_mode) front false ++ (missing insertion_mode ++ each_byte s false)
 
 -- a step was carried out
 pub record IsDone (step : Stepped) (old new : Parts) : Type 0 where
@@ -195,18 +187,18 @@ pub record IsDone (step : Stepped) (old new : Parts) : Type 0 where
 pub record IsPutBehind (es : List Event) (old new : Parts) : Type 0 where
   pub kept : IsKept new
   pub walk : new.maker ≡ grown old.maker es
-  pub phase : new.phase ≡ InBody
-  pub path : new.path ≡ body_path old.phase old.path
+  pub insertion_mode : new.insertion_mode ≡ InBody
+  pub path : new.path ≡ body_path old.insertion_mode old.path
   pub drops : new.drops_line_feed ≡ old.drops_line_feed
   pub inner : new.behind_body ≡ old.behind_body
   pub last : new.behind_html ≡ old.behind_html
 
--- the phases in which the open elements are those of the body's path
-abbrev pub HasBodyPath : Phase → Type 0
+-- the insertion modes in which the open elements are those of the body's path
+abbrev pub HasBodyPath : InsertionMode → Type 0
 HasBodyPath InBody = Unit {0}
 HasBodyPath PastBody = Unit {0}
 HasBodyPath AfterHtml = Unit {0}
-HasBodyPath phase = ⊥
+HasBodyPath insertion_mode = ⊥
 
 -- head made and closed
 abbrev pub only_head : List Event
@@ -215,19 +207,19 @@ only_head = start head false [] ∷ end head false ∷ []
 abbrev pub html_then_head : List Event
 html_then_head = start html false [] ∷ only_head
 
-abbrev pub head_ended : Phase → List Event
+abbrev pub head_ended : InsertionMode → List Event
 head_ended BeforeHtml = html_then_head
 head_ended BeforeHead = only_head
 head_ended (InHead here inner) = end head false ∷ []
-head_ended phase = []
+head_ended insertion_mode = []
 
--- the phases in which html, head or body is missing, and nothing is open in head
-abbrev pub IsUnbegun : Phase → Type 0
+-- the insertion modes in which html, head or body is missing, and nothing is open in head
+abbrev pub IsUnbegun : InsertionMode → Type 0
 IsUnbegun BeforeHtml = Unit {0}
 IsUnbegun BeforeHead = Unit {0}
 IsUnbegun (InHead false None) = Unit {0}
 IsUnbegun AfterHead = Unit {0}
-IsUnbegun phase = ⊥
+IsUnbegun insertion_mode = ⊥
 
 -- something is open in head
 abbrev pub IsInner : Bool → Option HeadText → Type 0
@@ -245,21 +237,21 @@ abbrev pub IsSound : Bool → Parts → Type 0
 IsSound true p = Unit {0}
 IsSound false p = IsKept p
 
--- the phases in which a body can be reached
-abbrev pub CanReach : Phase → Type 0
+-- the insertion modes in which a body can be reached
+abbrev pub CanReach : InsertionMode → Type 0
 CanReach InBody = Unit {0}
-CanReach phase = IsUnbegun phase
+CanReach insertion_mode = IsUnbegun insertion_mode
 
 -- why a page doesn't end here
-abbrev pub end_rule : Phase → List Element → Option Rule
+abbrev pub end_rule : InsertionMode → List Element → Option Rule
 end_rule Initial path = Some NoDoctype
 end_rule (InHead true None) path = Some Unclosed
 end_rule InBody path = if not (steps.is_at_end path) then Some Unclosed else None
-end_rule phase path = None
+end_rule insertion_mode path = None
 
 -- an element has opened in the body, and is the innermost one of the walk; a void one isn't on the path
 pub record IsOpened (n : List ℕ) (foreign : Bool) (p : Parts) : Type 0 where
-  pub phase : p.phase ≡ InBody
+  pub insertion_mode : p.insertion_mode ≡ InBody
   pub leads : path_after [] p.maker ≡ record { name = n; foreign = foreign } ∷ outer (path_after [] p.maker)
   pub walk : IsWalkTo p.maker (path_after [] p.maker)
   pub path : p.path ≡ without_void (path_after [] p.maker)
@@ -269,7 +261,7 @@ pub record IsOpened (n : List ℕ) (foreign : Bool) (p : Parts) : Type 0 where
 -- the element has closed at once, or stays open
 pub record IsEntered (slash : Bool) (old new : Parts) : Type 0 where
   pub kept : IsKept new
-  pub phase : new.phase ≡ InBody
+  pub insertion_mode : new.insertion_mode ≡ InBody
   pub walk : new.maker ≡ old.maker ++ (if steps.closes_at_once slash (path_after [] old.maker) then end_of (path_after [] old.maker) else [])
   pub path : new.path ≡ (if steps.closes_at_once slash (path_after [] old.maker) then outer (path_after [] old.maker) else path_after [] old.maker)
   pub drops : new.drops_line_feed ≡ (if steps.closes_at_once slash (path_after [] old.maker) then false else steps.drops_behind (path_after [] old.maker))

@@ -9,10 +9,10 @@ ghost use Rattle.hm_tree.specs.Trees.{HasRoom};
 ghost use Rattle.hm_builder.specs.BeforeBody as before_body;
 ghost use Rattle.hm_builder.specs.BeforeBody.{IsBefore, TakesChildren, html_opened, head_opened, in_open_head};
 ghost use Rattle.hm_builder.specs.Building.{Fits, IsRefused};
-ghost use Rattle.hm_builder.specs.Inside.{IsDone, IsKept, IsUnbegun, open_path, phase_of, state_of, text_name};
+ghost use Rattle.hm_builder.specs.Inside.{IsDone, IsKept, IsUnbegun, open_path, insertion_mode_of, state_of, text_name};
 
 use crate::BuildFault;
-use crate::insertion::{HeadText, Phase};
+use crate::insertion::{HeadText, InsertionMode};
 use crate::make::close_made_head;
 use crate::parts::Parts;
 use hm_base::{Memory, Rule};
@@ -30,8 +30,8 @@ impl Parts {
     ) -> Result<(), BuildFault>
         requires kept { IsKept self.old }
         requires all { self.old.drops_line_feed ≡ false }
-        requires not_text { is_in_text (open_path self.old.phase self.old.path) ≡ false }
-        requires not_svg { is_in_svg (open_path self.old.phase self.old.path) ≡ false }
+        requires not_text { is_in_text (open_path self.old.insertion_mode self.old.path) ≡ false }
+        requires not_svg { is_in_svg (open_path self.old.insertion_mode self.old.path) ≡ false }
         requires root { is_root name.now ≡ true }
         requires room { Fits (html_start name.now attrs false (state_of self.old)) self.old.maker }
         ensures ok { OnOk result (IsDone (html_start name.now attrs false (state_of self.old)) self.old self.new) }
@@ -47,14 +47,14 @@ impl Parts {
     /// Takes the start tag of `html`.
     fn open_html(&mut self, attrs: Attrs) -> Result<(), BuildFault>
         requires kept { IsKept self.old }
-        requires room { Fits (steps.open_html (phase_of self.old.phase) attrs (state_of self.old)) self.old.maker }
-        ensures ok { OnOk result (IsDone (steps.open_html (phase_of self.old.phase) attrs (state_of self.old)) self.old self.new) }
-        ensures err { IfErr result (IsRefused (steps.open_html (phase_of self.old.phase) attrs (state_of self.old))) }
+        requires room { Fits (steps.open_html (insertion_mode_of self.old.insertion_mode) attrs (state_of self.old)) self.old.maker }
+        ensures ok { OnOk result (IsDone (steps.open_html (insertion_mode_of self.old.insertion_mode) attrs (state_of self.old)) self.old self.new) }
+        ensures err { IfErr result (IsRefused (steps.open_html (insertion_mode_of self.old.insertion_mode) attrs (state_of self.old))) }
     {
-        match self.phase {
-            Phase::BeforeHtml => {
+        match self.insertion_mode {
+            InsertionMode::BeforeHtml => {
                 self.maker.start("html", false, attrs)?;
-                self.phase = Phase::BeforeHead;
+                self.insertion_mode = InsertionMode::BeforeHead;
                 Ok(())
             }
             _ => Err(BuildFault::from(Rule::SecondRoot)),
@@ -64,15 +64,15 @@ impl Parts {
     /// Takes the start tag of `head`.
     fn open_head(&mut self, alloc: Global, attrs: Attrs) -> Result<(), BuildFault>
         requires kept { IsKept self.old }
-        requires room { Fits (steps.open_head (phase_of self.old.phase) attrs (state_of self.old)) self.old.maker }
-        ensures ok { OnOk result (IsDone (steps.open_head (phase_of self.old.phase) attrs (state_of self.old)) self.old self.new) }
-        ensures err { IfErr result (IsRefused (steps.open_head (phase_of self.old.phase) attrs (state_of self.old))) }
+        requires room { Fits (steps.open_head (insertion_mode_of self.old.insertion_mode) attrs (state_of self.old)) self.old.maker }
+        ensures ok { OnOk result (IsDone (steps.open_head (insertion_mode_of self.old.insertion_mode) attrs (state_of self.old)) self.old self.new) }
+        ensures err { IfErr result (IsRefused (steps.open_head (insertion_mode_of self.old.insertion_mode) attrs (state_of self.old))) }
     {
-        match self.phase {
-            Phase::BeforeHtml | Phase::BeforeHead => {
-                make_only_html(alloc, &mut self.maker, self.phase)?;
+        match self.insertion_mode {
+            InsertionMode::BeforeHtml | InsertionMode::BeforeHead => {
+                make_only_html(alloc, &mut self.maker, self.insertion_mode)?;
                 self.maker.start("head", false, attrs)?;
-                self.phase = Phase::InHead {
+                self.insertion_mode = InsertionMode::InHead {
                     noscript: false,
                     text: None,
                 };
@@ -85,12 +85,12 @@ impl Parts {
     /// Takes the start tag of `body`. Where `head` is missing it is made, and it closes.
     fn open_body(&mut self, alloc: Global, attrs: Attrs) -> Result<(), BuildFault>
         requires kept { IsKept self.old }
-        requires not_text { is_in_text (open_path self.old.phase self.old.path) ≡ false }
-        requires room { Fits (steps.open_body (phase_of self.old.phase) attrs (state_of self.old)) self.old.maker }
-        ensures ok { OnOk result (IsDone (steps.open_body (phase_of self.old.phase) attrs (state_of self.old)) self.old self.new) }
-        ensures err { IfErr result (IsRefused (steps.open_body (phase_of self.old.phase) attrs (state_of self.old))) }
+        requires not_text { is_in_text (open_path self.old.insertion_mode self.old.path) ≡ false }
+        requires room { Fits (steps.open_body (insertion_mode_of self.old.insertion_mode) attrs (state_of self.old)) self.old.maker }
+        ensures ok { OnOk result (IsDone (steps.open_body (insertion_mode_of self.old.insertion_mode) attrs (state_of self.old)) self.old self.new) }
+        ensures err { IfErr result (IsRefused (steps.open_body (insertion_mode_of self.old.insertion_mode) attrs (state_of self.old))) }
     {
-        if has_begun(self.phase) {
+        if has_begun(self.insertion_mode) {
             return Err(BuildFault::from(Rule::SecondRoot));
         }
         self.open_body_here(alloc, attrs)
@@ -99,14 +99,14 @@ impl Parts {
     /// Opens `body` where it is missing and nothing is open in `head`.
     fn open_body_here(&mut self, alloc: Global, attrs: Attrs) -> Result<(), BuildFault>
         requires kept { IsKept self.old }
-        requires unbegun { IsUnbegun self.old.phase }
-        requires room { Fits (steps.open_body (phase_of self.old.phase) attrs (state_of self.old)) self.old.maker }
-        ensures ok { OnOk result (IsDone (steps.open_body (phase_of self.old.phase) attrs (state_of self.old)) self.old self.new) }
-        ensures err { IfErr result (IsRefused (steps.open_body (phase_of self.old.phase) attrs (state_of self.old))) }
+        requires unbegun { IsUnbegun self.old.insertion_mode }
+        requires room { Fits (steps.open_body (insertion_mode_of self.old.insertion_mode) attrs (state_of self.old)) self.old.maker }
+        ensures ok { OnOk result (IsDone (steps.open_body (insertion_mode_of self.old.insertion_mode) attrs (state_of self.old)) self.old self.new) }
+        ensures err { IfErr result (IsRefused (steps.open_body (insertion_mode_of self.old.insertion_mode) attrs (state_of self.old))) }
     {
-        close_made_head(alloc, &mut self.maker, self.phase)?;
+        close_made_head(alloc, &mut self.maker, self.insertion_mode)?;
         self.maker.start("body", false, attrs)?;
-        self.phase = Phase::InBody;
+        self.insertion_mode = InsertionMode::InBody;
         Ok(())
     }
 
@@ -120,15 +120,15 @@ impl Parts {
     ) -> Result<(), BuildFault>
         requires kept { IsKept self.old }
         requires all { self.old.drops_line_feed ≡ false }
-        requires not_text { is_in_text (open_path self.old.phase self.old.path) ≡ false }
-        requires before { IsBefore self.old.phase }
-        requires room { Fits (start_inside (phase_of self.old.phase) name.now attrs slash (state_of self.old)) self.old.maker }
-        ensures ok { OnOk result (IsDone (start_inside (phase_of self.old.phase) name.now attrs slash (state_of self.old)) self.old self.new) }
-        ensures err { IfErr result (IsRefused (start_inside (phase_of self.old.phase) name.now attrs slash (state_of self.old))) }
+        requires not_text { is_in_text (open_path self.old.insertion_mode self.old.path) ≡ false }
+        requires before { IsBefore self.old.insertion_mode }
+        requires room { Fits (start_inside (insertion_mode_of self.old.insertion_mode) name.now attrs slash (state_of self.old)) self.old.maker }
+        ensures ok { OnOk result (IsDone (start_inside (insertion_mode_of self.old.insertion_mode) name.now attrs slash (state_of self.old)) self.old self.new) }
+        ensures err { IfErr result (IsRefused (start_inside (insertion_mode_of self.old.insertion_mode) name.now attrs slash (state_of self.old))) }
     {
-        match self.phase {
-            Phase::AfterHead => self.start_after_head(alloc, name, attrs, slash),
-            Phase::InHead { noscript, .. } => {
+        match self.insertion_mode {
+            InsertionMode::AfterHead => self.start_after_head(alloc, name, attrs, slash),
+            InsertionMode::InHead { noscript, .. } => {
                 if noscript {
                     self.start_in_noscript(name, attrs)
                 } else {
@@ -149,7 +149,7 @@ impl Parts {
     ) -> Result<(), BuildFault>
         requires kept { IsKept self.old }
         requires all { self.old.drops_line_feed ≡ false }
-        requires phase { self.old.phase ≡ Phase.AfterHead }
+        requires insertion_mode { self.old.insertion_mode ≡ InsertionMode.AfterHead }
         requires room { Fits (steps.start_after_head name.now attrs slash (state_of self.old)) self.old.maker }
         ensures ok { OnOk result (IsDone (steps.start_after_head name.now attrs slash (state_of self.old)) self.old self.new) }
         ensures err { IfErr result (IsRefused (steps.start_after_head name.now attrs slash (state_of self.old))) }
@@ -171,10 +171,10 @@ impl Parts {
     ) -> Result<(), BuildFault>
         requires kept { IsKept self.old }
         requires all { self.old.drops_line_feed ≡ false }
-        requires takes { TakesChildren self.old.phase }
-        requires room { Fits (start_inside (phase_of self.old.phase) name.now attrs slash (state_of self.old)) self.old.maker }
-        ensures ok { OnOk result (IsDone (start_inside (phase_of self.old.phase) name.now attrs slash (state_of self.old)) self.old self.new) }
-        ensures err { IfErr result (IsRefused (start_inside (phase_of self.old.phase) name.now attrs slash (state_of self.old))) }
+        requires takes { TakesChildren self.old.insertion_mode }
+        requires room { Fits (start_inside (insertion_mode_of self.old.insertion_mode) name.now attrs slash (state_of self.old)) self.old.maker }
+        ensures ok { OnOk result (IsDone (start_inside (insertion_mode_of self.old.insertion_mode) name.now attrs slash (state_of self.old)) self.old self.new) }
+        ensures err { IfErr result (IsRefused (start_inside (insertion_mode_of self.old.insertion_mode) name.now attrs slash (state_of self.old))) }
     {
         if may_stand(Named::of(name), Named::of("head"), Some("html")) {
             self.reach_head(alloc)?;
@@ -188,12 +188,12 @@ impl Parts {
     /// Makes `html` and `head` where they are missing.
     fn reach_head(&mut self, alloc: Global) -> Result<(), Memory>
         requires kept { IsKept self.old }
-        requires takes { TakesChildren self.old.phase }
-        requires room { HasRoom (self.old.maker ++ head_opened self.old.phase) }
+        requires takes { TakesChildren self.old.insertion_mode }
+        requires room { HasRoom (self.old.maker ++ head_opened self.old.insertion_mode) }
         ensures { OnOk result (self.new ≡ in_open_head self.old) }
     {
-        make_open_head(alloc, &mut self.maker, self.phase)?;
-        self.phase = Phase::InHead {
+        make_open_head(alloc, &mut self.maker, self.insertion_mode)?;
+        self.insertion_mode = InsertionMode::InHead {
             noscript: false,
             text: None,
         };
@@ -204,7 +204,7 @@ impl Parts {
     fn start_child(&mut self, name: &str, attrs: Attrs) -> Result<(), Memory>
         requires kept { IsKept self.old }
         requires all { self.old.drops_line_feed ≡ false }
-        requires phase { self.old.phase ≡ Phase.InHead false None }
+        requires insertion_mode { self.old.insertion_mode ≡ InsertionMode.InHead false None }
         requires stands { stands_on name.now under_head ≡ true }
         requires room { Fits (opened name.now attrs (state_of self.old)) self.old.maker }
         ensures { OnOk result (IsDone (opened name.now attrs (state_of self.old)) self.old self.new) }
@@ -222,7 +222,7 @@ impl Parts {
     fn start_in_noscript(&mut self, name: &str, attrs: Attrs) -> Result<(), BuildFault>
         requires kept { IsKept self.old }
         requires all { self.old.drops_line_feed ≡ false }
-        requires phase { self.old.phase ≡ Phase.InHead true None }
+        requires insertion_mode { self.old.insertion_mode ≡ InsertionMode.InHead true None }
         requires room { Fits (steps.start_in_noscript name.now attrs (state_of self.old)) self.old.maker }
         ensures ok { OnOk result (IsDone (steps.start_in_noscript name.now attrs (state_of self.old)) self.old self.new) }
         ensures err { IfErr result (IsRefused (steps.start_in_noscript name.now attrs (state_of self.old))) }
@@ -239,12 +239,12 @@ impl Parts {
     fn start_noscript(&mut self, attrs: Attrs) -> Result<(), Memory>
         requires kept { IsKept self.old }
         requires all { self.old.drops_line_feed ≡ false }
-        requires phase { self.old.phase ≡ Phase.InHead false None }
+        requires insertion_mode { self.old.insertion_mode ≡ InsertionMode.InHead false None }
         requires room { Fits (opened noscript attrs (state_of self.old)) self.old.maker }
         ensures { OnOk result (IsDone (opened noscript attrs (state_of self.old)) self.old self.new) }
     {
         self.maker.start("noscript", false, attrs)?;
-        self.phase = Phase::InHead {
+        self.insertion_mode = InsertionMode::InHead {
             noscript: true,
             text: None,
         };
@@ -255,12 +255,12 @@ impl Parts {
     fn start_text(&mut self, noscript: bool, text: HeadText, attrs: Attrs) -> Result<(), Memory>
         requires kept { IsKept self.old }
         requires all { self.old.drops_line_feed ≡ false }
-        requires phase { self.old.phase ≡ Phase.InHead noscript None }
+        requires insertion_mode { self.old.insertion_mode ≡ InsertionMode.InHead noscript None }
         requires room { Fits (opened (text_name text) attrs (state_of self.old)) self.old.maker }
         ensures { OnOk result (IsDone (opened (text_name text) attrs (state_of self.old)) self.old self.new) }
     {
         self.maker.start(text.name(), false, attrs)?;
-        self.phase = Phase::InHead {
+        self.insertion_mode = InsertionMode::InHead {
             noscript,
             text: Some(text),
         };
@@ -271,7 +271,7 @@ impl Parts {
     fn start_void(&mut self, noscript: bool, name: &str, attrs: Attrs) -> Result<(), Memory>
         requires kept { IsKept self.old }
         requires all { self.old.drops_line_feed ≡ false }
-        requires phase { self.old.phase ≡ Phase.InHead noscript None }
+        requires insertion_mode { self.old.insertion_mode ≡ InsertionMode.InHead noscript None }
         requires void { is_void name.now ≡ true }
         requires room { Fits (opened name.now attrs (state_of self.old)) self.old.maker }
         ensures { OnOk result (IsDone (opened name.now attrs (state_of self.old)) self.old self.new) }
@@ -282,38 +282,49 @@ impl Parts {
 }
 
 /// Whether `body` can't open any more, or not before the end of `noscript` in `head`.
-fn has_begun(phase: Phase) -> bool
-    ensures { result ≡ before_body.has_begun phase }
+fn has_begun(insertion_mode: InsertionMode) -> bool
+    ensures { result ≡ before_body.has_begun insertion_mode }
 {
-    match phase {
-        Phase::BeforeHtml | Phase::BeforeHead | Phase::AfterHead => false,
-        Phase::InHead { noscript, .. } => noscript,
-        Phase::Initial | Phase::InBody | Phase::AfterBody | Phase::AfterHtml => true,
+    match insertion_mode {
+        InsertionMode::BeforeHtml | InsertionMode::BeforeHead | InsertionMode::AfterHead => false,
+        InsertionMode::InHead { noscript, .. } => noscript,
+        InsertionMode::Initial
+        | InsertionMode::InBody
+        | InsertionMode::AfterBody
+        | InsertionMode::AfterHtml => true,
     }
 }
 
 /// Makes `html` where it is missing.
-fn make_only_html(alloc: Global, maker: &mut Maker, phase: Phase) -> Result<(), Memory>
-    requires { HasRoom (maker.old ++ html_opened phase) }
-    ensures { OnOk result (maker.new ≡ maker.old ++ html_opened phase) }
+fn make_only_html(
+    alloc: Global,
+    maker: &mut Maker,
+    insertion_mode: InsertionMode,
+) -> Result<(), Memory>
+    requires { HasRoom (maker.old ++ html_opened insertion_mode) }
+    ensures { OnOk result (maker.new ≡ maker.old ++ html_opened insertion_mode) }
 {
-    match phase {
-        Phase::BeforeHtml => maker.start("html", false, Attrs::new(alloc)),
+    match insertion_mode {
+        InsertionMode::BeforeHtml => maker.start("html", false, Attrs::new(alloc)),
         _ => Ok(()),
     }
 }
 
 /// Makes `html` and `head` where they are missing.
-fn make_open_head(alloc: Global, maker: &mut Maker, phase: Phase) -> Result<(), Memory>
-    requires { HasRoom (maker.old ++ head_opened phase) }
-    ensures { OnOk result (maker.new ≡ maker.old ++ head_opened phase) }
+fn make_open_head(
+    alloc: Global,
+    maker: &mut Maker,
+    insertion_mode: InsertionMode,
+) -> Result<(), Memory>
+    requires { HasRoom (maker.old ++ head_opened insertion_mode) }
+    ensures { OnOk result (maker.new ≡ maker.old ++ head_opened insertion_mode) }
 {
-    match phase {
-        Phase::BeforeHtml => {
+    match insertion_mode {
+        InsertionMode::BeforeHtml => {
             maker.start("html", false, Attrs::new(alloc))?;
             maker.start("head", false, Attrs::new(alloc))
         }
-        Phase::BeforeHead => maker.start("head", false, Attrs::new(alloc)),
+        InsertionMode::BeforeHead => maker.start("head", false, Attrs::new(alloc)),
         _ => Ok(()),
     }
 }

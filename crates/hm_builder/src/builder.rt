@@ -7,7 +7,7 @@ ghost use Rattle.hm_tree.specs.Tokens.{points_of};
 ghost use Rattle.hm_builder.specs.Building.{Fits, IsBuilt, IsRefused, IsStepped, first_building};
 
 use crate::BuildFault;
-use crate::insertion::Phase;
+use crate::insertion::InsertionMode;
 use crate::parts::{Parts, current, is_in_svg, is_in_text};
 use hm_base::{Memory, Points};
 use hm_settle::Path;
@@ -18,13 +18,13 @@ use std::marker::Model;
 /// A tree that is being built, token by token (HTML Standard, 13.2.6). Contracts see the state of tree
 /// construction and the events so far.
 #[derive(Debug, Drop)]
-pub struct Builder {
+pub struct TreeBuilder {
     parts: Parts,
     /// A token was refused, or memory was: no token is taken any more.
     is_broken: bool,
 }
 
-impl Model for Builder {
+impl Model for TreeBuilder {
     ghost use Rattle.hm_builder.specs.Building.{Building};
 
     ghost Value = { Building };
@@ -36,20 +36,20 @@ impl Model for Builder {
     ghost invariant = { λ b. IsSound b.is_broken b.parts };
 }
 
-impl Builder {
+impl TreeBuilder {
     /// Nothing is built yet.
-    pub fn new(alloc: Global) -> Result<Builder, Memory>
+    pub fn new(alloc: Global) -> Result<TreeBuilder, Memory>
         ensures { IfOk result (λ builder. builder ≡ first_building) }
     {
         let parts = Parts {
             maker: Tree::maker(alloc),
-            phase: Phase::Initial,
+            insertion_mode: InsertionMode::Initial,
             path: Path::new(alloc)?,
             drops_line_feed: false,
             behind_body: Vec::new(alloc),
             behind_html: Vec::new(alloc),
         };
-        Ok(Builder {
+        Ok(TreeBuilder {
             parts,
             is_broken: false,
         })
@@ -59,7 +59,7 @@ impl Builder {
     pub fn is_in_svg(&self) -> bool
         ensures { result ≡ paths.is_in_svg self.now.state.path }
     {
-        is_in_svg(self.parts.phase, &self.parts.path)
+        is_in_svg(self.parts.insertion_mode, &self.parts.path)
     }
 
     /// Whether the innermost open element is one of HTML that holds one text and nothing else. No name
@@ -67,14 +67,14 @@ impl Builder {
     pub fn is_in_text(&self) -> bool
         ensures { result ≡ paths.is_in_text self.now.state.path }
     {
-        is_in_text(self.parts.phase, &self.parts.path)
+        is_in_text(self.parts.insertion_mode, &self.parts.path)
     }
 
     /// The name of the innermost open element, and no bytes where none is open.
     pub fn current(&self) -> &str
         ensures { result.now ≡ paths.current self.now.state.path }
     {
-        current(self.parts.phase, &self.parts.path)
+        current(self.parts.insertion_mode, &self.parts.path)
     }
 
     /// Takes a doctype. After a fault no token is taken any more: each call answers that memory is refused.
@@ -182,7 +182,7 @@ impl Builder {
         ensures ok { IfOk result (λ tree. IsBuilt (step_over self.state) self.walk tree) }
         ensures err { IfErr result (IsRefused (step_over self.state)) }
     {
-        let Builder { parts, is_broken } = self;
+        let TreeBuilder { parts, is_broken } = self;
         if is_broken {
             return Err(BuildFault::Memory);
         }

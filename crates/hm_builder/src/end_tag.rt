@@ -8,10 +8,10 @@ ghost use Rattle.hm_elements.specs.Paths as paths;
 ghost use Rattle.hm_tree.specs.Tokens as tokens;
 ghost use Rattle.hm_builder.specs.Building.{Fits, IsRefused};
 ghost use Rattle.hm_builder.specs.Inside as inside;
-ghost use Rattle.hm_builder.specs.Inside.{HasBodyPath, IsDone, IsInner, IsKept, IsUnbegun, phase_of, state_of, under_noscript};
+ghost use Rattle.hm_builder.specs.Inside.{HasBodyPath, IsDone, IsInner, IsKept, IsUnbegun, insertion_mode_of, state_of, under_noscript};
 
 use crate::BuildFault;
-use crate::insertion::{HeadText, Phase};
+use crate::insertion::{HeadText, InsertionMode};
 use crate::make::{close_made_head, make_missing};
 use crate::moves::end_elements;
 use crate::parts::{Parts, current_in_head, is_in_text};
@@ -29,13 +29,16 @@ impl Parts {
         ensures err { IfErr result (IsRefused (step (state_of self.old) (tokens.end_tag name.now))) }
     {
         self.drops_line_feed = false;
-        match self.phase {
-            Phase::Initial => Err(BuildFault::from(Rule::NoDoctype)),
-            Phase::InHead { noscript, text } => self.end_in_head(alloc, noscript, text, name),
-            Phase::BeforeHtml | Phase::BeforeHead | Phase::AfterHead => {
+        match self.insertion_mode {
+            InsertionMode::Initial => Err(BuildFault::from(Rule::NoDoctype)),
+            InsertionMode::InHead { noscript, text } => self.end_in_head(
+                alloc, noscript, text, name,
+            ),
+            InsertionMode::BeforeHtml | InsertionMode::BeforeHead | InsertionMode::AfterHead => {
                 self.end_unbegun(alloc, name)
             }
-            Phase::InBody | Phase::AfterBody | Phase::AfterHtml => self.end_in_body(name),
+            InsertionMode::InBody | InsertionMode::AfterBody | InsertionMode::AfterHtml =>
+                self.end_in_body(name),
         }
     }
 
@@ -48,7 +51,7 @@ impl Parts {
         name: &str,
     ) -> Result<(), BuildFault>
         requires kept { IsKept self.old }
-        requires phase { self.old.phase ≡ Phase.InHead noscript text }
+        requires insertion_mode { self.old.insertion_mode ≡ InsertionMode.InHead noscript text }
         requires room { Fits (step_end name.now (state_of self.old)) self.old.maker }
         ensures ok { OnOk result (IsDone (step_end name.now (state_of self.old)) self.old self.new) }
         ensures err { IfErr result (IsRefused (step_end name.now (state_of self.old))) }
@@ -68,7 +71,7 @@ impl Parts {
         name: &str,
     ) -> Result<(), BuildFault>
         requires kept { IsKept self.old }
-        requires phase { self.old.phase ≡ Phase.InHead noscript text }
+        requires insertion_mode { self.old.insertion_mode ≡ InsertionMode.InHead noscript text }
         requires inner { IsInner noscript text }
         ensures ok { OnOk result (IsDone (step_end name.now (state_of self.old)) self.old self.new) }
         ensures err { IfErr result (IsRefused (step_end name.now (state_of self.old))) }
@@ -76,7 +79,7 @@ impl Parts {
         let around = is_noscript_around(noscript, text);
         if current_in_head(noscript, text) == name {
             self.maker.end()?;
-            self.phase = Phase::InHead {
+            self.insertion_mode = InsertionMode::InHead {
                 noscript: around,
                 text: None,
             };
@@ -91,15 +94,15 @@ impl Parts {
     /// Before the body.
     fn end_unbegun(&mut self, alloc: Global, name: &str) -> Result<(), BuildFault>
         requires kept { IsKept self.old }
-        requires unbegun { IsUnbegun self.old.phase }
+        requires unbegun { IsUnbegun self.old.insertion_mode }
         requires room { Fits (step_end name.now (state_of self.old)) self.old.maker }
         ensures ok { OnOk result (IsDone (step_end name.now (state_of self.old)) self.old self.new) }
         ensures err { IfErr result (IsRefused (step_end name.now (state_of self.old))) }
     {
         match name {
             "head" => self.end_head(alloc),
-            "body" => self.leave_unbegun(alloc, Phase::AfterBody),
-            "html" => self.leave_unbegun(alloc, Phase::AfterHtml),
+            "body" => self.leave_unbegun(alloc, InsertionMode::AfterBody),
+            "html" => self.leave_unbegun(alloc, InsertionMode::AfterHtml),
             _ => Err(BuildFault::from(Rule::StrayEnd)),
         }
     }
@@ -107,47 +110,51 @@ impl Parts {
     /// The end tag of head.
     fn end_head(&mut self, alloc: Global) -> Result<(), BuildFault>
         requires kept { IsKept self.old }
-        requires unbegun { IsUnbegun self.old.phase }
-        requires room { Fits (steps.end_head (phase_of self.old.phase) (state_of self.old)) self.old.maker }
-        ensures ok { OnOk result (IsDone (steps.end_head (phase_of self.old.phase) (state_of self.old)) self.old self.new) }
-        ensures err { IfErr result (IsRefused (steps.end_head (phase_of self.old.phase) (state_of self.old))) }
+        requires unbegun { IsUnbegun self.old.insertion_mode }
+        requires room { Fits (steps.end_head (insertion_mode_of self.old.insertion_mode) (state_of self.old)) self.old.maker }
+        ensures ok { OnOk result (IsDone (steps.end_head (insertion_mode_of self.old.insertion_mode) (state_of self.old)) self.old self.new) }
+        ensures err { IfErr result (IsRefused (steps.end_head (insertion_mode_of self.old.insertion_mode) (state_of self.old))) }
     {
-        if let Phase::AfterHead = self.phase {
+        if let InsertionMode::AfterHead = self.insertion_mode {
             return Err(BuildFault::from(Rule::StrayEnd));
         }
-        close_made_head(alloc, &mut self.maker, self.phase)?;
-        self.phase = Phase::AfterHead;
+        close_made_head(alloc, &mut self.maker, self.insertion_mode)?;
+        self.insertion_mode = InsertionMode::AfterHead;
         Ok(())
     }
 
     /// The body ends before anything of it.
-    fn leave_unbegun(&mut self, alloc: Global, phase: Phase) -> Result<(), BuildFault>
+    fn leave_unbegun(
+        &mut self,
+        alloc: Global,
+        insertion_mode: InsertionMode,
+    ) -> Result<(), BuildFault>
         requires kept { IsKept self.old }
-        requires unbegun { IsUnbegun self.old.phase }
-        requires there { HasBodyPath phase }
-        requires room { Fits (steps.reach_body (phase_of self.old.phase) (steps.leave_body (phase_of phase)) (state_of self.old)) self.old.maker }
-        ensures ok { OnOk result (IsDone (steps.reach_body (phase_of self.old.phase) (steps.leave_body (phase_of phase)) (state_of self.old)) self.old self.new) }
-        ensures err { IfErr result (IsRefused (steps.reach_body (phase_of self.old.phase) (steps.leave_body (phase_of phase)) (state_of self.old))) }
+        requires unbegun { IsUnbegun self.old.insertion_mode }
+        requires there { HasBodyPath insertion_mode }
+        requires room { Fits (steps.reach_body (insertion_mode_of self.old.insertion_mode) (steps.leave_body (insertion_mode_of insertion_mode)) (state_of self.old)) self.old.maker }
+        ensures ok { OnOk result (IsDone (steps.reach_body (insertion_mode_of self.old.insertion_mode) (steps.leave_body (insertion_mode_of insertion_mode)) (state_of self.old)) self.old self.new) }
+        ensures err { IfErr result (IsRefused (steps.reach_body (insertion_mode_of self.old.insertion_mode) (steps.leave_body (insertion_mode_of insertion_mode)) (state_of self.old))) }
     {
-        make_missing(alloc, &mut self.maker, self.phase)?;
-        self.phase = phase;
+        make_missing(alloc, &mut self.maker, self.insertion_mode)?;
+        self.insertion_mode = insertion_mode;
         Ok(())
     }
 
     /// Takes an end tag where the innermost elements are those of a body.
     fn end_in_body(&mut self, name: &str) -> Result<(), BuildFault>
         requires kept { IsKept self.old }
-        requires body { HasBodyPath self.old.phase }
+        requires body { HasBodyPath self.old.insertion_mode }
         requires room { Fits (step_end name.now (state_of self.old)) self.old.maker }
         ensures ok { OnOk result (IsDone (step_end name.now (state_of self.old)) self.old self.new) }
         ensures err { IfErr result (IsRefused (step_end name.now (state_of self.old))) }
     {
-        if is_in_text(self.phase, &self.path) {
+        if is_in_text(self.insertion_mode, &self.path) {
             return self.end_inner(name);
         }
-        match self.phase {
-            Phase::AfterBody => self.end_behind_body(name),
-            Phase::AfterHtml => Err(BuildFault::from(Rule::AfterBody)),
+        match self.insertion_mode {
+            InsertionMode::AfterBody => self.end_behind_body(name),
+            InsertionMode::AfterHtml => Err(BuildFault::from(Rule::AfterBody)),
             _ => self.end_open(name),
         }
     }
@@ -155,13 +162,13 @@ impl Parts {
     /// Behind `body`.
     fn end_behind_body(&mut self, name: &str) -> Result<(), BuildFault>
         requires kept { IsKept self.old }
-        requires phase { self.old.phase ≡ Phase.AfterBody }
+        requires insertion_mode { self.old.insertion_mode ≡ InsertionMode.AfterBody }
         requires no_text { paths.is_in_text self.old.path ≡ false }
         ensures ok { OnOk result (IsDone (step_end name.now (state_of self.old)) self.old self.new) }
         ensures err { IfErr result (IsRefused (step_end name.now (state_of self.old))) }
     {
         if name == "html" {
-            self.phase = Phase::AfterHtml;
+            self.insertion_mode = InsertionMode::AfterHtml;
             Ok(())
         } else {
             Err(BuildFault::from(Rule::AfterBody))
@@ -171,7 +178,7 @@ impl Parts {
     /// In the body.
     fn end_open(&mut self, name: &str) -> Result<(), BuildFault>
         requires kept { IsKept self.old }
-        requires phase { self.old.phase ≡ Phase.InBody }
+        requires insertion_mode { self.old.insertion_mode ≡ InsertionMode.InBody }
         requires no_text { paths.is_in_text self.old.path ≡ false }
         requires room { Fits (step_end name.now (state_of self.old)) self.old.maker }
         ensures ok { OnOk result (IsDone (step_end name.now (state_of self.old)) self.old self.new) }
@@ -181,10 +188,10 @@ impl Parts {
             return self.end_inner(name);
         }
         if same_name(name, "body") {
-            return self.leave_body(Phase::AfterBody);
+            return self.leave_body(InsertionMode::AfterBody);
         }
         if same_name(name, "html") {
-            return self.leave_body(Phase::AfterHtml);
+            return self.leave_body(InsertionMode::AfterHtml);
         }
         if same_name(name, "head") {
             return Err(BuildFault::from(Rule::StrayEnd));
@@ -193,15 +200,15 @@ impl Parts {
     }
 
     /// The body ends where nothing but a `p` is open in it.
-    fn leave_body(&mut self, phase: Phase) -> Result<(), BuildFault>
+    fn leave_body(&mut self, insertion_mode: InsertionMode) -> Result<(), BuildFault>
         requires kept { IsKept self.old }
-        requires here { self.old.phase ≡ Phase.InBody }
-        requires there { HasBodyPath phase }
-        ensures ok { OnOk result (IsDone (steps.leave_body (phase_of phase) (state_of self.old)) self.old self.new) }
-        ensures err { IfErr result (IsRefused (steps.leave_body (phase_of phase) (state_of self.old))) }
+        requires here { self.old.insertion_mode ≡ InsertionMode.InBody }
+        requires there { HasBodyPath insertion_mode }
+        ensures ok { OnOk result (IsDone (steps.leave_body (insertion_mode_of insertion_mode) (state_of self.old)) self.old self.new) }
+        ensures err { IfErr result (IsRefused (steps.leave_body (insertion_mode_of insertion_mode) (state_of self.old))) }
     {
         if is_at_end(&self.path) {
-            self.phase = phase;
+            self.insertion_mode = insertion_mode;
             Ok(())
         } else {
             Err(BuildFault::from(Rule::Unclosed))
@@ -211,7 +218,7 @@ impl Parts {
     /// Ends an element of HTML, and those whose ends are implied.
     fn end_named(&mut self, name: &str) -> Result<(), BuildFault>
         requires kept { IsKept self.old }
-        requires body { HasBodyPath self.old.phase }
+        requires body { HasBodyPath self.old.insertion_mode }
         requires not_body { name.now ≢ body }
         requires not_html { name.now ≢ html }
         ensures ok { OnOk result (IsDone (after_end_moves (state_of self.old) (end_moves name.now self.old.path)) self.old self.new) }
@@ -225,7 +232,7 @@ impl Parts {
     /// Ends the innermost element of a body, which is one of SVG or holds a text, if the tag has its name.
     fn end_inner(&mut self, name: &str) -> Result<(), BuildFault>
         requires kept { IsKept self.old }
-        requires body { HasBodyPath self.old.phase }
+        requires body { HasBodyPath self.old.insertion_mode }
         requires only_current { paths.is_in_svg self.old.path || paths.is_in_text self.old.path ≡ true }
         requires room { Fits (end_current name.now (state_of self.old) self.old.path) self.old.maker }
         ensures ok { OnOk result (IsDone (end_current name.now (state_of self.old) self.old.path) self.old self.new) }

@@ -10,7 +10,7 @@ ghost use Rattle.hm_builder.specs.Inside.{IsKept, state_of};
 
 use crate::BuildFault;
 use crate::end_tag::is_at_end;
-use crate::insertion::Phase;
+use crate::insertion::InsertionMode;
 use crate::make::make_missing;
 use crate::moves::end_elements;
 use crate::parts::{Parts, is_in_text};
@@ -27,16 +27,16 @@ impl Parts {
         ensures ok { IfOk result (λ tree. IsBuilt (step_over (state_of self)) self.maker tree) }
         ensures err { IfErr result (IsRefused (step_over (state_of self))) }
     {
-        if is_in_text(self.phase, &self.path) {
+        if is_in_text(self.insertion_mode, &self.path) {
             return Err(BuildFault::from(Rule::Cut));
         }
-        if let Some(rule) = end_rule(self.phase, &self.path) {
+        if let Some(rule) = end_rule(self.insertion_mode, &self.path) {
             return Err(BuildFault::from(rule));
         }
         // The length of the path comes with its outermost elements, html and body.
         let _depth = self.path.len();
         let mut maker = self.maker;
-        make_missing(alloc, &mut maker, self.phase)?;
+        make_missing(alloc, &mut maker, self.insertion_mode)?;
         close_all(
             &mut maker,
             self.behind_body.as_slice(),
@@ -47,16 +47,16 @@ impl Parts {
 }
 
 /// Why a page doesn't end here.
-fn end_rule(phase: Phase, path: &Path) -> Option<Rule>
-    ensures { result ≡ inside.end_rule phase path.now }
+fn end_rule(insertion_mode: InsertionMode, path: &Path) -> Option<Rule>
+    ensures { result ≡ inside.end_rule insertion_mode path.now }
 {
-    match phase {
-        Phase::Initial => Some(Rule::NoDoctype),
-        Phase::InHead {
+    match insertion_mode {
+        InsertionMode::Initial => Some(Rule::NoDoctype),
+        InsertionMode::InHead {
             noscript: true,
             text: None,
         } => Some(Rule::Unclosed),
-        Phase::InBody => (!is_at_end(path)).then_some(Rule::Unclosed),
+        InsertionMode::InBody => (!is_at_end(path)).then_some(Rule::Unclosed),
         _ => None,
     }
 }

@@ -14,5 +14,5 @@ mod parts;
 mod start_tag;
 mod text;
 
-pub use builder::Builder;
+pub use builder::TreeBuilder;
 pub use fault::BuildFault;

@@ -5,23 +5,30 @@ ghost use Rattle.hm_construction.specs.Steps.{under_html, under_head};
 ghost use Rattle.hm_tree.specs.Trees.{HasRoom};
 ghost use Rattle.hm_builder.specs.Inside.{CanMake, missing, body_made, head_closed, head_ended, head_made, html_made, html_then_head, only_head};
 
-use crate::insertion::Phase;
+use crate::insertion::InsertionMode;
 use hm_base::Memory;
 use hm_tree::{Attrs, Maker};
 use std::alloc::Global;
 
 /// Makes what is missing up to `body`, and closes `head`.
-pub(crate) fn make_missing(alloc: Global, maker: &mut Maker, phase: Phase) -> Result<(), Memory>
-    requires room { HasRoom (maker.old ++ missing phase) }
-    requires open_there { CanMake phase (path_after [] maker.old) }
-    ensures { OnOk result (maker.new ≡ maker.old ++ missing phase) }
+pub(crate) fn make_missing(
+    alloc: Global,
+    maker: &mut Maker,
+    insertion_mode: InsertionMode,
+) -> Result<(), Memory>
+    requires room { HasRoom (maker.old ++ missing insertion_mode) }
+    requires open_there { CanMake insertion_mode (path_after [] maker.old) }
+    ensures { OnOk result (maker.new ≡ maker.old ++ missing insertion_mode) }
 {
-    match phase {
-        Phase::BeforeHtml => make_html(alloc, maker),
-        Phase::BeforeHead => make_head(alloc, maker),
-        Phase::InHead { .. } => close_head(alloc, maker),
-        Phase::AfterHead => make_body(alloc, maker),
-        Phase::Initial | Phase::InBody | Phase::AfterBody | Phase::AfterHtml => Ok(()),
+    match insertion_mode {
+        InsertionMode::BeforeHtml => make_html(alloc, maker),
+        InsertionMode::BeforeHead => make_head(alloc, maker),
+        InsertionMode::InHead { .. } => close_head(alloc, maker),
+        InsertionMode::AfterHead => make_body(alloc, maker),
+        InsertionMode::Initial
+        | InsertionMode::InBody
+        | InsertionMode::AfterBody
+        | InsertionMode::AfterHtml => Ok(()),
     }
 }
 
@@ -60,15 +67,19 @@ fn make_body(alloc: Global, maker: &mut Maker) -> Result<(), Memory>
 }
 
 /// Makes `head` where it is missing, and closes it.
-pub(crate) fn close_made_head(alloc: Global, maker: &mut Maker, phase: Phase) -> Result<(), Memory>
-    requires room { HasRoom (maker.old ++ head_ended phase) }
-    requires open_there { CanMake phase (path_after [] maker.old) }
-    ensures { OnOk result (maker.new ≡ maker.old ++ head_ended phase) }
+pub(crate) fn close_made_head(
+    alloc: Global,
+    maker: &mut Maker,
+    insertion_mode: InsertionMode,
+) -> Result<(), Memory>
+    requires room { HasRoom (maker.old ++ head_ended insertion_mode) }
+    requires open_there { CanMake insertion_mode (path_after [] maker.old) }
+    ensures { OnOk result (maker.new ≡ maker.old ++ head_ended insertion_mode) }
 {
-    match phase {
-        Phase::BeforeHtml => make_html_and_head(alloc, maker),
-        Phase::BeforeHead => make_only_head(alloc, maker),
-        Phase::InHead { .. } => maker.end(),
+    match insertion_mode {
+        InsertionMode::BeforeHtml => make_html_and_head(alloc, maker),
+        InsertionMode::BeforeHead => make_only_head(alloc, maker),
+        InsertionMode::InHead { .. } => maker.end(),
         _ => Ok(()),
     }
 }

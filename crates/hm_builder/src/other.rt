@@ -6,7 +6,7 @@ ghost use Rattle.hm_builder.specs.Building.{Fits, IsRefused};
 ghost use Rattle.hm_builder.specs.Inside.{IsDone, IsKept, state_of};
 
 use crate::BuildFault;
-use crate::insertion::Phase;
+use crate::insertion::InsertionMode;
 use crate::parts::Parts;
 use hm_base::{Memory, Rule, Word};
 use std::alloc::Global;
@@ -19,10 +19,10 @@ impl Parts {
         ensures ok { OnOk result (IsDone (step (state_of self.old) (tokens.doctype legacy)) self.old self.new) }
         ensures err { IfErr result (IsRefused (step (state_of self.old) (tokens.doctype legacy))) }
     {
-        match self.phase {
-            Phase::Initial => {
+        match self.insertion_mode {
+            InsertionMode::Initial => {
                 self.maker.doctype(legacy)?;
-                self.phase = Phase::BeforeHtml;
+                self.insertion_mode = InsertionMode::BeforeHtml;
                 self.drops_line_feed = false;
                 Ok(())
             }
@@ -40,9 +40,9 @@ impl Parts {
         ensures { OnOk result (IsDone (step (state_of self.old) (tokens.comment text.now)) self.old self.new) }
     {
         self.drops_line_feed = false;
-        match self.phase {
-            Phase::AfterBody => self.behind_body.push(kept_word(alloc, text)?)?,
-            Phase::AfterHtml => self.behind_html.push(kept_word(alloc, text)?)?,
+        match self.insertion_mode {
+            InsertionMode::AfterBody => self.behind_body.push(kept_word(alloc, text)?)?,
+            InsertionMode::AfterHtml => self.behind_html.push(kept_word(alloc, text)?)?,
             _ => self.maker.comment(text)?,
         }
         Ok(())

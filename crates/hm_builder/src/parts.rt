@@ -6,7 +6,7 @@ ghost use Rattle.hm_elements.specs.Paths.{blank_parents};
 ghost use Rattle.hm_builder.specs.Inside as inside;
 ghost use Rattle.hm_builder.specs.Inside.{inside_head, open_path, text_name};
 
-use crate::insertion::{HeadText, Phase};
+use crate::insertion::{HeadText, InsertionMode};
 use hm_base::Word;
 use hm_elements::{is_one_of, is_raw, same_name};
 use hm_settle::Path;
@@ -16,7 +16,7 @@ use hm_tree::Maker;
 #[derive(Debug, Drop)]
 pub(crate) struct Parts {
     pub maker: Maker,
-    pub phase: Phase,
+    pub insertion_mode: InsertionMode,
     /// The open elements of the body; `html` and `body` before it begins.
     pub path: Path,
     /// Whether a line feed that comes next is dropped.
@@ -40,14 +40,15 @@ impl HeadText {
 }
 
 /// The name of the innermost element, and no bytes where none is open.
-pub(crate) fn current(phase: Phase, path: &Path) -> &str
-    ensures { result.now ≡ paths.current (open_path phase path.now) }
+pub(crate) fn current(insertion_mode: InsertionMode, path: &Path) -> &str
+    ensures { result.now ≡ paths.current (open_path insertion_mode path.now) }
 {
-    match phase {
-        Phase::Initial | Phase::BeforeHtml => "",
-        Phase::BeforeHead | Phase::AfterHead => "html",
-        Phase::InHead { noscript, text } => current_in_head(noscript, text),
-        Phase::InBody | Phase::AfterBody | Phase::AfterHtml => path.current(),
+    match insertion_mode {
+        InsertionMode::Initial | InsertionMode::BeforeHtml => "",
+        InsertionMode::BeforeHead | InsertionMode::AfterHead => "html",
+        InsertionMode::InHead { noscript, text } => current_in_head(noscript, text),
+        InsertionMode::InBody | InsertionMode::AfterBody | InsertionMode::AfterHtml =>
+            path.current(),
     }
 }
 
@@ -61,28 +62,35 @@ pub(crate) fn current_in_head(noscript: bool, text: Option<HeadText>) -> &'stati
 }
 
 /// Whether the innermost element is one of SVG.
-pub(crate) fn is_in_svg(phase: Phase, path: &Path) -> bool
-    ensures { result ≡ paths.is_in_svg (open_path phase path.now) }
+pub(crate) fn is_in_svg(insertion_mode: InsertionMode, path: &Path) -> bool
+    ensures { result ≡ paths.is_in_svg (open_path insertion_mode path.now) }
 {
-    matches!(phase, Phase::InBody | Phase::AfterBody | Phase::AfterHtml) && path.is_in_svg()
+    matches!(
+        insertion_mode,
+        InsertionMode::InBody | InsertionMode::AfterBody | InsertionMode::AfterHtml
+    ) && path.is_in_svg()
 }
 
 /// Whether the innermost element is one of HTML that holds one text and nothing else. No name is looked up.
-pub(crate) fn is_in_text(phase: Phase, path: &Path) -> bool
-    ensures { result ≡ paths.is_in_text (open_path phase path.now) }
+pub(crate) fn is_in_text(insertion_mode: InsertionMode, path: &Path) -> bool
+    ensures { result ≡ paths.is_in_text (open_path insertion_mode path.now) }
 {
-    match phase {
-        Phase::Initial | Phase::BeforeHtml | Phase::BeforeHead | Phase::AfterHead => false,
-        Phase::InHead { text, .. } => text.is_some(),
-        Phase::InBody | Phase::AfterBody | Phase::AfterHtml => path.is_in_text(),
+    match insertion_mode {
+        InsertionMode::Initial
+        | InsertionMode::BeforeHtml
+        | InsertionMode::BeforeHead
+        | InsertionMode::AfterHead => false,
+        InsertionMode::InHead { text, .. } => text.is_some(),
+        InsertionMode::InBody | InsertionMode::AfterBody | InsertionMode::AfterHtml =>
+            path.is_in_text(),
     }
 }
 
 /// Whether a text is raw here. Only the name of an element that holds one text is looked up.
-pub(crate) fn is_in_raw(phase: Phase, path: &Path) -> bool
-    ensures { result ≡ paths.is_in_raw (open_path phase path.now) }
+pub(crate) fn is_in_raw(insertion_mode: InsertionMode, path: &Path) -> bool
+    ensures { result ≡ paths.is_in_raw (open_path insertion_mode path.now) }
 {
-    is_in_text(phase, path) && is_raw(current(phase, path))
+    is_in_text(insertion_mode, path) && is_raw(current(insertion_mode, path))
 }
 
 /// Whether a text is whitespace alone in the innermost element of a body.

@@ -12,10 +12,10 @@ ghost use Rattle.hm_tree.specs.Tokens as tokens;
 ghost use Rattle.hm_tree.specs.Trees.{HasRoom};
 ghost use Rattle.hm_builder.specs.BeforeBody.{IsBefore};
 ghost use Rattle.hm_builder.specs.Building.{Fits, IsRefused};
-ghost use Rattle.hm_builder.specs.Inside.{CanReach, IsDone, IsEntered, IsKept, IsOpened, open_path, phase_of, state_of};
+ghost use Rattle.hm_builder.specs.Inside.{CanReach, IsDone, IsEntered, IsKept, IsOpened, open_path, insertion_mode_of, state_of};
 
 use crate::BuildFault;
-use crate::insertion::Phase;
+use crate::insertion::InsertionMode;
 use crate::make::make_missing;
 use crate::moves::{end_elements, start_made};
 use crate::parts::Parts;
@@ -35,7 +35,7 @@ impl Parts {
         slash: bool,
     ) -> Result<(), BuildFault>
         requires kept { IsKept self.old }
-        requires not_text { is_in_text (open_path self.old.phase self.old.path) ≡ false }
+        requires not_text { is_in_text (open_path self.old.insertion_mode self.old.path) ≡ false }
         requires room { Fits (step (state_of self.old) (tokens.start_tag name.now attrs slash)) self.old.maker }
         ensures ok { OnOk result (IsDone (step (state_of self.old) (tokens.start_tag name.now attrs slash)) self.old self.new) }
         ensures err { IfErr result (IsRefused (step (state_of self.old) (tokens.start_tag name.now attrs slash))) }
@@ -54,15 +54,17 @@ impl Parts {
     ) -> Result<(), BuildFault>
         requires kept { IsKept self.old }
         requires all { self.old.drops_line_feed ≡ false }
-        requires not_text { is_in_text (open_path self.old.phase self.old.path) ≡ false }
+        requires not_text { is_in_text (open_path self.old.insertion_mode self.old.path) ≡ false }
         requires room { Fits (step_start name.now attrs slash (state_of self.old)) self.old.maker }
         ensures ok { OnOk result (IsDone (step_start name.now attrs slash (state_of self.old)) self.old self.new) }
         ensures err { IfErr result (IsRefused (step_start name.now attrs slash (state_of self.old))) }
     {
-        match self.phase {
-            Phase::Initial => Err(BuildFault::from(Rule::NoDoctype)),
-            Phase::AfterBody | Phase::AfterHtml => Err(BuildFault::from(Rule::AfterBody)),
-            Phase::InBody => self.start_in_body(alloc, name, attrs, slash),
+        match self.insertion_mode {
+            InsertionMode::Initial => Err(BuildFault::from(Rule::NoDoctype)),
+            InsertionMode::AfterBody | InsertionMode::AfterHtml => Err(BuildFault::from(
+                Rule::AfterBody,
+            )),
+            InsertionMode::InBody => self.start_in_body(alloc, name, attrs, slash),
             _ => self.start_html(alloc, name, attrs, slash),
         }
     }
@@ -77,8 +79,8 @@ impl Parts {
     ) -> Result<(), BuildFault>
         requires kept { IsKept self.old }
         requires all { self.old.drops_line_feed ≡ false }
-        requires not_text { is_in_text (open_path self.old.phase self.old.path) ≡ false }
-        requires before { IsBefore self.old.phase }
+        requires not_text { is_in_text (open_path self.old.insertion_mode self.old.path) ≡ false }
+        requires before { IsBefore self.old.insertion_mode }
         requires room { Fits (html_start name.now attrs slash (state_of self.old)) self.old.maker }
         ensures ok { OnOk result (IsDone (html_start name.now attrs slash (state_of self.old)) self.old self.new) }
         ensures err { IfErr result (IsRefused (html_start name.now attrs slash (state_of self.old))) }
@@ -101,16 +103,16 @@ impl Parts {
         slash: bool,
     ) -> Result<(), BuildFault>
         requires kept { IsKept self.old }
-        requires reach { CanReach self.old.phase }
+        requires reach { CanReach self.old.insertion_mode }
         requires all { self.old.drops_line_feed ≡ false }
-        requires room { Fits (reach_body (phase_of self.old.phase) (start_in_body name.now attrs slash) (state_of self.old)) self.old.maker }
-        ensures ok { OnOk result (IsDone (reach_body (phase_of self.old.phase) (start_in_body name.now attrs slash) (state_of self.old)) self.old self.new) }
-        ensures err { IfErr result (IsRefused (reach_body (phase_of self.old.phase) (start_in_body name.now attrs slash) (state_of self.old))) }
+        requires room { Fits (reach_body (insertion_mode_of self.old.insertion_mode) (start_in_body name.now attrs slash) (state_of self.old)) self.old.maker }
+        ensures ok { OnOk result (IsDone (reach_body (insertion_mode_of self.old.insertion_mode) (start_in_body name.now attrs slash) (state_of self.old)) self.old self.new) }
+        ensures err { IfErr result (IsRefused (reach_body (insertion_mode_of self.old.insertion_mode) (start_in_body name.now attrs slash) (state_of self.old))) }
     {
         let foreign = opens_as_svg(&self.path, name);
         let moves = self.path.start(name, foreign)?;
-        make_missing(alloc, &mut self.maker, self.phase)?;
-        self.phase = Phase::InBody;
+        make_missing(alloc, &mut self.maker, self.insertion_mode)?;
+        self.insertion_mode = InsertionMode::InBody;
         move_and_start(alloc, &mut self.maker, moves, name, foreign, attrs)?;
         self.close_at_once(name, foreign, slash)
     }

@@ -10,7 +10,7 @@ ghost use Rattle.hm_builder.specs.Inside as inside;
 ghost use Rattle.hm_builder.specs.Inside.{IsCut, IsDone, IsKept, IsPutBehind, mixed_events, open_path, state_of, with_blank};
 
 use crate::BuildFault;
-use crate::insertion::Phase;
+use crate::insertion::InsertionMode;
 use crate::make::make_missing;
 use crate::parts::{Parts, is_in_blank, is_in_raw, is_in_text};
 use hm_base::{Memory, Points, Rule, is_space};
@@ -30,34 +30,34 @@ fn split_blank(text: &str) -> (&str, &str)
 }
 
 /// Why a text that isn't whitespace is refused.
-fn text_rule(phase: Phase, path: &hm_settle::Path) -> Option<Rule>
-    ensures { result ≡ inside.text_rule phase path.now }
+fn text_rule(insertion_mode: InsertionMode, path: &hm_settle::Path) -> Option<Rule>
+    ensures { result ≡ inside.text_rule insertion_mode path.now }
 {
-    match phase {
-        Phase::Initial => Some(Rule::NoDoctype),
-        Phase::InHead {
+    match insertion_mode {
+        InsertionMode::Initial => Some(Rule::NoDoctype),
+        InsertionMode::InHead {
             noscript: true,
             text: None,
         } => Some(Rule::TextHere),
-        Phase::InBody => is_in_blank(path).then_some(Rule::TextHere),
-        Phase::AfterBody | Phase::AfterHtml => Some(Rule::AfterBody),
+        InsertionMode::InBody => is_in_blank(path).then_some(Rule::TextHere),
+        InsertionMode::AfterBody | InsertionMode::AfterHtml => Some(Rule::AfterBody),
         _ => None,
     }
 }
 
 /// Puts whitespace where it stands, or drops it.
-fn keep_blank(maker: &mut Maker, phase: Phase, text: &str) -> Result<(), Memory>
-    requires room { HasRoom (with_blank phase maker.old text.now) }
+fn keep_blank(maker: &mut Maker, insertion_mode: InsertionMode, text: &str) -> Result<(), Memory>
+    requires room { HasRoom (with_blank insertion_mode maker.old text.now) }
     requires same_raw { last_agrees maker.old false ≡ true }
-    ensures { OnOk result (maker.new ≡ with_blank phase maker.old text.now) }
+    ensures { OnOk result (maker.new ≡ with_blank insertion_mode maker.old text.now) }
 {
-    match phase {
-        Phase::Initial | Phase::BeforeHtml | Phase::BeforeHead => Ok(()),
-        Phase::InHead { .. }
-        | Phase::AfterHead
-        | Phase::InBody
-        | Phase::AfterBody
-        | Phase::AfterHtml => maker.text(text, false),
+    match insertion_mode {
+        InsertionMode::Initial | InsertionMode::BeforeHtml | InsertionMode::BeforeHead => Ok(()),
+        InsertionMode::InHead { .. }
+        | InsertionMode::AfterHead
+        | InsertionMode::InBody
+        | InsertionMode::AfterBody
+        | InsertionMode::AfterHtml => maker.text(text, false),
     }
 }
 
@@ -106,17 +106,17 @@ impl Parts {
         ensures ok { OnOk result (IsDone (step_bytes text.now (state_of self.old)) self.old self.new) }
         ensures err { IfErr result (IsRefused (behind_bytes before (step_bytes text.now (state_of self.old)))) }
     {
-        if is_in_text(self.phase, &self.path) {
-            let raw = is_in_raw(self.phase, &self.path);
+        if is_in_text(self.insertion_mode, &self.path) {
+            let raw = is_in_raw(self.insertion_mode, &self.path);
             self.maker.text(text, raw)?;
             return Ok(());
         }
         let (blank, rest) = split_blank(text);
         if rest.is_empty() {
-            keep_blank(&mut self.maker, self.phase, blank)?;
+            keep_blank(&mut self.maker, self.insertion_mode, blank)?;
             return Ok(());
         }
-        if let Some(rule) = text_rule(self.phase, &self.path) {
+        if let Some(rule) = text_rule(self.insertion_mode, &self.path) {
             let behind = before + blank.len() as u32;
             return Err(BuildFault::Rule { rule, behind });
         }
@@ -127,14 +127,14 @@ impl Parts {
     /// Takes whitespace and a text behind it that isn't, where text may stand.
     fn mixed_text(&mut self, alloc: Global, blank: &str, rest: &str) -> Result<(), Memory>
         requires kept { IsKept self.old }
-        requires not_text { paths.is_in_text (open_path self.old.phase self.old.path) ≡ false }
-        requires stands { inside.text_rule self.old.phase self.old.path ≡ None }
-        requires room { HasRoom (self.old.maker ++ mixed_events self.old.phase blank.now rest.now) }
-        ensures { OnOk result (IsPutBehind (mixed_events self.old.phase blank.now rest.now) self.old self.new) }
+        requires not_text { paths.is_in_text (open_path self.old.insertion_mode self.old.path) ≡ false }
+        requires stands { inside.text_rule self.old.insertion_mode self.old.path ≡ None }
+        requires room { HasRoom (self.old.maker ++ mixed_events self.old.insertion_mode blank.now rest.now) }
+        ensures { OnOk result (IsPutBehind (mixed_events self.old.insertion_mode blank.now rest.now) self.old self.new) }
     {
-        keep_blank(&mut self.maker, self.phase, blank)?;
-        make_missing(alloc, &mut self.maker, self.phase)?;
-        self.phase = Phase::InBody;
+        keep_blank(&mut self.maker, self.insertion_mode, blank)?;
+        make_missing(alloc, &mut self.maker, self.insertion_mode)?;
+        self.insertion_mode = InsertionMode::InBody;
         self.maker.text(rest, false)?;
         Ok(())
     }

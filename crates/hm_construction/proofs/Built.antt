@@ -2,7 +2,7 @@
 use Rattle.std.proofs.Common.{◌≡◌, ℕ, zero, suc, pred, ◌+◌, ◌-◌, ◌<◌, ◌≤◌, Bool, true, false, cond, List, [], ◌∷◌, length, drop, map, refl, sym, ap, subst, arith, encode_utf8_all, bytes_eq}
 use Rattle.std.proofs.lemmas.Bool.{both_ways}
 use Rattle.hm_base.specs.Source.{Source, byte_of, place_in}
-use Rattle.hm_base.specs.Walks.{Event, Element, text_before, pushes}
+use Rattle.hm_base.specs.Walks.{Event, Element, text_before, pushes, begins_text}
 use Rattle.hm_tokens.proofs.References.{point_bytes}
 use Rattle.hm_base.specs.declared.rules.Rule.TheVariants.{StrayEnd, NotCurrent, Cut}
 use Rattle.hm_refs.specs.Names.{Entry}
@@ -10,19 +10,19 @@ use Rattle.hm_tree.specs.Tokens.{Seen, Scanned, taken, refused}
 use Rattle.hm_tree.specs.Tokens as tokens
 use Rattle.hm_elements.specs.Names.{head, body}
 use Rattle.hm_elements.specs.Paths.{is_in_raw, is_in_text, current, is_open}
-use Rattle.hm_elements.specs.Settled.{begins_text, Settled}
+use Rattle.hm_elements.specs.Settled.{Settled}
 use Rattle.hm_elements.specs.Places.{CommentAllowed, SettledBehindBody, SettledBeforeBody}
 use Rattle.hm_elements.proofs.Gathered.{page_settles}
 use Rattle.hm_tokens.specs.First.{Mode, Next, at_end, behind_bytes, first}
 use Rattle.hm_tokens.specs.Laws.{IsPlain, SoundNames, IsText, SoundToken, least_size}
 use Rattle.hm_tokens.proofs.Firsts.{tokens_are_sound, tokens_are_small}
 use Rattle.hm_tag_scan.specs.Reading.{read_tag}
-use Rattle.hm_construction.specs.Steps.{Phase, initial, before_html, before_head, in_head, after_head, in_body, after_body, after_html, State, Stepped, went, stops, no_drop, step_bytes, step, step_end, step_over, end_current, end_event, first_state}
+use Rattle.hm_construction.specs.Steps.{InsertionMode, initial, before_html, before_head, in_head, after_head, in_body, after_body, after_html, State, Stepped, went, stops, no_drop, step_bytes, step, step_end, step_over, end_current, end_event, first_state}
 use Rattle.hm_construction.specs.Trees.{Outcome, built, refused_by, after_events, mode_of, stepped, next_step, tree_from, tree_of_source}
 use Rattle.hm_construction.proofs.Standing.{SettledAt, Good, Leads}
 use Rattle.hm_construction.proofs.Texts.{RawPiece, raw_inside, texts, texts_join}
 use Rattle.hm_construction.proofs.Bytes.{Ran, ran, halted, all_ran, keeps_in_text, good_still, holds_texts}
-use Rattle.hm_construction.proofs.Fronts.{text_leads, front_stands, text_phase}
+use Rattle.hm_construction.proofs.Fronts.{text_leads, front_stands, text_mode}
 use Rattle.hm_construction.proofs.Tags.{starts_lead, ends_lead, comments_lead, doctypes_lead}
 use Rattle.hm_construction.proofs.Overs.{SettlesAll, over_settles}
 use Rattle.hm_construction.proofs.Modes.{is_mode, markup_no_text, references_no_raw, raw_mode, in_text, raw_piece}
@@ -42,45 +42,45 @@ after_built es (built v) w h = record { rest = v; built_is = refl; whole = cc }
 after_built es (refused_by rule at) w h = cc
 
 -- a step, and what is built behind it
-step_settles : (place : ℕ → ℕ) (at : ℕ) (phase : Phase) (path : List Element) (s : Stepped) (more : State → Outcome) (w : List Event) → Leads phase path s
-    → ((next : State) (v : List Event) → Good next → more next ≡ built v → SettledAt next.phase next.path v) → stepped place at s more ≡ built w → SettledAt phase path w
-step_settles place at phase path (went es next) more w l behind h =
+step_settles : (place : ℕ → ℕ) (at : ℕ) (insertion_mode : InsertionMode) (path : List Element) (s : Stepped) (more : State → Outcome) (w : List Event) → Leads insertion_mode path s
+    → ((next : State) (v : List Event) → Good next → more next ≡ built v → SettledAt next.insertion_mode next.path v) → stepped place at s more ≡ built w → SettledAt insertion_mode path w
+step_settles place at insertion_mode path (went es next) more w l behind h =
     let b = after_built es (more next) w h in
-    subst (SettledAt phase path) b.whole (l.1 b.rest (behind next b.rest l.0 b.built_is))
-step_settles place at phase path (stops rule n) more w l behind h = cc
+    subst (SettledAt insertion_mode path) b.whole (l.1 b.rest (behind next b.rest l.0 b.built_is))
+step_settles place at insertion_mode path (stops rule n) more w l behind h = cc
 
-over_built : (place : ℕ → ℕ) (at : ℕ) (phase : Phase) (path : List Element) (s : Stepped) (w : List Event) → SettlesAll phase path s → stepped place at s (λ next. built []) ≡ built w → SettledAt phase path w
-over_built place at phase path (went es next) w a h = subst (SettledAt phase path) (let is : built (pushes es []) ≡ built w = h in cc) a
-over_built place at phase path (stops rule n) w a h = cc
+over_built : (place : ℕ → ℕ) (at : ℕ) (insertion_mode : InsertionMode) (path : List Element) (s : Stepped) (w : List Event) → SettlesAll insertion_mode path s → stepped place at s (λ next. built []) ≡ built w → SettledAt insertion_mode path w
+over_built place at insertion_mode path (went es next) w a h = subst (SettledAt insertion_mode path) (let is : built (pushes es []) ≡ built w = h in cc) a
+over_built place at insertion_mode path (stops rule n) w a h = cc
 
 -- ---- A token
 
 comment_is_allowed : (mode : Mode) (s : List ℕ) → SoundToken mode (tokens.comment s) → CommentAllowed [] s
 comment_is_allowed mode s c = record { form = c.form; no_zero = c.no_zero; outside = refl; utf8 = c.utf8 }
 
-slice_leads : (st : State) (s : List ℕ) → Good st → IsText (mode_of st.path) s → is_in_raw st.path ≡ false → Leads st.phase st.path (step_bytes s st)
+slice_leads : (st : State) (s : List ℕ) → Good st → IsText (mode_of st.path) s → is_in_raw st.path ≡ false → Leads st.insertion_mode st.path (step_bytes s st)
 slice_leads st s g a r = text_leads s st g r a.no_zero a.utf8
 
 -- every token but a raw text
-token_leads : (st : State) (token : Seen) → Good st → SoundToken (mode_of st.path) token → ((s : List ℕ) → token ≡ tokens.slice s → is_in_raw st.path ≡ false) → Leads st.phase st.path (step st token)
+token_leads : (st : State) (token : Seen) → Good st → SoundToken (mode_of st.path) token → ((s : List ℕ) → token ≡ tokens.slice s → is_in_raw st.path ≡ false) → Leads st.insertion_mode st.path (step st token)
 unfolding step
-token_leads st (tokens.doctype legacy) g a r = doctypes_lead st.phase legacy st st.path (g.inner_comments, g.last_comments) g.shape
-token_leads st (tokens.start_tag n attributes slash) g a r = starts_lead st.phase n attributes slash st st.path (g.inner_comments, g.last_comments) a.name_allowed a.attributes_allowed g.shape (markup_no_text st.path a.mode_reads)
-token_leads st (tokens.end_tag n) g a r = ends_lead st.phase n st st.path (g.inner_comments, g.last_comments) g.shape
+token_leads st (tokens.doctype legacy) g a r = doctypes_lead st.insertion_mode legacy st st.path (g.inner_comments, g.last_comments) g.shape
+token_leads st (tokens.start_tag n attributes slash) g a r = starts_lead st.insertion_mode n attributes slash st st.path (g.inner_comments, g.last_comments) a.name_allowed a.attributes_allowed g.shape (markup_no_text st.path a.mode_reads)
+token_leads st (tokens.end_tag n) g a r = ends_lead st.insertion_mode n st st.path (g.inner_comments, g.last_comments) g.shape
 token_leads st (tokens.slice s) g a r = slice_leads st s g a (r s refl)
 token_leads st (tokens.points ps) g a r =
     let b = point_bytes ps a.scalars in
-    front_stands st.phase st.path (step_bytes (encode_utf8_all ps) st) (text_leads (encode_utf8_all ps) st g (references_no_raw st.path a.mode_reads) b.no_zero b.utf8)
-token_leads st (tokens.comment s) g a r = comments_lead st.phase s st st.path (g.inner_comments, g.last_comments) g.shape (markup_no_text st.path a.mode_reads) (comment_is_allowed (mode_of st.path) s a)
+    front_stands st.insertion_mode st.path (step_bytes (encode_utf8_all ps) st) (text_leads (encode_utf8_all ps) st g (references_no_raw st.path a.mode_reads) b.no_zero b.utf8)
+token_leads st (tokens.comment s) g a r = comments_lead st.insertion_mode s st st.path (g.inner_comments, g.last_comments) g.shape (markup_no_text st.path a.mode_reads) (comment_is_allowed (mode_of st.path) s a)
 
 -- ---- A raw text
 
 -- the text stands in front of what begins with no text
-raw_puts : (phase : Phase) (path : List Element) (s : List ℕ) (w : List Event) → holds_texts phase ≡ true → RawPiece path s → begins_text w ≡ false → SettledAt phase path w → SettledAt phase path (pushes (texts (is_in_raw path) s) w)
-raw_puts phase path [] w p r alone h = h
-raw_puts phase path (c ∷ s) w p r alone h = rw (texts_join (is_in_raw path) c s w, r.raw) (by phase p h)
+raw_puts : (insertion_mode : InsertionMode) (path : List Element) (s : List ℕ) (w : List Event) → holds_texts insertion_mode ≡ true → RawPiece path s → begins_text w ≡ false → SettledAt insertion_mode path w → SettledAt insertion_mode path (pushes (texts (is_in_raw path) s) w)
+raw_puts insertion_mode path [] w p r alone h = h
+raw_puts insertion_mode path (c ∷ s) w p r alone h = rw (texts_join (is_in_raw path) c s w, r.raw) (by insertion_mode p h)
   where
-    by : (q : Phase) → holds_texts q ≡ true → SettledAt q path w → SettledAt q path (text_before (c ∷ s) true w)
+    by : (q : InsertionMode) → holds_texts q ≡ true → SettledAt q path w → SettledAt q path (text_before (c ∷ s) true w)
     by initial k x = cc
     by before_html k x = cc
     by before_head k x = cc
@@ -95,15 +95,15 @@ still_is : (st : State) → st.drops_line_feed ≡ false → no_drop st ≡ st
 still_is st h = let P : Bool → State = λ b. record st { drops_line_feed = b } in ap P (sym h)
 
 raw_settles : (place : ℕ → ℕ) (at : ℕ) (st : State) (s : List ℕ) (more : State → Outcome) (w : List Event) → Good st → RawPiece st.path s
-    → ((v : List Event) → more (no_drop st) ≡ built v → SettledAt st.phase st.path v × (begins_text v ≡ false)) → stepped place at (step_bytes s (no_drop st)) more ≡ built w → SettledAt st.phase st.path w
+    → ((v : List Event) → more (no_drop st) ≡ built v → SettledAt st.insertion_mode st.path v × (begins_text v ≡ false)) → stepped place at (step_bytes s (no_drop st)) more ≡ built w → SettledAt st.insertion_mode st.path w
 raw_settles place at st s more w g r behind h = by (step_bytes s (no_drop st)) (all_ran s st (keeps_in_text (no_drop st) (in_text st.path r.raw))) h
   where
-    by : (x : Stepped) → Ran (no_drop st) s x → stepped place at x more ≡ built w → SettledAt st.phase st.path w
+    by : (x : Stepped) → Ran (no_drop st) s x → stepped place at x more ≡ built w → SettledAt st.insertion_mode st.path w
     by x (halted rule n) k = cc
     by x (ran blank) k =
         let b = after_built (texts (is_in_raw st.path) s) (more (no_drop st)) w k in
         let d = behind b.rest b.built_is in
-        subst (SettledAt st.phase st.path) b.whole (raw_puts st.phase st.path s b.rest (text_phase st.phase st.path g.shape (in_text st.path r.raw)) r d.1 d.0)
+        subst (SettledAt st.insertion_mode st.path) b.whole (raw_puts st.insertion_mode st.path s b.rest (text_mode st.insertion_mode st.path g.shape (in_text st.path r.raw)) r d.1 d.0)
 
 -- ---- The end tag behind a raw text
 
@@ -185,10 +185,10 @@ rest_is t st c s n token rest names h =
 
 -- what is built of the rest of a text from each place on
 abbrev pub Settles : List Entry → (ℕ → ℕ) → List ℕ → Type 0
-Settles t place s = (skip at : ℕ) (st : State) (w : List Event) → Good st → IsPlain (drop skip s) → tree_from t place skip at st s ≡ built w → SettledAt st.phase st.path w
+Settles t place s = (skip at : ℕ) (st : State) (w : List Event) → Good st → IsPlain (drop skip s) → tree_from t place skip at st s ≡ built w → SettledAt st.insertion_mode st.path w
 
 raw_token : (t : List Entry) (place : ℕ → ℕ) (at : ℕ) (st : State) (c : ℕ) (s : List ℕ) (n : ℕ) (x rest : List ℕ) (w : List Event) → SoundNames t → Settles t place s → Good st → is_in_raw st.path ≡ true → IsText (mode_of st.path) x → IsPlain rest
-    → first t (mode_of st.path) (c ∷ s) ≡ behind_bytes n (taken (tokens.slice x) rest) → stepped place (at + n) (step_bytes x st) (reads_on t place at s (pred (length (c ∷ s) - length rest))) ≡ built w → SettledAt st.phase st.path w
+    → first t (mode_of st.path) (c ∷ s) ≡ behind_bytes n (taken (tokens.slice x) rest) → stepped place (at + n) (step_bytes x st) (reads_on t place at s (pred (length (c ∷ s) - length rest))) ≡ built w → SettledAt st.insertion_mode st.path w
 raw_token t place at st c s n x rest w names more g r a plain e h =
     let skip : ℕ = pred (length (c ∷ s) - length rest) in
     let reached : rest ≡ drop skip s = sym (rest_is t st c s n (tokens.slice x) rest names e) in
@@ -199,18 +199,18 @@ raw_token t place at st c s n x rest w names more g r a plain e h =
     (subst (λ (q : State). stepped place (at + n) (step_bytes x q) (reads_on t place at s skip) ≡ built w) (sym (still_is st (g.keeps r))) h)
 
 other_token : (t : List Entry) (place : ℕ → ℕ) (at : ℕ) (st : State) (c : ℕ) (s : List ℕ) (n : ℕ) (token : Seen) (rest : List ℕ) (w : List Event) → SoundNames t → Settles t place s → Good st → SoundToken (mode_of st.path) token → ((x : List ℕ) → token ≡ tokens.slice x → is_in_raw st.path ≡ false) → IsPlain rest
-    → first t (mode_of st.path) (c ∷ s) ≡ behind_bytes n (taken token rest) → stepped place (at + n) (step st token) (reads_on t place at s (pred (length (c ∷ s) - length rest))) ≡ built w → SettledAt st.phase st.path w
+    → first t (mode_of st.path) (c ∷ s) ≡ behind_bytes n (taken token rest) → stepped place (at + n) (step st token) (reads_on t place at s (pred (length (c ∷ s) - length rest))) ≡ built w → SettledAt st.insertion_mode st.path w
 other_token t place at st c s n token rest w names more g a no_raw plain e h =
     let skip : ℕ = pred (length (c ∷ s) - length rest) in
     let plain' : IsPlain (drop skip s) = subst IsPlain (sym (rest_is t st c s n token rest names e)) plain in
-    step_settles place (at + n) st.phase st.path (step st token) (reads_on t place at s skip) w (token_leads st token g a no_raw) (λ next v g' k. more skip (at + 1) next v g' plain' k) h
+    step_settles place (at + n) st.insertion_mode st.path (step st token) (reads_on t place at s skip) w (token_leads st token g a no_raw) (λ next v g' k. more skip (at + 1) next v g' plain' k) h
 
 one_token : (t : List Entry) (place : ℕ → ℕ) (at : ℕ) (st : State) (c : ℕ) (s : List ℕ) (n : ℕ) (token : Seen) (rest : List ℕ) (w : List Event) → SoundNames t → Settles t place s → Good st → SoundToken (mode_of st.path) token → IsPlain rest
-    → first t (mode_of st.path) (c ∷ s) ≡ behind_bytes n (taken token rest) → stepped place (at + n) (step st token) (reads_on t place at s (pred (length (c ∷ s) - length rest))) ≡ built w → SettledAt st.phase st.path w
+    → first t (mode_of st.path) (c ∷ s) ≡ behind_bytes n (taken token rest) → stepped place (at + n) (step st token) (reads_on t place at s (pred (length (c ∷ s) - length rest))) ≡ built w → SettledAt st.insertion_mode st.path w
 unfolding step
 one_token t place at st c s n (tokens.slice x) rest w names more g a plain e h = by (is_in_raw st.path) refl
   where
-    by : (b : Bool) → is_in_raw st.path ≡ b → SettledAt st.phase st.path w
+    by : (b : Bool) → is_in_raw st.path ≡ b → SettledAt st.insertion_mode st.path w
     by true r = raw_token t place at st c s n x rest w names more g r a plain e h
     by false r = other_token t place at st c s n (tokens.slice x) rest w names more g a (λ y k. r) plain e h
 one_token t place at st c s n (tokens.doctype legacy) rest w names more g a plain e h = other_token t place at st c s n (tokens.doctype legacy) rest w names more g a (λ y k. cc) plain e h
@@ -220,15 +220,15 @@ one_token t place at st c s n (tokens.points ps) rest w names more g a plain e h
 one_token t place at st c s n (tokens.comment x) rest w names more g a plain e h = other_token t place at st c s n (tokens.comment x) rest w names more g a (λ y k. cc) plain e h
 
 next_settles : (t : List Entry) (place : ℕ → ℕ) (at : ℕ) (st : State) (c : ℕ) (s : List ℕ) (x : Next) (w : List Event) → SoundNames t → Settles t place s → Good st → IsPlain (c ∷ s) → first t (mode_of st.path) (c ∷ s) ≡ x
-    → next_step place at st (c ∷ s) x (reads_on t place at s) ≡ built w → SettledAt st.phase st.path w
-next_settles t place at st c s at_end w names more g plain e h = over_built place (at + length (c ∷ s)) st.phase st.path (step_over st) w (over_settles st g) h
+    → next_step place at st (c ∷ s) x (reads_on t place at s) ≡ built w → SettledAt st.insertion_mode st.path w
+next_settles t place at st c s at_end w names more g plain e h = over_built place (at + length (c ∷ s)) st.insertion_mode st.path (step_over st) w (over_settles st g) h
 next_settles t place at st c s (behind_bytes n (refused fault)) w names more g plain e h = cc
 next_settles t place at st c s (behind_bytes n (taken token rest)) w names more g plain e h =
     let a = tokens_are_sound t (mode_of st.path) (c ∷ s) n token rest names (is_mode st.path) plain e in
     one_token t place at st c s n token rest w names more g a.0 a.1 e h
 
 pub settles : (t : List Entry) (place : ℕ → ℕ) → SoundNames t → (s : List ℕ) → Settles t place s
-settles t place names [] skip at st w g plain h = over_built place at st.phase st.path (step_over st) w (over_settles st g) h
+settles t place names [] skip at st w g plain h = over_built place at st.insertion_mode st.path (step_over st) w (over_settles st g) h
 settles t place names (c ∷ s) (suc skip) at st w g plain h = settles t place names s skip (at + 1) st w g plain h
 settles t place names (c ∷ s) zero at st w g plain h = next_settles t place at st c s (first t (mode_of st.path) (c ∷ s)) w names (settles t place names s) g plain refl h
 

@@ -15,7 +15,7 @@ use Rattle.hm_elements.specs.Nesting.{is_name}
 use Rattle.hm_elements.specs.Paths.{current_name, is_in_raw, is_in_text, is_in_blank, blank_parents}
 use Rattle.hm_elements.specs.Places.{SettledBehindBody, SettledBeforeBody}
 use Rattle.hm_elements.proofs.TableTools.{entry_passes}
-use Rattle.hm_construction.specs.Steps.{Phase, initial, before_html, before_head, in_head, after_head, in_body, after_body, after_html, State, Stepped, went, stops, behind_events, behind_bytes, then_step, reach_body, is_in_noscript, keep_byte, space_byte, body_byte, kept_byte, no_drop, step_byte, step_bytes}
+use Rattle.hm_construction.specs.Steps.{InsertionMode, initial, before_html, before_head, in_head, after_head, in_body, after_body, after_html, State, Stepped, went, stops, behind_events, behind_bytes, then_step, reach_body, is_in_noscript, keep_byte, space_byte, body_byte, kept_byte, no_drop, step_byte, step_bytes}
 use Rattle.hm_construction.proofs.Standing.{SettledAt, Good, Leads}
 use Rattle.hm_construction.proofs.Texts.{Piece, text_inside, texts, texts_join}
 
@@ -117,20 +117,20 @@ all_ran (c ∷ s) st keeps = then_ran (no_drop st) c s (kept_byte c (no_drop st)
 pub keeps_in_text : (st : State) → is_in_text st.path ≡ true → Keeps st
 keeps_in_text st h c = rw h (ran (λ k. absurd (both_ways (is_in_blank st.path) (text_not_blank st.path h) k)))
 
--- a byte in a phase
-abbrev pub kept_in : Phase → ℕ → State → Stepped
-kept_in phase c st =
+-- a byte in a insertion mode
+abbrev pub kept_in : InsertionMode → ℕ → State → Stepped
+kept_in insertion_mode c st =
     if is_in_text st.path then keep_byte c st
-    else if is_space c then space_byte phase c st
-    else if is_in_noscript phase st.path then stops TextHere 0
-    else reach_body phase (body_byte c) st
+    else if is_space c then space_byte insertion_mode c st
+    else if is_in_noscript insertion_mode st.path then stops TextHere 0
+    else reach_body insertion_mode (body_byte c) st
 
--- phases in which body is open
-abbrev pub is_body_phase : Phase → Bool
-is_body_phase in_body = true
-is_body_phase after_body = true
-is_body_phase after_html = true
-is_body_phase phase = false
+-- insertion modes in which body is open
+abbrev pub is_body_mode : InsertionMode → Bool
+is_body_mode in_body = true
+is_body_mode after_body = true
+is_body_mode after_html = true
+is_body_mode insertion_mode = false
 
 keeps_space : (st : State) (c : ℕ) → is_space c ≡ true → Ran st (c ∷ []) (keep_byte c st)
 keeps_space st c h = ran (λ k. and_from (is_space c) true h refl)
@@ -142,7 +142,7 @@ keeps_other st c = by (is_in_blank st.path) refl
     by true e = halted TextHere 0
     by false e = ran (λ k. absurd (both_ways (is_in_blank st.path) e k))
 
-body_keeps_space : (phase : Phase) → is_body_phase phase ≡ true → (st : State) (c : ℕ) → is_space c ≡ true → Ran st (c ∷ []) (space_byte phase c st)
+body_keeps_space : (insertion_mode : InsertionMode) → is_body_mode insertion_mode ≡ true → (st : State) (c : ℕ) → is_space c ≡ true → Ran st (c ∷ []) (space_byte insertion_mode c st)
 body_keeps_space initial p st c h = cc
 body_keeps_space before_html p st c h = cc
 body_keeps_space before_head p st c h = cc
@@ -152,7 +152,7 @@ body_keeps_space in_body p st c h = keeps_space st c h
 body_keeps_space after_body p st c h = keeps_space st c h
 body_keeps_space after_html p st c h = keeps_space st c h
 
-body_keeps_other : (phase : Phase) → is_body_phase phase ≡ true → (st : State) (c : ℕ) → Ran st (c ∷ []) (if is_in_noscript phase st.path then stops TextHere 0 else reach_body phase (body_byte c) st)
+body_keeps_other : (insertion_mode : InsertionMode) → is_body_mode insertion_mode ≡ true → (st : State) (c : ℕ) → Ran st (c ∷ []) (if is_in_noscript insertion_mode st.path then stops TextHere 0 else reach_body insertion_mode (body_byte c) st)
 body_keeps_other initial p st c = cc
 body_keeps_other before_html p st c = cc
 body_keeps_other before_head p st c = cc
@@ -162,15 +162,15 @@ body_keeps_other in_body p st c = keeps_other st c
 body_keeps_other after_body p st c = halted AfterBody 0
 body_keeps_other after_html p st c = halted AfterBody 0
 
-pub body_keeps : (phase : Phase) → is_body_phase phase ≡ true → (st : State) → is_in_text st.path ≡ false → (c : ℕ) → Ran st (c ∷ []) (kept_in phase c st)
-body_keeps phase p st t c = rw t (by (is_space c) refl)
+pub body_keeps : (insertion_mode : InsertionMode) → is_body_mode insertion_mode ≡ true → (st : State) → is_in_text st.path ≡ false → (c : ℕ) → Ran st (c ∷ []) (kept_in insertion_mode c st)
+body_keeps insertion_mode p st t c = rw t (by (is_space c) refl)
   where
-    by : (b : Bool) → is_space c ≡ b → Ran st (c ∷ []) (cond b (space_byte phase c st) (if is_in_noscript phase st.path then stops TextHere 0 else reach_body phase (body_byte c) st))
-    by true e = body_keeps_space phase p st c e
-    by false e = body_keeps_other phase p st c
+    by : (b : Bool) → is_space c ≡ b → Ran st (c ∷ []) (cond b (space_byte insertion_mode c st) (if is_in_noscript insertion_mode st.path then stops TextHere 0 else reach_body insertion_mode (body_byte c) st))
+    by true e = body_keeps_space insertion_mode p st c e
+    by false e = body_keeps_other insertion_mode p st c
 
 -- in noscript in head
-pub noscript_keeps : (phase : Phase) (st : State) → is_in_text st.path ≡ false → is_in_noscript phase st.path ≡ true → (c : ℕ) → Ran st (c ∷ []) (kept_in phase c st)
+pub noscript_keeps : (insertion_mode : InsertionMode) (st : State) → is_in_text st.path ≡ false → is_in_noscript insertion_mode st.path ≡ true → (c : ℕ) → Ran st (c ∷ []) (kept_in insertion_mode c st)
 noscript_keeps initial st t n c = cc
 noscript_keeps before_html st t n c = cc
 noscript_keeps before_head st t n c = cc
@@ -186,15 +186,15 @@ noscript_keeps after_html st t n c = cc
 
 -- ---- A text that stays where it is
 
--- phases that keep texts under head or body
-abbrev pub holds_texts : Phase → Bool
+-- insertion modes that keep texts under head or body
+abbrev pub holds_texts : InsertionMode → Bool
 holds_texts in_head = true
 holds_texts in_body = true
 holds_texts after_body = true
 holds_texts after_html = true
-holds_texts phase = false
+holds_texts insertion_mode = false
 
-put_text : (phase : Phase) (path : List Element) (s : List ℕ) (w : List Event) → holds_texts phase ≡ true → is_in_raw path ≡ false → Piece path s → SettledAt phase path w → SettledAt phase path (text_before s false w)
+put_text : (insertion_mode : InsertionMode) (path : List Element) (s : List ℕ) (w : List Event) → holds_texts insertion_mode ≡ true → is_in_raw path ≡ false → Piece path s → SettledAt insertion_mode path w → SettledAt insertion_mode path (text_before s false w)
 put_text initial path s w p no_raw piece h = cc
 put_text before_html path s w p no_raw piece h = cc
 put_text before_head path s w p no_raw piece h = cc
@@ -204,16 +204,16 @@ put_text in_body path s w p no_raw piece h = text_inside body SettledBehindBody 
 put_text after_body path s w p no_raw piece h = text_inside body SettledBehindBody path s w no_raw piece h
 put_text after_html path s w p no_raw piece h = text_inside body SettledBehindBody path s w no_raw piece h
 
-pub ran_puts : (phase : Phase) (path : List Element) (raw : Bool) (s : List ℕ) (w : List Event) → holds_texts phase ≡ true → is_in_raw path ≡ raw → raw ≡ false → has_byte 0 s ≡ false → is_utf8 s ≡ true → (is_in_blank path ≡ true → is_blank s ≡ true) → SettledAt phase path w → SettledAt phase path (pushes (texts raw s) w)
-ran_puts phase path raw [] w p r e zero utf8 blank h = h
-ran_puts phase path raw (c ∷ s) w p r e zero utf8 blank h = rw (texts_join raw c s w, e) (put_text phase path (c ∷ s) w p (r ∙ e) (record { not_empty = refl; no_zero = zero; blank = blank; utf8 = utf8 }) h)
+pub ran_puts : (insertion_mode : InsertionMode) (path : List Element) (raw : Bool) (s : List ℕ) (w : List Event) → holds_texts insertion_mode ≡ true → is_in_raw path ≡ raw → raw ≡ false → has_byte 0 s ≡ false → is_utf8 s ≡ true → (is_in_blank path ≡ true → is_blank s ≡ true) → SettledAt insertion_mode path w → SettledAt insertion_mode path (pushes (texts raw s) w)
+ran_puts insertion_mode path raw [] w p r e zero utf8 blank h = h
+ran_puts insertion_mode path raw (c ∷ s) w p r e zero utf8 blank h = rw (texts_join raw c s w, e) (put_text insertion_mode path (c ∷ s) w p (r ∙ e) (record { not_empty = refl; no_zero = zero; blank = blank; utf8 = utf8 }) h)
 
 pub good_still : (st : State) → Good st → Good (no_drop st)
 good_still st g = record { shape = g.shape; inner_comments = g.inner_comments; last_comments = g.last_comments; keeps = λ h. refl }
 
-ran_leads : (st : State) (s : List ℕ) (x : Stepped) → holds_texts st.phase ≡ true → is_in_raw st.path ≡ false → Good st → has_byte 0 s ≡ false → is_utf8 s ≡ true → Ran (no_drop st) s x → Leads st.phase st.path x
-ran_leads st s x p r g zero utf8 (ran blank) = (good_still st g, λ w h. ran_puts st.phase st.path (is_in_raw st.path) s w p refl r zero utf8 blank h)
+ran_leads : (st : State) (s : List ℕ) (x : Stepped) → holds_texts st.insertion_mode ≡ true → is_in_raw st.path ≡ false → Good st → has_byte 0 s ≡ false → is_utf8 s ≡ true → Ran (no_drop st) s x → Leads st.insertion_mode st.path x
+ran_leads st s x p r g zero utf8 (ran blank) = (good_still st g, λ w h. ran_puts st.insertion_mode st.path (is_in_raw st.path) s w p refl r zero utf8 blank h)
 ran_leads st s x p r g zero utf8 (halted rule n) = tt
 
-pub kept_leads : (s : List ℕ) (st : State) → Keeps (no_drop st) → holds_texts st.phase ≡ true → is_in_raw st.path ≡ false → Good st → has_byte 0 s ≡ false → is_utf8 s ≡ true → Leads st.phase st.path (step_bytes s (no_drop st))
+pub kept_leads : (s : List ℕ) (st : State) → Keeps (no_drop st) → holds_texts st.insertion_mode ≡ true → is_in_raw st.path ≡ false → Good st → has_byte 0 s ≡ false → is_utf8 s ≡ true → Leads st.insertion_mode st.path (step_bytes s (no_drop st))
 kept_leads s st keeps p r g zero utf8 = ran_leads st s (step_bytes s (no_drop st)) p r g zero utf8 (all_ran s st keeps)

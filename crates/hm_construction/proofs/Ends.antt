@@ -11,18 +11,18 @@ use Rattle.hm_elements.specs.Paths.{html_element, is_in_svg, is_in_text, is_open
 use Rattle.hm_elements.specs.Settled.{is_html}
 use Rattle.hm_elements.proofs.TableTools.{same_bytes, entry_passes}
 use Rattle.hm_settle.specs.Moves.{moves, ends_nothing, end_on, html_end_moves, end_moves}
-use Rattle.hm_construction.specs.Steps.{Phase, initial, before_html, before_head, in_head, after_head, in_body, after_body, after_html, State, went, stops, moved, no_drop, under_html, under_head, under_body, end_event, after_end_moves, end_current, is_in_noscript}
+use Rattle.hm_construction.specs.Steps.{InsertionMode, initial, before_html, before_head, in_head, after_head, in_body, after_body, after_html, State, went, stops, moved, no_drop, under_html, under_head, under_body, end_event, after_end_moves, end_current, is_in_noscript}
 use Rattle.hm_construction.proofs.Standing.{HeadOuter, at_head, at_noscript, HeadPath, outside_text, inside_text, BodyPath, at_body, inner, Shape, AtEnd, Good, Leads}
 use Rattle.hm_construction.proofs.Made.{OpensTo}
 use Rattle.hm_construction.proofs.Starts.{CommentsGood, front_leads, front_path}
 
 -- a state before a tag
-abbrev pub before_tag : State → Phase → List Element → State
-before_tag st phase path = moved (no_drop st) phase path
+abbrev pub before_tag : State → InsertionMode → List Element → State
+before_tag st insertion_mode path = moved (no_drop st) insertion_mode path
 
 -- a state with another path
-pub good_on : (st : State) (phase : Phase) (old path : List Element) → CommentsGood st → Shape phase path → Good (record (before_tag st phase old) { path = path })
-good_on st phase old path c s = record { shape = s; inner_comments = c.0; last_comments = c.1; keeps = λ h. refl }
+pub good_on : (st : State) (insertion_mode : InsertionMode) (old path : List Element) → CommentsGood st → Shape insertion_mode path → Good (record (before_tag st insertion_mode old) { path = path })
+good_on st insertion_mode old path c s = record { shape = s; inner_comments = c.0; last_comments = c.1; keeps = λ h. refl }
 
 body_ends_none : (k : List ℕ) → ends_with body k ≡ false
 unfolding ends_with end_rows is_among
@@ -94,12 +94,12 @@ text_no_head n h =
     ]
 
 -- the innermost element holds a text, is one of SVG, or is noscript in head
-abbrev pub StandsAlone : Phase → List Element → Type 0
-StandsAlone phase path = (is_in_text path ≡ true) ⊎ ((is_in_svg path ≡ true) ⊎ (is_in_noscript phase path ≡ true))
+abbrev pub StandsAlone : InsertionMode → List Element → Type 0
+StandsAlone insertion_mode path = (is_in_text path ≡ true) ⊎ ((is_in_svg path ≡ true) ⊎ (is_in_noscript insertion_mode path ≡ true))
 
-other_ends : (phase : Phase) (path : List Element) (b : Bool) → Leads phase path (if b then stops NotCurrent 0 else stops StrayEnd 0)
-other_ends phase path true = tt
-other_ends phase path false = tt
+other_ends : (insertion_mode : InsertionMode) (path : List Element) (b : Bool) → Leads insertion_mode path (if b then stops NotCurrent 0 else stops StrayEnd 0)
+other_ends insertion_mode path true = tt
+other_ends insertion_mode path false = tt
 
 current_in_body : (n : List ℕ) (st : State) (path : List Element) → CommentsGood st → BodyPath path → StandsAlone in_body path → Leads in_body path (end_current n (before_tag st in_body path) path)
 unfolding holds_text is_raw raw_names is_rcdata rcdata_names is_among
@@ -150,7 +150,7 @@ top_is_frame path e (inl t) = let k : is_in_text [] ≡ true = rw e at t in cc
 top_is_frame path e (inr (inl s)) = let k : is_in_svg [] ≡ true = rw e at s in cc
 top_is_frame path e (inr (inr s)) = cc
 
-pub current_leads : (n : List ℕ) (st : State) (phase : Phase) (path : List Element) → CommentsGood st → Shape phase path → StandsAlone phase path → Leads phase path (end_current n (before_tag st phase path) path)
+pub current_leads : (n : List ℕ) (st : State) (insertion_mode : InsertionMode) (path : List Element) → CommentsGood st → Shape insertion_mode path → StandsAlone insertion_mode path → Leads insertion_mode path (end_current n (before_tag st insertion_mode path) path)
 current_leads n st initial path c shape s = absurd (top_is_frame path shape s)
 current_leads n st before_html path c shape s = absurd (top_is_frame path shape s)
 current_leads n st before_head path c shape s = absurd (html_is_frame path shape s)

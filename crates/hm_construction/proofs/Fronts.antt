@@ -1,4 +1,4 @@
--- Text tokens in every phase.
+-- Text tokens in every insertion mode.
 use Rattle.std.proofs.Common.{◌≡◌, ℕ, ◌<◌, Bool, true, false, cond, ◌&&◌, ◌==◌, List, [], ◌∷◌, ◌++◌, refl, ◌∙◌, ap, subst, arith, append_assoc}
 use Rattle.std.proofs.lemmas.Bool.{both_ways, and_from}
 use Rattle.std.specs.Str.{is_utf8}
@@ -9,10 +9,10 @@ use Rattle.hm_elements.specs.Names.{is_among, html, head, body}
 use Rattle.hm_elements.specs.Tables.{is_raw, raw_names, is_rcdata, rcdata_names, holds_text}
 use Rattle.hm_elements.specs.Paths.{is_in_raw, is_in_text}
 use Rattle.hm_elements.specs.Places.{SettledBeforeBody}
-use Rattle.hm_construction.specs.Steps.{Phase, initial, before_html, before_head, in_head, after_head, in_body, after_body, after_html, State, Stepped, went, stops, behind_events, behind_bytes, then_step, moved, under_html, under_head, under_body, make_html, make_head, close_head, make_body, reach_body, is_in_noscript, space_byte, body_byte, no_drop, step_byte, step_bytes, at_front}
+use Rattle.hm_construction.specs.Steps.{InsertionMode, initial, before_html, before_head, in_head, after_head, in_body, after_body, after_html, State, Stepped, went, stops, behind_events, behind_bytes, then_step, moved, under_html, under_head, under_body, make_html, make_head, close_head, make_body, reach_body, is_in_noscript, space_byte, body_byte, no_drop, step_byte, step_bytes, at_front}
 use Rattle.hm_construction.proofs.Standing.{Shape, AllComments, Good, Leads, at_body, behind_leads, later_leads, reach_body_leads}
 use Rattle.hm_construction.proofs.Texts.{text_before_body, texts}
-use Rattle.hm_construction.proofs.Bytes.{no_text_no_raw, space_low, low_behind, low_alone, no_byte_behind, no_byte_first, kept_in, is_body_phase, holds_texts, body_keeps, noscript_keeps, keeps_in_text, ran_puts, good_still, kept_leads}
+use Rattle.hm_construction.proofs.Bytes.{no_text_no_raw, space_low, low_behind, low_alone, no_byte_behind, no_byte_first, kept_in, is_body_mode, holds_texts, body_keeps, noscript_keeps, keeps_in_text, ran_puts, good_still, kept_leads}
 
 -- ---- A step behind made elements
 
@@ -42,7 +42,7 @@ then_html more f st =
     let next = moved st before_head under_html in
     then_behind (start html false [] ∷ []) (make_head (close_head (make_body more)) next) f ∙ ap (behind_events (start html false [] ∷ [])) (then_head more f next)
 
-then_reach : (phase : Phase) (more f : State → Stepped) (st : State) → then_step (reach_body phase more st) f ≡ reach_body phase (λ here. then_step (more here) f) st
+then_reach : (insertion_mode : InsertionMode) (more f : State → Stepped) (st : State) → then_step (reach_body insertion_mode more st) f ≡ reach_body insertion_mode (λ here. then_step (more here) f) st
 then_reach initial more f st = refl
 then_reach before_html more f st = then_html more f st
 then_reach before_head more f st = then_head more f st
@@ -79,8 +79,8 @@ other_leads st c s inner last space zero utf8 =
     let l : Leads in_body under_body (then_step (kept_in in_body c here) (more_bytes s)) = kept_leads (c ∷ s) here (body_keeps in_body refl here body_no_text) refl body_no_raw g zero utf8 in
     subst (λ x. Leads in_body under_body (then_step x (more_bytes s))) (byte_in_body c here body_no_text space) l
 
-space_leads : (phase : Phase) (st : State) (c : ℕ) (s : List ℕ) → Shape phase st.path → is_body_phase phase ≡ false → is_in_text st.path ≡ false → is_space c ≡ true → has_byte 0 (c ∷ []) ≡ false → is_utf8 (c ∷ []) ≡ true
-    → Leads phase st.path (step_bytes s (no_drop st)) → Leads phase st.path (then_step (space_byte phase c (no_drop st)) (more_bytes s))
+space_leads : (insertion_mode : InsertionMode) (st : State) (c : ℕ) (s : List ℕ) → Shape insertion_mode st.path → is_body_mode insertion_mode ≡ false → is_in_text st.path ≡ false → is_space c ≡ true → has_byte 0 (c ∷ []) ≡ false → is_utf8 (c ∷ []) ≡ true
+    → Leads insertion_mode st.path (step_bytes s (no_drop st)) → Leads insertion_mode st.path (then_step (space_byte insertion_mode c (no_drop st)) (more_bytes s))
 space_leads initial st c s shape b t e zero utf8 l = behind_leads initial initial st.path st.path [] (more_bytes s (no_drop st)) (λ w h. h) (later_leads initial st.path 1 (step_bytes s (no_drop st)) l)
 space_leads before_html st c s shape b t e zero utf8 l = behind_leads before_html before_html st.path st.path [] (more_bytes s (no_drop st)) (λ w h. h) (later_leads before_html st.path 1 (step_bytes s (no_drop st)) l)
 space_leads before_head st c s shape b t e zero utf8 l = behind_leads before_head before_head st.path st.path [] (more_bytes s (no_drop st)) (λ w h. h) (later_leads before_head st.path 1 (step_bytes s (no_drop st)) l)
@@ -99,48 +99,48 @@ space_leads in_body st c s shape b t e zero utf8 l = cc
 space_leads after_body st c s shape b t e zero utf8 l = cc
 space_leads after_html st c s shape b t e zero utf8 l = cc
 
-no_body_phase : (phase : Phase) → is_body_phase phase ≡ false → phase ≡ in_body → ⊥
-no_body_phase phase b e = both_ways (is_body_phase phase) b (rw e refl)
+no_body_mode : (insertion_mode : InsertionMode) → is_body_mode insertion_mode ≡ false → insertion_mode ≡ in_body → ⊥
+no_body_mode insertion_mode b e = both_ways (is_body_mode insertion_mode) b (rw e refl)
 
 -- the first byte of a text, and what is built of the bytes behind it
-front_byte : (phase : Phase) (st : State) (c : ℕ) (s : List ℕ) → Shape phase st.path → AllComments st.behind_body → AllComments st.behind_html → is_body_phase phase ≡ false → is_in_text st.path ≡ false → is_in_noscript phase st.path ≡ false → has_byte 0 (c ∷ s) ≡ false → is_utf8 (c ∷ s) ≡ true
-    → (is_utf8 s ≡ true → Leads phase st.path (step_bytes s (no_drop st))) → Leads phase st.path (then_step (kept_in phase c (no_drop st)) (more_bytes s))
-front_byte phase st c s shape inner last b t n zero utf8 more = rw (t, n) (by (is_space c) refl)
+front_byte : (insertion_mode : InsertionMode) (st : State) (c : ℕ) (s : List ℕ) → Shape insertion_mode st.path → AllComments st.behind_body → AllComments st.behind_html → is_body_mode insertion_mode ≡ false → is_in_text st.path ≡ false → is_in_noscript insertion_mode st.path ≡ false → has_byte 0 (c ∷ s) ≡ false → is_utf8 (c ∷ s) ≡ true
+    → (is_utf8 s ≡ true → Leads insertion_mode st.path (step_bytes s (no_drop st))) → Leads insertion_mode st.path (then_step (kept_in insertion_mode c (no_drop st)) (more_bytes s))
+front_byte insertion_mode st c s shape inner last b t n zero utf8 more = rw (t, n) (by (is_space c) refl)
   where
-    by : (k : Bool) → is_space c ≡ k → Leads phase st.path (then_step (cond k (space_byte phase c (no_drop st)) (reach_body phase (body_byte c) (no_drop st))) (more_bytes s))
-    by true e = space_leads phase st c s shape b t e (no_byte_first 0 c s zero) (low_alone c s (space_low c e) utf8) (more (low_behind c s (space_low c e) utf8))
-    by false e = rw (then_reach phase (body_byte c) (more_bytes s) (no_drop st)) (reach_body_leads phase st.path (no_drop st) (λ here. then_step (body_byte c here) (more_bytes s)) shape t n (other_leads st c s inner last e zero utf8) (λ k. absurd (no_body_phase phase b k)))
+    by : (k : Bool) → is_space c ≡ k → Leads insertion_mode st.path (then_step (cond k (space_byte insertion_mode c (no_drop st)) (reach_body insertion_mode (body_byte c) (no_drop st))) (more_bytes s))
+    by true e = space_leads insertion_mode st c s shape b t e (no_byte_first 0 c s zero) (low_alone c s (space_low c e) utf8) (more (low_behind c s (space_low c e) utf8))
+    by false e = rw (then_reach insertion_mode (body_byte c) (more_bytes s) (no_drop st)) (reach_body_leads insertion_mode st.path (no_drop st) (λ here. then_step (body_byte c here) (more_bytes s)) shape t n (other_leads st c s inner last e zero utf8) (λ k. absurd (no_body_mode insertion_mode b k)))
 
-front_leads : (s : List ℕ) (st : State) → Good st → is_body_phase st.phase ≡ false → is_in_text st.path ≡ false → is_in_noscript st.phase st.path ≡ false → has_byte 0 s ≡ false → is_utf8 s ≡ true → Leads st.phase st.path (step_bytes s (no_drop st))
+front_leads : (s : List ℕ) (st : State) → Good st → is_body_mode st.insertion_mode ≡ false → is_in_text st.path ≡ false → is_in_noscript st.insertion_mode st.path ≡ false → has_byte 0 s ≡ false → is_utf8 s ≡ true → Leads st.insertion_mode st.path (step_bytes s (no_drop st))
 unfolding step_byte
 front_leads [] st g b t n zero utf8 = (good_still st g, λ w h. h)
-front_leads (c ∷ s) st g b t n zero utf8 = front_byte st.phase st c s g.shape g.inner_comments g.last_comments b t n zero utf8 (λ u. front_leads s st g b t n (no_byte_behind 0 c s zero) u)
+front_leads (c ∷ s) st g b t n zero utf8 = front_byte st.insertion_mode st c s g.shape g.inner_comments g.last_comments b t n zero utf8 (λ u. front_leads s st g b t n (no_byte_behind 0 c s zero) u)
 
 -- ---- A text token that isn't raw
 
--- phases whose paths may be those of texts
-pub text_phase : (phase : Phase) (path : List Element) → Shape phase path → is_in_text path ≡ true → holds_texts phase ≡ true
+-- insertion modes whose paths may be those of texts
+pub text_mode : (insertion_mode : InsertionMode) (path : List Element) → Shape insertion_mode path → is_in_text path ≡ true → holds_texts insertion_mode ≡ true
 unfolding holds_text is_raw raw_names is_rcdata rcdata_names is_among
-text_phase initial path s t = let k : is_in_text [] ≡ true = rw s at t in cc
-text_phase before_html path s t = let k : is_in_text [] ≡ true = rw s at t in cc
-text_phase before_head path s t = let k : is_in_text under_html ≡ true = rw s at t in cc
-text_phase in_head path s t = refl
-text_phase after_head path s t = let k : is_in_text under_html ≡ true = rw s at t in cc
-text_phase in_body path s t = refl
-text_phase after_body path s t = refl
-text_phase after_html path s t = refl
+text_mode initial path s t = let k : is_in_text [] ≡ true = rw s at t in cc
+text_mode before_html path s t = let k : is_in_text [] ≡ true = rw s at t in cc
+text_mode before_head path s t = let k : is_in_text under_html ≡ true = rw s at t in cc
+text_mode in_head path s t = refl
+text_mode after_head path s t = let k : is_in_text under_html ≡ true = rw s at t in cc
+text_mode in_body path s t = refl
+text_mode after_body path s t = refl
+text_mode after_html path s t = refl
 
-body_phase_holds : (phase : Phase) → is_body_phase phase ≡ true → holds_texts phase ≡ true
-body_phase_holds initial b = cc
-body_phase_holds before_html b = cc
-body_phase_holds before_head b = cc
-body_phase_holds in_head b = cc
-body_phase_holds after_head b = cc
-body_phase_holds in_body b = refl
-body_phase_holds after_body b = refl
-body_phase_holds after_html b = refl
+body_mode_holds : (insertion_mode : InsertionMode) → is_body_mode insertion_mode ≡ true → holds_texts insertion_mode ≡ true
+body_mode_holds initial b = cc
+body_mode_holds before_html b = cc
+body_mode_holds before_head b = cc
+body_mode_holds in_head b = cc
+body_mode_holds after_head b = cc
+body_mode_holds in_body b = refl
+body_mode_holds after_body b = refl
+body_mode_holds after_html b = refl
 
-noscript_holds : (phase : Phase) (path : List Element) → is_in_noscript phase path ≡ true → holds_texts phase ≡ true
+noscript_holds : (insertion_mode : InsertionMode) (path : List Element) → is_in_noscript insertion_mode path ≡ true → holds_texts insertion_mode ≡ true
 noscript_holds initial path n = cc
 noscript_holds before_html path n = cc
 noscript_holds before_head path n = cc
@@ -151,30 +151,30 @@ noscript_holds after_body path n = refl
 noscript_holds after_html path n = refl
 
 -- where no line feed is dropped
-still_leads : (s : List ℕ) (st : State) → Good st → is_in_raw st.path ≡ false → has_byte 0 s ≡ false → is_utf8 s ≡ true → Leads st.phase st.path (step_bytes s (no_drop st))
-still_leads s st g r zero utf8 = by (is_in_text st.path) (is_body_phase st.phase) (is_in_noscript st.phase st.path) refl refl refl
+still_leads : (s : List ℕ) (st : State) → Good st → is_in_raw st.path ≡ false → has_byte 0 s ≡ false → is_utf8 s ≡ true → Leads st.insertion_mode st.path (step_bytes s (no_drop st))
+still_leads s st g r zero utf8 = by (is_in_text st.path) (is_body_mode st.insertion_mode) (is_in_noscript st.insertion_mode st.path) refl refl refl
   where
-    by : (t b n : Bool) → is_in_text st.path ≡ t → is_body_phase st.phase ≡ b → is_in_noscript st.phase st.path ≡ n → Leads st.phase st.path (step_bytes s (no_drop st))
-    by true b n et eb en = kept_leads s st (keeps_in_text (no_drop st) et) (text_phase st.phase st.path g.shape et) r g zero utf8
-    by false true n et eb en = kept_leads s st (body_keeps st.phase eb (no_drop st) et) (body_phase_holds st.phase eb) r g zero utf8
-    by false false true et eb en = kept_leads s st (noscript_keeps st.phase (no_drop st) et en) (noscript_holds st.phase st.path en) r g zero utf8
+    by : (t b n : Bool) → is_in_text st.path ≡ t → is_body_mode st.insertion_mode ≡ b → is_in_noscript st.insertion_mode st.path ≡ n → Leads st.insertion_mode st.path (step_bytes s (no_drop st))
+    by true b n et eb en = kept_leads s st (keeps_in_text (no_drop st) et) (text_mode st.insertion_mode st.path g.shape et) r g zero utf8
+    by false true n et eb en = kept_leads s st (body_keeps st.insertion_mode eb (no_drop st) et) (body_mode_holds st.insertion_mode eb) r g zero utf8
+    by false false true et eb en = kept_leads s st (noscript_keeps st.insertion_mode (no_drop st) et en) (noscript_holds st.insertion_mode st.path en) r g zero utf8
     by false false false et eb en = front_leads s st g eb et en zero utf8
 
 line_feed_low : (c : ℕ) → c == 10 ≡ true → c < 128
 line_feed_low c h = grind arith
 
 -- a text as it is written
-pub text_leads : (s : List ℕ) (st : State) → Good st → is_in_raw st.path ≡ false → has_byte 0 s ≡ false → is_utf8 s ≡ true → Leads st.phase st.path (step_bytes s st)
+pub text_leads : (s : List ℕ) (st : State) → Good st → is_in_raw st.path ≡ false → has_byte 0 s ≡ false → is_utf8 s ≡ true → Leads st.insertion_mode st.path (step_bytes s st)
 unfolding step_byte
 text_leads [] st g r zero utf8 = (g, λ w h. h)
 text_leads (c ∷ s) st g r zero utf8 = by (st.drops_line_feed) (c == 10) refl
   where
-    by : (d k : Bool) → c == 10 ≡ k → Leads st.phase st.path (then_step (cond (d && k) (went [] (no_drop st)) (kept_in st.phase c (no_drop st))) (more_bytes s))
-    by true true e = behind_leads st.phase st.phase st.path st.path [] (more_bytes s (no_drop st)) (λ w h. h) (later_leads st.phase st.path 1 (step_bytes s (no_drop st)) (still_leads s st g r (no_byte_behind 0 c s zero) (low_behind c s (line_feed_low c e) utf8)))
+    by : (d k : Bool) → c == 10 ≡ k → Leads st.insertion_mode st.path (then_step (cond (d && k) (went [] (no_drop st)) (kept_in st.insertion_mode c (no_drop st))) (more_bytes s))
+    by true true e = behind_leads st.insertion_mode st.insertion_mode st.path st.path [] (more_bytes s (no_drop st)) (λ w h. h) (later_leads st.insertion_mode st.path 1 (step_bytes s (no_drop st)) (still_leads s st g r (no_byte_behind 0 c s zero) (low_behind c s (line_feed_low c e) utf8)))
     by true false e = still_leads (c ∷ s) st g r zero utf8
     by false k e = still_leads (c ∷ s) st g r zero utf8
 
 -- what a reference gives
-pub front_stands : (phase : Phase) (path : List Element) (s : Stepped) → Leads phase path s → Leads phase path (at_front s)
-front_stands phase path (went es st) l = l
-front_stands phase path (stops rule n) l = tt
+pub front_stands : (insertion_mode : InsertionMode) (path : List Element) (s : Stepped) → Leads insertion_mode path s → Leads insertion_mode path (at_front s)
+front_stands insertion_mode path (went es st) l = l
+front_stands insertion_mode path (stops rule n) l = tt

@@ -7,7 +7,7 @@ use Rattle.hm_elements.specs.Tables.{holds_text}
 use Rattle.hm_elements.specs.Paths.{html_element, is_in_svg, is_in_raw, is_in_text}
 use Rattle.hm_elements.specs.Settled.{is_html}
 use Rattle.hm_elements.specs.Places.{AttributesAllowed, RootAllowed, CommentAllowed, SettledBody, SettledBeforeBody, SettledHead, SettledBeforeHead, SettledBeforeHtml, SettledPage}
-use Rattle.hm_construction.specs.Steps.{Phase, initial, before_html, before_head, in_head, after_head, in_body, after_body, after_html, State, Stepped, went, stops, behind_events, behind_bytes, moved, under_html, under_head, under_body, make_html, make_head, close_head, make_body, reach_body, is_in_noscript}
+use Rattle.hm_construction.specs.Steps.{InsertionMode, initial, before_html, before_head, in_head, after_head, in_body, after_body, after_html, State, Stepped, went, stops, behind_events, behind_bytes, moved, under_html, under_head, under_body, make_html, make_head, close_head, make_body, reach_body, is_in_noscript}
 
 -- head, or noscript in it
 pub data HeadOuter : List Element → Type 0 where
@@ -27,8 +27,8 @@ pub data BodyPath : List Element → Type 0 where
 abbrev pub AtEnd : List Element → Type 0
 AtEnd path = (path ≡ under_body) ⊎ (path ≡ html_element p ∷ under_body)
 
--- the path of a phase
-abbrev pub Shape : Phase → List Element → Type 0
+-- the path of a insertion mode
+abbrev pub Shape : InsertionMode → List Element → Type 0
 Shape initial path = path ≡ []
 Shape before_html path = path ≡ []
 Shape before_head path = path ≡ under_html
@@ -38,8 +38,8 @@ Shape in_body path = BodyPath path
 Shape after_body path = AtEnd path
 Shape after_html path = AtEnd path
 
--- what is built from a phase on is settled there
-abbrev pub SettledAt : Phase → List Element → List Event → Type 0
+-- what is built from a insertion mode on is settled there
+abbrev pub SettledAt : InsertionMode → List Element → List Event → Type 0
 SettledAt initial path w = SettledPage w
 SettledAt before_html path w = SettledBeforeHtml w
 SettledAt before_head path w = SettledBeforeHead w
@@ -56,27 +56,27 @@ AllComments (s ∷ ss) = CommentAllowed [] s × AllComments ss
 
 -- what is known of a state between two tokens
 pub record Good (st : State) : Type 0 where
-  pub shape : Shape st.phase st.path
+  pub shape : Shape st.insertion_mode st.path
   pub inner_comments : AllComments st.behind_body
   pub last_comments : AllComments st.behind_html
   pub keeps : is_in_raw st.path ≡ true → st.drops_line_feed ≡ false
 
 -- what a step makes stands in front of what is settled behind it
-abbrev pub Leads : Phase → List Element → Stepped → Type 0
-Leads phase path (went es st) = Good st × ((w : List Event) → SettledAt st.phase st.path w → SettledAt phase path (pushes es w))
-Leads phase path (stops rule n) = Unit {0}
+abbrev pub Leads : InsertionMode → List Element → Stepped → Type 0
+Leads insertion_mode path (went es st) = Good st × ((w : List Event) → SettledAt st.insertion_mode st.path w → SettledAt insertion_mode path (pushes es w))
+Leads insertion_mode path (stops rule n) = Unit {0}
 
 pub pushes_append : (es fs w : List Event) → pushes (es ++ fs) w ≡ pushes es (pushes fs w)
 pushes_append [] fs w = refl
 pushes_append (e ∷ es) fs w = ap (pushed e) (pushes_append es fs w)
 
-pub behind_leads : (phase phase' : Phase) (path path' : List Element) (es : List Event) (s : Stepped) → ((w : List Event) → SettledAt phase' path' w → SettledAt phase path (pushes es w)) → Leads phase' path' s → Leads phase path (behind_events es s)
-behind_leads phase phase' path path' es (went fs st) put l = (l.0, λ w h. rw (pushes_append es fs w) (put (pushes fs w) (l.1 w h)))
-behind_leads phase phase' path path' es (stops rule n) put l = tt
+pub behind_leads : (insertion_mode insertion_mode' : InsertionMode) (path path' : List Element) (es : List Event) (s : Stepped) → ((w : List Event) → SettledAt insertion_mode' path' w → SettledAt insertion_mode path (pushes es w)) → Leads insertion_mode' path' s → Leads insertion_mode path (behind_events es s)
+behind_leads insertion_mode insertion_mode' path path' es (went fs st) put l = (l.0, λ w h. rw (pushes_append es fs w) (put (pushes fs w) (l.1 w h)))
+behind_leads insertion_mode insertion_mode' path path' es (stops rule n) put l = tt
 
-pub later_leads : (phase : Phase) (path : List Element) (n : ℕ) (s : Stepped) → Leads phase path s → Leads phase path (behind_bytes n s)
-later_leads phase path n (went fs st) l = l
-later_leads phase path n (stops rule k) l = tt
+pub later_leads : (insertion_mode : InsertionMode) (path : List Element) (n : ℕ) (s : Stepped) → Leads insertion_mode path s → Leads insertion_mode path (behind_bytes n s)
+later_leads insertion_mode path n (went fs st) l = l
+later_leads insertion_mode path n (stops rule k) l = tt
 
 pub no_attributes : AttributesAllowed []
 no_attributes = record { few = refl; distinct = refl; names = refl; no_zero = refl; utf8 = refl }
@@ -108,8 +108,8 @@ head_is path (inside_text m path' h o) t n = absurd (both_ways (holds_text m) t 
 pub head_closes : (path : List Element) (st : State) (more : State → Stepped) → path ≡ under_head → Leads after_head under_html (more (moved st after_head under_html)) → Leads in_head path (close_head more st)
 head_closes path st more e l = rw e (closed_leads st more l)
 
-pub reach_body_leads : (phase : Phase) (path : List Element) (st : State) (more : State → Stepped) → Shape phase path → is_in_text path ≡ false → is_in_noscript phase path ≡ false
-    → Leads in_body under_body (more (moved st in_body under_body)) → (phase ≡ in_body → Leads in_body path (more st)) → Leads phase path (reach_body phase more st)
+pub reach_body_leads : (insertion_mode : InsertionMode) (path : List Element) (st : State) (more : State → Stepped) → Shape insertion_mode path → is_in_text path ≡ false → is_in_noscript insertion_mode path ≡ false
+    → Leads in_body under_body (more (moved st in_body under_body)) → (insertion_mode ≡ in_body → Leads in_body path (more st)) → Leads insertion_mode path (reach_body insertion_mode more st)
 reach_body_leads initial path st more s t n l k = tt
 reach_body_leads before_html path st more s t n l k = html_leads path st (make_head (close_head (make_body more))) (head_leads under_html (moved st before_head under_html) (close_head (make_body more)) (closed_leads (moved st in_head under_head) (make_body more) (body_leads under_html (moved st after_head under_html) more l)))
 reach_body_leads before_head path st more s t n l k = head_leads path st (close_head (make_body more)) (closed_leads (moved st in_head under_head) (make_body more) (body_leads under_html (moved st after_head under_html) more l))

@@ -3,13 +3,13 @@ use Rattle.std.proofs.Common.{◌≡◌, ℕ, Bool, true, false, cond, ◌||◌,
 use Rattle.std.proofs.lemmas.Bool.{and_parts, not-true, both_ways, false_from_ne_true}
 use Rattle.std.specs.List.{list_all}
 use Rattle.hm_base.specs.Forms.{is_tag_name}
-use Rattle.hm_base.specs.Walks.{Event, start, end, Attribute, Element, pushes}
+use Rattle.hm_base.specs.Walks.{Event, start, end, Attribute, Element, pushes, begins_end}
 use Rattle.hm_base.specs.declared.rules.Rule.TheVariants.{RefusedName, SecondRoot, BlockInParagraph, Nested, WrongParent, TooDeep, ForeignName}
 use Rattle.hm_elements.specs.Names.{words, is_among, body, svg, html}
 use Rattle.hm_elements.specs.Tables.{is_root, roots, is_void, is_refused, is_svg_name, holds_svg_text, is_raw, raw_names}
 use Rattle.hm_elements.specs.Nesting.{yields, yield_rows, made_under}
 use Rattle.hm_elements.specs.Paths.{html_element, current, is_in_svg, is_in_raw, stands_on, head_yields, is_block_in_p, is_nested, is_deep, front, behind, yields_to, made_on}
-use Rattle.hm_elements.specs.Settled.{is_html, begins_end}
+use Rattle.hm_elements.specs.Settled.{is_html}
 use Rattle.hm_elements.specs.Places.{AttributesAllowed, StartAllowed, SettledBody}
 use Rattle.hm_elements.proofs.TableTools.{same_bytes, entry_passes}
 use Rattle.hm_elements.proofs.TableFacts.{svg_is_plain}

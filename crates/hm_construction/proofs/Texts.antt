@@ -5,11 +5,11 @@ use Rattle.std.specs.Str.{is_utf8}
 use Rattle.std.proofs.lemmas.Str.{IsUtf8-append, IsUtf8-from_is_utf8, is_utf8-from_IsUtf8}
 use Rattle.hm_base.specs.Bytes.{is_space, is_null}
 use Rattle.hm_base.specs.Forms.{has_byte, is_byte, is_blank}
-use Rattle.hm_base.specs.Walks.{Event, start, text, end, comment, doctype, Element, text_before, pushes}
+use Rattle.hm_base.specs.Walks.{Event, start, text, end, comment, doctype, Element, text_before, pushes, begins_text}
 use Rattle.hm_elements.specs.Names.{is_among}
 use Rattle.hm_elements.specs.Tables.{is_raw, raw_names}
 use Rattle.hm_elements.specs.Paths.{is_in_raw, is_in_blank, current}
-use Rattle.hm_elements.specs.Settled.{begins_text, end_tag, raw_text_end}
+use Rattle.hm_elements.specs.Settled.{end_tag, raw_text_end}
 use Rattle.hm_elements.specs.Places.{TextAllowed, SettledInside, SettledBeforeBody, html_path}
 
 -- ---- UTF-8, zero bytes and whitespace of texts that touch

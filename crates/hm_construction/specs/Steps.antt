@@ -16,20 +16,20 @@ use Rattle.hm_tree.specs.Tokens.{Seen}
 use Rattle.hm_tree.specs.Tokens as tokens
 
 -- insertion modes, as far as they are told apart
-pub data Phase : Type 0 where
-  initial : Phase
-  before_html : Phase
-  before_head : Phase
-  in_head : Phase
-  after_head : Phase
-  in_body : Phase
-  after_body : Phase
-  after_html : Phase
+pub data InsertionMode : Type 0 where
+  initial : InsertionMode
+  before_html : InsertionMode
+  before_head : InsertionMode
+  in_head : InsertionMode
+  after_head : InsertionMode
+  in_body : InsertionMode
+  after_body : InsertionMode
+  after_html : InsertionMode
 
--- The phase, the open elements, whether a line feed that comes next is dropped, and the comments behind body and html,
+-- The insertion mode, the open elements, whether a line feed that comes next is dropped, and the comments behind body and html,
 -- which stand in the tree only behind what is still open.
 pub record State : Type 0 where
-  pub phase : Phase
+  pub insertion_mode : InsertionMode
   pub path : List Element
   pub drops_line_feed : Bool
   pub behind_body : List (List ℕ)
@@ -44,8 +44,8 @@ abbrev pub behind_events : List Event → Stepped → Stepped
 behind_events es (went fs st) = went (es ++ fs) st
 behind_events es (stops rule n) = stops rule n
 
-abbrev pub moved : State → Phase → List Element → State
-moved st phase path = record st { phase = phase; path = path }
+abbrev pub moved : State → InsertionMode → List Element → State
+moved st insertion_mode path = record st { insertion_mode = insertion_mode; path = path }
 
 -- ---- One element is made or closed, and the step goes on
 
@@ -71,14 +71,14 @@ abbrev pub make_body : (State → Stepped) → State → Stepped
 make_body more st = behind_events (start body false [] ∷ []) (more (moved st in_body under_body))
 
 -- what is missing up to the open head is made
-abbrev pub reach_head : Phase → Rule → (State → Stepped) → State → Stepped
+abbrev pub reach_head : InsertionMode → Rule → (State → Stepped) → State → Stepped
 reach_head before_html rule more st = make_html (make_head more) st
 reach_head before_head rule more st = make_head more st
 reach_head in_head rule more st = more st
-reach_head phase rule more st = stops rule 0
+reach_head insertion_mode rule more st = stops rule 0
 
 -- what is missing up to body is made, and head is closed
-abbrev pub reach_body : Phase → (State → Stepped) → State → Stepped
+abbrev pub reach_body : InsertionMode → (State → Stepped) → State → Stepped
 reach_body initial more st = stops NoDoctype 0
 reach_body before_html more st = make_html (make_head (close_head (make_body more))) st
 reach_body before_head more st = make_head (close_head (make_body more)) st
@@ -91,31 +91,31 @@ reach_body after_html more st = stops AfterBody 0
 -- ---- Texts
 
 -- noscript in head is the innermost element
-abbrev pub is_in_noscript : Phase → List Element → Bool
+abbrev pub is_in_noscript : InsertionMode → List Element → Bool
 is_in_noscript in_head path = bytes_eq (current path) noscript
-is_in_noscript phase path = false
+is_in_noscript insertion_mode path = false
 
 abbrev pub keep_byte : ℕ → State → Stepped
 keep_byte c st = went (text (c ∷ []) (is_in_raw st.path) ∷ []) st
 
 -- whitespace is dropped before head, and else stands where it is
-abbrev pub space_byte : Phase → ℕ → State → Stepped
+abbrev pub space_byte : InsertionMode → ℕ → State → Stepped
 space_byte initial c st = went [] st
 space_byte before_html c st = went [] st
 space_byte before_head c st = went [] st
-space_byte phase c st = keep_byte c st
+space_byte insertion_mode c st = keep_byte c st
 
 abbrev pub body_byte : ℕ → State → Stepped
 body_byte c st = if is_in_blank st.path then stops TextHere 0 else keep_byte c st
 
 abbrev pub other_byte : ℕ → State → Stepped
-other_byte c st = if is_in_noscript st.phase st.path then stops TextHere 0 else reach_body st.phase (body_byte c) st
+other_byte c st = if is_in_noscript st.insertion_mode st.path then stops TextHere 0 else reach_body st.insertion_mode (body_byte c) st
 
 -- a byte of a text; in title, textarea, style, iframe and script each stands where it is
 abbrev pub kept_byte : ℕ → State → Stepped
 kept_byte c st =
     if is_in_text st.path then keep_byte c st
-    else if is_space c then space_byte st.phase c st
+    else if is_space c then space_byte st.insertion_mode c st
     else other_byte c st
 
 abbrev pub no_drop : State → State
@@ -180,27 +180,27 @@ start_in_body n attributes slash st = after_moves attributes slash st (start_mov
 abbrev pub opened : List ℕ → List Attribute → State → Stepped
 opened n attributes st = entered attributes false st (html_element n ∷ st.path)
 
-abbrev pub open_html : Phase → List Attribute → State → Stepped
+abbrev pub open_html : InsertionMode → List Attribute → State → Stepped
 open_html before_html attributes st = went (start html false attributes ∷ []) (moved st before_head under_html)
-open_html phase attributes st = stops SecondRoot 0
+open_html insertion_mode attributes st = stops SecondRoot 0
 
 abbrev pub open_head_here : List Attribute → State → Stepped
 open_head_here attributes st = went (start head false attributes ∷ []) (moved st in_head under_head)
 
-abbrev pub open_head : Phase → List Attribute → State → Stepped
+abbrev pub open_head : InsertionMode → List Attribute → State → Stepped
 open_head before_html attributes st = make_html (open_head_here attributes) st
 open_head before_head attributes st = open_head_here attributes st
-open_head phase attributes st = stops SecondRoot 0
+open_head insertion_mode attributes st = stops SecondRoot 0
 
 abbrev pub open_body_here : List Attribute → State → Stepped
 open_body_here attributes st = went (start body false attributes ∷ []) (moved st in_body under_body)
 
-abbrev pub open_body : Phase → List Attribute → State → Stepped
+abbrev pub open_body : InsertionMode → List Attribute → State → Stepped
 open_body before_html attributes st = make_html (make_head (close_head (open_body_here attributes))) st
 open_body before_head attributes st = make_head (close_head (open_body_here attributes)) st
 open_body in_head attributes st = if is_in_noscript in_head st.path then stops SecondRoot 0 else close_head (open_body_here attributes) st
 open_body after_head attributes st = open_body_here attributes st
-open_body phase attributes st = stops SecondRoot 0
+open_body insertion_mode attributes st = stops SecondRoot 0
 
 -- metadata, which doesn't stand between head and body
 unfoldable pub is_metadata : List ℕ → Bool
@@ -218,36 +218,36 @@ start_in_head n attributes slash st =
     else if stands_on n st.path then opened n attributes st
     else close_head (start_after_head n attributes slash) st
 
-abbrev pub start_inside : Phase → List ℕ → List Attribute → Bool → State → Stepped
+abbrev pub start_inside : InsertionMode → List ℕ → List Attribute → Bool → State → Stepped
 start_inside before_html n attributes slash st = make_html (make_head (start_in_head n attributes slash)) st
 start_inside before_head n attributes slash st = make_head (start_in_head n attributes slash) st
 start_inside in_head n attributes slash st = start_in_head n attributes slash st
 start_inside after_head n attributes slash st = start_after_head n attributes slash st
-start_inside phase n attributes slash st = start_in_body n attributes slash st
+start_inside insertion_mode n attributes slash st = start_in_body n attributes slash st
 
 -- a start tag that isn't of SVG
 abbrev pub html_start : List ℕ → List Attribute → Bool → State → Stepped
 html_start n attributes slash st =
     if is_refused n then stops RefusedName 0
-    else if bytes_eq n html then open_html st.phase attributes st
-    else if bytes_eq n head then open_head st.phase attributes st
-    else if bytes_eq n body then open_body st.phase attributes st
-    else start_inside st.phase n attributes slash st
+    else if bytes_eq n html then open_html st.insertion_mode attributes st
+    else if bytes_eq n head then open_head st.insertion_mode attributes st
+    else if bytes_eq n body then open_body st.insertion_mode attributes st
+    else start_inside st.insertion_mode n attributes slash st
 
 -- before the doctype, or behind body
-abbrev pub is_outside : Phase → Bool
+abbrev pub is_outside : InsertionMode → Bool
 is_outside initial = true
 is_outside after_body = true
 is_outside after_html = true
-is_outside phase = false
+is_outside insertion_mode = false
 
-abbrev pub outside_rule : Phase → Rule
+abbrev pub outside_rule : InsertionMode → Rule
 outside_rule initial = NoDoctype
-outside_rule phase = AfterBody
+outside_rule insertion_mode = AfterBody
 
 unfoldable pub step_start : List ℕ → List Attribute → Bool → State → Stepped
 step_start n attributes slash st =
-    if is_outside st.phase then stops (outside_rule st.phase) 0
+    if is_outside st.insertion_mode then stops (outside_rule st.insertion_mode) 0
     else if is_in_svg st.path then start_in_body n attributes slash st
     else html_start n attributes slash st
 
@@ -265,8 +265,8 @@ end_current n st (e ∷ path) =
     else if is_open n (e ∷ path) then stops NotCurrent 0
     else stops StrayEnd 0
 
-abbrev pub end_head : Phase → State → Stepped
-end_head phase st = reach_head phase StrayEnd (λ here. went (end head false ∷ []) (moved here after_head under_html)) st
+abbrev pub end_head : InsertionMode → State → Stepped
+end_head insertion_mode st = reach_head insertion_mode StrayEnd (λ here. went (end head false ∷ []) (moved here after_head under_html)) st
 
 -- html and body, with at most one p in it
 unfoldable pub is_at_end : List Element → Bool
@@ -282,58 +282,58 @@ is_at_end path = is_frame path
     is_frame (e ∷ f ∷ g ∷ []) = is_named p e && (is_named body f && is_named html g)
     is_frame (e ∷ f ∷ g ∷ h ∷ path) = false
 
-abbrev pub leave_body : Phase → State → Stepped
-leave_body phase st = if is_at_end st.path then went [] (record st { phase = phase }) else stops Unclosed 0
+abbrev pub leave_body : InsertionMode → State → Stepped
+leave_body insertion_mode st = if is_at_end st.path then went [] (record st { insertion_mode = insertion_mode }) else stops Unclosed 0
 
-abbrev pub end_body : Phase → State → Stepped
-end_body phase st = reach_body phase (leave_body after_body) st
+abbrev pub end_body : InsertionMode → State → Stepped
+end_body insertion_mode st = reach_body insertion_mode (leave_body after_body) st
 
-abbrev pub end_html : Phase → State → Stepped
-end_html after_body st = went [] (record st { phase = after_html })
-end_html phase st = reach_body phase (leave_body after_html) st
+abbrev pub end_html : InsertionMode → State → Stepped
+end_html after_body st = went [] (record st { insertion_mode = after_html })
+end_html insertion_mode st = reach_body insertion_mode (leave_body after_html) st
 
-abbrev pub end_inside : Phase → List ℕ → State → Stepped
+abbrev pub end_inside : InsertionMode → List ℕ → State → Stepped
 end_inside in_body n st = after_end_moves st (end_moves n st.path)
-end_inside phase n st = stops StrayEnd 0
+end_inside insertion_mode n st = stops StrayEnd 0
 
 abbrev pub html_end : List ℕ → State → Stepped
 html_end n st =
-    if bytes_eq n head then end_head st.phase st
-    else if bytes_eq n body then end_body st.phase st
-    else if bytes_eq n html then end_html st.phase st
-    else end_inside st.phase n st
+    if bytes_eq n head then end_head st.insertion_mode st
+    else if bytes_eq n body then end_body st.insertion_mode st
+    else if bytes_eq n html then end_html st.insertion_mode st
+    else end_inside st.insertion_mode n st
 
-abbrev pub end_outside : Phase → List ℕ → State → Stepped
+abbrev pub end_outside : InsertionMode → List ℕ → State → Stepped
 end_outside after_body n st = if bytes_eq n html then end_html after_body st else stops AfterBody 0
-end_outside phase n st = stops (outside_rule phase) 0
+end_outside insertion_mode n st = stops (outside_rule insertion_mode) 0
 
 unfoldable pub step_end : List ℕ → State → Stepped
 step_end n st =
     if is_in_text st.path then end_current n st st.path
-    else if is_outside st.phase then end_outside st.phase n st
-    else if is_in_svg st.path || is_in_noscript st.phase st.path then end_current n st st.path
+    else if is_outside st.insertion_mode then end_outside st.insertion_mode n st
+    else if is_in_svg st.path || is_in_noscript st.insertion_mode st.path then end_current n st st.path
     else html_end n st
 
 -- ---- Comments and doctypes
 
-abbrev pub step_comment : Phase → List ℕ → State → Stepped
+abbrev pub step_comment : InsertionMode → List ℕ → State → Stepped
 step_comment after_body s st = went [] (record st { behind_body = st.behind_body ++ s ∷ [] })
 step_comment after_html s st = went [] (record st { behind_html = st.behind_html ++ s ∷ [] })
-step_comment phase s st = went (comment s ∷ []) st
+step_comment insertion_mode s st = went (comment s ∷ []) st
 
-abbrev pub step_doctype : Phase → Bool → State → Stepped
-step_doctype initial legacy st = went (doctype legacy ∷ []) (record st { phase = before_html })
-step_doctype phase legacy st = stops SecondDoctype 0
+abbrev pub step_doctype : InsertionMode → Bool → State → Stepped
+step_doctype initial legacy st = went (doctype legacy ∷ []) (record st { insertion_mode = before_html })
+step_doctype insertion_mode legacy st = stops SecondDoctype 0
 
 -- ---- A token
 
 unfoldable pub step : State → Seen → Stepped
-step st (tokens.doctype legacy) = step_doctype st.phase legacy (no_drop st)
+step st (tokens.doctype legacy) = step_doctype st.insertion_mode legacy (no_drop st)
 step st (tokens.start_tag n attributes slash) = step_start n attributes slash (no_drop st)
 step st (tokens.end_tag n) = step_end n (no_drop st)
 step st (tokens.slice s) = step_bytes s st
 step st (tokens.points ps) = at_front (step_bytes (encode_utf8_all ps) st)
-step st (tokens.comment s) = step_comment st.phase s (no_drop st)
+step st (tokens.comment s) = step_comment st.insertion_mode s (no_drop st)
 
 -- ---- The end of the page
 
@@ -343,14 +343,14 @@ closing [] inner last = map comment inner ++ map comment last
 closing (e ∷ []) inner last = map comment inner ++ end_event e ∷ map comment last
 closing (e ∷ f ∷ path) inner last = end_event e ∷ closing (f ∷ path) inner last
 
-abbrev pub leave_page : Phase → State → Stepped
+abbrev pub leave_page : InsertionMode → State → Stepped
 leave_page after_body st = went [] st
 leave_page after_html st = went [] st
-leave_page phase st = if is_in_noscript phase st.path then stops Unclosed 0 else reach_body phase (leave_body after_html) st
+leave_page insertion_mode st = if is_in_noscript insertion_mode st.path then stops Unclosed 0 else reach_body insertion_mode (leave_body after_html) st
 
 -- all is made and closed; a page doesn't end inside title, textarea, style, iframe or script
 unfoldable pub step_over : State → Stepped
-step_over st = if is_in_text st.path then stops Cut 0 else close_all (leave_page st.phase st)
+step_over st = if is_in_text st.path then stops Cut 0 else close_all (leave_page st.insertion_mode st)
   where
     close_all : Stepped → Stepped
     close_all (went es at_end) = went (es ++ closing at_end.path at_end.behind_body at_end.behind_html) at_end
@@ -358,4 +358,4 @@ step_over st = if is_in_text st.path then stops Cut 0 else close_all (leave_page
 
 -- before the first token
 abbrev pub first_state : State
-first_state = record { phase = initial; path = []; drops_line_feed = false; behind_body = []; behind_html = [] }
+first_state = record { insertion_mode = initial; path = []; drops_line_feed = false; behind_body = []; behind_html = [] }

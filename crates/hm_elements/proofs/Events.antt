@@ -3,11 +3,11 @@ use Rattle.std.proofs.Common.{◌≡◌, ℕ, Bool, true, false, cond, ◌||◌,
 use Rattle.std.proofs.lemmas.Bool.{and_parts, and_from, or_right, and_right, not-true, eqb-true, eq-eqb, both_ways}
 use Rattle.hm_base.specs.Bytes.{is_null}
 use Rattle.hm_base.specs.Forms.{has_byte, is_blank, is_tag_name}
-use Rattle.hm_base.specs.Walks.{Attribute, Event, start, text, comment, Element, same_flag, has_distinct_names}
+use Rattle.hm_base.specs.Walks.{Attribute, Event, start, text, comment, Element, same_flag, has_distinct_names, begins_end, begins_text}
 use Rattle.hm_elements.specs.Names.{svg}
 use Rattle.hm_elements.specs.Tables.{is_root, is_void, is_refused, is_svg_name, holds_svg_text, holds_text}
 use Rattle.hm_elements.specs.Paths.{current, is_in_svg, stands_on, head_yields, is_block_in_p, is_nested, is_deep, is_in_raw, is_in_text, is_in_blank}
-use Rattle.hm_elements.specs.Settled.{begins_end, begins_text, starts_root, no_zero_in_values, raw_text_end, is_place, end_tag, all_names_in_form, nests, is_svg_in_place, closes_void, is_text_in_place, is_raw_text, is_comment_in_form, has_attributes_in_form, is_not_deep, is_event_utf8}
+use Rattle.hm_elements.specs.Settled.{starts_root, no_zero_in_values, raw_text_end, is_place, end_tag, all_names_in_form, nests, is_svg_in_place, closes_void, is_text_in_place, is_raw_text, is_comment_in_form, has_attributes_in_form, is_not_deep, is_event_utf8}
 use Rattle.hm_elements.specs.Places.{AttributesAllowed, HtmlAllowed, SvgAllowed, ElementAllowed, StartAllowed, TextAllowed, CommentAllowed}
 use Rattle.hm_elements.proofs.TableTools.{same_bytes}
 use Rattle.hm_elements.proofs.TableFacts.{svg_is_plain, svg_is_kept, stands_parent, stands_parent_holds}

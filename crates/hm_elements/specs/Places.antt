@@ -3,11 +3,11 @@ use Rattle.std.specs.Prelude.{◌≡◌, ℕ, Bool, true, false, ◌⊎◌, nat_
 use Rattle.std.specs.Str.{is_utf8}
 use Rattle.hm_base.specs.Bytes.{is_null}
 use Rattle.hm_base.specs.Forms.{has_byte, is_blank, is_tag_name, is_comment_text}
-use Rattle.hm_base.specs.Walks.{Attribute, Event, doctype, start, text, comment, end, Element, has_distinct_names}
+use Rattle.hm_base.specs.Walks.{Attribute, Event, doctype, start, text, comment, end, Element, has_distinct_names, begins_end, begins_text}
 use Rattle.hm_elements.specs.Names.{html, head, body, svg}
 use Rattle.hm_elements.specs.Tables.{is_void, is_refused, is_svg_name, holds_svg_text}
 use Rattle.hm_elements.specs.Paths.{html_element, current, is_in_svg, stands_on, head_yields, is_block_in_p, is_nested, is_deep, is_in_raw, is_in_text, is_in_blank}
-use Rattle.hm_elements.specs.Settled.{is_html, begins_end, begins_text, no_zero_in_values, raw_text_end, end_tag, all_names_in_form, all_utf8}
+use Rattle.hm_elements.specs.Settled.{is_html, no_zero_in_values, raw_text_end, end_tag, all_names_in_form, all_utf8}
 
 -- the attributes of an element
 pub record AttributesAllowed (attributes : List Attribute) : Type 0 where

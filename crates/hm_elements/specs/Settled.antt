@@ -5,7 +5,7 @@ use Rattle.std.specs.Str.{is_utf8}
 use Rattle.hm_base.specs.Bytes.{is_null}
 use Rattle.hm_base.specs.Forms.{has_byte, is_blank, is_tag_name, is_attribute_name, is_comment_text}
 use Rattle.hm_base.specs.RawText.{raw_end, script_end}
-use Rattle.hm_base.specs.Walks.{Attribute, Event, doctype, start, text, comment, end, Element, same_flag, path_behind, path_after, ends_match, has_distinct_names}
+use Rattle.hm_base.specs.Walks.{Attribute, Event, doctype, start, text, comment, end, Element, same_flag, path_behind, path_after, ends_match, has_distinct_names, begins_text, begins_end}
 use Rattle.hm_elements.specs.Names.{html, head, body, script, svg}
 use Rattle.hm_elements.specs.Tables.{is_root, is_void, is_refused, is_svg_name, holds_svg_text}
 use Rattle.hm_elements.specs.Paths.{current, is_in_svg, stands_on, head_yields, is_block_in_p, is_nested, is_deep, is_in_raw, is_in_text, is_in_blank}
@@ -96,18 +96,10 @@ is_svg_in_place path (start n foreign attributes) w =
     && (if is_in_svg path then is_svg_name n && not (holds_svg_text (current path)) else not foreign || stands_on svg path)
 is_svg_in_place path e w = true
 
-abbrev pub begins_end : List Event → Bool
-begins_end (end n foreign ∷ w) = true
-begins_end w = false
-
 -- 5. A void element ends at once.
 unfoldable pub closes_void : List Element → Event → List Event → Bool
 closes_void path (start n foreign attributes) w = foreign || not (is_void n) || begins_end w
 closes_void path e w = true
-
-abbrev pub begins_text : List Event → Bool
-begins_text (text s raw ∷ w) = true
-begins_text w = false
 
 abbrev pub no_zero_in_values : List Attribute → Bool
 no_zero_in_values [] = true

@@ -3,7 +3,7 @@ mod cases;
 
 use crate::{Lexer, Mode, RawName, RcdataName};
 use cases::{ELEMENTS, ORDINARY, TAGS};
-use hm_base::{LONGEST_PAGE, Points, Refused, Rule, SourceText};
+use hm_base::{OUTPUT_LIMIT, Points, Refused, Rule, SourceText};
 use hm_refs::Table;
 use hm_tree::{Attrs, Token};
 use std::alloc::{AllocError, Global};
@@ -114,7 +114,7 @@ fn push_refusal(alloc: Global, out: &mut String, refusal: Refused) -> Result<(),
 
 /// The tokens of a page up to its end or its refusal. Texts that touch are one, between two bars.
 fn printed(alloc: Global, table: &Table, page: &str) -> Result<String, Fail> {
-    let source = SourceText::read(alloc, page.as_bytes(), LONGEST_PAGE)?;
+    let source = SourceText::read(alloc, page.as_bytes(), OUTPUT_LIMIT)?;
     let mut lexer = Lexer::new(&source, table);
     let mut mode = Mode::Html;
     let mut in_text = false;
@@ -237,7 +237,7 @@ fn next_bytes(
 fn tokens_have_their_bytes(rt: HostRuntime) -> Result<(), Fail> {
     let table = Table::empty(rt.alloc()).ok().ok_or("memory")?;
     let page = "</></></b>x<title>y&#65;</title></>";
-    let source = SourceText::read(rt.alloc(), page.as_bytes(), LONGEST_PAGE)?;
+    let source = SourceText::read(rt.alloc(), page.as_bytes(), OUTPUT_LIMIT)?;
     let mut lexer = Lexer::new(&source, &table);
     let title = opened_mode("title");
     let cut_at = |at| Refused::Page {

@@ -2,8 +2,7 @@
 use Rattle.std.proofs.Common.{◌≡◌, ℕ, Bool, true, false, not, ◌&&◌, List, [], ◌∷◌, ◌++◌, Option, Some, None, refl}
 use Rattle.std.proofs.lemmas.Bool.{and_parts, and_from}
 use Rattle.hm_base.specs.Bytes.{is_null}
-use Rattle.hm_base.specs.Walks.{Event, doctype, start, text, comment, end, Element, path_behind, text_before, pushes}
-use Rattle.hm_elements.specs.Settled.{begins_text}
+use Rattle.hm_base.specs.Walks.{Event, doctype, start, text, comment, end, Element, path_behind, text_before, pushes, begins_text}
 use Rattle.hm_options.specs.Rewrites.{by, no_comment, uncommented}
 use Rattle.hm_options.specs.Rules.{event_rule}
 use Rattle.hm_options.specs.declared.rules.Rule.{Rule}

@@ -5,10 +5,10 @@ use Rattle.std.proofs.lemmas.Str.{IsUtf8-append, IsUtf8-nil, IsUtf8-from_is_utf8
 use Rattle.std.specs.Str.{is_utf8}
 use Rattle.hm_base.specs.Bytes.{is_space, is_null}
 use Rattle.hm_base.specs.Forms.{has_byte, is_blank, is_attribute_name}
-use Rattle.hm_base.specs.Walks.{Event, doctype, start, text, comment, end, Attribute, Element, has_name, has_distinct_names, text_before, pushes}
+use Rattle.hm_base.specs.Walks.{Event, doctype, start, text, comment, end, Attribute, Element, has_name, has_distinct_names, text_before, pushes, begins_end, begins_text}
 use Rattle.hm_elements.specs.Tables.{is_boolean, is_raw, is_rcdata, holds_text}
 use Rattle.hm_elements.specs.Paths.{is_in_raw, is_in_text}
-use Rattle.hm_elements.specs.Settled.{begins_end, begins_text, no_zero_in_values, all_names_in_form, all_utf8, Settled}
+use Rattle.hm_elements.specs.Settled.{no_zero_in_values, all_names_in_form, all_utf8, Settled}
 use Rattle.hm_elements.specs.Places.{AttributesAllowed, TextAllowed, html_path}
 use Rattle.hm_options.specs.Rewrites.{by, no_comment, uncommented}
 use Rattle.hm_options.specs.Rules.{event_rule, attributes_rule, attribute_rule, is_dropped, valued}

@@ -2,8 +2,7 @@
 use Rattle.std.proofs.Common.{◌≡◌, ℕ, zero, suc, ◌+◌, Bool, true, false, not, List, [], ◌∷◌, slice_get, Option, Some, None, refl}
 use Rattle.std.proofs.lemmas.Bool.{and_parts}
 use Rattle.hm_base.specs.Bytes.{is_null}
-use Rattle.hm_base.specs.Walks.{Event, doctype, start, text, comment, end, path_after, ends_match}
-use Rattle.hm_elements.specs.Settled.{begins_text}
+use Rattle.hm_base.specs.Walks.{Event, doctype, start, text, comment, end, path_after, ends_match, begins_text}
 use Rattle.hm_space.specs.Copies.{event_before, is_apart, are_texts_apart, may_follow}
 use Rattle.hm_space.proofs.Rewriting.{Rewrite, IsCopied, ends_match-at, event_before-next}
 use Rattle.hm_tree.specs.Rows.{is_text, ends_in_text}

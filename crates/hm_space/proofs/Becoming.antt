@@ -1,11 +1,11 @@
 -- A settled walk whose events are rewritten or left out one by one is settled.
 use Rattle.std.proofs.Common.{◌≡◌, ℕ, Bool, true, false, ◌⊎◌, inl, inr, List, [], ◌∷◌, ap, refl}
 use Rattle.hm_base.specs.Forms.{is_blank}
-use Rattle.hm_base.specs.Walks.{Event, doctype, start, text, comment, end, Attribute, Element}
+use Rattle.hm_base.specs.Walks.{Event, doctype, start, text, comment, end, Attribute, Element, begins_end}
 use Rattle.hm_elements.specs.Names.{html, head, body}
 use Rattle.hm_elements.specs.Tables.{is_root}
 use Rattle.hm_elements.specs.Paths.{html_element, outer}
-use Rattle.hm_elements.specs.Settled.{is_html, begins_end, Settled}
+use Rattle.hm_elements.specs.Settled.{is_html, Settled}
 use Rattle.hm_elements.specs.Places.{AttributesAllowed, ElementAllowed, RootAllowed, TextAllowed, CommentAllowed, html_path, SettledLast, SettledBehindBody, SettledInside, SettledBeforeBody, SettledBeforeHead, SettledBeforeHtml, SettledPage}
 use Rattle.hm_elements.proofs.Chain.{Inside, at_root, deeper, inside_is_open, no_root_is_other, html_is_itself, head_is_root, body_is_root, settled_page}
 use Rattle.hm_elements.proofs.Events.{start_is_no_root}

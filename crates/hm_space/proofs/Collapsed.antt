@@ -3,9 +3,9 @@ use Rattle.std.proofs.Common.{◌≡◌, ℕ, Bool, true, false, ◌&&◌, ◌�
 use Rattle.std.proofs.lemmas.Str.{IsUtf8-from_is_utf8, is_utf8-from_IsUtf8}
 use Rattle.hm_base.specs.Bytes.{is_null}
 use Rattle.hm_base.specs.Forms.{is_blank}
-use Rattle.hm_base.specs.Walks.{Event, doctype, start, text, comment, end, Element}
+use Rattle.hm_base.specs.Walks.{Event, doctype, start, text, comment, end, Element, begins_end, begins_text}
 use Rattle.hm_elements.specs.Paths.{outer}
-use Rattle.hm_elements.specs.Settled.{begins_end, begins_text, Settled}
+use Rattle.hm_elements.specs.Settled.{Settled}
 use Rattle.hm_elements.specs.Places.{TextAllowed, html_path}
 use Rattle.hm_space.specs.Copies.{are_texts_apart}
 use Rattle.hm_space.specs.Rewritten.{first_event, rewritten}

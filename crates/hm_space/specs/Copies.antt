@@ -1,8 +1,7 @@
 -- Copying a walk event by event: which event may be put behind a walk, and what stands around an event.
 use Rattle.std.specs.Prelude.{ℕ, zero, suc, Bool, true, not, ◌&&◌, List, [], ◌∷◌, Option, None, slice_get}
 use Rattle.hm_base.specs.Bytes.{is_null}
-use Rattle.hm_base.specs.Walks.{Event, text, path_after, ends_match}
-use Rattle.hm_elements.specs.Settled.{begins_text}
+use Rattle.hm_base.specs.Walks.{Event, text, path_after, ends_match, begins_text}
 use Rattle.hm_tree.specs.Rows.{ends_in_text}
 
 -- the event before event i

@@ -7,10 +7,10 @@ use Rattle.hm_builder.proofs.parts.is_in_raw.Goals as goal
 
 pub returns-then-is_in_text : goal.returns-then-is_in_text
 returns-then-is_in_text c =
-    let path = open_path c.args.phase c.args.path.now in
+    let path = open_path c.args.insertion_mode c.args.path.now in
     c.is_raw.ensures ∙ ap is_raw c.current.ensures ∙ raw_by path (sym c.is_in_text.ensures ∙ c.if-is_in_text.true)
 
 pub returns-else-is_in_text : goal.returns-else-is_in_text
 returns-else-is_in_text c =
-    let path = open_path c.args.phase c.args.path.now in
+    let path = open_path c.args.insertion_mode c.args.path.now in
     c.if-is_in_text.false ∙ sym (not_raw path (sym c.is_in_text.ensures ∙ c.if-is_in_text.false))

@@ -42,7 +42,7 @@ returns-in_ok-end-2-clause-ok c =
     let o = c.requires in
     let svg = o.leads ∙ ap (λ f. element n f ∷ outer (path_after [] p.maker)) c.if-foreign.true in
     let here : p.path ≡ path_after [] p.maker = path_here n c.args.foreign p o (rw c.if-foreign.true refl) in
-    closed_entered n c.args.foreign p o c.args.slash (record p { maker = c.end-then-slash.new.self; path = c.end.new.self }) (rw (c.if-foreign.true, c.if-slash.true) refl) o.phase
+    closed_entered n c.args.foreign p o c.args.slash (record p { maker = c.end-then-slash.new.self; path = c.end.new.self }) (rw (c.if-foreign.true, c.if-slash.true) refl) o.insertion_mode
     (svg_moved n p.path (outer (path_after [] p.maker)) c.end.new.self c.in_ok-end.field-0 (here ∙ svg) c.in_ok-end.ensures.ok) c.in_ok-end-2.ensures.ok o.all refl refl
 
 pub returns-then-is_void-clause-ok : goal.returns-then-is_void-clause-ok
@@ -51,5 +51,5 @@ returns-then-is_void-clause-ok c =
     let n = c.args.name.now in
     let o = c.requires in
     let void : is_void n ≡ true = sym c.is_void.ensures ∙ c.if-is_void.true in
-    closed_entered n c.args.foreign p o c.args.slash (record p { maker = c.end-then-is_void.new.self }) (rw (c.if-foreign.false, void) refl) o.phase
+    closed_entered n c.args.foreign p o c.args.slash (record p { maker = c.end-then-is_void.new.self }) (rw (c.if-foreign.false, void) refl) o.insertion_mode
     (path_outer n c.args.foreign p o (rw (c.if-foreign.false, void) refl)) c.in_ok-end-3.ensures.ok o.all refl refl

@@ -17,7 +17,7 @@ returns-then-eq-clause-err c =
     let n = c.args.name.now in
     let is : n ≡ body = same_bytes n body (sym c.eq.ensures ∙ c.if-eq.true) in
     let there : is_open n p.path ≡ true = rw is (roots_open p.path c.len-depth.ensures.begins).1 in
-    rw c.from.ensures (root_is_refused n (state_of p) p.path (rw is refl) c.requires.only_current (no_svg_root p.phase p.path c.requires.body c.requires.kept.fresh) there)
+    rw c.from.ensures (root_is_refused n (state_of p) p.path (rw is refl) c.requires.only_current (no_svg_root p.insertion_mode p.path c.requires.body c.requires.kept.fresh) there)
 
 pub returns-then-eq-2-clause-err : goal.returns-then-eq-2-clause-err
 unfolding is_root roots is_among
@@ -26,7 +26,7 @@ returns-then-eq-2-clause-err c =
     let n = c.args.name.now in
     let is : n ≡ html = same_bytes n html (sym c.eq-2.ensures ∙ c.if-eq-2.true) in
     let there : is_open n p.path ≡ true = rw is (roots_open p.path c.len-depth.ensures.begins).0 in
-    rw c.from-then-eq-2.ensures (root_is_refused n (state_of p) p.path (rw is refl) c.requires.only_current (no_svg_root p.phase p.path c.requires.body c.requires.kept.fresh) there)
+    rw c.from-then-eq-2.ensures (root_is_refused n (state_of p) p.path (rw is refl) c.requires.only_current (no_svg_root p.insertion_mode p.path c.requires.body c.requires.kept.fresh) there)
 
 pub returns-in_err-moves-clause-err : goal.returns-in_err-moves-clause-err
 returns-in_err-moves-clause-err c =

@@ -10,17 +10,17 @@ use Rattle.hm_builder.proofs.parts.Parts.end_open.Goals as goal
 pub end_inner-requires-clause-room : goal.end_inner-requires-clause-room
 end_inner-requires-clause-room c =
     let p = c.args.self.now in
-    subst (λ s. Fits s p.maker) (end_in_svg p c.args.name.now c.requires.phase c.requires.no_text (sym c.is_in_svg.ensures ∙ c.if-is_in_svg.true)) c.requires.room
+    subst (λ s. Fits s p.maker) (end_in_svg p c.args.name.now c.requires.insertion_mode c.requires.no_text (sym c.is_in_svg.ensures ∙ c.if-is_in_svg.true)) c.requires.room
 
 pub returns-then-is_in_svg-clause-ok : goal.returns-then-is_in_svg-clause-ok
 returns-then-is_in_svg-clause-ok c =
     let p = c.args.self.now in
-    subst (λ (s : Stepped). OnOk c.end_inner.result (IsDone s p c.end_inner.new.self)) (sym (end_in_svg p c.args.name.now c.requires.phase c.requires.no_text (sym c.is_in_svg.ensures ∙ c.if-is_in_svg.true))) c.end_inner.ensures.ok
+    subst (λ (s : Stepped). OnOk c.end_inner.result (IsDone s p c.end_inner.new.self)) (sym (end_in_svg p c.args.name.now c.requires.insertion_mode c.requires.no_text (sym c.is_in_svg.ensures ∙ c.if-is_in_svg.true))) c.end_inner.ensures.ok
 
 pub returns-then-is_in_svg-clause-err : goal.returns-then-is_in_svg-clause-err
 returns-then-is_in_svg-clause-err c =
     let p = c.args.self.now in
-    subst (λ (s : Stepped). IfErr c.end_inner.result (IsRefused s)) (sym (end_in_svg p c.args.name.now c.requires.phase c.requires.no_text (sym c.is_in_svg.ensures ∙ c.if-is_in_svg.true))) c.end_inner.ensures.err
+    subst (λ (s : Stepped). IfErr c.end_inner.result (IsRefused s)) (sym (end_in_svg p c.args.name.now c.requires.insertion_mode c.requires.no_text (sym c.is_in_svg.ensures ∙ c.if-is_in_svg.true))) c.end_inner.ensures.err
 
 pub returns-then-same_name-clause-ok : goal.returns-then-same_name-clause-ok
 returns-then-same_name-clause-ok c =
@@ -28,7 +28,7 @@ returns-then-same_name-clause-ok c =
     let n = c.args.name.now in
     let is : n ≡ body = same_bytes n body (sym c.same_name.ensures ∙ c.if-same_name.true) in
     let no_svg = sym c.is_in_svg.ensures ∙ c.if-is_in_svg.false in
-    subst (λ (s : Stepped). OnOk c.leave_body.result (IsDone s p c.leave_body.new.self)) (sym (body_in_body p n c.requires.phase c.requires.no_text no_svg is)) c.leave_body.ensures.ok
+    subst (λ (s : Stepped). OnOk c.leave_body.result (IsDone s p c.leave_body.new.self)) (sym (body_in_body p n c.requires.insertion_mode c.requires.no_text no_svg is)) c.leave_body.ensures.ok
 
 pub returns-then-same_name-clause-err : goal.returns-then-same_name-clause-err
 returns-then-same_name-clause-err c =
@@ -36,7 +36,7 @@ returns-then-same_name-clause-err c =
     let n = c.args.name.now in
     let is : n ≡ body = same_bytes n body (sym c.same_name.ensures ∙ c.if-same_name.true) in
     let no_svg = sym c.is_in_svg.ensures ∙ c.if-is_in_svg.false in
-    subst (λ (s : Stepped). IfErr c.leave_body.result (IsRefused s)) (sym (body_in_body p n c.requires.phase c.requires.no_text no_svg is)) c.leave_body.ensures.err
+    subst (λ (s : Stepped). IfErr c.leave_body.result (IsRefused s)) (sym (body_in_body p n c.requires.insertion_mode c.requires.no_text no_svg is)) c.leave_body.ensures.err
 
 pub returns-then-same_name-2-clause-ok : goal.returns-then-same_name-2-clause-ok
 returns-then-same_name-2-clause-ok c =
@@ -44,7 +44,7 @@ returns-then-same_name-2-clause-ok c =
     let n = c.args.name.now in
     let is : n ≡ html = same_bytes n html (sym c.same_name-2.ensures ∙ c.if-same_name-2.true) in
     let no_svg = sym c.is_in_svg.ensures ∙ c.if-is_in_svg.false in
-    subst (λ (s : Stepped). OnOk c.leave_body-then-same_name-2.result (IsDone s p c.leave_body-then-same_name-2.new.self)) (sym (html_in_body p n c.requires.phase c.requires.no_text no_svg is)) c.leave_body-then-same_name-2.ensures.ok
+    subst (λ (s : Stepped). OnOk c.leave_body-then-same_name-2.result (IsDone s p c.leave_body-then-same_name-2.new.self)) (sym (html_in_body p n c.requires.insertion_mode c.requires.no_text no_svg is)) c.leave_body-then-same_name-2.ensures.ok
 
 pub returns-then-same_name-2-clause-err : goal.returns-then-same_name-2-clause-err
 returns-then-same_name-2-clause-err c =
@@ -52,14 +52,14 @@ returns-then-same_name-2-clause-err c =
     let n = c.args.name.now in
     let is : n ≡ html = same_bytes n html (sym c.same_name-2.ensures ∙ c.if-same_name-2.true) in
     let no_svg = sym c.is_in_svg.ensures ∙ c.if-is_in_svg.false in
-    subst (λ (s : Stepped). IfErr c.leave_body-then-same_name-2.result (IsRefused s)) (sym (html_in_body p n c.requires.phase c.requires.no_text no_svg is)) c.leave_body-then-same_name-2.ensures.err
+    subst (λ (s : Stepped). IfErr c.leave_body-then-same_name-2.result (IsRefused s)) (sym (html_in_body p n c.requires.insertion_mode c.requires.no_text no_svg is)) c.leave_body-then-same_name-2.ensures.err
 
 pub returns-then-same_name-3-clause-err : goal.returns-then-same_name-3-clause-err
 returns-then-same_name-3-clause-err c =
     let n = c.args.name.now in
     let is : n ≡ head = same_bytes n head (sym c.same_name-3.ensures ∙ c.if-same_name-3.true) in
     let no_svg = sym c.is_in_svg.ensures ∙ c.if-is_in_svg.false in
-    rw c.from.ensures (head_in_body c.args.self.now n c.requires.phase c.requires.no_text no_svg is)
+    rw c.from.ensures (head_in_body c.args.self.now n c.requires.insertion_mode c.requires.no_text no_svg is)
 
 pub end_named-requires-clause-not_body : goal.end_named-requires-clause-not_body
 end_named-requires-clause-not_body c = unlike c.args.name.now body (sym c.same_name.ensures ∙ c.if-same_name.false)
@@ -73,7 +73,7 @@ returns-clause-ok c =
     let n = c.args.name.now in
     let no_svg = sym c.is_in_svg.ensures ∙ c.if-is_in_svg.false in
     subst (λ (s : Stepped). OnOk c.end_named.result (IsDone s p c.end_named.new.self))
-    (sym (other_in_body p n c.requires.phase c.requires.no_text no_svg (sym c.same_name-3.ensures ∙ c.if-same_name-3.false) (sym c.same_name.ensures ∙ c.if-same_name.false) (sym c.same_name-2.ensures ∙ c.if-same_name-2.false))) c.end_named.ensures.ok
+    (sym (other_in_body p n c.requires.insertion_mode c.requires.no_text no_svg (sym c.same_name-3.ensures ∙ c.if-same_name-3.false) (sym c.same_name.ensures ∙ c.if-same_name.false) (sym c.same_name-2.ensures ∙ c.if-same_name-2.false))) c.end_named.ensures.ok
 
 pub returns-clause-err : goal.returns-clause-err
 returns-clause-err c =
@@ -81,4 +81,4 @@ returns-clause-err c =
     let n = c.args.name.now in
     let no_svg = sym c.is_in_svg.ensures ∙ c.if-is_in_svg.false in
     subst (λ (s : Stepped). IfErr c.end_named.result (IsRefused s))
-    (sym (other_in_body p n c.requires.phase c.requires.no_text no_svg (sym c.same_name-3.ensures ∙ c.if-same_name-3.false) (sym c.same_name.ensures ∙ c.if-same_name.false) (sym c.same_name-2.ensures ∙ c.if-same_name-2.false))) c.end_named.ensures.err
+    (sym (other_in_body p n c.requires.insertion_mode c.requires.no_text no_svg (sym c.same_name-3.ensures ∙ c.if-same_name-3.false) (sym c.same_name.ensures ∙ c.if-same_name.false) (sym c.same_name-2.ensures ∙ c.if-same_name-2.false))) c.end_named.ensures.err

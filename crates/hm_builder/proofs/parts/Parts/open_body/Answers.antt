@@ -5,9 +5,9 @@ use Rattle.hm_builder.proofs.parts.Parts.open_body.Goals as goal
 pub open_body_here-requires-clause-unbegun : goal.open_body_here-requires-clause-unbegun
 open_body_here-requires-clause-unbegun c =
     let p = c.args.self.now in
-    not_begun p.maker p.path p.drops_line_feed p.behind_body p.behind_html p.phase (sym c.has_begun.ensures ∙ c.if-has_begun.false) c.requires.not_text
+    not_begun p.maker p.path p.drops_line_feed p.behind_body p.behind_html p.insertion_mode (sym c.has_begun.ensures ∙ c.if-has_begun.false) c.requires.not_text
 
 pub returns-then-has_begun-clause-err : goal.returns-then-has_begun-clause-err
 returns-then-has_begun-clause-err c =
     let p = c.args.self.now in
-    rw c.from.ensures (body_refused p.maker p.path p.drops_line_feed p.behind_body p.behind_html c.args.attrs p.phase (sym c.has_begun.ensures ∙ c.if-has_begun.true) c.requires.not_text)
+    rw c.from.ensures (body_refused p.maker p.path p.drops_line_feed p.behind_body p.behind_html c.args.attrs p.insertion_mode (sym c.has_begun.ensures ∙ c.if-has_begun.true) c.requires.not_text)

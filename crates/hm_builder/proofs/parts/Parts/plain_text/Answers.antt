@@ -3,7 +3,7 @@ use Rattle.hm_base.specs.Walks.{with_text}
 use Rattle.hm_elements.specs.Paths as paths
 use Rattle.hm_tree.specs.Trees.{last_agrees}
 use Rattle.hm_builder.specs.Inside.{open_path, state_of, each_byte, kept_bytes, keeps_space, mixed_events, at_state, body_path}
-use Rattle.hm_builder.specs.declared.insertion.Phase.TheVariants.{InBody}
+use Rattle.hm_builder.specs.declared.insertion.InsertionMode.TheVariants.{InBody}
 use Rattle.hm_builder.proofs.Texts.{not_raw}
 use Rattle.hm_builder.proofs.TextWalks.{HasRoom-text, HasRoom-only_blank}
 use Rattle.hm_builder.proofs.PlainTexts.{fits_by, is_zero, is_some, only_blank, text_step, blank_step, mixed_step, mixed_refused, mixed_went, text_done, blank_done, mixed_done}
@@ -13,7 +13,7 @@ pub text-requires-clause-room : goal.text-requires-clause-room
 text-requires-clause-room c =
     let p = c.args.self.now in
     let s = c.args.text.now in
-    let raw = paths.is_in_raw (open_path p.phase p.path) in
+    let raw = paths.is_in_raw (open_path p.insertion_mode p.path) in
     rw c.is_in_raw-raw.ensures
     (HasRoom-text p.maker s raw (fits_by _ (each_byte s raw) (state_of p) p.maker (text_step p c.requires.all s (sym c.is_in_text.ensures ∙ c.if-is_in_text.true)) c.requires.room))
 
@@ -30,14 +30,14 @@ keep_blank-requires-clause-room c =
     let plain = sym c.is_in_text.ensures ∙ c.if-is_in_text.false in
     let cut = c.split_blank.ensures in
     let all = only_blank _ _ _ cut (is_zero _ (sym c.is_empty.ensures ∙ c.if-is_empty.true)) in
-    HasRoom-only_blank p.phase p.maker c.split_blank.result.0.now
-    (fits_by _ (kept_bytes (keeps_space p.phase) c.split_blank.result.0.now false) (state_of p) p.maker (blank_step p c.requires.all c.split_blank.result.0.now plain cut.spaces) (rw all at c.requires.room))
+    HasRoom-only_blank p.insertion_mode p.maker c.split_blank.result.0.now
+    (fits_by _ (kept_bytes (keeps_space p.insertion_mode) c.split_blank.result.0.now false) (state_of p) p.maker (blank_step p c.requires.all c.split_blank.result.0.now plain cut.spaces) (rw all at c.requires.room))
 
 pub keep_blank-requires-clause-same_raw : goal.keep_blank-requires-clause-same_raw
 keep_blank-requires-clause-same_raw c =
     let p = c.args.self.now in
     let plain = sym c.is_in_text.ensures ∙ c.if-is_in_text.false in
-    subst (λ raw. last_agrees p.maker raw ≡ true) (not_raw (open_path p.phase p.path) plain) c.requires.kept.walk.same_raw
+    subst (λ raw. last_agrees p.maker raw ≡ true) (not_raw (open_path p.insertion_mode p.path) plain) c.requires.kept.walk.same_raw
 
 pub returns-then-is_empty-clause-ok : goal.returns-then-is_empty-clause-ok
 returns-then-is_empty-clause-ok c =
@@ -60,7 +60,7 @@ mixed_text-requires-clause-room c =
     let p = c.args.self.now in
     let plain = sym c.is_in_text.ensures ∙ c.if-is_in_text.false in
     let mixed = mixed_step p c.requires.all c.args.text.now c.split_blank.result.0.now c.split_blank.result.1.now c.split_blank.ensures (is_some _ (sym c.is_empty.ensures ∙ c.if-is_empty.false)) plain in
-    fits_by _ (mixed_events p.phase c.split_blank.result.0.now c.split_blank.result.1.now) (at_state InBody (body_path p.phase p.path) p.behind_body.items p.behind_html.items) p.maker
+    fits_by _ (mixed_events p.insertion_mode c.split_blank.result.0.now c.split_blank.result.1.now) (at_state InBody (body_path p.insertion_mode p.path) p.behind_body.items p.behind_html.items) p.maker
     (mixed_went p c.requires.all c.args.text.now c.split_blank.result.0.now c.split_blank.result.1.now mixed (sym c.in_default.ensures)) c.requires.room
 
 pub returns-clause-ok : goal.returns-clause-ok

@@ -5,30 +5,30 @@ use Rattle.hm_builder.specs.Inside.{IsDone}
 use Rattle.hm_builder.proofs.BeforeBody.{noscript_alone, head_alone, noscript_step}
 use Rattle.hm_builder.proofs.parts.Parts.start_before_body.Goals as goal
 
-pub start_in_noscript-requires-clause-phase : goal.start_in_noscript-requires-clause-phase
-start_in_noscript-requires-clause-phase c =
-    noscript_alone c.args.self.now.phase c.args.self.now.path c.in-InHead.noscript c.in-InHead.text c.in-InHead.is c.if-noscript.true c.requires.not_text
+pub start_in_noscript-requires-clause-insertion_mode : goal.start_in_noscript-requires-clause-insertion_mode
+start_in_noscript-requires-clause-insertion_mode c =
+    noscript_alone c.args.self.now.insertion_mode c.args.self.now.path c.in-InHead.noscript c.in-InHead.text c.in-InHead.is c.if-noscript.true c.requires.not_text
 
 pub start_in_noscript-requires-clause-room : goal.start_in_noscript-requires-clause-room
 start_in_noscript-requires-clause-room c =
     let p = c.args.self.now in
-    let alone = noscript_alone p.phase p.path c.in-InHead.noscript c.in-InHead.text c.in-InHead.is c.if-noscript.true c.requires.not_text in
+    let alone = noscript_alone p.insertion_mode p.path c.in-InHead.noscript c.in-InHead.text c.in-InHead.is c.if-noscript.true c.requires.not_text in
     subst (λ s. Fits s p.maker) (noscript_step p c.args.name.now c.args.attrs c.args.slash alone) c.requires.room
 
 pub start_in_head-requires-clause-takes : goal.start_in_head-requires-clause-takes
 start_in_head-requires-clause-takes c =
-    head_alone c.args.self.now.phase c.args.self.now.path c.in-InHead.noscript c.in-InHead.text c.in-InHead.is c.if-noscript.false c.requires.not_text
+    head_alone c.args.self.now.insertion_mode c.args.self.now.path c.in-InHead.noscript c.in-InHead.text c.in-InHead.is c.if-noscript.false c.requires.not_text
 
 pub returns-then-noscript-clause-ok : goal.returns-then-noscript-clause-ok
 returns-then-noscript-clause-ok c =
     let p = c.args.self.now in
-    let alone = noscript_alone p.phase p.path c.in-InHead.noscript c.in-InHead.text c.in-InHead.is c.if-noscript.true c.requires.not_text in
+    let alone = noscript_alone p.insertion_mode p.path c.in-InHead.noscript c.in-InHead.text c.in-InHead.is c.if-noscript.true c.requires.not_text in
     subst (λ (s : Stepped). OnOk c.start_in_noscript.result (IsDone s p c.start_in_noscript.new.self))
     (sym (noscript_step p c.args.name.now c.args.attrs c.args.slash alone)) c.start_in_noscript.ensures.ok
 
 pub returns-then-noscript-clause-err : goal.returns-then-noscript-clause-err
 returns-then-noscript-clause-err c =
     let p = c.args.self.now in
-    let alone = noscript_alone p.phase p.path c.in-InHead.noscript c.in-InHead.text c.in-InHead.is c.if-noscript.true c.requires.not_text in
+    let alone = noscript_alone p.insertion_mode p.path c.in-InHead.noscript c.in-InHead.text c.in-InHead.is c.if-noscript.true c.requires.not_text in
     subst (λ (s : Stepped). IfErr c.start_in_noscript.result (IsRefused s))
     (sym (noscript_step p c.args.name.now c.args.attrs c.args.slash alone)) c.start_in_noscript.ensures.err

@@ -7,7 +7,7 @@ use Rattle.hm_builder.proofs.Started.{no_svg_before, name_refused, name_inside, 
 use Rattle.hm_builder.proofs.parts.Parts.start_html.Goals as goal
 
 pub open_root-requires-clause-not_svg : goal.open_root-requires-clause-not_svg
-open_root-requires-clause-not_svg c = no_svg_before c.args.self.now.phase c.args.self.now.path c.requires.before
+open_root-requires-clause-not_svg c = no_svg_before c.args.self.now.insertion_mode c.args.self.now.path c.requires.before
 
 pub open_root-requires-clause-room : goal.open_root-requires-clause-room
 open_root-requires-clause-room c =

@@ -1,8 +1,8 @@
 use Rattle.std.proofs.Common.{◌≡◌, Err, refl, ap, sym, subst}
 use Rattle.hm_construction.specs.Steps.{reach_body, start_in_body}
 use Rattle.hm_builder.specs.Building.{IsRefused, of_settle}
-use Rattle.hm_builder.specs.Inside.{phase_of, state_of, IsEntered, IsDone}
-use Rattle.hm_builder.specs.declared.insertion.Phase.TheVariants.{InBody}
+use Rattle.hm_builder.specs.Inside.{insertion_mode_of, state_of, IsEntered, IsDone}
+use Rattle.hm_builder.specs.declared.insertion.InsertionMode.TheVariants.{InBody}
 use Rattle.hm_builder.proofs.Dropped.{on_ok}
 use Rattle.hm_builder.proofs.EndTags.{err_from}
 use Rattle.hm_builder.proofs.Opened.{body_start, refused_start, opens_no_root}
@@ -36,7 +36,7 @@ close_at_once-requires c =
     let st = c.in_ok-moves.ensures.ok in
     let made = rw (c.in_ok-make_missing.ensures, c.opens_as_svg-foreign.ensures) at c.in_ok-move_and_start.ensures in
     rw c.opens_as_svg-foreign.ensures ((body_start p n c.args.attrs c.args.slash c.in_ok-moves.moves c.start.new.self c.requires.reach c.requires.kept c.requires.all st (opens_no_root n p.path _ _ _ st.moved.does_move) c.requires.room).opened
-    (record p { maker = c.move_and_start.new.maker; phase = InBody; path = c.start.new.self }) refl refl c.requires.all made)
+    (record p { maker = c.move_and_start.new.maker; insertion_mode = InBody; path = c.start.new.self }) refl refl c.requires.all made)
 
 pub returns-clause-ok : goal.returns-clause-ok
 returns-clause-ok c =
@@ -44,8 +44,8 @@ returns-clause-ok c =
     let n = c.args.name.now in
     let st = c.in_ok-moves.ensures.ok in
     let made = rw (c.in_ok-make_missing.ensures, c.opens_as_svg-foreign.ensures) at c.in_ok-move_and_start.ensures in
-    let q = record p { maker = c.move_and_start.new.maker; phase = InBody; path = c.start.new.self } in
-    on_ok c.close_at_once.result (IsEntered c.args.slash q c.close_at_once.new.self) (IsDone (reach_body (phase_of p.phase) (start_in_body n c.args.attrs c.args.slash) (state_of p)) p c.close_at_once.new.self)
+    let q = record p { maker = c.move_and_start.new.maker; insertion_mode = InBody; path = c.start.new.self } in
+    on_ok c.close_at_once.result (IsEntered c.args.slash q c.close_at_once.new.self) (IsDone (reach_body (insertion_mode_of p.insertion_mode) (start_in_body n c.args.attrs c.args.slash) (state_of p)) p c.close_at_once.new.self)
     (λ e. (body_start p n c.args.attrs c.args.slash c.in_ok-moves.moves c.start.new.self c.requires.reach c.requires.kept c.requires.all st (opens_no_root n p.path _ _ _ st.moved.does_move) c.requires.room).done q c.close_at_once.new.self refl refl made e) c.close_at_once.ensures.ok
 
 pub returns-in_err-moves-clause-err : goal.returns-in_err-moves-clause-err
@@ -53,7 +53,7 @@ returns-in_err-moves-clause-err c =
     let p = c.args.self.now in
     let n = c.args.name.now in
     let fault = c.in_err-moves.field-0.0 in
-    let s = reach_body (phase_of p.phase) (start_in_body n c.args.attrs c.args.slash) (state_of p) in
+    let s = reach_body (insertion_mode_of p.insertion_mode) (start_in_body n c.args.attrs c.args.slash) (state_of p) in
     let refused : IsRefused s (of_settle fault) =
     refused_start p n c.args.attrs c.args.slash c.requires.reach c.requires.kept c.requires.all fault (λ rule e. (c.in_err-moves.ensures.rule rule).0 (ap Err e)) in
     err_from c.from_residual.result (λ e. e ≡ of_settle fault) (IsRefused s) c.from_residual.ensures.1 (λ e is. subst (IsRefused s) (sym is) refused)

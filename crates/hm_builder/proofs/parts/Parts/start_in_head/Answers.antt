@@ -13,20 +13,20 @@ reach_head-requires-clause-room c =
     let p = c.args.self.now in
     let n = c.args.name.now in
     let stands : may_stand n head (Some html) ≡ true = sym (rw (c.of.ensures.name, c.of-2.ensures.name) at c.may_stand.ensures) ∙ c.if-may_stand.true in
-    room_then (head_opened p.phase) n c.args.attrs (state_of (in_open_head p)) p.maker
-    (subst (λ s. Fits s p.maker) (child_step p.maker p.path p.drops_line_feed p.behind_body p.behind_html n c.args.attrs c.args.slash p.phase c.requires.takes stands) c.requires.room)
+    room_then (head_opened p.insertion_mode) n c.args.attrs (state_of (in_open_head p)) p.maker
+    (subst (λ s. Fits s p.maker) (child_step p.maker p.path p.drops_line_feed p.behind_body p.behind_html n c.args.attrs c.args.slash p.insertion_mode c.requires.takes stands) c.requires.room)
 
 pub start_child-requires-clause-kept : goal.start_child-requires-clause-kept
 start_child-requires-clause-kept c =
     let p = c.args.self.now in
-    subst IsKept (sym c.in_ok-reach_head.ensures) (kept_open p.maker p.path p.drops_line_feed p.behind_body p.behind_html p.phase c.requires.takes c.requires.kept)
+    subst IsKept (sym c.in_ok-reach_head.ensures) (kept_open p.maker p.path p.drops_line_feed p.behind_body p.behind_html p.insertion_mode c.requires.takes c.requires.kept)
 
 pub start_in_body-requires-clause-room : goal.start_in_body-requires-clause-room
 start_in_body-requires-clause-room c =
     let p = c.args.self.now in
     let n = c.args.name.now in
     let stands : may_stand n head (Some html) ≡ false = sym (rw (c.of.ensures.name, c.of-2.ensures.name) at c.may_stand.ensures) ∙ c.if-may_stand.false in
-    subst (λ s. Fits s p.maker) (no_child_step p.maker p.path p.drops_line_feed p.behind_body p.behind_html n c.args.attrs c.args.slash p.phase c.requires.takes stands (no_metadata n stands)) c.requires.room
+    subst (λ s. Fits s p.maker) (no_child_step p.maker p.path p.drops_line_feed p.behind_body p.behind_html n c.args.attrs c.args.slash p.insertion_mode c.requires.takes stands (no_metadata n stands)) c.requires.room
 
 pub returns-in_ok-start_child-clause-ok : goal.returns-in_ok-start_child-clause-ok
 returns-in_ok-start_child-clause-ok c =
@@ -35,8 +35,8 @@ returns-in_ok-start_child-clause-ok c =
     let new = c.start_child.new.self in
     let stands : may_stand n head (Some html) ≡ true = sym (rw (c.of.ensures.name, c.of-2.ensures.name) at c.may_stand.ensures) ∙ c.if-may_stand.true in
     let done : IsDone (opened n c.args.attrs (state_of (in_open_head p))) (in_open_head p) new = subst (λ m. IsDone (opened n c.args.attrs (state_of m)) m new) c.in_ok-reach_head.ensures c.in_ok-start_child.ensures in
-    subst (λ s. IsDone s p new) (sym (child_step p.maker p.path p.drops_line_feed p.behind_body p.behind_html n c.args.attrs c.args.slash p.phase c.requires.takes stands))
-    (done_then (head_opened p.phase) (opened n c.args.attrs (state_of (in_open_head p))) p (in_open_head p) new refl done)
+    subst (λ s. IsDone s p new) (sym (child_step p.maker p.path p.drops_line_feed p.behind_body p.behind_html n c.args.attrs c.args.slash p.insertion_mode c.requires.takes stands))
+    (done_then (head_opened p.insertion_mode) (opened n c.args.attrs (state_of (in_open_head p))) p (in_open_head p) new refl done)
 
 pub returns-else-may_stand-clause-ok : goal.returns-else-may_stand-clause-ok
 returns-else-may_stand-clause-ok c =
@@ -44,7 +44,7 @@ returns-else-may_stand-clause-ok c =
     let n = c.args.name.now in
     let stands : may_stand n head (Some html) ≡ false = sym (rw (c.of.ensures.name, c.of-2.ensures.name) at c.may_stand.ensures) ∙ c.if-may_stand.false in
     subst (λ (s : Stepped). OnOk c.start_in_body.result (IsDone s p c.start_in_body.new.self))
-    (sym (no_child_step p.maker p.path p.drops_line_feed p.behind_body p.behind_html n c.args.attrs c.args.slash p.phase c.requires.takes stands (no_metadata n stands))) c.start_in_body.ensures.ok
+    (sym (no_child_step p.maker p.path p.drops_line_feed p.behind_body p.behind_html n c.args.attrs c.args.slash p.insertion_mode c.requires.takes stands (no_metadata n stands))) c.start_in_body.ensures.ok
 
 pub returns-else-may_stand-clause-err : goal.returns-else-may_stand-clause-err
 returns-else-may_stand-clause-err c =
@@ -52,4 +52,4 @@ returns-else-may_stand-clause-err c =
     let n = c.args.name.now in
     let stands : may_stand n head (Some html) ≡ false = sym (rw (c.of.ensures.name, c.of-2.ensures.name) at c.may_stand.ensures) ∙ c.if-may_stand.false in
     subst (λ (s : Stepped). IfErr c.start_in_body.result (IsRefused s))
-    (sym (no_child_step p.maker p.path p.drops_line_feed p.behind_body p.behind_html n c.args.attrs c.args.slash p.phase c.requires.takes stands (no_metadata n stands))) c.start_in_body.ensures.err
+    (sym (no_child_step p.maker p.path p.drops_line_feed p.behind_body p.behind_html n c.args.attrs c.args.slash p.insertion_mode c.requires.takes stands (no_metadata n stands))) c.start_in_body.ensures.err

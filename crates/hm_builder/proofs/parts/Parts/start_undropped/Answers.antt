@@ -23,27 +23,27 @@ returns-in-InBody-clause-err c =
 pub start_html-requires-clause-before : goal.start_html-requires-clause-before
 start_html-requires-clause-before c =
     let d = c.in_default in
-    before_body c.args.self.now.phase d.not-Initial d.not-AfterBody d.not-AfterHtml d.not-InBody
+    before_body c.args.self.now.insertion_mode d.not-Initial d.not-AfterBody d.not-AfterHtml d.not-InBody
 
 pub start_html-requires-clause-room : goal.start_html-requires-clause-room
 start_html-requires-clause-room c =
     let p = c.args.self.now in
     let d = c.in_default in
-    subst (λ s. Fits s p.maker) (start_before p c.args.name.now c.args.attrs c.args.slash (before_body p.phase d.not-Initial d.not-AfterBody d.not-AfterHtml d.not-InBody)) c.requires.room
+    subst (λ s. Fits s p.maker) (start_before p c.args.name.now c.args.attrs c.args.slash (before_body p.insertion_mode d.not-Initial d.not-AfterBody d.not-AfterHtml d.not-InBody)) c.requires.room
 
 pub returns-in_default-clause-ok : goal.returns-in_default-clause-ok
 returns-in_default-clause-ok c =
     let p = c.args.self.now in
     let d = c.in_default in
     subst (λ (s : Stepped). OnOk c.start_html.result (IsDone s p c.start_html.new.self))
-    (sym (start_before p c.args.name.now c.args.attrs c.args.slash (before_body p.phase d.not-Initial d.not-AfterBody d.not-AfterHtml d.not-InBody))) c.start_html.ensures.ok
+    (sym (start_before p c.args.name.now c.args.attrs c.args.slash (before_body p.insertion_mode d.not-Initial d.not-AfterBody d.not-AfterHtml d.not-InBody))) c.start_html.ensures.ok
 
 pub returns-in_default-clause-err : goal.returns-in_default-clause-err
 returns-in_default-clause-err c =
     let p = c.args.self.now in
     let d = c.in_default in
     subst (λ (s : Stepped). IfErr c.start_html.result (IsRefused s))
-    (sym (start_before p c.args.name.now c.args.attrs c.args.slash (before_body p.phase d.not-Initial d.not-AfterBody d.not-AfterHtml d.not-InBody))) c.start_html.ensures.err
+    (sym (start_before p c.args.name.now c.args.attrs c.args.slash (before_body p.insertion_mode d.not-Initial d.not-AfterBody d.not-AfterHtml d.not-InBody))) c.start_html.ensures.err
 
 pub returns-in-Initial-clause-err : goal.returns-in-Initial-clause-err
 returns-in-Initial-clause-err c = rw c.from.ensures (start_initial c.args.self.now c.args.name.now c.args.attrs c.args.slash c.in-Initial.is)

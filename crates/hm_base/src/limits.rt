@@ -1,0 +1,19 @@
+//! The limits of what is read and written, each in one place: code and definitions cite these.
+
+/// The most bytes of a page.
+pub const PAGE_LIMIT: u32 = 4_194_304;
+
+/// The most bytes of a table of named character references.
+pub const TABLE_LIMIT: u32 = 1_048_576;
+
+/// The most bytes of an output that is checked. No longer text is read, whatever its limit.
+pub const OUTPUT_LIMIT: u32 = 67_108_864;
+
+/// The most bytes of a certificate that is checked.
+pub const CERTIFICATE_LIMIT: u32 = 268_435_456;
+
+/// The most attributes that may be written in one tag, repeats counted.
+pub const ATTRIBUTE_LIMIT: u32 = 256;
+
+/// The most elements that are open at once.
+pub const DEPTH_LIMIT: u32 = 512;

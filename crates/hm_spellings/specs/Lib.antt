@@ -1,0 +1,4 @@
+pub mod Characters
+pub mod Tags
+pub mod Omission
+pub mod Spellings

@@ -1,0 +1,2 @@
+//! Every way to write a tree: the relation that "shortest" compares with.
+#![tactic(auto)]

@@ -1,0 +1,4 @@
+pub mod UnitEdges
+pub mod Ways
+pub mod Layers
+pub mod Prices

@@ -1,0 +1,2 @@
+//! The layered graph of the spellings of a tree: layers of states, ways, and prices.
+#![tactic(auto)]

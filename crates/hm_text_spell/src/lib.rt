@@ -1,0 +1,2 @@
+//! The edges of a character: the ways to write it behind what is pending.
+#![tactic(auto)]

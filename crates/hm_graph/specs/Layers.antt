@@ -1,5 +1,5 @@
 -- The layers of the graph: the states that may come about between two units, in order of first appearance.
-use Rattle.std.specs.Prelude.{ℕ, suc, Bool, true, false, not, ◌&&◌, ◌==◌, List, [], ◌∷◌, ◌++◌, length, if◌then◌else◌}
+use Rattle.std.specs.Prelude.{ℕ, suc, Bool, true, false, not, ◌&&◌, ◌==◌, List, [], ◌∷◌, ◌++◌, if◌then◌else◌}
 use Rattle.std.specs.List.{list_any, list_all}
 use Rattle.hm_graph.specs.Ways.{Edges}
 use Rattle.hm_units.specs.Edges.{Edge}
@@ -43,8 +43,8 @@ abbrev pub nothing_follows : Follows
 nothing_follows unit states = false
 
 abbrev pub is_single : {A : Type 0} → List A → Bool
-is_single (a ∷ []) = true
-is_single as = false
+is_single (x ∷ []) = true
+is_single xs = false
 
 -- one state with one edge
 abbrev pub single_follows : Edges → Follows

@@ -1,7 +1,7 @@
 -- Prices for the states of the layers: the least ones, those that show a bound by themselves, and those that are written.
-use Rattle.std.specs.Prelude.{◌≡◌, ◌≤◌, ℕ, suc, ◌+◌, Bool, true, false, not, ◌&&◌, ◌==◌, List, [], ◌∷◌, ◌++◌, length, map, Option, Some, None, if◌then◌else◌}
+use Rattle.std.specs.Prelude.{◌≡◌, ◌≤◌, ℕ, suc, ◌+◌, Bool, not, ◌&&◌, ◌==◌, List, [], ◌∷◌, length, map, Option, Some, None, if◌then◌else◌}
 use Rattle.hm_graph.specs.Layers.{Follows, states_behind, first_layer}
-use Rattle.hm_graph.specs.Ways.{Edges, over, best, least}
+use Rattle.hm_graph.specs.Ways.{Edges, best, least}
 use Rattle.hm_units.specs.Edges.{Edge, edge_length}
 use Rattle.hm_units.specs.States.{State, same_state}
 use Rattle.hm_units.specs.Units.{Unit}
@@ -27,24 +27,24 @@ least_prices es (unit ∷ units) states = map (least es (unit ∷ units)) states
 -- A price keeps the rule at an edge: a number is at most the edge's length and the number behind it, a closed price behind
 -- bounds nothing, and a closed price has only closed ones behind.
 abbrev pub KeepsEdge : Option ℕ → ℕ → Option ℕ → Type 0
-KeepsEdge price n None = Unit {0}
+KeepsEdge price n None = Prim.Unit {0}
 KeepsEdge None n (Some b) = ⊥
 KeepsEdge (Some a) n (Some b) = a ≤ n + b
 
 abbrev pub KeepsEdges : Option ℕ → (State → Option ℕ) → List Edge → Type 0
-KeepsEdges price behind [] = Unit {0}
+KeepsEdges price behind [] = Prim.Unit {0}
 KeepsEdges price behind (e ∷ es) = KeepsEdge price (edge_length e) (behind e.to) × KeepsEdges price behind es
 
 -- a price for each state, and each keeps the rule at the edges of the unit
 abbrev pub KeepsLayer : Edges → Unit → (State → Option ℕ) → List State → Row → Type 0
-KeepsLayer es unit behind [] [] = Unit {0}
+KeepsLayer es unit behind [] [] = Prim.Unit {0}
 KeepsLayer es unit behind [] (q ∷ row) = ⊥
 KeepsLayer es unit behind (s ∷ states) [] = ⊥
 KeepsLayer es unit behind (s ∷ states) (q ∷ row) = KeepsEdges q behind (es unit s) × KeepsLayer es unit behind states row
 
 -- a price for each state, and each is 0
 abbrev pub AreZero : List State → Row → Type 0
-AreZero [] [] = Unit {0}
+AreZero [] [] = Prim.Unit {0}
 AreZero [] (q ∷ row) = ⊥
 AreZero (s ∷ states) [] = ⊥
 AreZero (s ∷ states) (q ∷ row) = (q ≡ Some 0) × AreZero states row

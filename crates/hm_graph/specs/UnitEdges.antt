@@ -1,5 +1,5 @@
 -- The edges of each unit from a state.
-use Rattle.std.specs.Prelude.{List, ℕ}
+use Rattle.std.specs.Prelude.{List}
 use Rattle.hm_attr_spell.specs.AttributeEdges.{name_edges, bare_edges, opening_edges, closing_edges, close_edges}
 use Rattle.hm_spellings.specs.Tags.{Spelling, character_rules}
 use Rattle.hm_tag_spell.specs.TagEdges.{fixed_edges, start_edges, end_edges}

@@ -1,5 +1,6 @@
 pub mod Bools
 pub mod FirstsLaws
+pub mod FlagLaws
 pub mod Found
 pub mod Gathered
 pub mod Growing

@@ -13,6 +13,7 @@ use Rattle.serde_json.specs.Data.{Num, Data, null, boolean, number, string, arra
 use Rattle.json.specs.Lex.{tokens}
 use Rattle.serde_json.specs.Read.{number_of, of_json, of_items, of_members, max_depth, read}
 use Rattle.serde_json.specs.Find.{as_object, as_array, as_number, as_u64, get}
+use Rattle.hm_base.specs.declared.limits.TheConstants.{TABLE_LIMIT}
 use Rattle.hm_refs.specs.Names.{Entry, is_good_name}
 use Rattle.hm_refs.specs.Tables.{is_point, are_points, names_in, IsTable, IsGathered}
 use Rattle.hm_refs.specs.Json as refs
@@ -199,7 +200,7 @@ members_table ms t s h = by_name (first_bad_name ms) refl h
 
 pub names_table : (bytes : List ℕ) (t : List Entry) → names bytes ≡ Ok t → IsTable t
 unfolding names
-names_table bytes t h = by_length (nat_lt 1048576 (length bytes)) h
+names_table bytes t h = by_length (nat_lt TABLE_LIMIT (length bytes)) h
   where
     by_object : (d : Data) (o : Option Members) → refs.json bytes ≡ Some d → as_object d ≡ o → names_of_object o ≡ Ok t → IsTable t
     by_object d None e f k = absurd (cc)

@@ -3,6 +3,7 @@ use Rattle.std.specs.Prelude.{◌≡◌, ℕ, suc, ◌+◌, ◌*◌, ◌<◌, �
 use Rattle.std.specs.Ordering.{nat_cmp}
 use Rattle.std.specs.BTreeMap.{BTreeMap, get}
 use Rattle.hm_base.specs.Bytes.{is_null}
+use Rattle.hm_refs.specs.declared.limits.TheConstants.{LENGTH_LIMIT, NAMES_LIMIT}
 use Rattle.hm_refs.specs.Names.{Entry, is_front, or_else, found_longer, longest}
 use Rattle.hm_refs.specs.Tables.{names_in, entry_at, points_list, found_at, TableView, front_at}
 use Rattle.hm_refs.specs.declared.nodes.Name.{Name}
@@ -85,17 +86,17 @@ pub record IsWalked (t : List Entry) (k j at : ℕ) (old nodes : List TrieNode) 
   pub front : slice_index_or (fronts_of t nodes) at [] ≡ 38 ∷ take j (drop 1 (entry_at t k).name)
   pub keeps : KeepsPlaces (fronts_of t old) (fronts_of t nodes)
 
--- '&' stands first, and there are three to 64 bytes
+-- '&' stands first, and there are at least three bytes, and no more than may
 pub record IsShort (name : List ℕ) : Type 0 where
   pub begins : name ≡ 38 ∷ drop 1 name
   pub long : 3 ≤ length name
-  pub short : length name ≤ 64
+  pub short : length name ≤ LENGTH_LIMIT
 
 -- what the names have to be for a trie
 pub record AreNames (t : List Entry) : Type 0 where
   pub apart : AreApart (names_in t)
   pub short : (i : ℕ) → i < length t → IsShort (entry_at t i).name
-  pub few : length t ≤ 4096
+  pub few : length t ≤ NAMES_LIMIT
 
 -- the trie of the first k names has grown by the name k, whose node is `at`
 pub record Adds (t : List Entry) (k at : ℕ) (old new : List TrieNode) : Type 0 where

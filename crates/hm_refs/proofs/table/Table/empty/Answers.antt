@@ -4,4 +4,4 @@ use Rattle.hm_refs.proofs.FirstsLaws.{no_places}
 use Rattle.hm_refs.proofs.table.Table.empty.Goals as goal
 
 pub invariant_of-result : goal.invariant_of-result
-invariant_of-result c = rw (c.in_ok-trie.ensures, c.new.ensures.items) (no_table, λ q. rw c.new-3.ensures.empty (sym (no_places q)))
+invariant_of-result c = rw (c.in_ok-trie.ensures, c.new.ensures.items) (no_table, λ q. rw c.new-3.ensures.empty (sym (no_places q)), c.plain_flags.ensures)

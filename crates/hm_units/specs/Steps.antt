@@ -123,3 +123,11 @@ Fits t spot (half left) = ⊥
 Fits t spot one_bracket = ⊥
 Fits t spot two_brackets = ⊥
 Fits t spot p = Unit {0}
+
+abbrev pub FitsAfter : List Entry → Spot → Option Pending → Type 0
+FitsAfter t spot None = Unit {0}
+FitsAfter t spot (Some p) = Fits t spot p
+
+abbrev pub keeps_after : List Entry → Spot → Option Pending → List ℕ → Bool
+keeps_after t spot None s = false
+keeps_after t spot (Some p) s = keeps t spot p s

@@ -5,12 +5,12 @@ use Rattle.hm_base.specs.Bytes.{is_alnum, is_digit_of, is_letter}
 use Rattle.hm_refs.specs.Names.{Entry, is_name}
 use Rattle.hm_refs.specs.References.{blocks}
 use Rattle.hm_refs.specs.Tables.{IsIn, IsTable, first, later}
-use Rattle.hm_spellings.specs.Characters.{Spot, double, is_value, opens, rcdata, single, text, unquoted}
+use Rattle.hm_spellings.specs.Characters.{Spot, double, foreign, is_value, opens, opens_text, rcdata, single, text, unquoted}
 use Rattle.hm_units.specs.Laws.{closing_bytes}
-use Rattle.hm_units.specs.States.{Pending, ampersand, decimal, half, hash, hash_x, hexadecimal, less_than, named, nothing}
+use Rattle.hm_units.specs.States.{Pending, ampersand, decimal, half, hash, hash_x, hexadecimal, less_than, named, nothing, one_bracket, two_brackets}
 use Rattle.hm_units.specs.Steps.{Fits, ampersand_in_text, ampersand_in_value, is_root, keeps, keeps_after, may_end, named_in_text, named_in_value, step}
 use Rattle.hm_units.proofs.Steps.{step_law}
-use Rattle.hm_units.proofs.Literals.{Special, no_child, onto_none, no_name, lt_special}
+use Rattle.hm_units.proofs.Runs.{Special, no_child, onto_none, no_name, lt_special}
 
 ten_hex : (c : ℕ) → is_digit_of 16 c ≡ false → is_digit_of 10 c ≡ false
 unfolding is_digit_of
@@ -22,6 +22,7 @@ ten_hex c h = by_value (digit_value c) h
 value_opens : (spot : Spot) (c : ℕ) → is_value spot ≡ true → opens spot c ≡ false
 value_opens text c h = absurd (cc)
 value_opens rcdata c h = absurd (cc)
+value_opens foreign c h = absurd (cc)
 value_opens unquoted c h = refl
 value_opens double c h = refl
 value_opens single c h = refl
@@ -54,6 +55,8 @@ closing_at t k spot p c s v i b no_hex f = step_law t k spot p c s f ∙ by_stat
     by_state (ampersand q) g = rw (v, i.no_hash, b, i.no_semicolon, onto_none ampersand t q c (no_child t k q c g.some i.no_alnum i.no_semicolon), by_name (is_name t (q ++ c ∷ []))) (by_root (is_root q) (is_name t q))
     by_state (named q) g = rw (v, b, i.no_semicolon) refl
     by_state (half left) g = absurd g
+    by_state one_bracket g = absurd g
+    by_state two_brackets g = absurd g
 
 record IsClosing (c : ℕ) : Type 0 where
   special : Special c
@@ -77,7 +80,7 @@ closing_law t k spot p c s v i f = let h = closing_is c i in closing_at t k spot
 
 -- in text '<' keeps whatever is pending
 pub markup_law : (t : List Entry) → IsTable t → (spot : Spot) (p : Pending) (s : List ℕ) → is_value spot ≡ false → Fits t spot p → keeps t spot p (60 ∷ s) ≡ true
-unfolding ampersand_in_text named_in_text is_digit_of is_letter is_alnum
+unfolding ampersand_in_text named_in_text is_digit_of is_letter is_alnum opens_text
 markup_law t k spot p s v f = step_law t k spot p 60 s f ∙ by_state p f
   where
     by_root : (r : Bool) → keeps_after t spot (cond (r && false) (Some hash) (Some nothing)) s ≡ true
@@ -87,6 +90,7 @@ markup_law t k spot p s v f = step_law t k spot p 60 s f ∙ by_state p f
     no_open : (z : Spot) → is_value z ≡ false → opens z 60 ≡ false
     no_open text h = refl
     no_open rcdata h = refl
+    no_open foreign h = refl
     no_open unquoted h = absurd (cc)
     no_open double h = absurd (cc)
     no_open single h = absurd (cc)
@@ -101,3 +105,5 @@ markup_law t k spot p s v f = step_law t k spot p 60 s f ∙ by_state p f
     by_state (ampersand q) g = let n = no_child t k q 60 g.some lt_special.no_alnum refl in rw (v, onto_none ampersand t q 60 n, no_name t (q ++ 60 ∷ []) n) (by_root (is_root q))
     by_state (named q) g = let n = no_child t k q 60 g lt_special.no_alnum refl in rw (v, onto_none named t q 60 n, no_name t (q ++ 60 ∷ []) n) refl
     by_state (half left) g = absurd g
+    by_state one_bracket g = absurd g
+    by_state two_brackets g = absurd g

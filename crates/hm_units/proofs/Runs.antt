@@ -1,18 +1,14 @@
--- Literals, and the bytes '&' and '<' behind what is pending.
-use Rattle.std.proofs.Common.{◌≡◌, ℕ, ◌<◌, Bool, true, false, cond, ◌&&◌, ◌||◌, ◌==◌, not, List, [], ◌∷◌, ◌++◌, Option, Some, None, refl, sym, ap, ◌∙◌, subst, inl, inr, arith, is_none, encode_utf8}
-use Rattle.std.proofs.lemmas.Str.{encode_ascii}
-use Rattle.hm_base.specs.Bytes.{head_is, is_alnum, is_digit, is_digit_of, is_hex, is_letter, is_null}
+-- Bytes taken as a whole, and the bytes '&' and '<' behind what is pending.
+use Rattle.std.proofs.Common.{◌≡◌, ℕ, Bool, true, false, cond, ◌&&◌, ◌||◌, ◌==◌, List, [], ◌∷◌, ◌++◌, Option, Some, None, refl, ◌∙◌, inl, inr}
+use Rattle.hm_base.specs.Bytes.{is_alnum, is_digit, is_digit_of, is_hex, is_letter, is_null}
 use Rattle.hm_refs.specs.Names.{Entry, is_front, is_name}
-use Rattle.hm_refs.specs.References.{blocks, is_semicolon, reference}
+use Rattle.hm_refs.specs.References.{blocks, is_semicolon}
 use Rattle.hm_refs.specs.Tables.{IsTable}
-use Rattle.hm_spellings.specs.Characters.{Spot, double, is_value, opens, rcdata, single, stays, text, unquoted}
-use Rattle.hm_units.specs.States.{Pending, ampersand, decimal, half, hash, hash_x, hexadecimal, less_than, named, nothing}
+use Rattle.hm_spellings.specs.Characters.{Spot, is_value, opens}
+use Rattle.hm_units.specs.States.{Pending, ampersand, decimal, half, hash, hash_x, hexadecimal, less_than, named, nothing, one_bracket, two_brackets}
 use Rattle.hm_units.specs.Steps.{Fits, FitsAfter, ampersand_in_text, ampersand_in_value, goes_on_decimal, goes_on_hexadecimal, is_root, keeps, keeps_after, named_in_text, named_in_value, onto, run, step, unless}
-use UNKNOWN.{literal_to}
-use Rattle.hm_refs.proofs.Bools.{eq_of}
 use Rattle.hm_refs.proofs.Found.{child_is}
 use Rattle.hm_units.proofs.Steps.{name_front, step_law, step_fits}
-use Rattle.hm_units.proofs.Reading.{reference_amp}
 
 -- bytes are taken as a whole
 pub run_law : (t : List Entry) → IsTable t → (spot : Spot) (s x : List ℕ) (p : Pending) → Fits t spot p → keeps t spot p (s ++ x) ≡ keeps_after t spot (run t spot (Some p) s) x
@@ -114,43 +110,6 @@ step_special t k spot (ampersand q) c s f r e = let n = no_child t k q c f.some 
     only_cond (is_value spot) (ampersand_in_value t q c) (ampersand_in_text t q c) (amp_value_is t q c s.no_hash n) (amp_text_is t q c s.no_hash n) r e
 step_special t k spot (named q) c s f r e = let n = no_child t k q c f s.no_alnum s.no_semicolon in
     only_cond (is_value spot) (named_in_value t q c) (named_in_text t q c) (named_value_is t q c) (named_text_is t q c n) r e
-step_special t k spot (half left) c s f r e = absurd (cc)
-
-one_byte : (t : List Entry) (spot : Spot) (p : Pending) (c d : ℕ) → (d == c) ≡ true → d < 128 → run t spot (Some p) (encode_utf8 c) ≡ step t spot p d
-one_byte t spot p c d e l = let i = eq_of d c e in
-    subst (λ z. run t spot (Some p) (encode_utf8 z) ≡ step t spot p d) i (ap (λ w. run t spot (Some p) w) (encode_ascii d l) ∙ run_none (step t spot p d))
-  where
-    run_none : (n : Option Pending) → run t spot n [] ≡ n
-    run_none None = refl
-    run_none (Some q) = refl
-
-keeps_nothing : (t : List Entry) (spot : Spot) (q : Pending) (x : List ℕ) → q ≡ nothing → keeps t spot q x ≡ true
-keeps_nothing t spot q x e = rw e refl
-
-and_true : (b : Bool) → b && true ≡ b
-and_true true = refl
-and_true false = refl
-
-opens_value : (spot : Spot) (x : List ℕ) → is_value spot ≡ true → head_is (opens spot) x ≡ false
-opens_value text x h = absurd (cc)
-opens_value rcdata x h = absurd (cc)
-opens_value unquoted [] h = refl
-opens_value unquoted (c ∷ x) h = refl
-opens_value double [] h = refl
-opens_value double (c ∷ x) h = refl
-opens_value single [] h = refl
-opens_value single (c ∷ x) h = refl
-
--- what is pending behind a literal tells of what it was before, and whether the literal stays
-pub literal_law : (t : List Entry) → IsTable t → (spot : Spot) (p : Pending) (c : ℕ) → Fits t spot p → (q : Pending) → run t spot (Some p) (encode_utf8 c) ≡ Some q
-    → (x : List ℕ) → (stays t spot c x && keeps t spot q x) ≡ keeps t spot (literal_to spot c q) x
-literal_law t k spot p c f q e x = by_tests (38 == c) (60 == c) (is_value spot) refl refl refl
-  where
-    by_tests : (a l v : Bool) → (38 == c) ≡ a → (60 == c) ≡ l → is_value spot ≡ v
-        → (cond a (is_none (reference t (is_value spot) (38 ∷ x))) (cond l (not (head_is (opens spot) x)) true) && keeps t spot q x) ≡ keeps t spot (cond a (ampersand (38 ∷ [])) (cond (l && not v) less_than q)) x
-    by_tests true l v ha hl hv =
-        rw (keeps_nothing t spot q x (step_special t k spot p 38 amp_special f q (sym (one_byte t spot p c 38 ha (omega arith)) ∙ e)), reference_amp t k (is_value spot) x) (and_true _)
-    by_tests false true true ha hl hv = rw (opens_value spot x hv) refl
-    by_tests false true false ha hl hv =
-        rw (keeps_nothing t spot q x (step_special t k spot p 60 lt_special f q (sym (one_byte t spot p c 60 hl (omega arith)) ∙ e))) (and_true _)
-    by_tests false false v ha hl hv = refl
+step_special t k spot (half left) c s f r e = absurd f
+step_special t k spot one_bracket c s f r e = absurd f
+step_special t k spot two_brackets c s f r e = absurd f

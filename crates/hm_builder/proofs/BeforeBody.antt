@@ -6,13 +6,13 @@ use Rattle.std.proofs.lemmas.Bool.{false_from_ne_true}
 use Rattle.hm_base.specs.Walks.{Attribute, Event, start, end, Element, path_after, pushes}
 use Rattle.hm_base.specs.declared.rules.Rule.TheVariants.{SecondRoot, WrongParent}
 use Rattle.hm_elements.specs.Names.{is_among, words, html, head, body, noscript}
-use Rattle.hm_elements.specs.Tables.{is_void, voids, is_raw, raw_names, is_rcdata, rcdata_names, holds_text, is_root, roots, is_refused, refused_names}
+use Rattle.hm_elements.specs.Tables.{is_metadata, is_void, voids, is_raw, raw_names, is_rcdata, rcdata_names, holds_text, is_root, roots, is_refused, refused_names}
 use Rattle.hm_elements.specs.Nesting.{may_stand, children, noscript_children}
 use Rattle.hm_elements.specs.Paths.{is_in_text, html_element}
 use Rattle.hm_elements.proofs.TableTools.{same_bytes, entry_passes, second_of}
 use Rattle.hm_tree.specs.Trees.{HasRoom, end_of}
 use Rattle.hm_construction.specs.Steps as steps
-use Rattle.hm_construction.specs.Steps.{State, Stepped, went, stops, behind_events, moved, html_start, start_inside, reach_body, opened, is_metadata, closes_at_once, under_html, under_head, under_body}
+use Rattle.hm_construction.specs.Steps.{State, Stepped, went, stops, behind_events, moved, html_start, start_inside, reach_body, opened, closes_at_once, under_html, under_head, under_body}
 use Rattle.hm_builder.specs.Building.{Fits, grown}
 use Rattle.hm_builder.specs.BeforeBody.{TakesChildren, html_opened, head_opened, in_open_head, has_begun}
 use Rattle.hm_builder.specs.Inside.{insertion_mode_of, open_path, text_name, inside_head, under_noscript, state_of, has_no_text, head_ended, IsUnbegun, IsKept, IsDone}

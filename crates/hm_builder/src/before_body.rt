@@ -16,7 +16,7 @@ use crate::insertion::{HeadText, InsertionMode};
 use crate::make::close_made_head;
 use crate::parts::Parts;
 use hm_base::{Memory, Rule};
-use hm_elements::{Named, is_one_of, may_stand};
+use hm_elements::{Named, is_metadata, may_stand};
 use hm_tree::{Attrs, Maker};
 use std::alloc::Global;
 
@@ -327,12 +327,4 @@ fn make_open_head(
         InsertionMode::BeforeHead => maker.start("head", false, Attrs::new(alloc)),
         _ => Ok(()),
     }
-}
-
-/// Whether the element is metadata, which doesn't stand between `head` and `body`.
-#[tactic(auto, unfolding(hm_construction::specs::Steps::is_metadata))]
-fn is_metadata(name: &str) -> bool
-    ensures { result ≡ steps.is_metadata name.now }
-{
-    is_one_of(name, &["base", "link", "meta", "script", "style", "title"])
 }

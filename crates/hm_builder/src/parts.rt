@@ -1,14 +1,12 @@
 //! The parts of a builder, and which elements are open.
 ghost use Rattle.std.specs.Prelude.{◌≡◌};
-ghost use Rattle.hm_elements.specs.Names.{is_among};
 ghost use Rattle.hm_elements.specs.Paths as paths;
-ghost use Rattle.hm_elements.specs.Paths.{blank_parents};
 ghost use Rattle.hm_builder.specs.Inside as inside;
 ghost use Rattle.hm_builder.specs.Inside.{inside_head, open_path, text_name};
 
 use crate::insertion::{HeadText, InsertionMode};
 use hm_base::Word;
-use hm_elements::{is_one_of, is_raw, same_name};
+use hm_elements::{is_blank_parent, is_raw, same_name};
 use hm_settle::Path;
 use hm_tree::Maker;
 
@@ -98,18 +96,6 @@ pub(crate) fn is_in_blank(path: &Path) -> bool
     ensures { result ≡ paths.is_in_blank path.now }
 {
     !path.is_in_svg() && (is_blank_parent(path.current()) || is_noscript_in_head(path))
-}
-
-#[tactic(auto, unfolding(hm_elements::specs::Paths::blank_parents))]
-fn is_blank_parent(name: &str) -> bool
-    ensures { result ≡ is_among name.now blank_parents }
-{
-    is_one_of(
-        name,
-        &[
-            "head", "table", "thead", "tbody", "tfoot", "tr", "colgroup", "select", "optgroup",
-        ],
-    )
 }
 
 fn is_noscript_in_head(path: &Path) -> bool

@@ -20,7 +20,7 @@ use crate::make::make_missing;
 use crate::moves::{end_elements, start_made};
 use crate::parts::Parts;
 use hm_base::{Memory, Rule};
-use hm_elements::{is_one_of, is_refused, is_void, same_name};
+use hm_elements::{is_preformatted, is_refused, is_root, is_void, same_name};
 use hm_settle::{Moves, Path};
 use hm_tree::{Attrs, Maker};
 use std::alloc::Global;
@@ -135,17 +135,9 @@ impl Parts {
             self.maker.end()?;
             return Ok(());
         }
-        self.drops_line_feed = drops_behind(name);
+        self.drops_line_feed = is_preformatted(name);
         Ok(())
     }
-}
-
-/// Whether the element is html, head or body.
-#[tactic(auto, unfolding(hm_elements::specs::Tables::is_root, hm_elements::specs::Tables::roots))]
-fn is_root(name: &str) -> bool
-    ensures { result ≡ tables.is_root name.now }
-{
-    is_one_of(name, &["html", "head", "body"])
 }
 
 /// Whether the element opens as one of SVG.
@@ -171,11 +163,4 @@ fn move_and_start(
     end_elements(maker, moves.closes)?;
     start_made(alloc, maker, moves.made)?;
     maker.start(name, foreign, attrs)
-}
-
-/// Whether a line feed directly behind the start tag of the HTML element is dropped (13.2.6.4.7).
-fn drops_behind(name: &str) -> bool
-    ensures { result ≡ is_among name.now (words "pre textarea") }
-{
-    is_one_of(name, &["pre", "textarea"])
 }

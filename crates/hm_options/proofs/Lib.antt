@@ -1,4 +1,3 @@
-pub mod Defaults
 pub mod InOrder
 pub mod Joined
 pub mod Kept

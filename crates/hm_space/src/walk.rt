@@ -16,10 +16,10 @@ ghost use Rattle.hm_tree.specs.Trees.{HasRoom};
 ghost use Rattle.hm_tree.specs.Views.{event_of};
 
 use crate::copy::put;
-use crate::names::{is_space_parent, keeps_space};
+use crate::names::keeps_space;
 use crate::spaces::{push_spaced, without_leading, without_trailing};
 use hm_base::Memory;
-use hm_elements::{is_block, same_name};
+use hm_elements::{is_block, is_space_parent, same_name};
 use hm_tree::{EventView, Maker, Tree};
 use std::alloc::Global;
 

@@ -9,7 +9,7 @@ finish-requires c =
     end_fits c.args.lexer.now c.args.builder c.text.result.now c.requires.read (same_text c.args.lexer.now c.args.text.now c.text.result.now c.requires.source c.text.ensures.bytes) (short_text _ _ c.text.ensures.within c.text.ensures.short)
 
 pub refusal-requires : goal.refusal-requires
-refusal-requires c = subst (λ n. length c.text.result.now + span_of c.in-Err.fault ≤ n) c.text.ensures.len (end_inside c.args.builder c.in-Err.fault (length c.text.result.now) c.in-Err.ensures.err)
+refusal-requires c = subst (λ n. length c.text.result.now + span_of c.in-Err.fault ≤ n) c.text.ensures.len (end_inside c.args.builder c.in-Err.fault (length c.text.result.now) c.in-Err.ensures)
 
 pub returns-in-Ok-clause-built : goal.returns-in-Ok-clause-built
-returns-in-Ok-clause-built c = end_built c.args.lexer.now c.args.builder c.in-Ok.tree c.requires.read c.in-Ok.ensures.ok
+returns-in-Ok-clause-built c = end_built c.args.lexer.now c.args.builder c.in-Ok.tree c.requires.read c.in-Ok.ensures

@@ -7,18 +7,13 @@ use Rattle.hm_base.specs.declared.rules.Rule.{Rule}
 use Rattle.hm_base.specs.declared.rules.Rule.TheVariants.{RefusedName, SecondRoot, StrayEnd, NotCurrent, WrongParent, TextHere, AfterHead, AfterBody, Unclosed, TooDeep, ForeignName, BlockInParagraph, Nested}
 use Rattle.hm_elements.specs.Names.{html, head, body, svg, is_among, tr, tbody, colgroup, table, col, words}
 use Rattle.hm_elements.specs.Nesting.{made_under, noscript_children}
-use Rattle.hm_elements.specs.Tables.{is_section, is_svg_name, holds_svg_text, is_refused, is_root}
+use Rattle.hm_elements.specs.Tables.{is_metadata, is_section, is_svg_name, holds_svg_text, is_refused, is_root}
 use Rattle.hm_elements.specs.Paths.{html_element, current, is_in_svg, front, behind, yields_to, falls_to, made_on, stands_on, is_open, is_in_text, is_in_blank, is_block_in_p, is_nested, is_deep}
 use Rattle.hm_settle.specs.Moves.{Moves, moves, refuses, element, start_moves, end_moves, start_on, opens_in_place, opens, end_on, ends_nothing}
 use Rattle.hm_tree.specs.Tokens.{Seen}
 use Rattle.hm_tree.specs.Tokens as tokens
-use Rattle.hm_build.specs.Weights.{weight, left, left_size, texts_size, load, load_size}
-use Rattle.hm_construction.specs.Steps.{InsertionMode, initial, before_html, before_head, in_head, after_head, in_body, after_body, after_html, State, Stepped, went, stops, behind_events, moved, no_drop, under_html, under_head, under_body, make_html, make_head, close_head, make_body, reach_head, reach_body, is_in_noscript, keep_byte, space_byte, body_byte, other_byte, kept_byte, step_byte, behind_bytes, then_step, step_bytes, at_front, drops_behind, closes_at_once, entered, end_event, start_event, starts, after_moves, start_in_body, opened, open_html, open_head_here, open_head, open_body_here, open_body, is_metadata, start_after_head, start_in_head, start_inside, html_start, is_outside, outside_rule, step_start, after_end_moves, end_current, end_head, is_at_end, leave_body, end_body, end_html, end_inside, html_end, end_outside, step_end, step_comment, step_doctype, step, closing, leave_page, step_over}
-
--- The events of a step and what is left behind it are within these bounds; it is refused within so many bytes.
-abbrev pub Within : ℕ → ℕ → ℕ → Stepped → Type 0
-Within a b m (went es st) = (weight es + load st ≤ a) × (walk_size es + load_size st ≤ b)
-Within a b m (stops rule n) = n ≤ m
+use Rattle.hm_construction.specs.Weights.{weight, left, left_size, texts_size, load, load_size, cost, size_cost, span, Within, WithinAll}
+use Rattle.hm_construction.specs.Steps.{InsertionMode, initial, before_html, before_head, in_head, after_head, in_body, after_body, after_html, State, Stepped, went, stops, behind_events, moved, no_drop, under_html, under_head, under_body, make_html, make_head, close_head, make_body, reach_head, reach_body, is_in_noscript, keep_byte, space_byte, body_byte, other_byte, kept_byte, step_byte, behind_bytes, then_step, step_bytes, at_front, drops_behind, closes_at_once, entered, end_event, start_event, starts, after_moves, start_in_body, opened, open_html, open_head_here, open_head, open_body_here, open_body, start_after_head, start_in_head, start_inside, html_start, is_outside, outside_rule, step_start, after_end_moves, end_current, end_head, is_at_end, leave_body, end_body, end_html, end_inside, html_end, end_outside, step_end, step_comment, step_doctype, step, closing, leave_page, step_over}
 
 pub weight-append : (es fs : List Event) → weight (es ++ fs) ≡ weight es + weight fs
 weight-append [] fs = omega arith
@@ -506,31 +501,6 @@ end_within n st = by (is_in_text st.path) (is_outside st.insertion_mode) (is_in_
 
 -- ---- a token
 
-abbrev pub cost : Seen → ℕ
-cost (tokens.doctype legacy) = 1
-cost (tokens.start_tag n attributes slash) = 9
-cost (tokens.end_tag n) = 0
-cost (tokens.slice s) = length s
-cost (tokens.points ps) = length (encode_utf8_all ps)
-cost (tokens.comment s) = 1
-
-abbrev pub size_cost : Seen → ℕ
-size_cost (tokens.doctype legacy) = 0
-size_cost (tokens.start_tag n attributes slash) = length n + attributes_size attributes + 8
-size_cost (tokens.end_tag n) = 0
-size_cost (tokens.slice s) = length s
-size_cost (tokens.points ps) = length (encode_utf8_all ps)
-size_cost (tokens.comment s) = length s
-
--- behind how many bytes of the token it may be refused
-abbrev pub span : Seen → ℕ
-span (tokens.doctype legacy) = 0
-span (tokens.start_tag n attributes slash) = 0
-span (tokens.end_tag n) = 0
-span (tokens.slice s) = length s
-span (tokens.points ps) = 0
-span (tokens.comment s) = 0
-
 doctype_within : (legacy : Bool) (p : InsertionMode) (st : State) → st.insertion_mode ≡ p → Within (load st + 1) (load_size st + 0) 0 (step_doctype p legacy st)
 doctype_within legacy initial st e = rw e (omega arith, omega arith)
 doctype_within legacy before_html st e = omega arith
@@ -606,11 +576,6 @@ closing_weight (e ∷ f ∷ path) inner last =
     let x : weight (closing (f ∷ path) inner last) ≡ length (f ∷ path) + (length inner + length last) = h.0 in
     let y : walk_size (closing (f ∷ path) inner last) ≡ texts_size inner + texts_size last = h.1 in
     (omega arith, omega arith)
-
--- all that is left is put behind
-abbrev pub WithinAll : ℕ → ℕ → Stepped → Type 0
-WithinAll a b (went es st) = (weight es ≤ a) × (walk_size es ≤ b)
-WithinAll a b (stops rule n) = n ≡ 0
 
 leave_page_within : (p : InsertionMode) (st : State) → st.insertion_mode ≡ p → EndWithin st (leave_page p st)
 leave_page_within after_body st e = (omega arith, omega arith)

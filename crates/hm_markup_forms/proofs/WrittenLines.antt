@@ -1,16 +1,15 @@
 -- A written doctype or tag stays one, with the same meaning, where its line ends and those of what follows become LF.
-use Rattle.std.proofs.Common.{◌≡◌, ◌⊎◌, inl, inr, ℕ, suc, Bool, true, false, not, ◌&&◌, ◌==◌, List, [], ◌∷◌, ◌++◌, map, Contains, codes, refl, sym, ap, subst, ◌∙◌, arith, append_assoc}
+use Rattle.std.proofs.Common.{◌≡◌, ◌⊎◌, inl, inr, ℕ, suc, Bool, true, false, not, ◌&&◌, ◌==◌, List, [], ◌∷◌, ◌++◌, map, Contains, codes, refl, sym, ap, subst, ◌∙◌, arith, append_assoc, if◌then◌else◌}
 use Rattle.std.proofs.lemmas.Bool.{and_parts}
-use Rattle.hm_base.specs.Bytes.{lower, all_pass}
+use Rattle.hm_base.specs.Bytes.{lower, all_pass, head_is, is_digit_of, is_space}
 use Rattle.hm_base.specs.Forms.{is_small, is_tag_byte, is_tag_name, is_attribute_byte, is_attribute_name}
-use Rattle.hm_base.specs.Bytes.{is_digit_of, is_space}
 use Rattle.hm_base.specs.Walks.{Attribute}
 use Rattle.hm_markup_forms.specs.Gaps.{IsWord}
 use Rattle.hm_markup_forms.specs.Doctypes.{IsPlainDoctype, IsLegacyDoctype, WritesDoctype}
-use Rattle.hm_markup_forms.specs.Tags.{Form, bare, Writes, IsAssigned, parts_attributes, parts_slash, WritesAttribute, WritesAttributes, tag_end, WritesStart, WritesEnd}
+use Rattle.hm_markup_forms.specs.Tags.{Form, bare, unquoted, double, single, Writes, IsAssigned, parts_attributes, parts_slash, WritesAttribute, WritesAttributes, tag_end, WritesStart, WritesEnd}
 use Rattle.hm_markup_forms.proofs.Gaps.{gap_blank, blank_gap}
-use Rattle.hm_markup_forms.proofs.LineEnds.{newlines, is_no_return, newlines_plain, IsInLine, lowered_plain, lowered_in_line, gap_lines}
-use Rattle.hm_markup_forms.proofs.Readable.{IsBehind, closing_behind, attributes_behind}
+use Rattle.hm_markup_forms.proofs.LineEnds.{newlines, newlines_after, is_no_return, newlines_plain, IsInLine, lowered_plain, lowered_in_line, gap_lines}
+use Rattle.hm_markup_forms.proofs.Readable.{ends_value, IsBehind, closing_behind, attributes_behind}
 
 -- b, written in front of after, with its line ends as LF, in front of after with its own
 pub record HasLines (W : List ℕ → List ℕ → Type 0) (b after : List ℕ) : Type 0 where
@@ -57,6 +56,18 @@ assigned_lines v b after value w =
       written = record { left = left.other; right = right.other; is = refl; left_blank = gap_blank false left.other left.gap_is; right_blank = gap_blank false right.other right.gap_is };
       is = ap newlines cut ∙ left.is ∙ ap (λ r. left.other ++ 61 ∷ r) right.is ∙ simp append_assoc refl;
     }
+
+-- what ends a value still does
+pub behind_lines : (form : Form) (after : List ℕ) → IsBehind form after → IsBehind form (newlines after)
+behind_lines bare after h = tt
+behind_lines unquoted [] h = absurd (cc)
+behind_lines unquoted (c ∷ s) h = by_test (c == 13)
+  where
+    by_test : (b : Bool) → head_is ends_value (if b then 10 ∷ newlines_after true s else c ∷ newlines s) ≡ true
+    by_test true = unfold is_space in refl
+    by_test false = h
+behind_lines double after h = tt
+behind_lines single after h = tt
 
 -- each value of these attributes keeps its meaning where it stands in a tag
 abbrev pub ValuesHaveLines : Writes → List Attribute → Type 0

@@ -2,3 +2,4 @@ pub mod States
 pub mod Steps
 pub mod Edges
 pub mod Units
+pub mod Laws

@@ -1,5 +1,5 @@
 -- The states between two units of a spelling: where in the markup it stands, and what the bytes so far leave pending.
-use Rattle.std.specs.Prelude.{ℕ, Bool, true, false, ◌&&◌, ◌==◌, List, [], ◌∷◌, Option, Some, None, bytes_eq}
+use Rattle.std.specs.Prelude.{ℕ, Bool, true, false, ◌&&◌, List, Option, Some, None, bytes_eq}
 use Rattle.hm_spellings.specs.Characters.{Spot, unquoted, double, single}
 
 pub data Where : Type 0 where

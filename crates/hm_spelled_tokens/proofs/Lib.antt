@@ -5,3 +5,9 @@ pub mod ValueReads
 pub mod Within
 pub mod ValueBytes
 pub mod Values
+pub mod TextPieces
+pub mod Ends
+pub mod Sections
+pub mod ReadTexts
+pub mod SvgTexts
+pub mod Texts

@@ -2,3 +2,4 @@ pub mod Characters
 pub mod Tags
 pub mod Omission
 pub mod Spellings
+pub mod Examples

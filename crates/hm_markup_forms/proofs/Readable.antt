@@ -1,13 +1,13 @@
 -- What is written by strict rules can be read: what stands apart may touch, and values carry over from one relation to
 -- another, larger one.
-use Rattle.std.proofs.Common.{◌≡◌, ℕ, zero, suc, ◌<◌, Bool, true, false, not, ◌&&◌, ◌||◌, ◌==◌, List, [], ◌∷◌, ◌++◌, length, Contains, refl, arith, append_assoc}
+use Rattle.std.proofs.Common.{◌≡◌, ℕ, suc, Bool, true, false, ◌&&◌, ◌||◌, ◌==◌, List, [], ◌∷◌, ◌++◌, Contains, refl, arith, append_assoc}
 use Rattle.std.proofs.lemmas.Bool.{and_parts}
 use Rattle.hm_base.specs.Bytes.{head_is, is_space}
 use Rattle.hm_base.specs.Forms.{is_blank}
 use Rattle.hm_base.specs.Walks.{Attribute}
 use Rattle.hm_markup_forms.specs.Gaps.{is_gap}
 use Rattle.hm_markup_forms.specs.Doctypes.{IsPlainDoctype, IsLegacyDoctype, WritesDoctype}
-use Rattle.hm_markup_forms.specs.Tags.{Form, bare, unquoted, double, single, Writes, parts_attributes, parts_slash, WritesAttribute, WritesAttributes, tag_end, WritesStart}
+use Rattle.hm_markup_forms.specs.Tags.{Form, bare, unquoted, double, single, Writes, parts_attributes, parts_slash, WritesAttributes, tag_end, WritesStart}
 use Rattle.hm_markup_forms.proofs.Gaps.{gap_blank, gap_front, gap_serves}
 
 -- whitespace or '>'

@@ -1,5 +1,6 @@
 //! Laws over spelled values, tags and texts, and how they are read. The functions do nothing.
 ghost use Rattle.hm_spelled_tokens.specs.References.{ReferencesTakeFewBytes};
+ghost use Rattle.hm_spelled_tokens.specs.Tags.{SpelledDoctypesAreNext, SpelledStartsAreNext, SpelledStartsAreWritten};
 ghost use Rattle.hm_spelled_tokens.specs.Texts.{SpelledElementTextsAreRead, SpelledPointsAreInPieces, SpelledPointsEndThere, SpelledSvgPointsAreRead, SpelledSvgTextsAreRead, SpelledTextsAreInPieces, SpelledTextsAreRead, TouchingTextsAreInPieces};
 ghost use Rattle.hm_spelled_tokens.specs.Values.{SpelledValuesAreDecided, SpelledValuesAreRead};
 
@@ -13,6 +14,17 @@ pub fn references_take_few_bytes()
 pub fn spelled_values_are_read()
     ensures read { SpelledValuesAreRead }
     ensures decided { SpelledValuesAreDecided }
+{}
+
+/// A start tag that is spelled is the next token, whatever follows it (13.2.5.6 to 13.2.5.40).
+pub fn spelled_starts_are_next()
+    ensures written { SpelledStartsAreWritten }
+    ensures next { SpelledStartsAreNext }
+{}
+
+/// So is a doctype (13.2.5.53 to 13.2.5.68).
+pub fn spelled_doctypes_are_next()
+    ensures { SpelledDoctypesAreNext }
 {}
 
 /// A text that is spelled is read as the text (13.2.5.1 and 13.2.5.2); two that touch are read as one.

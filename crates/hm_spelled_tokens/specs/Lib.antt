@@ -1,2 +1,4 @@
 pub mod References
 pub mod Values
+pub mod Texts
+pub mod Tags

@@ -3,3 +3,4 @@ pub mod Tags
 pub mod Omission
 pub mod Spellings
 pub mod PageExamples
+pub mod Examples

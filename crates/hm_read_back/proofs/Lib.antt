@@ -1,3 +1,5 @@
 pub mod Reading
 pub mod Runs
 pub mod Ahead
+pub mod Frame
+pub mod Behind

@@ -3,3 +3,4 @@ pub mod Runs
 pub mod Ahead
 pub mod Frame
 pub mod Behind
+pub mod BodySteps

@@ -1,6 +1,7 @@
 -- Tags in body: what one does where its element stands, and where the tag before it was left out.
 use Rattle.std.proofs.Common.{◌≡◌, ℕ, Bool, true, false, cond, not, ◌&&◌, ◌||◌, List, [], ◌∷◌, ◌++◌, map, bytes_eq, refl, sym, ◌∙◌, ap, subst, inl, inr, codes, Option, Some, None}
 use Rattle.std.proofs.lemmas.Bool.{and_parts, not-true, both_ways, false_from_ne_true}
+use Rattle.hm_base.specs.Forms.{is_tag_name}
 use Rattle.hm_base.specs.Walks.{Attribute, Event, start, end, comment, Element}
 use Rattle.hm_base.specs.declared.rules.Rule.TheVariants.{RefusedName, SecondRoot, BlockInParagraph, Nested, WrongParent, TooDeep}
 use Rattle.hm_elements.specs.Names.{is_among, html, head, body, p, svg}
@@ -21,6 +22,7 @@ use Rattle.hm_read_back.proofs.Frame.{here}
 
 -- an element of HTML stands where it is, and isn't void
 pub record Stands (e : Element) (path : List Element) : Type 0 where
+  pub name : is_tag_name e.name ≡ true
   pub outside : e.foreign ≡ false → is_in_svg path ≡ false
   pub stands : e.foreign ≡ false → stands_on e.name path ≡ true
   pub solid : e.foreign ≡ false → is_void e.name ≡ false

@@ -4,3 +4,4 @@ pub mod Ahead
 pub mod Frame
 pub mod Behind
 pub mod BodySteps
+pub mod Closing

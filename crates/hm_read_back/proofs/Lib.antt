@@ -5,3 +5,4 @@ pub mod Frame
 pub mod Behind
 pub mod BodySteps
 pub mod Closing
+pub mod Follow

@@ -6,3 +6,4 @@ pub mod Behind
 pub mod BodySteps
 pub mod Closing
 pub mod Follow
+pub mod Texts

@@ -7,3 +7,4 @@ pub mod BodySteps
 pub mod Closing
 pub mod Follow
 pub mod Texts
+pub mod TextElements

@@ -8,3 +8,4 @@ pub mod Closing
 pub mod Follow
 pub mod Texts
 pub mod TextElements
+pub mod BodyTexts

@@ -19,18 +19,16 @@ pub fn load_bytes<S: Store>(
     store: &mut S,
     name: &str,
     limit: u32,
-) -> Result<Vec<u8>, Unread>
+) -> Result<Vec<u8>, LoadFault>
     ensures same { S.files store.new ≡ S.files store.old }
     ensures writing { S.is_writing store.new ≡ S.is_writing store.old }
     ensures loaded { IfOk result (λ bytes. IsLoaded (S.files store.old) name.now limit bytes.items) }
     ensures later { S.faults store.old ≤ S.faults store.new }
-    ensures store { result ≡ Err Unread.Store → Rose (S.faults store.old) (S.faults store.new) ⊎ IsMissing (S.files store.old) name.now }
-    ensures only { IfErr result (λ unread. (unread ≡ Unread.Store) ⊎ (unread ≡ Unread.Memory)) }
+    ensures store { result ≡ Err LoadFault.Store → Rose (S.faults store.old) (S.faults store.new) ⊎ IsMissing (S.files store.old) name.now }
 {
     match load(alloc, store, name, limit) {
         Ok(bytes) => Ok(bytes),
-        Err(LoadFault::Store) => Err(Unread::Store),
-        Err(LoadFault::Memory) => Err(Unread::Memory),
+        Err(fault) => Err(fault),
     }
 }
 
@@ -62,7 +60,8 @@ pub fn load_table<S: Store>(alloc: Global, store: &mut S, name: &str) -> Result<
     }
     let bytes = match load_bytes(alloc, store, name, TABLE_LIMIT) {
         Ok(bytes) => bytes,
-        Err(unread) => return Err(unread),
+        Err(LoadFault::Store) => return Err(Unread::Store),
+        Err(LoadFault::Memory) => return Err(Unread::Memory),
     };
     match Table::read(alloc, bytes.as_slice()) {
         Ok(table) => Ok(table),
@@ -90,7 +89,8 @@ pub fn load_text<S: Store>(alloc: Global, store: &mut S, name: &str) -> Result<S
 {
     let bytes = match load_bytes(alloc, store, name, PAGE_LIMIT) {
         Ok(bytes) => bytes,
-        Err(unread) => return Err(unread),
+        Err(LoadFault::Store) => return Err(Unread::Store),
+        Err(LoadFault::Memory) => return Err(Unread::Memory),
     };
     match read_page(alloc, bytes.as_slice()) {
         Ok(text) => Ok(text),

@@ -3,5 +3,4 @@ pub mod InOrder
 pub mod Joined
 pub mod Kept
 pub mod Ruled
-pub mod StillApart
 pub mod StillSettled

@@ -1,3 +1,4 @@
+pub mod ApartLemmas
 pub mod AttributeLemmas
 pub mod DumpLemmas
 pub mod EndLemmas

@@ -1,5 +1,5 @@
 //! The attributes of a start tag.
-ghost use Rattle.std.specs.Prelude.{◌≡◌, ◌+◌, ◌^◌, ◌<◌, [], ◌∷◌, ◌++◌, length, slice_get, string_bytes, true, not, Some, Ok, IfOk, OnErr, if◌then◌else◌, ◌↔◌, IsTrue};
+ghost use Rattle.std.specs.Prelude.{◌≡◌, ◌+◌, ◌^◌, ◌<◌, [], ◌∷◌, ◌++◌, length, slice_get, string_bytes, true, not, Some, Ok, IfOk, OnErr, if◌then◌else◌, ◌↔◌, IsTrue, false};
 ghost use Rattle.hm_base.specs.Walks.{has_name, has_distinct_names};
 ghost use Rattle.hm_tree.specs.Attributes.{are_texts};
 
@@ -58,7 +58,7 @@ impl Attrs {
     /// Appends an attribute whose name isn't there yet, and says whether it did. Where memory is
     /// refused, nothing changes.
     pub fn add(&mut self, name: String, value: String) -> Result<bool, Memory>
-        requires room { length self.old + 1 < 2 ^ 32 }
+        requires room { has_name (string_bytes name) self.old ≡ false → length self.old + 1 < 2 ^ 32 }
         ensures there { IfOk result (λ added. added ≡ not (has_name (string_bytes name) self.old)) }
         ensures after { IfOk result (λ added. self.new ≡ (if added then self.old ++ record { name = string_bytes name; value = string_bytes value } ∷ [] else self.old)) }
         ensures err { OnErr result (self.new ≡ self.old) }

@@ -23,7 +23,7 @@ after c =
 pub invariant_of-self-2 : goal.invariant_of-self-2
 invariant_of-self-2 c = rw (after c) (record {
   distinct = has_distinct_names-push (attributes_of c.self.inside.map.entries) (record { name = string_bytes c.args.name; value = string_bytes c.args.value }) c.self.invariant.distinct (new c);
-  count = rw (length-append (attributes_of c.self.inside.map.entries) (record { name = string_bytes c.args.name; value = string_bytes c.args.value } ∷ []), c.self.view_is) c.requires.room;
+  count = rw (length-append (attributes_of c.self.inside.map.entries) (record { name = string_bytes c.args.name; value = string_bytes c.args.value } ∷ []), c.self.view_is) (c.requires.room (rw (← c.self.view_is) (new c)));
 })
 
 pub returns-clause-there : goal.returns-clause-there

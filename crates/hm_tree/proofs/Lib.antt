@@ -6,6 +6,7 @@ pub mod LastLemmas
 pub mod MakingLemmas
 pub mod ListLemmas
 pub mod OpenLemmas
+pub mod PairLemmas
 pub mod PieceLemmas
 pub mod RoomLemmas
 pub mod ShownLemmas

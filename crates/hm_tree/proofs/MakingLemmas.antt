@@ -1,5 +1,5 @@
 -- What a maker knows, after each of its calls.
-use Rattle.std.proofs.Common.{◌≡◌, ℕ, ◌+◌, ◌-◌, ◌<◌, Bool, true, false, List, [], ◌∷◌, ◌++◌, length, slice_get, Option, Some, sym, ap, subst, ◌∙◌, refl, arith, length-append}
+use Rattle.std.proofs.Common.{◌≡◌, ℕ, ◌+◌, ◌-◌, Bool, true, false, List, [], ◌∷◌, ◌++◌, length, slice_get, Option, Some, sym, ap, subst, ◌∙◌, refl, arith, length-append}
 use Rattle.std.specs.Cmp.Lexicographic.{nat_list_eq_equiv}
 use Rattle.hm_base.specs.Walks.{Event, doctype, start, text, comment, end, Attribute, Element, same_flag, path_after, ends_match, with_text}
 use Rattle.hm_tree.specs.Trees.{HasRoom, IsMaking, innermost, open_behind, open_after, parent_of, end_of}

@@ -13,7 +13,6 @@ use hm_base::{Memory, Refused, SourceText, TreeOptions};
 use hm_build::parse;
 use hm_options::rewrite;
 use hm_refs::Table;
-use hm_space::laws::settled_texts_are_apart;
 use hm_store::Store;
 use hm_tree::Tree;
 use std::alloc::Global;
@@ -29,7 +28,6 @@ fn read_tree(
     ensures settled { IfOk result (λ tree. Settled tree) }
     ensures err { IfErr result (NoTreeRead table.now.entries text.now) }
 {
-    settled_texts_are_apart();
     match parse(alloc, text, table) {
         Ok(tree) => match rewrite(alloc, tree, options) {
             Ok(tree) => Ok(tree),

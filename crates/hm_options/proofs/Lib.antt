@@ -2,5 +2,4 @@ pub mod InOrder
 pub mod Joined
 pub mod Kept
 pub mod Ruled
-pub mod StillApart
 pub mod StillSettled

@@ -1,8 +1,8 @@
 -- What a step adds to a tree: at most so many events and bytes, however it is built.
-use Rattle.std.proofs.Common.{◌≡◌, ℕ, suc, ◌+◌, ◌*◌, ◌≤◌, ◌<◌, Bool, true, false, not, cond, ◌&&◌, ◌||◌, ◌==◌, List, [], ◌∷◌, ◌++◌, length, map, bytes_eq, codes, encode_utf8_all, refl, sym, ap, ◌∙◌, subst, arith}
+use Rattle.std.proofs.Common.{◌≡◌, ℕ, suc, ◌+◌, ◌*◌, ◌≤◌, ◌<◌, Bool, true, false, not, cond, ◌&&◌, ◌||◌, ◌==◌, List, [], ◌∷◌, ◌++◌, length, map, bytes_eq, encode_utf8_all, refl, ap, arith}
 use Rattle.std.proofs.lemmas.List.{length-append}
 use Rattle.hm_base.specs.Bytes.{is_space}
-use Rattle.hm_base.specs.Walks.{Attribute, Event, doctype, start, comment, end, Element, attributes_size, walk_size}
+use Rattle.hm_base.specs.Walks.{Attribute, Event, start, comment, end, Element, attributes_size, walk_size}
 use Rattle.hm_base.specs.declared.rules.Rule.{Rule}
 use Rattle.hm_base.specs.declared.rules.Rule.TheVariants.{RefusedName, SecondRoot, StrayEnd, NotCurrent, WrongParent, TextHere, AfterHead, AfterBody, Unclosed, TooDeep, ForeignName, BlockInParagraph, Nested}
 use Rattle.hm_elements.specs.Names.{html, head, body, svg, is_among, tr, tbody, colgroup, table, col, words}

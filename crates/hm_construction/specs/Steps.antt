@@ -2,7 +2,7 @@
 --
 -- A step answers the events that it makes and the state then, or the rule that refuses the token. Texts are taken byte by
 -- byte: the bytes of a code point above U+007F are none that a rule asks for, and all of them fare like the first.
-use Rattle.std.specs.Prelude.{ℕ, ◌+◌, Bool, true, false, not, ◌&&◌, ◌||◌, ◌==◌, List, [], ◌∷◌, ◌++◌, map, Some, None, if◌then◌else◌, codes, bytes_eq, encode_utf8_all}
+use Rattle.std.specs.Prelude.{ℕ, ◌+◌, Bool, true, false, not, ◌&&◌, ◌||◌, ◌==◌, List, [], ◌∷◌, ◌++◌, map, if◌then◌else◌, bytes_eq, encode_utf8_all}
 use Rattle.hm_base.specs.Bytes.{is_space}
 use Rattle.hm_base.specs.Walks.{Attribute, Event, doctype, start, text, comment, end, Element}
 use Rattle.hm_base.specs.declared.rules.Rule.{Rule}

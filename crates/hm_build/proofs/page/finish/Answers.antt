@@ -1,4 +1,4 @@
-use Rattle.std.proofs.Common.{◌≡◌, ◌+◌, ◌≤◌, ◌∙◌, length, sym, subst}
+use Rattle.std.proofs.Common.{◌+◌, ◌≤◌, length, subst}
 use Rattle.hm_build.specs.Parsing.{span_of}
 use Rattle.hm_build.proofs.Turns.{same_text, short_text}
 use Rattle.hm_build.proofs.Ends.{end_fits, end_built, end_inside}

@@ -1,4 +1,4 @@
-use Rattle.std.proofs.Common.{◌≡◌, ◌+◌, ◌≤◌, ◌∙◌, sym, ap, subst}
+use Rattle.std.proofs.Common.{◌+◌, ◌≤◌, sym, subst}
 use Rattle.hm_build.specs.Parsing.{IsRefusedAs, tree_of, span_of}
 use Rattle.hm_build.proofs.Turns.{token_under, lexer_refuses, text_ends, token_fits, token_taken, token_refused, fault_inside, same_text, short_text, answer_here, taken_here, ended_here, unchanged_here}
 use Rattle.hm_build.proofs.page.turn.Goals as goal

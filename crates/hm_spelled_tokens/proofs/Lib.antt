@@ -13,3 +13,8 @@ pub mod ReadTexts
 pub mod SvgTexts
 pub mod Texts
 pub mod Tags
+pub mod Sound
+pub mod Clean
+pub mod CleanPieces
+pub mod Lines
+pub mod Pages

@@ -25,7 +25,7 @@ use Rattle.hm_spelled_tokens.proofs.Values.{within_by, value_read, value_within}
 
 -- ---- attributes
 
-values_utf8 : (attributes : List Attribute) (a : Attribute) → all_utf8 attributes ≡ true → Contains attributes a → is_utf8 a.value ≡ true
+pub values_utf8 : (attributes : List Attribute) (a : Attribute) → all_utf8 attributes ≡ true → Contains attributes a → is_utf8 a.value ≡ true
 values_utf8 [] a h (k, low, here) = absurd (omega arith)
 values_utf8 (d ∷ attributes) a h (zero, low, here) = subst (λ (e : Attribute). is_utf8 e.value ≡ true) here (and_parts (is_utf8 d.name) (is_utf8 d.value) (and_parts (is_utf8 d.name && is_utf8 d.value) (all_utf8 attributes) h).0).1
 values_utf8 (d ∷ attributes) a h (suc k, low, here) = values_utf8 attributes a (and_parts (is_utf8 d.name && is_utf8 d.value) (all_utf8 attributes) h).1 (k, omega arith, here)

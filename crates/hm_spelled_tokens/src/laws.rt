@@ -1,4 +1,5 @@
 //! Laws over spelled values, tags and texts, and how they are read. The functions do nothing.
+ghost use Rattle.hm_spelled_tokens.specs.Pages.{SettledSpellingsAreClean, SettledSpellingsHaveText, SpelledPointsHaveNoReturn};
 ghost use Rattle.hm_spelled_tokens.specs.References.{ReferencesTakeFewBytes};
 ghost use Rattle.hm_spelled_tokens.specs.Tags.{SpelledDoctypesAreNext, SpelledStartsAreNext, SpelledStartsAreWritten};
 ghost use Rattle.hm_spelled_tokens.specs.Texts.{SpelledElementTextsAreRead, SpelledPointsAreInPieces, SpelledPointsEndThere, SpelledSvgPointsAreRead, SpelledSvgTextsAreRead, SpelledTextsAreInPieces, SpelledTextsAreRead, TouchingTextsAreInPieces};
@@ -46,4 +47,12 @@ pub fn spelled_svg_texts_are_read()
 pub fn spelled_element_texts_are_read()
     ensures ends { SpelledPointsEndThere }
     ensures read { SpelledElementTextsAreRead }
+{}
+
+/// What spells a settled tree is UTF-8 without a zero byte, and the text of such a page (13.2.3.5) spells the tree too: a CR
+/// stands in whitespace of tags and doctypes alone.
+pub fn settled_spellings_are_pages()
+    ensures no_return { SpelledPointsHaveNoReturn }
+    ensures clean { SettledSpellingsAreClean }
+    ensures text { SettledSpellingsHaveText }
 {}

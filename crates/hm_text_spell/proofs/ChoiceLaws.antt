@@ -295,4 +295,3 @@ choice_for_two t k rules spot c d p piece x f h a r = by_kind (reference_is t k 
           kept = subst (λ q. keeps t spot q x ≡ true) (sym same) n.kept;
         }
     by_kind (inr n) = absurd (let (m, i) = hash_one n.inner (record { points = c ∷ d ∷ []; len = length piece }) n.read in cc)
-

@@ -4,3 +4,8 @@ pub mod Reading
 pub mod Literals
 pub mod Numbers
 pub mod ChoiceLaws
+pub mod ReferenceStarts
+pub mod Sections
+pub mod CharacterWays
+pub mod Spelled
+pub mod Ways

@@ -163,7 +163,7 @@ pub record IsDecimalChoice (o : Option ℕ) (e : Choice) : Type 0 where
   pub number_is : o ≡ Some number
   pub choice_is : (e ≡ choice (38 ∷ 35 ∷ digits.decimal number) decimal) ⊎ (e ≡ choice (38 ∷ 35 ∷ (digits.decimal number ++ 59 ∷ [])) nothing)
 
-two_in : {A : Type 0} (e x y : A) → IsIn e (x ∷ y ∷ []) → (e ≡ x) ⊎ (e ≡ y)
+pub two_in : {A : Type 0} (e x y : A) → IsIn e (x ∷ y ∷ []) → (e ≡ x) ⊎ (e ≡ y)
 two_in e x y (first zs) = inl refl
 two_in e x y (later z zs (first ws)) = inr refl
 two_in e x y (later z zs (later w ws i)) = elim i [ ]
@@ -409,4 +409,3 @@ number_for t spot c piece x n = by_kind (hash_is n.inner (record { points = c �
         let e = ends_by 3 16 (38 ∷ 35 ∷ d ∷ []) m.digits_are m.rest piece x refl (n.cut ∙ ap (λ w. 38 ∷ 35 ∷ w) m.cut) m.numeric_is.len m.ends in
         let v = value_lt 16 m.digits_are m.all in
         by_size m.digits_are k.best k.is k.high g.1 m.numeric_is.some e (hex_fits (length m.digits_are) k.best m.numeric_is.some (omega arith) g.1)
-

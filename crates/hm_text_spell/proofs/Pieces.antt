@@ -1,5 +1,5 @@
 -- The two pieces outside of sections, by their bytes.
-use Rattle.std.specs.Prelude.{◌≡◌, ℕ, true, List, [], ◌∷◌, ◌++◌, length, Some, encode_utf8}
+use Rattle.std.specs.Prelude.{◌≡◌, ℕ, true, List, ◌∷◌, ◌++◌, length, Some, encode_utf8}
 use Rattle.hm_refs.specs.Names.{Entry}
 use Rattle.hm_refs.specs.References.{reference}
 use Rattle.hm_spellings.specs.Characters.{CharacterRules, Spot, is_value, may_stand, stays}

@@ -1,14 +1,14 @@
 -- When a name is the reference that is read.
-use Rattle.std.proofs.Common.{◌≡◌, ℕ, Bool, true, false, cond, ◌&&◌, ◌==◌, not, List, [], ◌∷◌, ◌++◌, length, Option, Some, None, refl, sym, ap, ◌∙◌, subst, append_assoc, append-nil, inl, inr, ◌⊎◌, arith, is_some, is_none}
+use Rattle.std.proofs.Common.{◌≡◌, ℕ, Bool, true, false, cond, ◌&&◌, ◌==◌, not, List, [], ◌∷◌, ◌++◌, length, Option, Some, None, refl, sym, ap, ◌∙◌, subst, inl, inr, ◌⊎◌, arith, is_none}
 use Rattle.hm_base.specs.Bytes.{behind, head_is, is_alnum, is_letter, is_null}
-use Rattle.hm_refs.specs.Names.{Entry, Found, found, found_by, found_here, found_longer, is_good, is_name, last_is, or_else, points_of}
+use Rattle.hm_refs.specs.Names.{Entry, Found, found, found_longer, is_good, last_is, points_of}
 use Rattle.hm_refs.specs.References.{Reference, blocks, is_blocked, reference, reference_by}
 use Rattle.hm_refs.specs.Tables.{IsTable}
 use Rattle.hm_spellings.specs.Characters.{Spot, is_value}
 use Rattle.hm_text_spell.proofs.Pieces.{Refers}
 use Rattle.hm_text_spell.specs.CharacterEdges.{behind_name}
 use Rattle.hm_units.specs.States.{named, nothing}
-use Rattle.hm_units.specs.Steps.{is_root, keeps, reference_behind}
+use Rattle.hm_units.specs.Steps.{keeps, reference_behind}
 use Rattle.hm_refs.specs.References as references
 use Rattle.hm_refs.proofs.Bools.{and_left, and_right, eq_of}
 use Rattle.hm_refs.proofs.Found.{good_of, here_found, found_front, found_last, found_over, semicolon_longer}
@@ -128,7 +128,7 @@ pub record IsNumber (points piece behind : List ℕ) : Type 0 where
   pub cut : piece ++ behind ≡ 38 ∷ 35 ∷ inner
   pub read : references.hash inner ≡ Some (record { points = points; len = length piece })
 
-named_of : (v : Bool) (o : Option Found) (r : Reference) → references.named v o ≡ Some r → (f : Found) × (o ≡ Some f) × (is_blocked v f ≡ false) × (f.points ≡ r.points) × (length f.name ≡ r.len)
+pub named_of : (v : Bool) (o : Option Found) (r : Reference) → references.named v o ≡ Some r → (f : Found) × (o ≡ Some f) × (is_blocked v f ≡ false) × (f.points ≡ r.points) × (length f.name ≡ r.len)
 named_of v None r h = absurd (cc)
 named_of v (Some f) r h = by_block (is_blocked v f) refl h
   where
@@ -161,4 +161,3 @@ reference_is t k spot points piece behind r = by_rest (r.inner ++ behind) refl
         by_hash : (b : Bool) → (35 == c) ≡ b → piece ++ behind ≡ 38 ∷ c ∷ w → reference_behind t (is_value spot) (38 ∷ []) (c ∷ w) ≡ Some (record { points = points; len = length piece }) → IsName t spot points piece behind ⊎ IsNumber points piece behind
         by_hash false h cut f = inl (name_of t spot points piece behind (c ∷ w) cut (sym (read_behind t (is_value spot) c w h) ∙ f))
         by_hash true h cut f = inr (record { inner = w; cut = subst (λ d. piece ++ behind ≡ 38 ∷ d ∷ w) (sym (eq_of 35 c h)) cut; read = sym (read_hash t (is_value spot) c w h) ∙ f })
-

@@ -3,3 +3,4 @@ pub mod Steps
 pub mod Edges
 pub mod Units
 pub mod Laws
+pub mod Ways

@@ -67,6 +67,7 @@ pub record ChildFirst (g : Spelling) (n : List ℕ) (path : List Element) (b : L
   pub before : start_goes_before n child ≡ true
   pub made : StartIsMade n child (current path)
   pub nothing : made_under n child ≡ []
+  pub holds : HoldsMore n
   pub begins : Begins g.table b (tag (tokens.start_tag child attributes slash))
 
 pub child_first : (g : Spelling) → PiecesAreNext g → (w : List Event) (n : List ℕ) (path : List Element) (before : Before) (b : List ℕ) → stands_on n path ≡ true → SettledBody (html_element n ∷ path) w → begins_child_of n w ≡ true → SpellsFrom g before (html_element n ∷ path) w b → ChildFirst g n path b
@@ -94,6 +95,7 @@ child_first g next (start k foreign attributes ∷ w) n path before b stands set
       before = two.1;
       made = made;
       nothing = (stands_in k (html_element n ∷ path) allowed.stands).1.1;
+      holds = (stands_in k (html_element n ∷ path) allowed.stands).1.0;
       begins = (rest, rw e (next.starts ordinary k attributes slash piece rest refl allowed.name settled.0.attributes_allowed s));
     }
 

@@ -9,3 +9,4 @@ pub mod Follow
 pub mod Texts
 pub mod TextElements
 pub mod BodyTexts
+pub mod BodyLaw

@@ -8,7 +8,8 @@ use Rattle.hm_elements.specs.Tables.{is_void, is_raw, raw_names, is_rcdata, rcda
 use Rattle.hm_elements.specs.Nesting.{yields}
 use Rattle.hm_elements.specs.Paths.{html_element, current, is_in_svg, is_in_text, head_yields}
 use Rattle.hm_elements.specs.Settled.{is_html}
-use Rattle.hm_elements.specs.Places.{StartAllowed, HtmlAllowed, SvgAllowed, ElementAllowed, SettledBehindBody, SettledBody}
+use Rattle.hm_elements.specs.Omission.{goes_up}
+use Rattle.hm_elements.specs.Places.{CommentAllowed, StartAllowed, HtmlAllowed, SvgAllowed, ElementAllowed, SettledBehindBody, SettledBody}
 use Rattle.hm_elements.specs.Laws.{StartIsMade}
 use Rattle.hm_elements.proofs.TableTools.{same_bytes}
 use Rattle.hm_tree.specs.Tokens as tokens
@@ -224,3 +225,94 @@ start_case g sound next w laws n foreign attributes path b piece rest before dro
     let child = falls_child g.rules.frame n w (stands_in n path a.stands).0.is_no_root o.falls in
     let cut : b ≡ rest = rw (e, sp.0) refl in
     rw (cut, o.is_html, o.plain) (omitted_start g sound next w laws n path rest drops ins out a' settled' (child_first g next w n path opening rest a.stands settled' child more') more')
+
+-- ---- Ends
+
+element_is : (d : Element) → d.foreign ≡ false → d ≡ html_element d.name
+element_is d h = let f : Bool → Element = λ b. record { name = d.name; foreign = b } in ap f h
+
+never_absent : (before : Before) (d : Element) (path : List Element) → Stands d path → is_self_closing before ≡ false → has_no_end_tag before d.name d.foreign ≡ true → ⊥
+never_absent before d path s fresh h = both_ways (has_no_end_tag before d.name d.foreign) (rw fresh (by d.foreign refl)) h
+  where
+    by : (f : Bool) → d.foreign ≡ f → not f && is_void d.name ≡ false
+    by true k = refl
+    by false k = s.solid k
+
+-- a p is left open at the end of body
+p_left_open : (g : Spelling) → Sound g.table → PiecesAreNext g → (m : List ℕ) (foreign : Bool) (w : List Event) (n : List ℕ) (b : List ℕ) (drops : Bool) → n ≡ p → SettledBody under_body (end m foreign ∷ w) → SpellsFrom g (end_omitted n) under_body (end m foreign ∷ w) b
+    → Builds g.table (here in_body (html_element n ∷ under_body) drops) b (end n false ∷ end m foreign ∷ w)
+p_left_open g sound next m foreign w n b drops is settled sp =
+    let (named, kind, i) = ends_body g (end_omitted n) m foreign w b settled sp in
+    rw (named, kind, is) (last_law g sound next i.form w i.piece i.rest b (end_omitted n) true drops i.settled refl i.whole i.spells i.more)
+
+up_at_end : (n : List ℕ) (parent : List ℕ) (m : List ℕ) (foreign : Bool) (w whole : List Event) → whole ≡ end m foreign ∷ w → end_goes n parent whole ≡ true → goes_up n parent ≡ true
+up_at_end n parent m foreign w whole is goes = rw is at goes
+
+omitted_end : (g : Spelling) → Sound g.table → PiecesAreNext g → (w : List Event) → BodyLaw g w → (n : List ℕ) (path : List Element) (b : List ℕ) (drops : Bool)
+    → Stands (html_element n) path → Inside path → SettledBody path w → end_goes n (current path) w ≡ true → SpellsFrom g (end_omitted n) path w b → AtEnd path w → Builds g.table (here in_body (html_element n ∷ path) drops) b (end n false ∷ w)
+omitted_end g sound next w law n path b drops s ins settled goes sp (body_ends m foreign rest is whole) =
+    let up : goes_up n (current path) ≡ true = up_at_end n (current path) m foreign rest w whole goes in
+    let at : bytes_eq (current path) body ≡ true = rw is refl in
+    let settled' : SettledBody under_body (end m foreign ∷ rest) = rw (is, whole) at settled in
+    let sp' : SpellsFrom g (end_omitted n) under_body (end m foreign ∷ rest) b = rw (is, whole) at sp in
+    rw (is, whole) (p_left_open g sound next m foreign rest n b drops (p_in_body n path (s.stands refl) up at) settled' sp')
+omitted_end g sound next w law n path b drops s ins settled goes sp (goes_on within) =
+    let (x, closes, begins) = closes_first g next w n path b ins (s.outside refl) (s.stands refl) settled goes within sp in
+    let holds = goes_holds n (current path) w goes in
+    let t = no_text_name path (stands_in n path (s.stands refl)).1.0.no_text in
+    unseen g.table sound b x (here in_body (html_element n ∷ path) drops) (here in_body path false) (end n false ∷ []) w
+        (plain_path (html_element n ∷ path) refl (no_text_name (html_element n ∷ path) holds.no_text)) (plain_path path (s.outside refl) t) begins
+        (close_agrees n path drops false x (s.outside refl) holds.no_text t closes)
+        (law path b (end_omitted n) ins settled refl sp)
+
+end_case : (g : Spelling) → Sound g.table → PiecesAreNext g → (w : List Event) → BodyLaw g w → (d : Element) (path : List Element) (b piece rest : List ℕ) (before : Before) (drops : Bool) (form : EndForm)
+    → Stands d path → Inside path → SettledBody path w → is_self_closing before ≡ false → b ≡ piece ++ rest → EndSp g before d.name d.foreign path w form piece → SpellsFrom g (behind_end d.name form) path w rest
+    → Builds g.table (here in_body (d ∷ path) drops) b (end d.name d.foreign ∷ w)
+end_case g sound next w law d path b piece rest before drops EndForm.absent s ins settled fresh e sp more = absurd (never_absent before d path s fresh sp.1)
+end_case g sound next w law d path b piece rest before drops EndForm.omitted s ins settled fresh e sp more =
+    let (html, falls) = end_omitted_is g.rules d.name d.foreign path w sp.2 in
+    let goes = falls_goes d.name (current path) w (element_no_root d path s html) falls in
+    let is = element_is d html in
+    let s' : Stands (html_element d.name) path = subst (λ (x : Element). Stands x path) is s in
+    let cut : b ≡ rest = rw (e, sp.0) refl in
+    rw cut (subst (λ (x : Element). Builds g.table (here in_body (x ∷ path) drops) rest (end x.name x.foreign ∷ w)) (sym is)
+        (omitted_end g sound next w law d.name path rest drops s' ins settled goes more (at_end path w ins (s'.outside refl))))
+end_case g sound next w law d path b piece rest before drops EndForm.written s ins settled fresh e sp more =
+    rw e (written g.table (mode_of (d ∷ path)) (here in_body (d ∷ path) drops) (here in_body path false) (end d.name d.foreign ∷ []) w (piece ++ rest) 0 (tokens.end_tag d.name) rest sound.names (is_mode (d ∷ path)) refl
+        (end_is_next g next d path piece rest s.name sp.1) (end_steps d path drops s) (law path rest other ins settled refl more))
+
+-- ---- The law
+
+comment_case : (g : Spelling) → Sound g.table → PiecesAreNext g → (w : List Event) → BodyLaw g w → (s : List ℕ) (path : List Element) (b rest : List ℕ) (drops : Bool) → Inside path → CommentAllowed path s → SettledBody path w
+    → b ≡ codes "<!--" ++ (s ++ (codes "-->" ++ rest)) → SpellsFrom g other path w rest → Builds g.table (here in_body path drops) b (comment s ∷ w)
+comment_case g sound next w law s path b rest drops ins allowed settled e more =
+    rw e (written g.table (mode_of path) (here in_body path drops) (here in_body path false) (comment s ∷ []) w _ 0 (tokens.comment s) rest sound.names (is_mode path) refl
+        (next.comments (mode_of path) s rest (markup_mode path allowed.outside) allowed.form).1 (comment_steps path drops s) (law path rest other ins settled refl more))
+
+body_end_case : (g : Spelling) → Sound g.table → PiecesAreNext g → (m : List ℕ) (foreign : Bool) (w : List Event) (b : List ℕ) (before : Before) (drops : Bool) → is_self_closing before ≡ false → SettledBody under_body (end m foreign ∷ w) → SpellsFrom g before under_body (end m foreign ∷ w) b
+    → Builds g.table (here in_body under_body drops) b (end m foreign ∷ w)
+body_end_case g sound next m foreign w b before drops fresh settled sp =
+    let (named, kind, i) = ends_body g before m foreign w b settled sp in
+    rw (named, kind) (last_law g sound next i.form w i.piece i.rest b before false drops i.settled fresh i.whole i.spells i.more)
+
+body_event : (g : Spelling) → Sound g.table → PiecesAreNext g → (e : Event) (w : List Event) → BodyLaws g w → BodyLaw g (e ∷ w)
+body_event g sound next (doctype legacy) w laws path b before ins settled fresh sp = absurd settled
+body_event g sound next (comment s) w laws path b before ins settled fresh (rest, e, more) = comment_case g sound next w (law_of g w laws) s path b rest (flag before path) ins settled.0 settled.1 e more
+body_event g sound next (text s raw) w laws path b before ins settled fresh (piece, rest, e, sp, more) =
+    rw e (body_text g sound next path s piece rest raw before w ins settled.0 settled.1 sp more (law_of g w laws path rest other ins settled.1 refl more))
+body_event g sound next (start n foreign attributes) w laws path b before ins settled fresh (form, piece, rest, e, sp, more) =
+    start_case g sound next w laws n foreign attributes path b piece rest before (flag before path) form ins settled.0 settled.1 e sp more
+body_event g sound next (end m foreign) w laws path b before at_body settled fresh sp = body_end_case g sound next m foreign w b before (flag before under_body) fresh settled sp
+body_event g sound next (end m foreign) w laws path b before (inner d outer s ins) settled fresh (form, piece, rest, e, sp, more) =
+    let i = ends_inner d outer m foreign w s settled in
+    let sp' : EndSp g before d.name d.foreign outer w form piece = rw (i.named, i.kind) at sp in
+    let more' : SpellsFrom g (behind_end d.name form) outer w rest = rw i.named at more in
+    rw (i.named, i.kind) (end_case g sound next w (law_of g w laws) d outer b piece rest before (flag before (d ∷ outer)) form s ins i.settled fresh e sp' more')
+
+body_laws : (g : Spelling) → Sound g.table → PiecesAreNext g → (w : List Event) → BodyLaws g w
+body_laws g sound next [] = λ path b before ins settled fresh sp. absurd settled
+body_laws g sound next (e ∷ w) = let laws = body_laws g sound next w in (body_event g sound next e w laws, laws)
+
+-- What is spelled in body is read back.
+pub body_law : (g : Spelling) → Sound g.table → PiecesAreNext g → (w : List Event) → BodyLaw g w
+body_law g sound next w = law_of g w (body_laws g sound next w)

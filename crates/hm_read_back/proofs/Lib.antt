@@ -10,3 +10,4 @@ pub mod Texts
 pub mod TextElements
 pub mod BodyTexts
 pub mod BodyLaw
+pub mod FrameFirst

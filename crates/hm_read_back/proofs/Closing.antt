@@ -4,7 +4,7 @@ use Rattle.std.proofs.lemmas.Bool.{and_parts, not-true, both_ways, false_from_ne
 use Rattle.hm_base.specs.RawText.{begins_end_tag}
 use Rattle.hm_base.specs.Forms.{is_tag_name}
 use Rattle.hm_base.specs.Walks.{Attribute, Event, doctype, start, text, comment, end, Element, begins_text, begins_comment, begins_end}
-use Rattle.hm_elements.specs.Names.{is_among, html, head, body, p}
+use Rattle.hm_elements.specs.Names.{is_among, html, head, body, p, table}
 use Rattle.hm_elements.specs.Tables.{is_root, is_void, holds_text}
 use Rattle.hm_elements.specs.Nesting.{may_stand, yields, ends_with, made_under}
 use Rattle.hm_elements.specs.Omission.{goes_before, goes_up, start_goes_before, bars_start}
@@ -58,6 +58,15 @@ no_child k (start l foreign attributes ∷ w) last h = both_ways (start_goes_bef
 made_by : (n k : List ℕ) (path : List Element) → stands_on n path ≡ true → start_goes_before n k ≡ true → StartIsMade n k (current path)
 made_by n k [] h before = cc
 made_by n k (e ∷ path) h before = start_is_made n k e.name (current_name path) h before
+
+-- it stands in a table
+pub child_in_table : (n : List ℕ) (path : List Element) (w : List Event) → stands_on n path ≡ true → begins_child_of n w ≡ true → current path ≡ table
+child_in_table n path [] stands h = cc
+child_in_table n path (doctype legacy ∷ w) stands h = cc
+child_in_table n path (text s raw ∷ w) stands h = cc
+child_in_table n path (comment s ∷ w) stands h = cc
+child_in_table n path (end k foreign ∷ w) stands h = cc
+child_in_table n path (start k foreign attributes ∷ w) stands h = (made_by n k path stands (and_parts (not foreign) (start_goes_before n k) h).1).in_table
 
 -- b begins with the start tag of a child before which the start tag of n is left out
 pub record ChildFirst (g : Spelling) (n : List ℕ) (path : List Element) (b : List ℕ) : Type 0 where

@@ -11,3 +11,4 @@ pub mod TextElements
 pub mod BodyTexts
 pub mod BodyLaw
 pub mod FrameFirst
+pub mod BehindHead

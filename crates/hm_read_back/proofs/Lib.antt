@@ -12,3 +12,4 @@ pub mod BodyTexts
 pub mod BodyLaw
 pub mod FrameFirst
 pub mod BehindHead
+pub mod InHead

@@ -195,3 +195,14 @@ text_before_front t sound P reads ps b rest text st next es w p p' whole allowed
     ap (tree_from t place 0 at st) cut
     ∙ joined_build t place on.0 off.0 f.rest es (tree_from t place 0 at st (written_so all ++ f.rest)) (tree_from t place 0 at next (written_so f.pieces ++ f.rest)) w (run_bytes (meant f.pieces) next) here there
         (ap (tree_from t place 0 at next) (sym f.whole) ∙ more place at)
+
+-- A text in front of what may begin with a text is one text, up to where that ends.
+pub text_first : (t : List Entry) (ps : List TextPiece) (b rest text : List ℕ) → b ≡ written_so ps ++ rest → ArePieces t false ps rest → TextFront t rest text → TextFront t b (meant ps ++ text)
+text_first t ps b rest text whole allowed f = record {
+  pieces = ps ++ f.pieces;
+  rest = f.rest;
+  whole = whole ∙ ap (λ s. written_so ps ++ s) f.whole ∙ sym (follow_on ps f.pieces f.rest);
+  allowed = pieces_append t ps f.pieces f.rest (rw f.whole at allowed) f.allowed;
+  ends = f.ends;
+  means = meant_append ps f.pieces ∙ ap (λ s. meant ps ++ s) f.means;
+}

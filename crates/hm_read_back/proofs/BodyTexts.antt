@@ -35,7 +35,7 @@ use Rattle.hm_read_back.proofs.TextElements.{flag_off, text_ends, element_text}
 abbrev pub InSvg : List Element → State → Type 0
 InSvg path st = (st.path ≡ path) × (st.insertion_mode ≡ in_body)
 
-svg_no_text : (path : List Element) → is_in_svg path ≡ true → (is_in_text path ≡ false) × ((is_in_raw path ≡ false) × (is_in_blank path ≡ false))
+pub svg_no_text : (path : List Element) → is_in_svg path ≡ true → (is_in_text path ≡ false) × ((is_in_raw path ≡ false) × (is_in_blank path ≡ false))
 unfolding is_in_blank
 svg_no_text [] h = cc
 svg_no_text (e ∷ path) h = rw h (refl, (refl, refl))
@@ -65,7 +65,7 @@ svg_kept path c st on = by (st.drops_line_feed && c == 10)
     by true = on
     by false = svg_kept_byte path c (no_drop st) on
 
-svg_mode : (path : List Element) → is_in_svg path ≡ true → mode_of path ≡ in_svg
+pub svg_mode : (path : List Element) → is_in_svg path ≡ true → mode_of path ≡ in_svg
 svg_mode path h = rw h refl
 
 svg_reads : (path : List Element) → is_in_svg path ≡ true → Reads (InSvg path) in_svg

@@ -4,7 +4,7 @@ use Rattle.std.proofs.lemmas.Bool.{and_parts, not-true, both_ways, false_from_ne
 use Rattle.hm_base.specs.RawText.{begins_end_tag}
 use Rattle.hm_base.specs.Forms.{is_tag_name}
 use Rattle.hm_base.specs.Walks.{Attribute, Event, doctype, start, text, comment, end, Element, begins_text, begins_comment, begins_end}
-use Rattle.hm_elements.specs.Names.{is_among, html, head, body, p}
+use Rattle.hm_elements.specs.Names.{is_among, html, head, body, p, table}
 use Rattle.hm_elements.specs.Tables.{is_root, is_void, holds_text}
 use Rattle.hm_elements.specs.Nesting.{may_stand, yields, ends_with, made_under}
 use Rattle.hm_elements.specs.Omission.{goes_before, goes_up, start_goes_before, bars_start}
@@ -59,6 +59,15 @@ made_by : (n k : List ℕ) (path : List Element) → stands_on n path ≡ true �
 made_by n k [] h before = cc
 made_by n k (e ∷ path) h before = start_is_made n k e.name (current_name path) h before
 
+-- it stands in a table
+pub child_in_table : (n : List ℕ) (path : List Element) (w : List Event) → stands_on n path ≡ true → begins_child_of n w ≡ true → current path ≡ table
+child_in_table n path [] stands h = cc
+child_in_table n path (doctype legacy ∷ w) stands h = cc
+child_in_table n path (text s raw ∷ w) stands h = cc
+child_in_table n path (comment s ∷ w) stands h = cc
+child_in_table n path (end k foreign ∷ w) stands h = cc
+child_in_table n path (start k foreign attributes ∷ w) stands h = (made_by n k path stands (and_parts (not foreign) (start_goes_before n k) h).1).in_table
+
 -- b begins with the start tag of a child before which the start tag of n is left out
 pub record ChildFirst (g : Spelling) (n : List ℕ) (path : List Element) (b : List ℕ) : Type 0 where
   pub child : List ℕ
@@ -67,6 +76,7 @@ pub record ChildFirst (g : Spelling) (n : List ℕ) (path : List Element) (b : L
   pub before : start_goes_before n child ≡ true
   pub made : StartIsMade n child (current path)
   pub nothing : made_under n child ≡ []
+  pub holds : HoldsMore n
   pub begins : Begins g.table b (tag (tokens.start_tag child attributes slash))
 
 pub child_first : (g : Spelling) → PiecesAreNext g → (w : List Event) (n : List ℕ) (path : List Element) (before : Before) (b : List ℕ) → stands_on n path ≡ true → SettledBody (html_element n ∷ path) w → begins_child_of n w ≡ true → SpellsFrom g before (html_element n ∷ path) w b → ChildFirst g n path b
@@ -94,6 +104,7 @@ child_first g next (start k foreign attributes ∷ w) n path before b stands set
       before = two.1;
       made = made;
       nothing = (stands_in k (html_element n ∷ path) allowed.stands).1.1;
+      holds = (stands_in k (html_element n ∷ path) allowed.stands).1.0;
       begins = (rest, rw e (next.starts ordinary k attributes slash piece rest refl allowed.name settled.0.attributes_allowed s));
     }
 

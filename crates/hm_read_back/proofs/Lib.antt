@@ -9,3 +9,7 @@ pub mod Follow
 pub mod Texts
 pub mod TextElements
 pub mod BodyTexts
+pub mod BodyLaw
+pub mod FrameFirst
+pub mod BehindHead
+pub mod InHead

@@ -2,3 +2,4 @@ pub mod UnitEdges
 pub mod Ways
 pub mod Layers
 pub mod Prices
+pub mod Laws

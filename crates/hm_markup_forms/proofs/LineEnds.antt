@@ -4,7 +4,7 @@ use Rattle.std.proofs.lemmas.Bool.{and_parts, eqb-true}
 use Rattle.hm_base.specs.Bytes.{is_space, lower, all_pass}
 use Rattle.hm_base.specs.Forms.{is_blank}
 use Rattle.hm_base.specs.Source.{Placed, numbered, without_mark, pairs_joined, returns_replaced, byte_of, text_of}
-use Rattle.hm_markup_forms.specs.Gaps.{is_gap, IsWord}
+use Rattle.hm_markup_forms.specs.Gaps.{is_gap}
 use Rattle.hm_markup_forms.proofs.Gaps.{gap_blank}
 
 -- whether a CR stands directly before is told
@@ -40,6 +40,12 @@ lines_from n (c ∷ d ∷ s) = by_tests (c == 13) refl (d == 10) refl (lines_fro
 pub text_is_newlines : (page : List ℕ) → without_mark (numbered 0 page) ≡ numbered 0 page → text_of page ≡ newlines page
 text_is_newlines page unmarked = ap (λ (s : List Placed). map byte_of (returns_replaced (pairs_joined s))) unmarked ∙ lines_from 0 page
 
+-- a page that begins with another byte than a mark has none
+pub unmarked : (c : ℕ) (s : List ℕ) → (c == 0xEF) ≡ false → without_mark (numbered 0 (c ∷ s)) ≡ numbered 0 (c ∷ s)
+unmarked c [] h = refl
+unmarked c (d ∷ []) h = refl
+unmarked c (d ∷ e ∷ s) h = rw h refl
+
 -- ---- bytes inside a line
 
 abbrev pub is_no_return : ℕ → Bool
@@ -59,6 +65,20 @@ newlines_plain (c ∷ f) s all =
     let both = and_parts (is_no_return c) (all_pass is_no_return f) all in
     rw (no_return c both.0) (ap (λ r. c ∷ r) (newlines_plain f s both.1))
 
+-- the bytes are the same up to the first CR, where there is one
+pub data UpToReturn (s : List ℕ) : Type 0 where
+  same : newlines s ≡ s → UpToReturn s
+  up_to : (f x : List ℕ) → s ≡ f ++ 13 ∷ x → newlines s ≡ f ++ 10 ∷ newlines_after true x → UpToReturn s
+
+pub up_to_return : (s : List ℕ) → UpToReturn s
+up_to_return [] = same refl
+up_to_return (c ∷ s) = by_test (c == 13) refl (up_to_return s)
+  where
+    by_test : (b : Bool) → (c == 13) ≡ b → UpToReturn s → UpToReturn (c ∷ s)
+    by_test true e more = up_to [] s (ap (λ d. d ∷ s) (eqb-true c 13 e)) (rw e refl)
+    by_test false e (same k) = same (rw e (ap (λ r. c ∷ r) k))
+    by_test false e (up_to f x is k) = up_to (c ∷ f) x (ap (λ r. c ∷ r) is) (rw e (ap (λ r. c ∷ r) k))
+
 -- bytes that begin with none of a line end, and hold no CR
 pub record IsInLine (s : List ℕ) : Type 0 where
   pub first : ℕ
@@ -69,13 +89,13 @@ pub record IsInLine (s : List ℕ) : Type 0 where
 
 -- a byte isn't one that has no other small letter and fails where the small letter passes
 lower_differs : (p : ℕ → Bool) (c d : ℕ) → lower d ≡ d → p d ≡ false → p (lower c) ≡ true → (c == d) ≡ false
-lower_differs p c d same fails passes = by_test (c == d) refl
+lower_differs p c d stays fails passes = by_test (c == d) refl
   where
     by_test : (b : Bool) → (c == d) ≡ b → b ≡ false
     by_test false e = refl
     by_test true e =
         let here : c ≡ d = eqb-true c d e in
-        let no : p d ≡ true = subst (λ x. p x ≡ true) same (subst (λ x. p (lower x) ≡ true) here passes) in
+        let no : p d ≡ true = subst (λ x. p x ≡ true) stays (subst (λ x. p (lower x) ≡ true) here passes) in
         cc
 
 return_stays : lower 13 ≡ 13

@@ -1,17 +1,17 @@
 -- What is written by strict rules can be read: what stands apart may touch, and values carry over from one relation to
 -- another, larger one.
-use Rattle.std.proofs.Common.{◌≡◌, ℕ, zero, suc, ◌<◌, Bool, true, false, not, ◌&&◌, ◌||◌, ◌==◌, List, [], ◌∷◌, ◌++◌, length, Contains, refl, arith, append_assoc}
+use Rattle.std.proofs.Common.{◌≡◌, ℕ, suc, Bool, true, false, ◌&&◌, ◌||◌, ◌==◌, List, [], ◌∷◌, ◌++◌, Contains, refl, arith, append_assoc}
 use Rattle.std.proofs.lemmas.Bool.{and_parts}
 use Rattle.hm_base.specs.Bytes.{head_is, is_space}
 use Rattle.hm_base.specs.Forms.{is_blank}
 use Rattle.hm_base.specs.Walks.{Attribute}
 use Rattle.hm_markup_forms.specs.Gaps.{is_gap}
 use Rattle.hm_markup_forms.specs.Doctypes.{IsPlainDoctype, IsLegacyDoctype, WritesDoctype}
-use Rattle.hm_markup_forms.specs.Tags.{Form, bare, unquoted, double, single, Writes, parts_attributes, parts_slash, WritesAttribute, WritesAttributes, tag_end, WritesStart}
+use Rattle.hm_markup_forms.specs.Tags.{Form, bare, unquoted, double, single, Writes, parts_attributes, parts_slash, WritesAttributes, tag_end, WritesStart}
 use Rattle.hm_markup_forms.proofs.Gaps.{gap_blank, gap_front, gap_serves}
 
 -- whitespace or '>'
-unfoldable pub ends_value : ℕ → Bool
+abbrev pub ends_value : ℕ → Bool
 ends_value c = is_space c || c == 62
 
 -- what is known of the bytes that follow a value of this form in a tag
@@ -26,7 +26,6 @@ abbrev pub ValuesCarry : Writes → Writes → List Attribute → Type 0
 ValuesCarry writes reads attributes = (form : Form) (a : Attribute) (b after : List ℕ) → Contains attributes a → IsBehind form after → writes form a.value b after → reads form a.value b after
 
 space_ends : (s : List ℕ) → head_is is_space s ≡ true → head_is ends_value s ≡ true
-unfolding ends_value
 space_ends [] h = absurd (cc)
 space_ends (c ∷ s) h = rw h refl
 
@@ -39,7 +38,7 @@ gap_behind touching single gap s h = tt
 
 closing_ends : (slash : Bool) (gap after : List ℕ) → is_gap (slash && true) gap ≡ true → head_is ends_value (gap ++ (tag_end slash ++ after)) ≡ true
 closing_ends true gap after h = space_ends (gap ++ (tag_end true ++ after)) (gap_front gap (tag_end true ++ after) h)
-closing_ends false [] after h = unfold ends_value is_space in refl
+closing_ends false [] after h = unfold is_space in refl
 closing_ends false (c ∷ gap) after h = space_ends (c ∷ gap ++ (tag_end false ++ after)) (and_parts (is_space c) (is_blank gap) (gap_blank false (c ∷ gap) h)).0
 
 -- what follows the last attribute

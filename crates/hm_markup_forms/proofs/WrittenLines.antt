@@ -1,16 +1,15 @@
 -- A written doctype or tag stays one, with the same meaning, where its line ends and those of what follows become LF.
-use Rattle.std.proofs.Common.{◌≡◌, ◌⊎◌, inl, inr, ℕ, zero, suc, ◌<◌, Bool, true, false, not, ◌&&◌, ◌==◌, List, [], ◌∷◌, ◌++◌, length, map, Contains, codes, refl, sym, ap, subst, ◌∙◌, arith, append_assoc}
+use Rattle.std.proofs.Common.{◌≡◌, ◌⊎◌, inl, inr, ℕ, suc, Bool, true, false, not, ◌&&◌, ◌==◌, List, [], ◌∷◌, ◌++◌, map, Contains, codes, refl, sym, ap, subst, ◌∙◌, arith, append_assoc, if◌then◌else◌}
 use Rattle.std.proofs.lemmas.Bool.{and_parts}
-use Rattle.hm_base.specs.Bytes.{is_null, lower, all_pass}
+use Rattle.hm_base.specs.Bytes.{lower, all_pass, head_is, is_digit_of, is_space}
 use Rattle.hm_base.specs.Forms.{is_small, is_tag_byte, is_tag_name, is_attribute_byte, is_attribute_name}
-use Rattle.hm_base.specs.Bytes.{is_digit_of, is_space}
 use Rattle.hm_base.specs.Walks.{Attribute}
-use Rattle.hm_markup_forms.specs.Gaps.{is_gap, IsWord}
+use Rattle.hm_markup_forms.specs.Gaps.{IsWord}
 use Rattle.hm_markup_forms.specs.Doctypes.{IsPlainDoctype, IsLegacyDoctype, WritesDoctype}
-use Rattle.hm_markup_forms.specs.Tags.{Form, bare, Writes, IsAssigned, parts_attributes, parts_slash, WritesAttribute, WritesAttributes, tag_end, WritesStart, WritesEnd}
+use Rattle.hm_markup_forms.specs.Tags.{Form, bare, unquoted, double, single, Writes, IsAssigned, parts_attributes, parts_slash, WritesAttribute, WritesAttributes, tag_end, WritesStart, WritesEnd}
 use Rattle.hm_markup_forms.proofs.Gaps.{gap_blank, blank_gap}
-use Rattle.hm_markup_forms.proofs.LineEnds.{newlines, is_no_return, newlines_plain, IsInLine, lowered_plain, lowered_in_line, HasGap, gap_lines}
-use Rattle.hm_markup_forms.proofs.Readable.{IsBehind, closing_behind, attributes_behind}
+use Rattle.hm_markup_forms.proofs.LineEnds.{newlines, newlines_after, is_no_return, newlines_plain, IsInLine, lowered_plain, lowered_in_line, gap_lines}
+use Rattle.hm_markup_forms.proofs.Readable.{ends_value, IsBehind, closing_behind, attributes_behind}
 
 -- b, written in front of after, with its line ends as LF, in front of after with its own
 pub record HasLines (W : List ℕ → List ℕ → Type 0) (b after : List ℕ) : Type 0 where
@@ -46,9 +45,8 @@ attribute_name_in_line (c ∷ name) written e h = lowered_in_line is_attribute_b
 -- ---- values
 
 -- a value that begins inside a line, with its '='
-pub assigned_lines : (v b after : List ℕ) (value : IsInLine v) (w : IsAssigned v b) → all_pass is_no_return v ≡ true
-    → HasLines (λ other more. IsAssigned v other) b after
-assigned_lines v b after value w plain =
+pub assigned_lines : (v b after : List ℕ) → IsInLine v → IsAssigned v b → HasLines (λ other more. IsAssigned v other) b after
+assigned_lines v b after value w =
     let equals : IsInLine (61 ∷ []) = record { first = 61; more = []; is = refl; no_feed = refl; plain = refl } in
     let right = gap_lines false w.right v after (blank_gap w.right w.right_blank) value in
     let left = gap_lines false w.left (61 ∷ []) (w.right ++ (v ++ after)) (blank_gap w.left w.left_blank) equals in
@@ -58,6 +56,18 @@ assigned_lines v b after value w plain =
       written = record { left = left.other; right = right.other; is = refl; left_blank = gap_blank false left.other left.gap_is; right_blank = gap_blank false right.other right.gap_is };
       is = ap newlines cut ∙ left.is ∙ ap (λ r. left.other ++ 61 ∷ r) right.is ∙ simp append_assoc refl;
     }
+
+-- what ends a value still does
+pub behind_lines : (form : Form) (after : List ℕ) → IsBehind form after → IsBehind form (newlines after)
+behind_lines bare after h = tt
+behind_lines unquoted [] h = absurd (cc)
+behind_lines unquoted (c ∷ s) h = by_test (c == 13)
+  where
+    by_test : (b : Bool) → head_is ends_value (if b then 10 ∷ newlines_after true s else c ∷ newlines s) ≡ true
+    by_test true = unfold is_space in refl
+    by_test false = h
+behind_lines double after h = tt
+behind_lines single after h = tt
 
 -- each value of these attributes keeps its meaning where it stands in a tag
 abbrev pub ValuesHaveLines : Writes → List Attribute → Type 0
@@ -89,7 +99,7 @@ attributes_lines writes touching before last [] b after named values behind w = 
 attributes_lines writes touching before last (a ∷ attributes) b after named values behind (form, piece, rest, is, w, ws) =
     let next : IsBehind form (rest ++ after) = attributes_behind writes touching form last attributes rest after ws behind in
     let more = attributes_lines writes touching form last attributes rest after
-      (λ d (k, low, here). named d (suc k, omega arith, here)) (λ f d c r (k, low, here) e v. values f d c r (suc k, omega arith, here) e v) behind ws in
+    (λ d (k, low, here). named d (suc k, omega arith, here)) (λ f d c r (k, low, here) e v. values f d c r (suc k, omega arith, here) e v) behind ws in
     let one = attribute_lines writes touching before form a piece (rest ++ after) (named a (0, omega arith, refl)) (λ v x. values form a v (rest ++ after) (0, omega arith, refl) next x) w in
     let cut : b ++ after ≡ piece ++ (rest ++ after) = rw is (simp append_assoc) in
     record {

@@ -1,12 +1,11 @@
 -- The flags of plain characters: those of the listed bytes, and of each name one after another.
-use Rattle.std.proofs.Common.{◌≡◌, ℕ, zero, suc, ◌+◌, ◌<◌, ◌≤◌, ◌⊎◌, inl, inr, Bool, true, false, cond, not, ◌&&◌, ◌||◌, ◌==◌, nat_lt, List, [], ◌∷◌, ◌++◌, length, get_or, set, take, replicate, refl, sym, ap, ◌∙◌, subst, arith}
+use Rattle.std.proofs.Common.{◌≡◌, ℕ, zero, suc, ◌+◌, ◌<◌, ◌≤◌, ◌⊎◌, inl, inr, Bool, true, false, not, ◌&&◌, ◌||◌, ◌==◌, nat_lt, List, [], ◌∷◌, ◌++◌, length, get_or, set, take, replicate, refl, sym, ap, ◌∙◌, subst, arith}
 use Rattle.std.specs.List.{list_all}
 use Rattle.std.proofs.lemmas.Bool.{cases_eq}
 use Rattle.std.proofs.lemmas.List.{take_more, take_all, length-set, get_or-replicate, get_or-set_same, get_or-set_other, get_or-map, length-map}
 use Rattle.std.proofs.lemmas.List.Folds.{list_all-append}
 use Rattle.hm_base.specs.Bytes.{all_pass, some_passes}
 use Rattle.hm_refs.specs.Names.{Entry}
-use Rattle.hm_refs.specs.Tables.{is_for, no_entry}
 use Rattle.hm_refs.specs.Plain.{plain_bytes, is_plain_byte, is_long, allows, is_plain}
 use Rattle.hm_refs.specs.Nodes.{entry_of, entries_of}
 use Rattle.hm_refs.specs.Flags.{IsFlagged}

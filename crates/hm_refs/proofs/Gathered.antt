@@ -77,6 +77,7 @@ gathered_names t g l = record {
   apart = sorted_apart (names_in t) g.ascending;
   short = λ i k. good_short (entry_at t i).name (passes (λ (e : Entry). is_good_name e.name) (entry_at t i) t g.good (at_in t i k));
   few = l;
+  ascending = g.ascending;
 }
 
 -- ---- a table
@@ -220,3 +221,7 @@ no_table = record {
   few = omega arith;
   few_for = λ c. (omega arith, omega arith);
 }
+
+pub no_names : AreNames []
+unfolding IsStrictlySortedBy
+no_names = record { apart = λ n l. absurd (omega arith); short = λ i l. absurd (omega arith); few = omega arith; ascending = tt }

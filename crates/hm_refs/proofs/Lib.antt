@@ -11,6 +11,8 @@ pub mod NumberLaws
 pub mod Places
 pub mod ReadingLaws
 pub mod Seeking
+pub mod Shortest
+pub mod Splits
 pub mod Webs
 pub mod Whole
 pub mod Digits

@@ -72,6 +72,6 @@ abbrev pub are_names_utf8 : List Element → Bool
 are_names_utf8 path = list_all (λ e. is_utf8 e.name) path
 
 -- the open elements of a page in its body, with room for as many as may be open
-pub record IsKept (elements : Vec OpenElement Global) : Type 0 where
+pub record IsRoomy (elements : Vec OpenElement Global) : Type 0 where
   pub path : IsPath elements.items
   pub room : DEPTH_LIMIT ≤ vec_capacity elements

@@ -7,7 +7,7 @@ ghost use Rattle.hm_elements.specs.Names.{body, html, svg};
 ghost use Rattle.hm_elements.specs.Paths as paths;
 ghost use Rattle.hm_elements.specs.Paths.{html_element};
 ghost use Rattle.hm_settle.specs.Answers.{IsMoved, IsStarted, elements_of};
-ghost use Rattle.hm_settle.specs.Elements.{AreMarked, IsKept, are_names_utf8, name_of, path_of};
+ghost use Rattle.hm_settle.specs.Elements.{AreMarked, IsRoomy, are_names_utf8, name_of, path_of};
 ghost use Rattle.hm_settle.specs.Moves.{element, refuses, start_moves, end_moves};
 ghost use Rattle.hm_settle.specs.Plans.{IsKindOf, IsPushed, opened_by};
 
@@ -31,11 +31,11 @@ impl Model for Path {
 
     ghost Value = { List Element };
 
-    ghost use Rattle.hm_settle.specs.Elements.{IsKept, path_of};
+    ghost use Rattle.hm_settle.specs.Elements.{IsRoomy, path_of};
 
     ghost view = { λ p. path_of p.elements.items };
 
-    ghost invariant = { λ p. IsKept p.elements };
+    ghost invariant = { λ p. IsRoomy p.elements };
 }
 
 impl Path {
@@ -158,12 +158,12 @@ fn carry_out(
     kind: Kind,
     foreign: bool,
 )
-    requires kept { IsKept elements.old }
+    requires kept { IsRoomy elements.old }
     requires least { 2 ≤ plan.left }
     requires most { plan.left ≤ length elements.old.items }
     requires room { plan.left + length (elements_of plan.made) < DEPTH_LIMIT }
     requires kind { IsKindOf opened kind }
-    ensures kept { IsKept elements.new }
+    ensures kept { IsRoomy elements.new }
     ensures path { path_of elements.new.items ≡ opened_by opened foreign ++ (elements_of plan.made ++ path_of (take plan.left elements.old.items)) }
 {
     elements.truncate(plan.left);
@@ -175,9 +175,9 @@ fn carry_out(
 
 /// Opens the elements that are made.
 fn make(elements: &mut Vec<OpenElement>, made: Made)
-    requires kept { IsKept elements.old }
+    requires kept { IsRoomy elements.old }
     requires room { length elements.old.items + length (elements_of made) < DEPTH_LIMIT }
-    ensures kept { IsKept elements.new }
+    ensures kept { IsRoomy elements.new }
     ensures path { path_of elements.new.items ≡ elements_of made ++ path_of elements.old.items }
 {
     match made {

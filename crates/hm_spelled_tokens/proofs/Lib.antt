@@ -5,3 +5,16 @@ pub mod ValueReads
 pub mod Within
 pub mod ValueBytes
 pub mod Values
+pub mod Decided
+pub mod TextPieces
+pub mod Ends
+pub mod Sections
+pub mod ReadTexts
+pub mod SvgTexts
+pub mod Texts
+pub mod Tags
+pub mod Sound
+pub mod Clean
+pub mod CleanPieces
+pub mod Lines
+pub mod Pages

@@ -1,4 +1,4 @@
-use Rattle.std.proofs.Common.{◌≡◌, take, length}
+use Rattle.std.proofs.Common.{take}
 use Rattle.hm_refs.specs.Nodes.{entries_of}
 use Rattle.hm_refs.specs.Flags.{IsFlagged}
 use Rattle.hm_refs.proofs.plain.plain_flags.Given as goal

@@ -1,4 +1,4 @@
-use Rattle.std.proofs.Common.{refl, arith}
+use Rattle.std.proofs.Common.{refl}
 use Rattle.hm_refs.proofs.FlagLaws.{plain_ascii, listed_none, listed_more, listed_all}
 use Rattle.hm_refs.proofs.plain.without_names.Goals as goal
 

@@ -1,4 +1,5 @@
-use Rattle.hm_spelled_tokens.proofs.Values.{spelled_values_are_read, spelled_values_are_decided}
+use Rattle.hm_spelled_tokens.proofs.Decided.{spelled_values_are_decided}
+use Rattle.hm_spelled_tokens.proofs.Values.{spelled_values_are_read}
 use Rattle.hm_spelled_tokens.proofs.laws.spelled_values_are_read.Goals as goal
 
 pub returns-clause-read : goal.returns-clause-read

@@ -1,0 +1,15 @@
+pub mod Reading
+pub mod Runs
+pub mod Ahead
+pub mod Frame
+pub mod Behind
+pub mod BodySteps
+pub mod Closing
+pub mod Follow
+pub mod Texts
+pub mod TextElements
+pub mod BodyTexts
+pub mod BodyLaw
+pub mod FrameFirst
+pub mod BehindHead
+pub mod InHead

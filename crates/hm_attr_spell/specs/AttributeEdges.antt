@@ -2,7 +2,7 @@
 use Rattle.std.specs.Prelude.{ℕ, Bool, true, false, ◌&&◌, List, [], ◌∷◌, ◌++◌, if◌then◌else◌, codes}
 use Rattle.hm_refs.specs.Names.{Entry}
 use Rattle.hm_units.specs.Edges.{Edge, edge, edge_to}
-use Rattle.hm_units.specs.States.{Where, outside, self_closed, behind_name, behind_unquoted, behind_quoted, in_unquoted, in_double, in_single, nothing, State, first_state, value_spot}
+use Rattle.hm_units.specs.States.{Where, self_closed, behind_name, behind_unquoted, behind_quoted, in_unquoted, in_double, in_single, nothing, State, first_state, value_spot}
 use Rattle.hm_units.specs.Steps.{may_end}
 
 -- '<' and the name

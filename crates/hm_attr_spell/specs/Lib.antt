@@ -1,1 +1,2 @@
 pub mod AttributeEdges
+pub mod Laws

@@ -1,2 +1,4 @@
 //! The edges of attributes and of the close of a tag.
 #![tactic(auto)]
+
+pub mod laws;

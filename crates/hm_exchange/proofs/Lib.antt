@@ -4,6 +4,5 @@ pub mod Judged
 pub mod PlainTests
 pub mod Exchange
 pub mod Texts
-pub mod Closings
 pub mod Tags
 pub mod Trees

@@ -1,16 +1,19 @@
 -- Start tags whose values are spelled anew.
-use Rattle.std.proofs.Common.{◌≡◌, ℕ, ◌+◌, ◌≤◌, Bool, true, ◌&&◌, List, [], ◌∷◌, ◌++◌, length, refl, ap, sym, subst, arith, length-append, chars}
+use Rattle.std.proofs.Common.{◌≡◌, ℕ, ◌+◌, ◌≤◌, Bool, true, ◌&&◌, List, [], ◌∷◌, ◌++◌, length, refl, ap, sym, subst, ◌∙◌, inl, arith, length-append, chars}
 use Rattle.hm_base.specs.Walks.{Attribute}
 use Rattle.hm_markup_forms.specs.Gaps.{is_gap}
 use Rattle.hm_markup_forms.specs.Tags.{bare, double, Form, IsAssigned, parts_slash, single, tag_end, unquoted, WritesAttributes}
+use Rattle.hm_refs.specs.Names.{Entry}
 use Rattle.hm_refs.specs.Tables.{first, IsIn, IsTable, later}
 use Rattle.hm_spellings.specs.Characters as spots
 use Rattle.hm_spellings.specs.Characters.{is_value, Spot}
 use Rattle.hm_spellings.specs.Tags.{character_rules, IsBareValue, IsQuotedValue, Spelling, SpellsStart, SpellsValue}
 use Rattle.hm_units.specs.Laws.{closing_bytes}
 use Rattle.hm_exchange.specs.Laws.{needs_reference}
-use Rattle.hm_exchange.proofs.Closings.{attributes_close, Closes, closings_give, end_closes}
-use Rattle.hm_exchange.proofs.Gives.{Gives}
+use Rattle.hm_units.specs.Steps.{keeps}
+use Rattle.hm_units.proofs.Closing.{closing_law}
+use Rattle.hm_units.proofs.ValueEnds.{attributes_close, Closes, end_closes}
+use Rattle.hm_exchange.proofs.Gives.{Gives, Keeps}
 use Rattle.hm_exchange.proofs.Texts.{text_new}
 
 -- the same spelling without references at plain characters
@@ -18,6 +21,13 @@ abbrev pub spared : Spelling → Spelling
 spared g = record { table = g.table; rules = g.rules; refers = needs_reference g.table }
 
 -- ---- values
+
+-- what closes a value gives all that another one gives
+closings_give : (t : List Entry) → IsTable t → (x y : List ℕ) → Closes x → Closes y → length y ≤ length x → Gives t true x y
+closings_give t k x y c d le = record { le = le; good = inl all }
+  where
+    all : Keeps t true x y
+    all spot p v f h = subst (λ w. keeps t spot p w ≡ true) (sym d.is) (closing_law t k spot p d.byte d.rest v d.among f ∙ sym (closing_law t k spot p c.byte c.rest v c.among f) ∙ subst (λ w. keeps t spot p w ≡ true) c.is h)
 
 record Reassigned (w b : List ℕ) (n : ℕ) : Type 0 where
   bytes : List ℕ

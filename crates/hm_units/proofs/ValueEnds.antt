@@ -1,19 +1,15 @@
--- The byte that closes a value.
-use Rattle.std.proofs.Common.{◌≡◌, ℕ, ◌≤◌, Bool, true, false, ◌&&◌, ◌||◌, ◌==◌, List, [], ◌∷◌, ◌++◌, length, refl, sym, ap, ◌∙◌, subst, append_assoc, inl}
+-- What stands behind a value without quotes closes it.
+use Rattle.std.proofs.Common.{◌≡◌, ℕ, Bool, true, false, ◌&&◌, ◌||◌, ◌==◌, List, [], ◌∷◌, ◌++◌, refl, sym, ap, ◌∙◌, subst, append_assoc}
 use Rattle.hm_base.specs.Bytes.{is_space}
 use Rattle.hm_base.specs.Forms.{is_blank}
 use Rattle.hm_base.specs.Walks.{Attribute}
 use Rattle.hm_markup_forms.specs.Gaps.{is_gap}
 use Rattle.hm_markup_forms.specs.Tags.{Form, tag_end, unquoted, WritesAttributes}
 use Rattle.hm_markup_forms.proofs.Gaps.{gap_blank}
-use Rattle.hm_refs.specs.Names.{Entry}
-use Rattle.hm_refs.specs.Tables.{first, IsIn, IsTable, later}
+use Rattle.hm_refs.specs.Tables.{first, IsIn, later}
 use Rattle.hm_refs.proofs.Bools.{and_left, eq_of}
 use Rattle.hm_spellings.specs.Tags.{Spelling, SpellsValue}
 use Rattle.hm_units.specs.Laws.{closing_bytes}
-use Rattle.hm_units.specs.Steps.{keeps}
-use Rattle.hm_units.proofs.Closing.{closing_law}
-use Rattle.hm_exchange.proofs.Gives.{Gives, Keeps}
 
 -- a byte that closes a value comes first
 pub record Closes (s : List ℕ) : Type 0 where
@@ -21,16 +17,6 @@ pub record Closes (s : List ℕ) : Type 0 where
   pub rest : List ℕ
   pub is : s ≡ byte ∷ rest
   pub among : IsIn byte closing_bytes
-
-closed_more : (s x : List ℕ) → Closes s → Closes (s ++ x)
-closed_more s x c = record { byte = c.byte; rest = c.rest ++ x; is = ap (λ w. w ++ x) c.is; among = c.among }
-
--- what closes a value gives all that another one gives
-pub closings_give : (t : List Entry) → IsTable t → (x y : List ℕ) → Closes x → Closes y → length y ≤ length x → Gives t true x y
-closings_give t k x y c d le = record { le = le; good = inl all }
-  where
-    all : Keeps t true x y
-    all spot p v f h = subst (λ w. keeps t spot p w ≡ true) (sym d.is) (closing_law t k spot p d.byte d.rest v d.among f ∙ sym (closing_law t k spot p c.byte c.rest v c.among f) ∙ subst (λ w. keeps t spot p w ≡ true) c.is h)
 
 space_is : (c : ℕ) → is_space c ≡ true → IsIn c closing_bytes
 unfolding is_space
@@ -59,12 +45,12 @@ space_is c h = by_tests (c == 9) (c == 10) (c == 12) (c == 13) (c == 32) refl re
     by_tests false false false false true ha hb hd he hf h = subst (λ x. IsIn x closing_bytes) (sym (eq_of c 32 hf)) space
     by_tests false false false false false ha hb hd he hf h = absurd (cc)
 
-gap_closes : (gap s : List ℕ) → is_gap true gap ≡ true → Closes (gap ++ s)
+pub gap_closes : (gap s : List ℕ) → is_gap true gap ≡ true → Closes (gap ++ s)
 unfolding is_gap
 gap_closes [] s h = absurd (cc)
 gap_closes (c ∷ gap) s h = record { byte = c; rest = gap ++ s; is = refl; among = space_is c (and_left (is_space c) (is_blank gap) (and_left (is_blank (c ∷ gap)) true h)) }
 
-blank_closes : (gap s : List ℕ) → is_blank gap ≡ true → Closes s → Closes (gap ++ s)
+pub blank_closes : (gap s : List ℕ) → is_blank gap ≡ true → Closes s → Closes (gap ++ s)
 blank_closes [] s h c = c
 blank_closes (d ∷ gap) s h c = record { byte = d; rest = gap ++ s; is = refl; among = space_is d (and_left (is_space d) (is_blank gap) h) }
 

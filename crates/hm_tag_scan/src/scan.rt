@@ -9,11 +9,11 @@ ghost use Rattle.hm_tag_scan.specs.Tags.{is_name_byte};
 ghost use Rattle.hm_tag_scan.specs.Wholes.{IsWhole, fault_at};
 ghost use Rattle.hm_tag_scan.specs.Reading.{begins_tag, read_end, read_start, read_tag, tag_fault};
 
-use crate::collected::{ATTRIBUTE_LIMIT, Collected};
+use crate::collected::Collected;
 use crate::names::{is_tag_name, lowered};
 use crate::runs::{Run, run_end};
 use crate::tag_body::read_body;
-use hm_base::Word;
+use hm_base::{ATTRIBUTE_LIMIT, Word};
 use hm_refs::Table;
 use hm_tree::{Attrs, ScanFault, Token};
 use std::alloc::Global;

@@ -13,3 +13,4 @@ pub mod BodyLaw
 pub mod FrameFirst
 pub mod BehindHead
 pub mod InHead
+pub mod HeadLaw

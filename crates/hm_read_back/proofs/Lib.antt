@@ -14,3 +14,4 @@ pub mod FrameFirst
 pub mod BehindHead
 pub mod InHead
 pub mod HeadLaw
+pub mod Page

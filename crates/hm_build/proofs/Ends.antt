@@ -1,5 +1,5 @@
 -- The end of the text of a page.
-use Rattle.std.proofs.Common.{◌≡◌, ℕ, ◌+◌, ◌*◌, ◌^◌, ◌≤◌, ◌<◌, Bool, true, List, [], length, map, refl, sym, ap, ◌∙◌, subst, arith}
+use Rattle.std.proofs.Common.{◌≡◌, ℕ, ◌+◌, ◌*◌, ◌^◌, ◌≤◌, ◌<◌, true, List, [], length, map, refl, sym, ap, ◌∙◌, subst, arith}
 use Rattle.std.specs.Prelude.{Result, Ok, Err, IfOk}
 use Rattle.std.specs.Str.{IsUtf8}
 use Rattle.std.proofs.lemmas.Str.{is_utf8-from_IsUtf8}
@@ -12,7 +12,6 @@ use Rattle.hm_refs.specs.Tables.{IsTable}
 use Rattle.hm_tokens.specs.Laws.{IsPlain, SoundNames}
 use Rattle.hm_construction.proofs.Built.{what_is_built_is_settled}
 use Rattle.hm_base.specs.declared.rules.Refused.{Refused}
-use Rattle.hm_base.specs.declared.rules.Rule.{Rule}
 use Rattle.hm_construction.specs.Steps.{Stepped, went, stops, step_over, first_state}
 use Rattle.hm_construction.specs.Trees.{Outcome, built, refused_by, after_events, stepped, tree_from, tree_of_source}
 use Rattle.hm_lexer.specs.Reading.{Reading, text_of}

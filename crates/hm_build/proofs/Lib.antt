@@ -1,4 +1,3 @@
-mod Weights
 mod Room
 mod Reading
 mod Turns

@@ -1,5 +1,5 @@
 -- There is room for what is built of a page.
-use Rattle.std.proofs.Common.{◌≡◌, ℕ, suc, ◌+◌, ◌-◌, ◌*◌, ◌^◌, ◌≤◌, ◌<◌, Bool, true, false, cond, List, [], ◌∷◌, ◌++◌, length, refl, sym, ap, ◌∙◌, subst, arith}
+use Rattle.std.proofs.Common.{◌≡◌, ℕ, suc, ◌+◌, ◌*◌, ◌^◌, ◌≤◌, ◌<◌, Bool, List, [], ◌∷◌, ◌++◌, length, refl, subst, arith}
 use Rattle.std.proofs.lemmas.List.{length-append}
 use Rattle.hm_base.specs.Walks.{Event, doctype, start, text, comment, end, Element, path_after, text_before, pushes, walk_size}
 use Rattle.hm_base.specs.declared.rules.Rule.{Rule}
@@ -8,9 +8,9 @@ use Rattle.hm_tree.specs.Trees.{HasRoom}
 use Rattle.hm_tokens.specs.Laws.{token_size, least_size, growth}
 use Rattle.hm_construction.specs.Steps.{State, Stepped, went, stops, step, step_over, first_state}
 use Rattle.hm_builder.specs.Building.{Fits, grown}
-use Rattle.hm_build.specs.Weights.{weight, load, load_size}
+use Rattle.hm_construction.specs.Weights.{weight, load, load_size, cost, size_cost, span, Within, WithinAll}
 use Rattle.hm_build.specs.Parsing.{IsWithin}
-use Rattle.hm_build.proofs.Weights.{weight-append, walk_size-append, cost, size_cost, span, Within, step_within, WithinAll, over_within}
+use Rattle.hm_construction.proofs.Weights.{weight-append, walk_size-append, step_within, over_within}
 
 pub first_within : IsWithin 0 [] first_state
 first_within = record { events = omega arith; bytes = omega arith }

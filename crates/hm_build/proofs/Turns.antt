@@ -1,5 +1,5 @@
 -- A turn of the reader: the next token is taken into the tree.
-use Rattle.std.proofs.Common.{◌≡◌, ℕ, ◌+◌, ◌-◌, ◌*◌, ◌^◌, ◌≤◌, ◌<◌, List, [], ◌∷◌, ◌++◌, length, drop, map, refl, sym, ap, ◌∙◌, subst, Some, None, arith}
+use Rattle.std.proofs.Common.{◌≡◌, ℕ, ◌+◌, ◌-◌, ◌*◌, ◌^◌, ◌≤◌, ◌<◌, List, length, drop, map, refl, sym, ap, ◌∙◌, subst, Some, None, arith}
 use Rattle.std.proofs.lemmas.List.{length-drop, drop-drop}
 use Rattle.std.specs.declared.option.Option.{Option}
 use Rattle.hm_base.specs.Source.{Source, byte_of}
@@ -7,7 +7,6 @@ use Rattle.hm_base.specs.declared.limits.TheConstants.{OUTPUT_LIMIT}
 use Rattle.hm_base.specs.Walks.{Element}
 use Rattle.hm_base.specs.declared.rules.Refused.{Refused}
 use Rattle.hm_base.specs.declared.rules.Refused.TheVariants as answers
-use Rattle.hm_base.specs.declared.rules.Rule.{Rule}
 use Rattle.hm_tree.specs.Tokens.{Seen, seen, taken, refused, doctype, start_tag, end_tag, slice, points, comment}
 use Rattle.hm_tree.specs.declared.tokens.Spanned.{Spanned}
 use Rattle.hm_tokens.specs.First.{Mode, at_end, behind_bytes, first}

@@ -13,7 +13,7 @@ use Rattle.hm_lexer.specs.Reading.{Reading, text_of}
 use Rattle.hm_builder.specs.Building.{Building}
 use Rattle.hm_builder.specs.declared.fault.BuildFault.{BuildFault}
 use Rattle.hm_builder.specs.declared.fault.BuildFault.TheVariants as faults
-use Rattle.hm_build.specs.Weights.{weight, load, load_size}
+use Rattle.hm_construction.specs.Weights.{weight, load, load_size}
 
 -- why there is no tree; want of memory has no cause in the page
 abbrev pub IsRefusedAs : Outcome → Refused → Type 0

@@ -1,10 +1,10 @@
 //! A token taken into a tree.
-ghost use Rattle.std.specs.Prelude.{◌≡◌, ◌^◌, ◌<◌, length, OnOk, IfErr};
+ghost use Rattle.std.specs.Prelude.{◌≡◌, ◌^◌, ◌<◌, length};
 ghost use Rattle.hm_tree.specs.Tokens.{IsInText, seen};
 ghost use Rattle.hm_lexer.specs.Modes.{mode_of};
 ghost use Rattle.hm_construction.specs.Steps.{step};
 ghost use Rattle.hm_construction.specs.Trees as trees;
-ghost use Rattle.hm_builder.specs.Building.{Fits, IsRefused, IsStepped};
+ghost use Rattle.hm_builder.specs.Building.{Answers, Fits};
 ghost use Rattle.hm_build.specs.Parsing.{IsReadUnder};
 
 use hm_builder::{BuildFault, TreeBuilder};
@@ -59,8 +59,7 @@ pub(crate) fn take(
     requires under { IsReadUnder builder.old.state.path (seen text.now token) }
     requires short { length text.now < 2 ^ 32 }
     requires room { Fits (step builder.old.state (seen text.now token)) builder.old.walk }
-    ensures ok { OnOk result (IsStepped (step builder.old.state (seen text.now token)) builder.old builder.new) }
-    ensures err { IfErr result (IsRefused (step builder.old.state (seen text.now token))) }
+    ensures { Answers (step builder.old.state (seen text.now token)) result builder.old builder.new }
 {
     match token {
         Token::Doctype { legacy } => builder.doctype(legacy),

@@ -6,20 +6,20 @@ use Rattle.std.proofs.lemmas.Bool.{false_from_ne_true}
 use Rattle.hm_base.specs.Walks.{Attribute, Event, start, end, Element, path_after, pushes}
 use Rattle.hm_base.specs.declared.rules.Rule.TheVariants.{SecondRoot, WrongParent}
 use Rattle.hm_elements.specs.Names.{is_among, words, html, head, body, noscript}
-use Rattle.hm_elements.specs.Tables.{is_void, voids, is_raw, raw_names, is_rcdata, rcdata_names, holds_text, is_root, roots, is_refused, refused_names}
+use Rattle.hm_elements.specs.Tables.{is_metadata, is_void, voids, is_raw, raw_names, is_rcdata, rcdata_names, holds_text, is_root, roots, is_refused, refused_names}
 use Rattle.hm_elements.specs.Nesting.{may_stand, children, noscript_children}
 use Rattle.hm_elements.specs.Paths.{is_in_text, html_element}
 use Rattle.hm_elements.proofs.TableTools.{same_bytes, entry_passes, second_of}
 use Rattle.hm_tree.specs.Trees.{HasRoom, end_of}
 use Rattle.hm_construction.specs.Steps as steps
-use Rattle.hm_construction.specs.Steps.{State, Stepped, went, stops, behind_events, moved, html_start, start_inside, reach_body, opened, is_metadata, closes_at_once, under_html, under_head, under_body}
+use Rattle.hm_construction.specs.Steps.{State, Stepped, went, stops, behind_events, moved, html_start, start_inside, reach_body, opened, closes_at_once, under_html, under_head, under_body}
 use Rattle.hm_builder.specs.Building.{Fits, grown}
 use Rattle.hm_builder.specs.BeforeBody.{TakesChildren, html_opened, head_opened, in_open_head, has_begun}
 use Rattle.hm_builder.specs.Inside.{insertion_mode_of, open_path, text_name, inside_head, under_noscript, state_of, has_no_text, head_ended, IsUnbegun, IsKept, IsDone}
 use Rattle.hm_builder.specs.declared.insertion.HeadText.{HeadText}
 use Rattle.hm_builder.specs.declared.insertion.HeadText.TheVariants.{Title, Style, Script}
-use Rattle.hm_builder.specs.declared.insertion.InsertionMode.{InsertionMode}
-use Rattle.hm_builder.specs.declared.insertion.InsertionMode.TheVariants.{Initial, BeforeHtml, BeforeHead, InHead, AfterHead, InBody, AfterBody as PastBody, AfterHtml}
+use Rattle.hm_builder.specs.declared.insertion.BuilderMode.{BuilderMode}
+use Rattle.hm_builder.specs.declared.insertion.BuilderMode.TheVariants.{Initial, BeforeHtml, BeforeHead, InHead, AfterHead, InBody, AfterBody as PastBody, AfterHtml}
 use Rattle.hm_builder.specs.declared.parts.Parts.{Parts}
 use Rattle.hm_builder.proofs.Events.{HasRoom-front, path_after-append, walk_any}
 use Rattle.hm_builder.proofs.Others.{any_done}
@@ -98,7 +98,7 @@ module _ (p : Parts) (attributes : List Attribute) (v : List Event) (kept : IsKe
 pub html_room : (p : Parts) (attributes : List Attribute) → (p.insertion_mode ≡ BeforeHtml) ⊎ (p.insertion_mode ≡ BeforeHead) → Fits (steps.open_head (insertion_mode_of p.insertion_mode) attributes (state_of p)) p.maker → HasRoom (p.maker ++ html_opened p.insertion_mode)
 html_room p attributes which fits = by p.insertion_mode which fits
   where
-    by : (ph : InsertionMode) → (ph ≡ BeforeHtml) ⊎ (ph ≡ BeforeHead) → Fits (steps.open_head (insertion_mode_of ph) attributes (state_of (record p { insertion_mode = ph }))) p.maker → HasRoom (p.maker ++ html_opened ph)
+    by : (ph : BuilderMode) → (ph ≡ BeforeHtml) ⊎ (ph ≡ BeforeHead) → Fits (steps.open_head (insertion_mode_of ph) attributes (state_of (record p { insertion_mode = ph }))) p.maker → HasRoom (p.maker ++ html_opened ph)
     by ph (inl e) f = subst (λ x. HasRoom (p.maker ++ html_opened x)) (sym e)
         (HasRoom-front (p.maker ++ start html false [] ∷ []) (start head false attributes ∷ []) (subst HasRoom (sym (append_assoc p.maker (start html false [] ∷ []) (start head false attributes ∷ [])))
         (subst (λ x. Fits (steps.open_head (insertion_mode_of x) attributes (state_of (record p { insertion_mode = x }))) p.maker) e f)))
@@ -107,10 +107,10 @@ html_room p attributes which fits = by p.insertion_mode which fits
         (subst (λ x. Fits (steps.open_head (insertion_mode_of x) attributes (state_of (record p { insertion_mode = x }))) p.maker) e f)))
 
 module _ (w : List Event) (path : List Element) (drops : Bool) (inner last : Vec (List ℕ) Global) where
-  abbrev pub parts : InsertionMode → Parts
+  abbrev pub parts : BuilderMode → Parts
   parts ph = record { maker = w; insertion_mode = ph; path = path; drops_line_feed = drops; behind_body = inner; behind_html = last }
 
-  pub body_went : (attributes : List Attribute) (ph : InsertionMode) → IsUnbegun ph → steps.open_body (insertion_mode_of ph) attributes (state_of (parts ph)) ≡ went (head_ended ph ++ start body false attributes ∷ []) (moved (state_of (parts ph)) steps.in_body under_body)
+  pub body_went : (attributes : List Attribute) (ph : BuilderMode) → IsUnbegun ph → steps.open_body (insertion_mode_of ph) attributes (state_of (parts ph)) ≡ went (head_ended ph ++ start body false attributes ∷ []) (moved (state_of (parts ph)) steps.in_body under_body)
   body_went attributes Initial u = absurd u
   body_went attributes BeforeHtml u = refl
   body_went attributes BeforeHead u = refl
@@ -122,7 +122,7 @@ module _ (w : List Event) (path : List Element) (drops : Bool) (inner last : Vec
   body_went attributes PastBody u = absurd u
   body_went attributes AfterHtml u = absurd u
 
-  body_leads : (attributes : List Attribute) (ph : InsertionMode) → IsUnbegun ph → (path_after (open_path ph path) (head_ended ph ++ start body false attributes ∷ []) ≡ under_body) × (has_no_text (head_ended ph ++ start body false attributes ∷ []) ≡ true)
+  body_leads : (attributes : List Attribute) (ph : BuilderMode) → IsUnbegun ph → (path_after (open_path ph path) (head_ended ph ++ start body false attributes ∷ []) ≡ under_body) × (has_no_text (head_ended ph ++ start body false attributes ∷ []) ≡ true)
   body_leads attributes Initial u = absurd u
   body_leads attributes BeforeHtml u = (refl, refl)
   body_leads attributes BeforeHead u = (refl, refl)
@@ -134,14 +134,14 @@ module _ (w : List Event) (path : List Element) (drops : Bool) (inner last : Vec
   body_leads attributes PastBody u = absurd u
   body_leads attributes AfterHtml u = absurd u
 
-  pub body_done : (attributes : List Attribute) (ph : InsertionMode) (v : List Event) → IsUnbegun ph → IsKept (parts ph) → v ≡ (w ++ head_ended ph) ++ start body false attributes ∷ [] → IsDone (steps.open_body (insertion_mode_of ph) attributes (state_of (parts ph))) (parts ph) (record (parts InBody) { maker = v })
+  pub body_done : (attributes : List Attribute) (ph : BuilderMode) (v : List Event) → IsUnbegun ph → IsKept (parts ph) → v ≡ (w ++ head_ended ph) ++ start body false attributes ∷ [] → IsDone (steps.open_body (insertion_mode_of ph) attributes (state_of (parts ph))) (parts ph) (record (parts InBody) { maker = v })
   body_done attributes ph v u kept is =
       let fresh : path ≡ under_body = unbegun_fresh w path drops inner last ph u kept in
       any_done _ (head_ended ph ++ start body false attributes ∷ []) (moved (state_of (parts ph)) steps.in_body under_body) (parts ph) (record (parts InBody) { maker = v })
       (body_went attributes ph u) kept (body_leads attributes ph u).1 (ap (λ x. moved (state_of (parts ph)) steps.in_body x) fresh) ((body_leads attributes ph u).0 ∙ sym fresh)
       (rw fresh refl) (is ∙ append_assoc w (head_ended ph) (start body false attributes ∷ []))
 
-  pub body_refused : (attributes : List Attribute) (ph : InsertionMode) → has_begun ph ≡ true → is_in_text (open_path ph path) ≡ false → steps.open_body (insertion_mode_of ph) attributes (state_of (parts ph)) ≡ stops SecondRoot 0
+  pub body_refused : (attributes : List Attribute) (ph : BuilderMode) → has_begun ph ≡ true → is_in_text (open_path ph path) ≡ false → steps.open_body (insertion_mode_of ph) attributes (state_of (parts ph)) ≡ stops SecondRoot 0
   unfolding holds_text is_raw is_rcdata raw_names rcdata_names is_among
   body_refused attributes Initial h k = refl
   body_refused attributes BeforeHtml h k = absurd (cc)
@@ -156,7 +156,7 @@ module _ (w : List Event) (path : List Element) (drops : Bool) (inner last : Vec
   body_refused attributes PastBody h k = refl
   body_refused attributes AfterHtml h k = refl
 
-  pub not_begun : (ph : InsertionMode) → has_begun ph ≡ false → is_in_text (open_path ph path) ≡ false → IsUnbegun ph
+  pub not_begun : (ph : BuilderMode) → has_begun ph ≡ false → is_in_text (open_path ph path) ≡ false → IsUnbegun ph
   unfolding holds_text is_raw is_rcdata raw_names rcdata_names is_among
   not_begun Initial h k = absurd (cc)
   not_begun BeforeHtml h k = tt
@@ -177,7 +177,7 @@ module _ (w : List Event) (path : List Element) (drops : Bool) (inner last : Vec
   nested es fs (went gs st) = ap (λ x. went x st) (sym (append_assoc es fs gs))
   nested es fs (stops rule n) = refl
 
-  pub child_step : (n : List ℕ) (attributes : List Attribute) (slash : Bool) (ph : InsertionMode) → TakesChildren ph → may_stand n head (Some html) ≡ true → start_inside (insertion_mode_of ph) n attributes slash (state_of (parts ph)) ≡ behind_events (head_opened ph) (opened n attributes (state_of (parts (InHead false None))))
+  pub child_step : (n : List ℕ) (attributes : List Attribute) (slash : Bool) (ph : BuilderMode) → TakesChildren ph → may_stand n head (Some html) ≡ true → start_inside (insertion_mode_of ph) n attributes slash (state_of (parts ph)) ≡ behind_events (head_opened ph) (opened n attributes (state_of (parts (InHead false None))))
   child_step n attributes slash Initial t stands = absurd t
   child_step n attributes slash BeforeHtml t stands = (rw stands refl) ∙ nested (start html false [] ∷ []) (start head false [] ∷ []) (opened n attributes (state_of (parts (InHead false None))))
   child_step n attributes slash BeforeHead t stands = rw stands refl
@@ -189,7 +189,7 @@ module _ (w : List Event) (path : List Element) (drops : Bool) (inner last : Vec
   child_step n attributes slash PastBody t stands = absurd t
   child_step n attributes slash AfterHtml t stands = absurd t
 
-  pub no_child_step : (n : List ℕ) (attributes : List Attribute) (slash : Bool) (ph : InsertionMode) → TakesChildren ph → may_stand n head (Some html) ≡ false → is_metadata n ≡ false → start_inside (insertion_mode_of ph) n attributes slash (state_of (parts ph)) ≡ reach_body (insertion_mode_of ph) (steps.start_in_body n attributes slash) (state_of (parts ph))
+  pub no_child_step : (n : List ℕ) (attributes : List Attribute) (slash : Bool) (ph : BuilderMode) → TakesChildren ph → may_stand n head (Some html) ≡ false → is_metadata n ≡ false → start_inside (insertion_mode_of ph) n attributes slash (state_of (parts ph)) ≡ reach_body (insertion_mode_of ph) (steps.start_in_body n attributes slash) (state_of (parts ph))
   no_child_step n attributes slash Initial t stands other = absurd t
   no_child_step n attributes slash BeforeHtml t stands other = rw (stands, other) refl
   no_child_step n attributes slash BeforeHead t stands other = rw (stands, other) refl
@@ -201,7 +201,7 @@ module _ (w : List Event) (path : List Element) (drops : Bool) (inner last : Vec
   no_child_step n attributes slash PastBody t stands other = absurd t
   no_child_step n attributes slash AfterHtml t stands other = absurd t
 
-  pub kept_open : (ph : InsertionMode) → TakesChildren ph → IsKept (parts ph) → IsKept (in_open_head (parts ph))
+  pub kept_open : (ph : BuilderMode) → TakesChildren ph → IsKept (parts ph) → IsKept (in_open_head (parts ph))
   kept_open Initial t kept = absurd t
   kept_open BeforeHtml t kept = record { walk = walk_any w [] (head_opened BeforeHtml) under_head kept.walk refl refl; fresh = kept.fresh }
   kept_open BeforeHead t kept = record { walk = walk_any w under_html (head_opened BeforeHead) under_head kept.walk refl refl; fresh = kept.fresh }
@@ -337,14 +337,14 @@ module _ (n : List ℕ) (attributes : List Attribute) (st : State) where
 
 -- ---- By insertion mode
 
-pub noscript_alone : (ph : InsertionMode) (path : List Element) (here : Bool) (text : Option HeadText) → ph ≡ InHead here text → here ≡ true → is_in_text (open_path ph path) ≡ false → ph ≡ InHead true None
+pub noscript_alone : (ph : BuilderMode) (path : List Element) (here : Bool) (text : Option HeadText) → ph ≡ InHead here text → here ≡ true → is_in_text (open_path ph path) ≡ false → ph ≡ InHead true None
 unfolding holds_text is_raw is_rcdata raw_names rcdata_names is_among
 noscript_alone ph path here None is flag h = is ∙ ap (λ b. InHead b None) flag
 noscript_alone ph path here (Some Title) is flag h = let wrong = sym (ap (λ x. is_in_text (open_path x path)) is) ∙ h in absurd (cc)
 noscript_alone ph path here (Some Style) is flag h = let wrong = sym (ap (λ x. is_in_text (open_path x path)) is) ∙ h in absurd (cc)
 noscript_alone ph path here (Some Script) is flag h = let wrong = sym (ap (λ x. is_in_text (open_path x path)) is) ∙ h in absurd (cc)
 
-pub head_alone : (ph : InsertionMode) (path : List Element) (here : Bool) (text : Option HeadText) → ph ≡ InHead here text → here ≡ false → is_in_text (open_path ph path) ≡ false → TakesChildren ph
+pub head_alone : (ph : BuilderMode) (path : List Element) (here : Bool) (text : Option HeadText) → ph ≡ InHead here text → here ≡ false → is_in_text (open_path ph path) ≡ false → TakesChildren ph
 unfolding holds_text is_raw is_rcdata raw_names rcdata_names is_among
 head_alone ph path here None is flag h = subst TakesChildren (sym (is ∙ ap (λ b. InHead b None) flag)) tt
 head_alone ph path here (Some Title) is flag h = let wrong = sym (ap (λ x. is_in_text (open_path x path)) is) ∙ h in absurd (cc)

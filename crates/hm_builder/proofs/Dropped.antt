@@ -1,10 +1,12 @@
 -- A line feed that is dropped.
-use Rattle.std.proofs.Common.{◌≡◌, ◌≢◌, ◌&&◌, ℕ, ◌==◌, Bool, true, false, List, [], ◌∷◌, length, cond, Ok, Err, OnOk, Result, sym, ap, ◌∙◌, refl, arith}
+use Rattle.std.proofs.Common.{◌≡◌, ◌≢◌, ◌&&◌, ℕ, ◌==◌, Bool, true, false, List, [], ◌∷◌, length, cond, Ok, Err, OnOk, IfErr, Result, sym, ap, subst, ◌∙◌, refl, arith}
 use Rattle.std.proofs.lemmas.Bool.Decides.{nat_tests}
 use Rattle.hm_base.specs.Walks.{Event}
 use Rattle.hm_construction.specs.Steps.{State, Stepped, went, stops, step_byte, step_bytes, kept_byte, behind_bytes, then_step, no_drop}
-use Rattle.hm_builder.specs.Building.{Fits, IsStepped}
-use Rattle.hm_builder.specs.Inside.{state_of, building_of, IsKept, IsDone}
+use Rattle.hm_builder.specs.Building.{Fits, IsStepped, IsRefused}
+use Rattle.hm_builder.specs.Inside.{state_of, building_of, IsKept, IsDone, Takes}
+use Rattle.hm_builder.specs.declared.fault.BuildFault.{BuildFault}
+use Rattle.hm_builder.specs.declared.fault.BuildFault.TheVariants as faults
 use Rattle.hm_builder.specs.declared.parts.Parts.{Parts}
 use Rattle.hm_builder.proofs.Events.{grown_nothing}
 use Rattle.hm_builder.proofs.Texts.{behind_nothing}
@@ -49,19 +51,30 @@ pub fits_behind : (s : Stepped) (w : List Event) → Fits (behind_bytes 1 s) w �
 fits_behind (went es st) w fits = fits
 fits_behind (stops rule n) w fits = tt
 
-stepped_behind : (s : Stepped) (p new : Parts) → IsStepped s (building_of (undropped p)) (building_of new) → IsStepped (behind_bytes 1 s) (building_of p) (building_of new)
-stepped_behind (went es st) p new h = h
-stepped_behind (stops rule n) p new h = h
-
-pub done_behind : (s : Stepped) (p new : Parts) → IsDone s (undropped p) new → IsDone (behind_bytes 1 s) p new
-done_behind s p new done = record { kept = done.kept; stepped = stepped_behind s p new done.stepped }
-
 stepped_same : (s : Stepped) (p new : Parts) → IsStepped s (building_of (undropped p)) (building_of new) → IsStepped s (building_of p) (building_of new)
 stepped_same (went es st) p new h = h
 stepped_same (stops rule n) p new h = h
 
 pub done_same : (s : Stepped) (p new : Parts) → IsDone s (undropped p) new → IsDone s p new
 done_same s p new done = record { kept = done.kept; stepped = stepped_same s p new done.stepped }
+
+-- a step where no line feed is dropped any more
+pub takes_same : {A : Type 0} (r : Result A BuildFault) (s t : Stepped) (p new : Parts) → t ≡ s → Takes s r (undropped p) new → Takes t r p new
+takes_same (Ok a) s t p new e done = subst (λ x. IsDone x p new) (sym e) (done_same s p new done)
+takes_same (Err fault) s t p new e refused = subst (λ x. IsRefused x fault) (sym e) refused
+
+-- bytes of the token before those of a step change only where it is refused
+stepped_ahead : (n : ℕ) (s : Stepped) (p new : Parts) → IsStepped s (building_of p) (building_of new) → IsStepped (behind_bytes n s) (building_of p) (building_of new)
+stepped_ahead n (went es st) p new h = h
+stepped_ahead n (stops rule k) p new h = h
+
+pub done_ahead : (n : ℕ) (s : Stepped) (p new : Parts) → IsDone s p new → IsDone (behind_bytes n s) p new
+done_ahead n s p new done = record { kept = done.kept; stepped = stepped_ahead n s p new done.stepped }
+
+-- a step that only memory may stop
+pub takes_unless_memory : {A : Type 0} (r : Result A BuildFault) (s : Stepped) (p new : Parts) (P : Type 0) → (P → IsDone s p new) → OnOk r P → IfErr r (λ fault. fault ≡ faults.Memory) → Takes s r p new
+takes_unless_memory (Ok a) s p new P f ok err = f ok
+takes_unless_memory (Err fault) s p new P f ok err = subst (IsRefused s) (sym err) tt
 
 pub nothing_done : (p : Parts) (s : List ℕ) → length s ≡ 0 → IsKept p → IsDone (step_bytes s (state_of p)) p p
 nothing_done p [] none kept = record { kept = kept; stepped = (refl, sym (grown_nothing p.maker kept.walk.apart)) }

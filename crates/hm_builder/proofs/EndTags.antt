@@ -1,5 +1,5 @@
 -- What an end tag in the body does.
-use Rattle.std.proofs.Common.{◌≡◌, ℕ, ◌≤◌, Bool, true, false, not, cond, ◌&&◌, ◌||◌, ◌⊎◌, inl, inr, List, [], ◌∷◌, ◌++◌, map, length, take, reverse, Result, Ok, Err, IfErr, IsErrAnd, bytes_eq, sym, ap, subst, ◌∙◌, refl, arith, length-append}
+use Rattle.std.proofs.Common.{◌≡◌, ℕ, ◌≤◌, Bool, true, false, not, cond, ◌&&◌, ◌||◌, ◌⊎◌, inl, inr, List, [], ◌∷◌, ◌++◌, map, length, take, reverse, Result, Ok, Err, IsErrAnd, bytes_eq, sym, ap, subst, ◌∙◌, refl, arith, length-append}
 use Rattle.std.proofs.lemmas.Bool.{or_cases, and_parts, false_from_ne_true, both_ways}
 use Rattle.std.proofs.Math.Seq.{take-append_seam}
 use Rattle.std.proofs.lemmas.List.{reverse-append, reverse-reverse}
@@ -21,13 +21,14 @@ use Rattle.hm_settle.proofs.Shapes.{IsEndOn, end_means}
 use Rattle.hm_construction.specs.Steps as steps
 use Rattle.hm_construction.specs.Steps.{State, Stepped, went, stops, step_end, end_current, after_end_moves, end_event}
 use Rattle.hm_builder.specs.Building.{IsRefused, of_settle}
-use Rattle.hm_builder.specs.Inside.{insertion_mode_of, open_path, state_of, has_no_text, has_no_svg_root, HasBodyPath, IsKept, IsDone, IsFresh}
-use Rattle.hm_builder.specs.declared.insertion.InsertionMode.{InsertionMode}
-use Rattle.hm_builder.specs.declared.insertion.InsertionMode.TheVariants.{Initial, BeforeHtml, BeforeHead, InHead, AfterHead, InBody, AfterBody as PastBody, AfterHtml}
+use Rattle.hm_builder.specs.Inside.{insertion_mode_of, open_path, state_of, has_no_text, has_no_svg_root, HasBodyPath, IsKept, IsDone, IsFresh, Takes}
+use Rattle.hm_builder.specs.declared.fault.BuildFault.{BuildFault}
+use Rattle.hm_builder.specs.declared.insertion.BuilderMode.{BuilderMode}
+use Rattle.hm_builder.specs.declared.insertion.BuilderMode.TheVariants.{Initial, BeforeHtml, BeforeHead, InHead, AfterHead, InBody, AfterBody as PastBody, AfterHtml}
 use Rattle.hm_builder.specs.declared.parts.Parts.{Parts}
 use Rattle.hm_builder.proofs.Others.{any_done, silent_done}
 
-pub body_open : (ph : InsertionMode) (path : List Element) → HasBodyPath ph → open_path ph path ≡ path
+pub body_open : (ph : BuilderMode) (path : List Element) → HasBodyPath ph → open_path ph path ≡ path
 body_open Initial path h = absurd h
 body_open BeforeHtml path h = absurd h
 body_open BeforeHead path h = absurd h
@@ -37,7 +38,7 @@ body_open InBody path h = refl
 body_open PastBody path h = refl
 body_open AfterHtml path h = refl
 
-pub body_fresh : (ph : InsertionMode) (path : List Element) → HasBodyPath ph → has_no_svg_root path ≡ true → IsFresh ph path
+pub body_fresh : (ph : BuilderMode) (path : List Element) → HasBodyPath ph → has_no_svg_root path ≡ true → IsFresh ph path
 body_fresh Initial path h k = absurd h
 body_fresh BeforeHtml path h k = absurd h
 body_fresh BeforeHead path h k = absurd h
@@ -47,7 +48,7 @@ body_fresh InBody path h k = k
 body_fresh PastBody path h k = k
 body_fresh AfterHtml path h k = k
 
-pub no_svg_root : (ph : InsertionMode) (path : List Element) → HasBodyPath ph → IsFresh ph path → has_no_svg_root path ≡ true
+pub no_svg_root : (ph : BuilderMode) (path : List Element) → HasBodyPath ph → IsFresh ph path → has_no_svg_root path ≡ true
 no_svg_root Initial path h k = absurd h
 no_svg_root BeforeHtml path h k = absurd h
 no_svg_root BeforeHead path h k = absurd h
@@ -222,10 +223,10 @@ current_by_moves n st (e ∷ path) = by (bytes_eq e.name n) (is_open n path)
 pub ends_current : (n : List ℕ) (st : State) (path : List Element) → is_in_svg path || is_in_text path ≡ true → after_end_moves st (end_moves n path) ≡ end_current n st path
 ends_current n st path h = ap (after_end_moves st) (moves_alone n path h) ∙ current_by_moves n st path
 
--- what a fault was turned into
-pub err_from : {A E : Type 0} (r : Result A E) (Q P : E → Type 0) → IsErrAnd r Q → ((e : E) → Q e → P e) → IfErr r P
-err_from (Ok a) Q P h f = tt
-err_from (Err e) Q P h f = f e h
+-- a fault that refuses the step
+pub takes_fault : {A : Type 0} (r : Result A BuildFault) (fault : BuildFault) (s : Stepped) (p new : Parts) → IsErrAnd r (λ e. e ≡ fault) → IsRefused s fault → Takes s r p new
+takes_fault (Ok a) fault s p new h refused = absurd h
+takes_fault (Err e) fault s p new h refused = subst (IsRefused s) (sym h) refused
 
 -- ---- In the body
 
@@ -250,7 +251,7 @@ step_end_no_text n st h = by (is_in_text st.path) h
     by false k = refl
 
 -- the state in the insertion mode that the parts have
-in_its_mode : (P : State → Type 0) (p : Parts) (ph : InsertionMode) → p.insertion_mode ≡ ph → P (state_of (record p { insertion_mode = ph })) → P (state_of p)
+in_its_mode : (P : State → Type 0) (p : Parts) (ph : BuilderMode) → p.insertion_mode ≡ ph → P (state_of (record p { insertion_mode = ph })) → P (state_of p)
 in_its_mode P p ph e h = subst (λ x. P (state_of (record p { insertion_mode = x }))) (sym e) h
 
 module _ (p : Parts) (n : List ℕ) where
@@ -275,7 +276,7 @@ module _ (p : Parts) (n : List ℕ) where
       (step_end_no_text n (state_of (record p { insertion_mode = InBody })) h ∙ (rw html_is refl))
 
 -- the body is left
-pub left_done : (p : Parts) (ph : InsertionMode) → p.insertion_mode ≡ InBody → HasBodyPath ph → IsKept p → steps.is_at_end p.path ≡ true → IsDone (steps.leave_body (insertion_mode_of ph) (state_of p)) p (record p { insertion_mode = ph })
+pub left_done : (p : Parts) (ph : BuilderMode) → p.insertion_mode ≡ InBody → HasBodyPath ph → IsKept p → steps.is_at_end p.path ≡ true → IsDone (steps.leave_body (insertion_mode_of ph) (state_of p)) p (record p { insertion_mode = ph })
 left_done p ph here there kept at_end =
     let open_same : open_path p.insertion_mode p.path ≡ p.path = ap (λ x. open_path x p.path) here in
     let open_then : open_path ph p.path ≡ p.path = body_open ph p.path there in
@@ -284,7 +285,7 @@ left_done p ph here there kept at_end =
     kept (ap (λ path. record (state_of p) { insertion_mode = insertion_mode_of ph; path = path }) (open_then ∙ sym open_same)) (open_then ∙ sym open_same)
     (body_fresh ph p.path there (subst (λ x. IsFresh x p.path) here kept.fresh)) refl
 
-pub unclosed : (p : Parts) (ph : InsertionMode) → p.insertion_mode ≡ InBody → steps.is_at_end p.path ≡ false → steps.leave_body (insertion_mode_of ph) (state_of p) ≡ stops Unclosed 0
+pub unclosed : (p : Parts) (ph : BuilderMode) → p.insertion_mode ≡ InBody → steps.is_at_end p.path ≡ false → steps.leave_body (insertion_mode_of ph) (state_of p) ≡ stops Unclosed 0
 unclosed p ph here at_end =
     ap (λ path. cond (steps.is_at_end path) (went [] (record (state_of p) { insertion_mode = insertion_mode_of ph })) (stops Unclosed 0)) (ap (λ x. open_path x p.path) here) ∙ (rw at_end refl)
 

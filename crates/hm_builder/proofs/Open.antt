@@ -9,8 +9,8 @@ use Rattle.hm_elements.specs.Paths.{current, is_in_raw, is_in_text}
 use Rattle.hm_builder.specs.Inside.{inside_head, open_path}
 use Rattle.hm_builder.specs.declared.insertion.HeadText.{HeadText}
 use Rattle.hm_builder.specs.declared.insertion.HeadText.TheVariants.{Title, Style, Script}
-use Rattle.hm_builder.specs.declared.insertion.InsertionMode.{InsertionMode}
-use Rattle.hm_builder.specs.declared.insertion.InsertionMode.TheVariants.{Initial, BeforeHtml, BeforeHead, AfterHead}
+use Rattle.hm_builder.specs.declared.insertion.BuilderMode.{BuilderMode}
+use Rattle.hm_builder.specs.declared.insertion.BuilderMode.TheVariants.{Initial, BeforeHtml, BeforeHead, AfterHead}
 
 -- the name tells whether the text is raw, where one text stands alone
 pub raw_by : (path : List Element) → is_in_text path ≡ true → is_raw (current path) ≡ is_in_raw path
@@ -18,7 +18,7 @@ raw_by [] alone = cc
 raw_by (e ∷ path) alone = rw (and_parts (not e.foreign) (holds_text e.name) alone).0 refl
 
 -- html holds more than a text
-pub no_text_around : (ph : InsertionMode) (path : List Element) → (ph ≡ Initial) ⊎ ((ph ≡ BeforeHtml) ⊎ ((ph ≡ BeforeHead) ⊎ (ph ≡ AfterHead))) → false ≡ is_in_text (open_path ph path)
+pub no_text_around : (ph : BuilderMode) (path : List Element) → (ph ≡ Initial) ⊎ ((ph ≡ BeforeHtml) ⊎ ((ph ≡ BeforeHead) ⊎ (ph ≡ AfterHead))) → false ≡ is_in_text (open_path ph path)
 unfolding holds_text is_raw is_rcdata raw_names rcdata_names is_among
 no_text_around ph path = ⊎_elim (λ e. rw e refl) (⊎_elim (λ e. rw e refl) (⊎_elim (λ e. rw e refl) (λ e. rw e refl)))
 

@@ -1,5 +1,5 @@
 -- What a start tag in the body does.
-use Rattle.std.proofs.Common.{◌≡◌, ℕ, ◌<◌, Bool, true, false, not, cond, ◌&&◌, ◌||◌, List, [], ◌∷◌, ◌++◌, map, length, Some, None, sym, ap, ◌∙◌, refl, arith, append-nil, append_assoc, length-append, take, ◌≤◌, subst}
+use Rattle.std.proofs.Common.{◌≡◌, ℕ, Bool, true, false, not, cond, ◌&&◌, ◌||◌, List, [], ◌∷◌, ◌++◌, map, length, Some, None, sym, ap, ◌∙◌, refl, arith, append_assoc, length-append, take, ◌≤◌, subst}
 use Rattle.std.proofs.lemmas.Bool.{and_parts, and_from}
 use Rattle.hm_base.specs.Walks.{Attribute, Event, start, end, Element, path_after}
 use Rattle.hm_elements.specs.Names.{is_among, html, head, body}
@@ -23,8 +23,8 @@ use Rattle.hm_settle.specs.declared.moves.Made.{Made}
 use Rattle.hm_settle.specs.declared.moves.Made.TheVariants.{Nothing, Section, SectionAndRow, Row, Colgroup}
 use Rattle.hm_builder.specs.Building.{Fits, IsRefused, of_settle}
 use Rattle.hm_builder.specs.Inside.{insertion_mode_of, open_path, state_of, at_state, has_no_text, has_no_svg_root, missing, body_path, IsWalkTo, IsKept, IsDone, IsFresh, CanReach, IsOpened, IsEntered}
-use Rattle.hm_builder.specs.declared.insertion.InsertionMode.{InsertionMode}
-use Rattle.hm_builder.specs.declared.insertion.InsertionMode.TheVariants.{Initial, BeforeHtml, BeforeHead, InHead, AfterHead, InBody, AfterBody as PastBody, AfterHtml}
+use Rattle.hm_builder.specs.declared.insertion.BuilderMode.{BuilderMode}
+use Rattle.hm_builder.specs.declared.insertion.BuilderMode.TheVariants.{Initial, BeforeHtml, BeforeHead, InHead, AfterHead, InBody, AfterBody as PastBody, AfterHtml}
 use Rattle.hm_builder.specs.declared.parts.Parts.{Parts}
 use Rattle.hm_builder.proofs.Events.{path_after-append, walk_any, HasRoom-front, grown_tags}
 use Rattle.hm_builder.proofs.PlainTexts.{plain_state, done_by}
@@ -35,7 +35,7 @@ use Rattle.hm_builder.proofs.EndTags.{ends_are_tags, ends_lead, outer_no_root, m
 -- ---- All that is missing up to body is made
 
 module _ (path : List Element) (inner last : List (List ℕ)) where
-  pub reach_went : (ph : InsertionMode) (more : State → Stepped) → CanReach ph → reach_body (insertion_mode_of ph) more (at_state ph (open_path ph path) inner last) ≡ behind_events (missing ph) (more (at_state InBody (body_path ph path) inner last))
+  pub reach_went : (ph : BuilderMode) (more : State → Stepped) → CanReach ph → reach_body (insertion_mode_of ph) more (at_state ph (open_path ph path) inner last) ≡ behind_events (missing ph) (more (at_state InBody (body_path ph path) inner last))
   reach_went Initial more r = absurd r
   reach_went BeforeHtml more r = nested (more (at_state InBody under_body inner last))
     where
@@ -60,7 +60,7 @@ module _ (path : List Element) (inner last : List (List ℕ)) where
   reach_went AfterHtml more r = absurd r
 
 -- the walk then, and where it can be made
-pub reach_walk : (ph : InsertionMode) (path : List Element) (w : List Event) → CanReach ph → IsWalkTo w (open_path ph path) → IsWalkTo (w ++ missing ph) (body_path ph path)
+pub reach_walk : (ph : BuilderMode) (path : List Element) (w : List Event) → CanReach ph → IsWalkTo w (open_path ph path) → IsWalkTo (w ++ missing ph) (body_path ph path)
 reach_walk Initial path w r walk = absurd r
 reach_walk BeforeHtml path w r walk = walk_any w [] (missing BeforeHtml) under_body walk refl refl
 reach_walk BeforeHead path w r walk = walk_any w under_html (missing BeforeHead) under_body walk refl refl
@@ -75,7 +75,7 @@ reach_walk AfterHtml path w r walk = absurd r
 pub reach_fresh : (p : Parts) → CanReach p.insertion_mode → IsKept p → (p.path ≡ body_path p.insertion_mode p.path) × (has_no_svg_root p.path ≡ true)
 reach_fresh p r kept = by p.insertion_mode r kept.fresh
   where
-    by : (ph : InsertionMode) → CanReach ph → IsFresh ph p.path → (p.path ≡ body_path ph p.path) × (has_no_svg_root p.path ≡ true)
+    by : (ph : BuilderMode) → CanReach ph → IsFresh ph p.path → (p.path ≡ body_path ph p.path) × (has_no_svg_root p.path ≡ true)
     by Initial r' f = absurd r'
     by BeforeHtml r' f = (f, rw f refl)
     by BeforeHead r' f = (f, rw f refl)

@@ -8,8 +8,8 @@ use Rattle.hm_construction.specs.Steps as steps
 use Rattle.hm_construction.specs.Steps.{State, Stepped, went, stops, step, no_drop, step_comment, step_doctype}
 use Rattle.hm_tree.specs.Tokens as tokens
 use Rattle.hm_builder.specs.Inside.{insertion_mode_of, open_path, state_of, has_no_text, IsKept, IsDone, IsFresh}
-use Rattle.hm_builder.specs.declared.insertion.InsertionMode.{InsertionMode}
-use Rattle.hm_builder.specs.declared.insertion.InsertionMode.TheVariants.{Initial, BeforeHtml, BeforeHead, InHead, AfterHead, InBody, AfterBody as PastBody, AfterHtml}
+use Rattle.hm_builder.specs.declared.insertion.BuilderMode.{BuilderMode}
+use Rattle.hm_builder.specs.declared.insertion.BuilderMode.TheVariants.{Initial, BeforeHtml, BeforeHead, InHead, AfterHead, InBody, AfterBody as PastBody, AfterHtml}
 use Rattle.hm_builder.specs.declared.parts.Parts.{Parts}
 use Rattle.hm_builder.proofs.Events.{grown_tags, grown_nothing, walk_any}
 use Rattle.hm_builder.proofs.PlainTexts.{done_by}
@@ -31,11 +31,11 @@ pub silent_done : (s : Stepped) (st : State) (old new : Parts) → s ≡ went []
 silent_done s st old new is kept state same fresh walk =
     done_by s [] st old new is (record { walk = rw (walk, same) kept.walk; fresh = fresh }) state (walk ∙ sym (grown_nothing old.maker kept.walk.apart))
 
-at_mode : (p : Parts) (ph : InsertionMode) → p.insertion_mode ≡ ph → p ≡ record p { insertion_mode = ph }
+at_mode : (p : Parts) (ph : BuilderMode) → p.insertion_mode ≡ ph → p ≡ record p { insertion_mode = ph }
 at_mode p ph e = ap (λ x. record p { insertion_mode = x }) e
 
 -- what holds of the parts in a insertion mode
-pub in_insertion_mode : (P : Parts → Type 0) (p : Parts) (ph : InsertionMode) → p.insertion_mode ≡ ph → IsKept p → (IsKept (record p { insertion_mode = ph }) → P (record p { insertion_mode = ph })) → P p
+pub in_insertion_mode : (P : Parts → Type 0) (p : Parts) (ph : BuilderMode) → p.insertion_mode ≡ ph → IsKept p → (IsKept (record p { insertion_mode = ph }) → P (record p { insertion_mode = ph })) → P p
 in_insertion_mode P p ph e kept f = subst P (sym (at_mode p ph e)) (f (subst IsKept (at_mode p ph e) kept))
 
 module _ (p : Parts) (legacy : Bool) where
@@ -53,7 +53,7 @@ module _ (p : Parts) (legacy : Bool) where
   unfolding step
   doctype_stops other = by p.insertion_mode other
     where
-      by : (ph : InsertionMode) → (ph ≡ Initial → ⊥) → step_doctype (insertion_mode_of ph) legacy (no_drop (state_of p)) ≡ stops SecondDoctype 0
+      by : (ph : BuilderMode) → (ph ≡ Initial → ⊥) → step_doctype (insertion_mode_of ph) legacy (no_drop (state_of p)) ≡ stops SecondDoctype 0
       by Initial h = absurd (h refl)
       by BeforeHtml h = refl
       by BeforeHead h = refl
@@ -68,7 +68,7 @@ module _ (p : Parts) (s : List ℕ) where
   unfolding step
   comment_went not_body not_html = by p.insertion_mode not_body not_html
     where
-      by : (ph : InsertionMode) → (ph ≡ PastBody → ⊥) → (ph ≡ AfterHtml → ⊥) → step_comment (insertion_mode_of ph) s (no_drop (state_of p)) ≡ went (comment s ∷ []) (no_drop (state_of p))
+      by : (ph : BuilderMode) → (ph ≡ PastBody → ⊥) → (ph ≡ AfterHtml → ⊥) → step_comment (insertion_mode_of ph) s (no_drop (state_of p)) ≡ went (comment s ∷ []) (no_drop (state_of p))
       by Initial h k = refl
       by BeforeHtml h k = refl
       by BeforeHead h k = refl

@@ -17,8 +17,8 @@ use Rattle.hm_tree.specs.Rows.{is_text}
 use Rattle.hm_builder.specs.Building.{Fits, IsBuilt}
 use Rattle.hm_builder.specs.Inside.{open_path, state_of, has_no_text, missing, html_made, head_made, head_closed, body_made, end_rule, IsFresh, IsKept, CanMake, IsWalkTo}
 use Rattle.hm_builder.specs.declared.insertion.HeadText.TheVariants.{Title, Style, Script}
-use Rattle.hm_builder.specs.declared.insertion.InsertionMode.{InsertionMode}
-use Rattle.hm_builder.specs.declared.insertion.InsertionMode.TheVariants.{Initial, BeforeHtml, BeforeHead, InHead, AfterHead, InBody, AfterBody as PastBody, AfterHtml}
+use Rattle.hm_builder.specs.declared.insertion.BuilderMode.{BuilderMode}
+use Rattle.hm_builder.specs.declared.insertion.BuilderMode.TheVariants.{Initial, BeforeHtml, BeforeHead, InHead, AfterHead, InBody, AfterBody as PastBody, AfterHtml}
 use Rattle.hm_builder.specs.declared.parts.Parts.{Parts}
 use Rattle.hm_builder.proofs.Events.{path_after-append, HasRoom-front, grown_tags}
 use Rattle.hm_builder.proofs.EndTags.{ends_lead}
@@ -28,11 +28,11 @@ use Rattle.hm_builder.proofs.AtEnd.{Begins}
 -- ---- What the step is
 
 module _ (w : List Event) (path : List Element) (drops : Bool) (inner last : Vec (List ℕ) Global) where
-  abbrev pub Over : InsertionMode → Option Rule → Type 0
+  abbrev pub Over : BuilderMode → Option Rule → Type 0
   Over ph (Some rule) = step_over (state_of (parts w path drops inner last ph)) ≡ stops rule 0
   Over ph None = (st : State) × (step_over (state_of (parts w path drops inner last ph)) ≡ went (missing ph ++ closing path inner.items last.items) st)
 
-  pub over_text : (ph : InsertionMode) → is_in_text (open_path ph path) ≡ true → step_over (state_of (parts w path drops inner last ph)) ≡ stops Cut 0
+  pub over_text : (ph : BuilderMode) → is_in_text (open_path ph path) ≡ true → step_over (state_of (parts w path drops inner last ph)) ≡ stops Cut 0
   unfolding step_over
   over_text ph h = rw h refl
 
@@ -52,7 +52,7 @@ module _ (w : List Event) (path : List Element) (drops : Bool) (inner last : Vec
   unfolding step_over
   over_past_html h = rw h refl
 
-  at_body_closing : (ph : InsertionMode) (st : State) → path ≡ under_body → step_over (state_of (parts w path drops inner last ph)) ≡ went (missing ph ++ closing under_body inner.items last.items) st → Over ph None
+  at_body_closing : (ph : BuilderMode) (st : State) → path ≡ under_body → step_over (state_of (parts w path drops inner last ph)) ≡ went (missing ph ++ closing under_body inner.items last.items) st → Over ph None
   at_body_closing ph st fresh h = (st, subst (λ x. step_over (state_of (parts w path drops inner last ph)) ≡ went (missing ph ++ closing x inner.items last.items) st) (sym fresh) h)
 
   abbrev pub made_state : State
@@ -65,7 +65,7 @@ module _ (w : List Event) (path : List Element) (drops : Bool) (inner last : Vec
       by true e = (record (state_of (parts w path drops inner last InBody)) { insertion_mode = steps.after_html }, over_at_end h e)
       by false e = over_unclosed h e
 
-  pub over : (ph : InsertionMode) → is_in_text (open_path ph path) ≡ false → IsFresh ph path → Over ph (end_rule ph path)
+  pub over : (ph : BuilderMode) → is_in_text (open_path ph path) ≡ false → IsFresh ph path → Over ph (end_rule ph path)
   unfolding step_over is_at_end holds_text is_raw is_rcdata raw_names rcdata_names is_among
   over Initial h fresh = refl
   over BeforeHtml h fresh = at_body_closing BeforeHtml made_state fresh refl
@@ -176,7 +176,7 @@ some_path [] begins = absurd (cc)
 some_path (e ∷ path) begins = omega arith
 
 -- where the page may end, all that is missing up to body can be made
-pub over_makes : (ph : InsertionMode) (path : List Element) (w : List Event) → is_in_text (open_path ph path) ≡ false → None ≡ end_rule ph path → IsFresh ph path → IsWalkTo w (open_path ph path) → CanMake ph (path_after [] w) × (path_after [] (w ++ missing ph) ≡ path) × (has_no_text (missing ph) ≡ true)
+pub over_makes : (ph : BuilderMode) (path : List Element) (w : List Event) → is_in_text (open_path ph path) ≡ false → None ≡ end_rule ph path → IsFresh ph path → IsWalkTo w (open_path ph path) → CanMake ph (path_after [] w) × (path_after [] (w ++ missing ph) ≡ path) × (has_no_text (missing ph) ≡ true)
 unfolding holds_text is_raw is_rcdata raw_names rcdata_names is_among
 over_makes Initial path w h none fresh walk = absurd (cc)
 over_makes BeforeHtml path w h none fresh walk = (walk.leads, path_after-append [] w html_made ∙ ap (λ p. path_after p html_made) walk.leads ∙ sym fresh, refl)

@@ -1,9 +1,8 @@
 -- What a step does with a text, by the parts of a builder.
-use Rattle.std.proofs.Common.{◌≡◌, ℕ, ◌+◌, ◌<◌, ◌≤◌, ◌==◌, ltb, Bool, true, false, List, [], ◌∷◌, ◌++◌, length, take, drop, get_or, Some, None, IsCharBoundary, IsUtf8, drop-cons, drop_of_length-le, sym, ap, subst, ◌∙◌, refl, arith, append-nil}
+use Rattle.std.proofs.Common.{◌≡◌, ℕ, ◌+◌, ◌<◌, ◌≤◌, ◌==◌, true, false, List, [], ◌∷◌, ◌++◌, length, take, get_or, Some, None, IsCharBoundary, IsUtf8, sym, ap, subst, ◌∙◌, refl, arith, append-nil}
 use Rattle.std.proofs.lemmas.Bool.Decides.{nat_tests}
-use Rattle.std.proofs.lemmas.List.{take_more, take-append-drop}
+use Rattle.std.proofs.lemmas.List.{take_more}
 use Rattle.std.proofs.lemmas.Str.{IsCharBoundary-after_ascii}
-use Rattle.std.proofs.lemmas.Bool.{ltb-true, ltb-false}
 use Rattle.hm_base.specs.Bytes.{is_space, all_pass}
 use Rattle.hm_base.specs.Walks.{Event, with_text}
 use Rattle.hm_base.specs.declared.rules.Rule.{Rule}
@@ -12,7 +11,7 @@ use Rattle.hm_tree.specs.Trees.{HasRoom}
 use Rattle.hm_construction.specs.Steps.{State, Stepped, went, stops, step_bytes, behind_bytes}
 use Rattle.hm_builder.specs.Building.{Fits, IsStepped, grown}
 use Rattle.hm_builder.specs.Inside.{insertion_mode_of, open_path, state_of, building_of, at_state, body_path, each_byte, missing, text_rule, keeps_space, kept_bytes, mixed_events, with_blank, IsCut, IsKept, IsDone, IsPutBehind}
-use Rattle.hm_builder.specs.declared.insertion.InsertionMode.TheVariants.{InBody}
+use Rattle.hm_builder.specs.declared.insertion.BuilderMode.TheVariants.{InBody}
 use Rattle.hm_builder.specs.declared.parts.Parts.{Parts}
 use Rattle.hm_builder.proofs.Events.{grown_text, walk_text}
 use Rattle.hm_builder.proofs.Texts.{not_raw, text_bytes, only_blank_bytes, mixed_bytes, mixed_means}

@@ -12,8 +12,8 @@ use Rattle.hm_tree.specs.Tokens as tokens
 use Rattle.hm_construction.specs.Steps.{State, Stepped, stops, step, step_start, html_start, start_in_body, start_inside, after_moves, open_html, open_head, open_body, reach_body}
 use Rattle.hm_builder.specs.BeforeBody.{IsBefore}
 use Rattle.hm_builder.specs.Inside.{insertion_mode_of, open_path, state_of}
-use Rattle.hm_builder.specs.declared.insertion.InsertionMode.{InsertionMode}
-use Rattle.hm_builder.specs.declared.insertion.InsertionMode.TheVariants.{Initial, BeforeHtml, BeforeHead, InHead, AfterHead, InBody, AfterBody as PastBody, AfterHtml}
+use Rattle.hm_builder.specs.declared.insertion.BuilderMode.{BuilderMode}
+use Rattle.hm_builder.specs.declared.insertion.BuilderMode.TheVariants.{Initial, BeforeHtml, BeforeHead, InHead, AfterHead, InBody, AfterBody as PastBody, AfterHtml}
 use Rattle.hm_builder.specs.declared.parts.Parts.{Parts}
 use Rattle.hm_builder.proofs.Dropped.{undropped}
 
@@ -22,7 +22,7 @@ pub start_step : (p : Parts) (n : List ℕ) (attributes : List Attribute) (slash
 unfolding step
 start_step p n attributes slash = refl
 
-pub before_body : (ph : InsertionMode) → (ph ≡ Initial → ⊥) → (ph ≡ PastBody → ⊥) → (ph ≡ AfterHtml → ⊥) → (ph ≡ InBody → ⊥) → IsBefore ph
+pub before_body : (ph : BuilderMode) → (ph ≡ Initial → ⊥) → (ph ≡ PastBody → ⊥) → (ph ≡ AfterHtml → ⊥) → (ph ≡ InBody → ⊥) → IsBefore ph
 before_body Initial i b h y = i refl
 before_body BeforeHtml i b h y = tt
 before_body BeforeHead i b h y = tt
@@ -33,7 +33,7 @@ before_body PastBody i b h y = b refl
 before_body AfterHtml i b h y = h refl
 
 -- nothing of SVG is open before the body
-pub no_svg_before : (ph : InsertionMode) (path : List Element) → IsBefore ph → is_in_svg (open_path ph path) ≡ false
+pub no_svg_before : (ph : BuilderMode) (path : List Element) → IsBefore ph → is_in_svg (open_path ph path) ≡ false
 no_svg_before Initial path b = absurd b
 no_svg_before BeforeHtml path b = refl
 no_svg_before BeforeHead path b = refl
@@ -115,7 +115,7 @@ module _ (p : Parts) (n : List ℕ) (attributes : List Attribute) (slash : Bool)
   unfolding step_start
   start_before b = by p.insertion_mode b (no_svg_before p.insertion_mode p.path b)
     where
-      by : (ph : InsertionMode) → IsBefore ph → is_in_svg (open_path ph p.path) ≡ false → step_start n attributes slash (state_of (record p { insertion_mode = ph })) ≡ html_start n attributes slash (state_of (record p { insertion_mode = ph }))
+      by : (ph : BuilderMode) → IsBefore ph → is_in_svg (open_path ph p.path) ≡ false → step_start n attributes slash (state_of (record p { insertion_mode = ph })) ≡ html_start n attributes slash (state_of (record p { insertion_mode = ph }))
       by Initial h k = absurd h
       by BeforeHtml h k = refl
       by BeforeHead h k = refl

@@ -12,8 +12,8 @@ use Rattle.hm_tree.proofs.RoomLemmas.{path_after-with_text, walk_size-with_text,
 use Rattle.hm_builder.specs.Building.{grown}
 use Rattle.hm_builder.specs.Inside.{open_path, is_apart, each_byte, kept_bytes, missing, CanMake, IsWalkTo, IsFresh, text_rule, keeps_space, body_path, with_blank, mixed_events, has_no_text, body_made, head_closed, head_made, has_no_svg_root}
 use Rattle.hm_builder.specs.declared.insertion.HeadText.TheVariants.{Title, Style, Script}
-use Rattle.hm_builder.specs.declared.insertion.InsertionMode.{InsertionMode}
-use Rattle.hm_builder.specs.declared.insertion.InsertionMode.TheVariants.{Initial, BeforeHtml, BeforeHead, InHead, AfterHead, InBody, AfterBody as PastBody, AfterHtml}
+use Rattle.hm_builder.specs.declared.insertion.BuilderMode.{BuilderMode}
+use Rattle.hm_builder.specs.declared.insertion.BuilderMode.TheVariants.{Initial, BeforeHtml, BeforeHead, InHead, AfterHead, InBody, AfterBody as PastBody, AfterHtml}
 use Rattle.hm_builder.proofs.Events.{path_after-append, walk_size-append, grown_grown, grown_tags, grown_text, grown_nothing, walk_tags, walk_text, HasRoom-front}
 use Rattle.hm_builder.proofs.Texts.{not_raw, body_is_plain}
 
@@ -49,14 +49,14 @@ HasRoom-text w s raw room =
     subst HasRoom (append-nil (with_text w s raw)) (HasRoom-joined w s raw [] (subst (λ x. HasRoom (w ++ x)) (sym (append-nil (each_byte s raw))) room))
 
 -- whitespace
-pub HasRoom-blank : (ph : InsertionMode) (w : List Event) (s : List ℕ) (v : List Event) → HasRoom (w ++ (kept_bytes (keeps_space ph) s false ++ v)) → HasRoom (with_blank ph w s ++ v)
+pub HasRoom-blank : (ph : BuilderMode) (w : List Event) (s : List ℕ) (v : List Event) → HasRoom (w ++ (kept_bytes (keeps_space ph) s false ++ v)) → HasRoom (with_blank ph w s ++ v)
 HasRoom-blank ph w s v room = by (keeps_space ph) room
   where
     by : (b : Bool) → HasRoom (w ++ (kept_bytes b s false ++ v)) → HasRoom (cond b (with_text w s false) w ++ v)
     by true r = HasRoom-joined w s false v r
     by false r = r
 
-pub grown_blank : (ph : InsertionMode) (w : List Event) (s : List ℕ) → is_apart w ≡ true → grown w (kept_bytes (keeps_space ph) s false) ≡ with_blank ph w s
+pub grown_blank : (ph : BuilderMode) (w : List Event) (s : List ℕ) → is_apart w ≡ true → grown w (kept_bytes (keeps_space ph) s false) ≡ with_blank ph w s
 grown_blank ph w s apart = by (keeps_space ph)
   where
     by : (b : Bool) → grown w (kept_bytes b s false) ≡ cond b (with_text w s false) w
@@ -66,7 +66,7 @@ grown_blank ph w s apart = by (keeps_space ph)
 pub walk_plain : (w : List Event) (path : List Element) (s : List ℕ) → is_in_raw path ≡ false → IsWalkTo w path → IsWalkTo (with_text w s false) path
 walk_plain w path s plain walk = subst (λ raw. IsWalkTo (with_text w s raw) path) plain (walk_text w path s walk)
 
-pub walk_blank : (ph : InsertionMode) (w : List Event) (path : List Element) (s : List ℕ) → is_in_raw path ≡ false → IsWalkTo w path → IsWalkTo (with_blank ph w s) path
+pub walk_blank : (ph : BuilderMode) (w : List Event) (path : List Element) (s : List ℕ) → is_in_raw path ≡ false → IsWalkTo w path → IsWalkTo (with_blank ph w s) path
 walk_blank ph w path s plain walk = by (keeps_space ph)
   where
     by : (b : Bool) → IsWalkTo (cond b (with_text w s false) w) path
@@ -74,7 +74,7 @@ walk_blank ph w path s plain walk = by (keeps_space ph)
     by false = walk
 
 -- where a text may stand, all that is missing up to body can be made
-pub can_make : (ph : InsertionMode) (path : List Element) (w : List Event) → is_in_text (open_path ph path) ≡ false → text_rule ph path ≡ None → IsWalkTo w (open_path ph path) → CanMake ph (path_after [] w)
+pub can_make : (ph : BuilderMode) (path : List Element) (w : List Event) → is_in_text (open_path ph path) ≡ false → text_rule ph path ≡ None → IsWalkTo w (open_path ph path) → CanMake ph (path_after [] w)
 unfolding holds_text is_raw is_rcdata raw_names rcdata_names is_among
 can_make Initial path w plain none walk = tt
 can_make BeforeHtml path w plain none walk = walk.leads
@@ -92,11 +92,11 @@ can_make InBody path w plain none walk = tt
 can_make PastBody path w plain none walk = tt
 can_make AfterHtml path w plain none walk = tt
 
-raw_body : (ph : InsertionMode) (path : List Element) → is_in_text (open_path ph path) ≡ false → text_rule ph path ≡ None → is_in_raw (body_path ph path) ≡ false
+raw_body : (ph : BuilderMode) (path : List Element) → is_in_text (open_path ph path) ≡ false → text_rule ph path ≡ None → is_in_raw (body_path ph path) ≡ false
 raw_body ph path plain none = not_raw (body_path ph path) (body_is_plain ph path plain none).0
 
 -- the walk where all that is missing up to body is made
-pub walk_made : (ph : InsertionMode) (path : List Element) (w : List Event) → is_in_text (open_path ph path) ≡ false → text_rule ph path ≡ None → IsWalkTo w (open_path ph path) → IsWalkTo (w ++ missing ph) (body_path ph path)
+pub walk_made : (ph : BuilderMode) (path : List Element) (w : List Event) → is_in_text (open_path ph path) ≡ false → text_rule ph path ≡ None → IsWalkTo w (open_path ph path) → IsWalkTo (w ++ missing ph) (body_path ph path)
 unfolding holds_text is_raw is_rcdata raw_names rcdata_names is_among
 walk_made Initial path w plain none walk = absurd (cc)
 walk_made BeforeHtml path w plain none walk = walk_tags w [] (start html false []) head_made under_body walk refl refl
@@ -114,7 +114,7 @@ walk_made InBody path w plain none walk = subst (λ v. IsWalkTo v path) (sym (ap
 walk_made PastBody path w plain none walk = absurd (cc)
 walk_made AfterHtml path w plain none walk = absurd (cc)
 
-pub missing_has_no_text : (ph : InsertionMode) → has_no_text (missing ph) ≡ true
+pub missing_has_no_text : (ph : BuilderMode) → has_no_text (missing ph) ≡ true
 missing_has_no_text Initial = refl
 missing_has_no_text BeforeHtml = refl
 missing_has_no_text BeforeHead = refl
@@ -124,7 +124,7 @@ missing_has_no_text InBody = refl
 missing_has_no_text PastBody = refl
 missing_has_no_text AfterHtml = refl
 
-pub fresh_path : (ph : InsertionMode) (path : List Element) → text_rule ph path ≡ None → IsFresh ph path → path ≡ body_path ph path
+pub fresh_path : (ph : BuilderMode) (path : List Element) → text_rule ph path ≡ None → IsFresh ph path → path ≡ body_path ph path
 fresh_path Initial path none fresh = fresh
 fresh_path BeforeHtml path none fresh = fresh
 fresh_path BeforeHead path none fresh = fresh
@@ -134,7 +134,7 @@ fresh_path InBody path none fresh = refl
 fresh_path PastBody path none fresh = absurd (cc)
 fresh_path AfterHtml path none fresh = absurd (cc)
 
-pub fresh_body : (ph : InsertionMode) (path : List Element) → text_rule ph path ≡ None → IsFresh ph path → has_no_svg_root (body_path ph path) ≡ true
+pub fresh_body : (ph : BuilderMode) (path : List Element) → text_rule ph path ≡ None → IsFresh ph path → has_no_svg_root (body_path ph path) ≡ true
 fresh_body Initial path none fresh = refl
 fresh_body BeforeHtml path none fresh = refl
 fresh_body BeforeHead path none fresh = refl
@@ -145,7 +145,7 @@ fresh_body PastBody path none fresh = refl
 fresh_body AfterHtml path none fresh = refl
 
 -- whitespace, what is missing, and a text of the body, put behind a walk
-pub record MixedWalk (ph : InsertionMode) (open_elements : List Element) (w : List Event) (before rest : List ℕ) : Type 0 where
+pub record MixedWalk (ph : BuilderMode) (open_elements : List Element) (w : List Event) (before rest : List ℕ) : Type 0 where
   pub blank_room : HasRoom (with_blank ph w before)
   pub same_raw : last_agrees w false ≡ true
   pub made_room : HasRoom (with_blank ph w before ++ missing ph)
@@ -155,7 +155,7 @@ pub record MixedWalk (ph : InsertionMode) (open_elements : List Element) (w : Li
   pub walk : IsWalkTo (with_text (with_blank ph w before ++ missing ph) rest false) (body_path ph open_elements)
   pub grows : with_text (with_blank ph w before ++ missing ph) rest false ≡ grown w (mixed_events ph before rest)
 
-pub mixed_walk : (ph : InsertionMode) (path : List Element) (w : List Event) (before rest : List ℕ) → is_in_text (open_path ph path) ≡ false → text_rule ph path ≡ None → IsWalkTo w (open_path ph path) → HasRoom (w ++ mixed_events ph before rest)
+pub mixed_walk : (ph : BuilderMode) (path : List Element) (w : List Event) (before rest : List ℕ) → is_in_text (open_path ph path) ≡ false → text_rule ph path ≡ None → IsWalkTo w (open_path ph path) → HasRoom (w ++ mixed_events ph before rest)
     → MixedWalk ph path w before rest
 mixed_walk ph path w before rest plain none walk room =
     let not_raw_here = not_raw (open_path ph path) plain in
@@ -186,7 +186,7 @@ all_pass-push p (d ∷ s) c all one =
     let parts : (p d ≡ true) × (all_pass p s ≡ true) = and_parts (p d) (all_pass p s) all in
     and_from (p d) (all_pass p (s ++ c ∷ [])) parts.0 (all_pass-push p s c parts.1 one)
 
-pub HasRoom-only_blank : (ph : InsertionMode) (w : List Event) (s : List ℕ) → HasRoom (w ++ kept_bytes (keeps_space ph) s false) → HasRoom (with_blank ph w s)
+pub HasRoom-only_blank : (ph : BuilderMode) (w : List Event) (s : List ℕ) → HasRoom (w ++ kept_bytes (keeps_space ph) s false) → HasRoom (with_blank ph w s)
 HasRoom-only_blank ph w s room = by (keeps_space ph) room
   where
     by : (b : Bool) → HasRoom (w ++ kept_bytes b s false) → HasRoom (cond b (with_text w s false) w)

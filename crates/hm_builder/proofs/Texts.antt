@@ -11,8 +11,8 @@ use Rattle.hm_elements.specs.Paths.{blank_parents, is_in_raw, is_in_text, is_in_
 use Rattle.hm_construction.specs.Steps.{State, Stepped, went, stops, behind_events, keep_byte, space_byte, body_byte, other_byte, step_byte, behind_bytes, then_step, step_bytes}
 use Rattle.hm_builder.specs.Inside.{insertion_mode_of, open_path, at_state, body_path, each_byte, missing, text_rule, keeps_space, kept_bytes}
 use Rattle.hm_builder.specs.declared.insertion.HeadText.TheVariants.{Title, Style, Script}
-use Rattle.hm_builder.specs.declared.insertion.InsertionMode.{InsertionMode}
-use Rattle.hm_builder.specs.declared.insertion.InsertionMode.TheVariants.{Initial, BeforeHtml, BeforeHead, InHead, AfterHead, InBody, AfterBody as PastBody, AfterHtml}
+use Rattle.hm_builder.specs.declared.insertion.BuilderMode.{BuilderMode}
+use Rattle.hm_builder.specs.declared.insertion.BuilderMode.TheVariants.{Initial, BeforeHtml, BeforeHead, InHead, AfterHead, InBody, AfterBody as PastBody, AfterHtml}
 
 pub behind_behind : (es fs : List Event) (s : Stepped) → behind_events es (behind_events fs s) ≡ behind_events (es ++ fs) s
 behind_behind es fs (went gs st) = ap (λ x. went x st) (sym (append_assoc es fs gs))
@@ -82,15 +82,15 @@ not_raw (e ∷ path) h = by e.foreign (is_raw e.name) (is_rcdata e.name) h
 
 -- the state in which no line feed is dropped
 module _ (path : List Element) (inner last : List (List ℕ)) where
-  in_text_byte : (ph : InsertionMode) (c : ℕ) → is_in_text path ≡ true → step_byte c (at_state ph path inner last) ≡ went (one_kept true c (is_in_raw path)) (at_state ph path inner last)
+  in_text_byte : (ph : BuilderMode) (c : ℕ) → is_in_text path ≡ true → step_byte c (at_state ph path inner last) ≡ went (one_kept true c (is_in_raw path)) (at_state ph path inner last)
   unfolding step_byte
   in_text_byte ph c h = rw h refl
 
   -- in title, textarea, style, iframe and script all bytes stand
-  pub text_bytes : (ph : InsertionMode) (s : List ℕ) → is_in_text path ≡ true → step_bytes s (at_state ph path inner last) ≡ went (each_byte s (is_in_raw path)) (at_state ph path inner last)
+  pub text_bytes : (ph : BuilderMode) (s : List ℕ) → is_in_text path ≡ true → step_bytes s (at_state ph path inner last) ≡ went (each_byte s (is_in_raw path)) (at_state ph path inner last)
   text_bytes ph s h = all_bytes_pass (λ _. true) true (is_in_raw path) (at_state ph path inner last) (λ c _. in_text_byte ph c h) s (everything_passes s)
 
-  space_kept : (ph : InsertionMode) (c : ℕ) → space_byte (insertion_mode_of ph) c (at_state ph path inner last) ≡ went (one_kept (keeps_space ph) c (is_in_raw path)) (at_state ph path inner last)
+  space_kept : (ph : BuilderMode) (c : ℕ) → space_byte (insertion_mode_of ph) c (at_state ph path inner last) ≡ went (one_kept (keeps_space ph) c (is_in_raw path)) (at_state ph path inner last)
   space_kept Initial c = refl
   space_kept BeforeHtml c = refl
   space_kept BeforeHead c = refl
@@ -100,16 +100,16 @@ module _ (path : List Element) (inner last : List (List ℕ)) where
   space_kept PastBody c = refl
   space_kept AfterHtml c = refl
 
-  blank_byte : (ph : InsertionMode) (c : ℕ) → is_in_text path ≡ false → is_space c ≡ true → step_byte c (at_state ph path inner last) ≡ went (one_kept (keeps_space ph) c (is_in_raw path)) (at_state ph path inner last)
+  blank_byte : (ph : BuilderMode) (c : ℕ) → is_in_text path ≡ false → is_space c ≡ true → step_byte c (at_state ph path inner last) ≡ went (one_kept (keeps_space ph) c (is_in_raw path)) (at_state ph path inner last)
   unfolding step_byte
   blank_byte ph c h space = rw (h, space) (space_kept ph c)
 
   -- whitespace is dropped or stands
-  pub blank_bytes : (ph : InsertionMode) (s rest : List ℕ) → is_in_text path ≡ false → all_pass is_space s ≡ true
+  pub blank_bytes : (ph : BuilderMode) (s rest : List ℕ) → is_in_text path ≡ false → all_pass is_space s ≡ true
       → step_bytes (s ++ rest) (at_state ph path inner last) ≡ behind_events (kept_bytes (keeps_space ph) s (is_in_raw path)) (behind_bytes (length s) (step_bytes rest (at_state ph path inner last)))
   blank_bytes ph s rest h all = bytes_pass is_space (keeps_space ph) (is_in_raw path) (at_state ph path inner last) (λ c space. blank_byte ph c h space) s rest all
 
-  pub only_blank_bytes : (ph : InsertionMode) (s : List ℕ) → is_in_text path ≡ false → all_pass is_space s ≡ true → step_bytes s (at_state ph path inner last) ≡ went (kept_bytes (keeps_space ph) s (is_in_raw path)) (at_state ph path inner last)
+  pub only_blank_bytes : (ph : BuilderMode) (s : List ℕ) → is_in_text path ≡ false → all_pass is_space s ≡ true → step_bytes s (at_state ph path inner last) ≡ went (kept_bytes (keeps_space ph) s (is_in_raw path)) (at_state ph path inner last)
   only_blank_bytes ph s h all = all_bytes_pass is_space (keeps_space ph) (is_in_raw path) (at_state ph path inner last) (λ c space. blank_byte ph c h space) s all
 
   body_keeps : (c : ℕ) → is_in_text path ≡ false → is_in_blank path ≡ false → step_byte c (at_state InBody path inner last) ≡ went (one_kept true c (is_in_raw path)) (at_state InBody path inner last)
@@ -124,7 +124,7 @@ module _ (path : List Element) (inner last : List (List ℕ)) where
   pub body_bytes : (s : List ℕ) → is_in_text path ≡ false → is_in_blank path ≡ false → step_bytes s (at_state InBody path inner last) ≡ went (each_byte s (is_in_raw path)) (at_state InBody path inner last)
   body_bytes s h plain = all_bytes_pass (λ _. true) true (is_in_raw path) (at_state InBody path inner last) (λ c _. body_keeps c h plain) s (everything_passes s)
 
-  other : (ph : InsertionMode) (c : ℕ) → is_in_text path ≡ false → is_space c ≡ false → step_byte c (at_state ph path inner last) ≡ other_byte c (at_state ph path inner last)
+  other : (ph : BuilderMode) (c : ℕ) → is_in_text path ≡ false → is_space c ≡ false → step_byte c (at_state ph path inner last) ≡ other_byte c (at_state ph path inner last)
   unfolding step_byte
   other ph c h space = rw (h, space) refl
 
@@ -134,7 +134,7 @@ other_means c es st (Some rule) = stops rule 0
 other_means c es st None = went (es ++ text (c ∷ []) false ∷ []) st
 
 module _ (path : List Element) (inner last : List (List ℕ)) where
-  other_is : (ph : InsertionMode) (c : ℕ) → is_in_text (open_path ph path) ≡ false → other_byte c (at_state ph (open_path ph path) inner last) ≡ other_means c (missing ph) (at_state InBody (body_path ph path) inner last) (text_rule ph path)
+  other_is : (ph : BuilderMode) (c : ℕ) → is_in_text (open_path ph path) ≡ false → other_byte c (at_state ph (open_path ph path) inner last) ≡ other_means c (missing ph) (at_state InBody (body_path ph path) inner last) (text_rule ph path)
   unfolding is_in_blank blank_parents is_among is_raw raw_names
   other_is Initial c h = refl
   other_is BeforeHtml c h = refl
@@ -157,7 +157,7 @@ module _ (path : List Element) (inner last : List (List ℕ)) where
   other_is AfterHtml c h = refl
 
 -- the open elements of the body hold texts, where a text isn't refused
-pub body_is_plain : (ph : InsertionMode) (path : List Element) → is_in_text (open_path ph path) ≡ false → text_rule ph path ≡ None → (is_in_text (body_path ph path) ≡ false) × (is_in_blank (body_path ph path) ≡ false)
+pub body_is_plain : (ph : BuilderMode) (path : List Element) → is_in_text (open_path ph path) ≡ false → text_rule ph path ≡ None → (is_in_text (body_path ph path) ≡ false) × (is_in_blank (body_path ph path) ≡ false)
 unfolding is_in_blank blank_parents is_among is_raw raw_names holds_text rcdata_names is_rcdata
 body_is_plain Initial path h none = (refl, refl)
 body_is_plain BeforeHtml path h none = (refl, refl)
@@ -178,20 +178,20 @@ mixed_means front n made s st (Some rule) = stops rule n
 mixed_means front n made s st None = went (front ++ (made ++ each_byte s false)) st
 
 module _ (path : List Element) (inner last : List (List ℕ)) where
-  rest_stands : (ph : InsertionMode) (rest : List ℕ) → is_in_text (open_path ph path) ≡ false → text_rule ph path ≡ None
+  rest_stands : (ph : BuilderMode) (rest : List ℕ) → is_in_text (open_path ph path) ≡ false → text_rule ph path ≡ None
       → step_bytes rest (at_state InBody (body_path ph path) inner last) ≡ went (each_byte rest false) (at_state InBody (body_path ph path) inner last)
   rest_stands ph rest h none =
       let plain = body_is_plain ph path h none in
       body_bytes (body_path ph path) inner last rest plain.0 plain.1 ∙ ap (λ raw. went (each_byte rest raw) (at_state InBody (body_path ph path) inner last)) (not_raw (body_path ph path) plain.0)
 
-  from_other : (ph : InsertionMode) (front : List Event) (n c : ℕ) (rest : List ℕ) (o : Option Rule) → is_in_text (open_path ph path) ≡ false → text_rule ph path ≡ o
+  from_other : (ph : BuilderMode) (front : List Event) (n c : ℕ) (rest : List ℕ) (o : Option Rule) → is_in_text (open_path ph path) ≡ false → text_rule ph path ≡ o
       → behind_events front (behind_bytes n (then_step (other_means c (missing ph) (at_state InBody (body_path ph path) inner last) o) (λ next. behind_bytes 1 (step_bytes rest next))))
       ≡ mixed_means front n (missing ph) (c ∷ rest) (at_state InBody (body_path ph path) inner last) o
   from_other ph front n c rest (Some rule) h e = ap (stops rule) (omega arith)
   from_other ph front n c rest None h e =
       rw (rest_stands ph rest h e) (ap (λ x. went (front ++ x) (at_state InBody (body_path ph path) inner last)) (append_assoc (missing ph) (text (c ∷ []) false ∷ []) (each_byte rest false)))
 
-  pub mixed_bytes : (ph : InsertionMode) (front : List ℕ) (c : ℕ) (rest : List ℕ) → is_in_text (open_path ph path) ≡ false → all_pass is_space front ≡ true → is_space c ≡ false
+  pub mixed_bytes : (ph : BuilderMode) (front : List ℕ) (c : ℕ) (rest : List ℕ) → is_in_text (open_path ph path) ≡ false → all_pass is_space front ≡ true → is_space c ≡ false
       → step_bytes (front ++ c ∷ rest) (at_state ph (open_path ph path) inner last)
       ≡ mixed_means (kept_bytes (keeps_space ph) front (is_in_raw (open_path ph path))) (length front) (missing ph) (c ∷ rest) (at_state InBody (body_path ph path) inner last) (text_rule ph path)
   mixed_bytes ph front c rest h all space =

@@ -16,18 +16,18 @@ use Rattle.hm_construction.specs.Steps.{went, stops, step, step_end, end_current
 use Rattle.hm_builder.specs.Inside.{insertion_mode_of, open_path, text_name, inside_head, under_noscript, state_of, has_no_text, missing, head_ended, HasBodyPath, IsUnbegun, IsInner, IsKept, IsDone, is_noscript_around}
 use Rattle.hm_builder.specs.declared.insertion.HeadText.{HeadText}
 use Rattle.hm_builder.specs.declared.insertion.HeadText.TheVariants.{Title, Style, Script}
-use Rattle.hm_builder.specs.declared.insertion.InsertionMode.{InsertionMode}
-use Rattle.hm_builder.specs.declared.insertion.InsertionMode.TheVariants.{Initial, BeforeHtml, BeforeHead, InHead, AfterHead, InBody, AfterBody as PastBody, AfterHtml}
+use Rattle.hm_builder.specs.declared.insertion.BuilderMode.{BuilderMode}
+use Rattle.hm_builder.specs.declared.insertion.BuilderMode.TheVariants.{Initial, BeforeHtml, BeforeHead, InHead, AfterHead, InBody, AfterBody as PastBody, AfterHtml}
 use Rattle.hm_builder.specs.declared.parts.Parts.{Parts}
 use Rattle.hm_builder.proofs.Dropped.{undropped}
 use Rattle.hm_builder.proofs.Others.{any_done}
 use Rattle.hm_builder.proofs.EndTags.{body_open, body_fresh}
 
 module _ (w : List Event) (path : List Element) (drops : Bool) (inner last : Vec (List ℕ) Global) where
-  abbrev pub parts : InsertionMode → Parts
+  abbrev pub parts : BuilderMode → Parts
   parts ph = record { maker = w; insertion_mode = ph; path = path; drops_line_feed = drops; behind_body = inner; behind_html = last }
 
-  pub head_went : (ph : InsertionMode) → IsUnbegun ph → (ph ≡ AfterHead → ⊥) → steps.end_head (insertion_mode_of ph) (state_of (parts ph)) ≡ went (head_ended ph) (record (state_of (parts ph)) { insertion_mode = steps.after_head; path = under_html })
+  pub head_went : (ph : BuilderMode) → IsUnbegun ph → (ph ≡ AfterHead → ⊥) → steps.end_head (insertion_mode_of ph) (state_of (parts ph)) ≡ went (head_ended ph) (record (state_of (parts ph)) { insertion_mode = steps.after_head; path = under_html })
   head_went Initial u other = absurd u
   head_went BeforeHtml u other = refl
   head_went BeforeHead u other = refl
@@ -39,7 +39,7 @@ module _ (w : List Event) (path : List Element) (drops : Bool) (inner last : Vec
   head_went PastBody u other = absurd u
   head_went AfterHtml u other = absurd u
 
-  pub head_done : (ph : InsertionMode) (v : List Event) → IsUnbegun ph → (ph ≡ AfterHead → ⊥) → IsKept (parts ph) → v ≡ w ++ head_ended ph → IsDone (steps.end_head (insertion_mode_of ph) (state_of (parts ph))) (parts ph) (record (parts AfterHead) { maker = v })
+  pub head_done : (ph : BuilderMode) (v : List Event) → IsUnbegun ph → (ph ≡ AfterHead → ⊥) → IsKept (parts ph) → v ≡ w ++ head_ended ph → IsDone (steps.end_head (insertion_mode_of ph) (state_of (parts ph))) (parts ph) (record (parts AfterHead) { maker = v })
   head_done Initial v u other kept is = absurd u
   head_done BeforeHtml v u other kept is = any_done _ (head_ended BeforeHtml) _ (parts BeforeHtml) (record (parts AfterHead) { maker = v }) (head_went BeforeHtml u other) kept refl refl refl kept.fresh is
   head_done BeforeHead v u other kept is = any_done _ (head_ended BeforeHead) _ (parts BeforeHead) (record (parts AfterHead) { maker = v }) (head_went BeforeHead u other) kept refl refl refl kept.fresh is
@@ -51,7 +51,7 @@ module _ (w : List Event) (path : List Element) (drops : Bool) (inner last : Vec
   head_done PastBody v u other kept is = absurd u
   head_done AfterHtml v u other kept is = absurd u
 
-  pub left_went : (ph to : InsertionMode) → IsUnbegun ph → steps.reach_body (insertion_mode_of ph) (steps.leave_body (insertion_mode_of to)) (state_of (parts ph)) ≡ went (missing ph) (record (state_of (parts ph)) { insertion_mode = insertion_mode_of to; path = under_body })
+  pub left_went : (ph to : BuilderMode) → IsUnbegun ph → steps.reach_body (insertion_mode_of ph) (steps.leave_body (insertion_mode_of to)) (state_of (parts ph)) ≡ went (missing ph) (record (state_of (parts ph)) { insertion_mode = insertion_mode_of to; path = under_body })
   unfolding is_at_end
   left_went Initial to u = absurd u
   left_went BeforeHtml to u = refl
@@ -64,7 +64,7 @@ module _ (w : List Event) (path : List Element) (drops : Bool) (inner last : Vec
   left_went PastBody to u = absurd u
   left_went AfterHtml to u = absurd u
 
-  pub unbegun_fresh : (ph : InsertionMode) → IsUnbegun ph → IsKept (parts ph) → path ≡ under_body
+  pub unbegun_fresh : (ph : BuilderMode) → IsUnbegun ph → IsKept (parts ph) → path ≡ under_body
   unbegun_fresh Initial u kept = absurd u
   unbegun_fresh BeforeHtml u kept = kept.fresh
   unbegun_fresh BeforeHead u kept = kept.fresh
@@ -76,7 +76,7 @@ module _ (w : List Event) (path : List Element) (drops : Bool) (inner last : Vec
   unbegun_fresh PastBody u kept = absurd u
   unbegun_fresh AfterHtml u kept = absurd u
 
-  made_leads : (ph : InsertionMode) → IsUnbegun ph → (path_after (open_path ph path) (missing ph) ≡ under_body) × (has_no_text (missing ph) ≡ true)
+  made_leads : (ph : BuilderMode) → IsUnbegun ph → (path_after (open_path ph path) (missing ph) ≡ under_body) × (has_no_text (missing ph) ≡ true)
   made_leads Initial u = absurd u
   made_leads BeforeHtml u = (refl, refl)
   made_leads BeforeHead u = (refl, refl)
@@ -88,7 +88,7 @@ module _ (w : List Event) (path : List Element) (drops : Bool) (inner last : Vec
   made_leads PastBody u = absurd u
   made_leads AfterHtml u = absurd u
 
-  pub left_unbegun : (ph to : InsertionMode) (v : List Event) → IsUnbegun ph → HasBodyPath to → IsKept (parts ph) → v ≡ w ++ missing ph
+  pub left_unbegun : (ph to : BuilderMode) (v : List Event) → IsUnbegun ph → HasBodyPath to → IsKept (parts ph) → v ≡ w ++ missing ph
       → IsDone (steps.reach_body (insertion_mode_of ph) (steps.leave_body (insertion_mode_of to)) (state_of (parts ph))) (parts ph) (record (parts to) { maker = v })
   left_unbegun ph to v u there kept is =
       let fresh = unbegun_fresh ph u kept in
@@ -97,7 +97,7 @@ module _ (w : List Event) (path : List Element) (drops : Bool) (inner last : Vec
       (left_went ph to u) kept (made_leads ph u).1 (ap (λ x. record (state_of (parts ph)) { insertion_mode = insertion_mode_of to; path = x }) open_then) ((made_leads ph u).0 ∙ sym open_then)
       (body_fresh to path there (rw fresh refl)) is
 
-  pub unbegun_step : (n : List ℕ) (ph : InsertionMode) → IsUnbegun ph → step_end n (state_of (parts ph)) ≡ cond (bytes_eq n head) (steps.end_head (insertion_mode_of ph) (state_of (parts ph)))
+  pub unbegun_step : (n : List ℕ) (ph : BuilderMode) → IsUnbegun ph → step_end n (state_of (parts ph)) ≡ cond (bytes_eq n head) (steps.end_head (insertion_mode_of ph) (state_of (parts ph)))
       (cond (bytes_eq n body) (steps.reach_body (insertion_mode_of ph) (steps.leave_body steps.after_body) (state_of (parts ph))) (cond (bytes_eq n html) (steps.reach_body (insertion_mode_of ph) (steps.leave_body steps.after_html) (state_of (parts ph))) (stops StrayEnd 0)))
   unfolding step_end holds_text is_raw is_rcdata raw_names rcdata_names is_among
   unbegun_step n Initial u = absurd u
@@ -114,7 +114,7 @@ module _ (w : List Event) (path : List Element) (drops : Bool) (inner last : Vec
   other_name : (m n : List ℕ) → (n ≡ m → ⊥) → bytes_eq n m ≡ false
   other_name m n h = false_from_ne_true (bytes_eq n m) (λ e. h (same_bytes n m e))
 
-  module _ (n : List ℕ) (ph : InsertionMode) (u : IsUnbegun ph) where
+  module _ (n : List ℕ) (ph : BuilderMode) (u : IsUnbegun ph) where
     pub unbegun_head : n ≡ head → step_end n (state_of (parts ph)) ≡ steps.end_head (insertion_mode_of ph) (state_of (parts ph))
     unbegun_head is = unbegun_step n ph u ∙ (rw is refl)
 
@@ -159,10 +159,10 @@ module _ (w : List Event) (path : List Element) (drops : Bool) (inner last : Vec
   inside_open false None i kept = absurd i
 
 -- in its insertion mode
-pub at_its_mode : (P : Parts → Type 0) (p : Parts) (ph : InsertionMode) → p.insertion_mode ≡ ph → P (record p { insertion_mode = ph }) → P p
+pub at_its_mode : (P : Parts → Type 0) (p : Parts) (ph : BuilderMode) → p.insertion_mode ≡ ph → P (record p { insertion_mode = ph }) → P p
 at_its_mode P p ph e h = subst (λ x. P (record p { insertion_mode = x })) (sym e) h
 
-pub kept_at : (p : Parts) (ph : InsertionMode) → p.insertion_mode ≡ ph → IsKept p → IsKept (record p { insertion_mode = ph })
+pub kept_at : (p : Parts) (ph : BuilderMode) → p.insertion_mode ≡ ph → IsKept p → IsKept (record p { insertion_mode = ph })
 kept_at p ph e kept = subst (λ x. IsKept (record p { insertion_mode = x })) e kept
 
 -- a token is stepped from a state in which no line feed is dropped

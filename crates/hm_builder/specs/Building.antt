@@ -1,5 +1,5 @@
 -- A tree that is being built, as contracts see it, and what a step does to it.
-use Rattle.std.specs.Prelude.{◌≡◌, List, [], ◌++◌}
+use Rattle.std.specs.Prelude.{◌≡◌, List, [], ◌++◌, Result, Ok, Err}
 use Rattle.hm_base.specs.Walks.{Event, pushes}
 use Rattle.hm_tree.specs.Trees.{HasRoom}
 use Rattle.hm_construction.specs.Steps.{State, Stepped, went, stops, first_state}
@@ -50,3 +50,13 @@ IsBuilt (stops rule n) w tree = ⊥
 abbrev pub front_of : BuildFault → BuildFault
 front_of (faults.Rule rule n) = faults.Rule rule 0
 front_of faults.Memory = faults.Memory
+
+-- The answer to a step: it is carried out, or refused by the rule of the fault.
+abbrev pub Answers : {A : Type 0} → Stepped → Result A BuildFault → Building → Building → Type 0
+Answers step (Ok done) old new = IsStepped step old new
+Answers step (Err fault) old new = IsRefused step fault
+
+-- The answer to the last step: the tree of all events, or its refusal by the rule of the fault.
+abbrev pub Builds : Stepped → Result (List Event) BuildFault → List Event → Type 0
+Builds step (Ok tree) w = IsBuilt step w tree
+Builds step (Err fault) w = IsRefused step fault

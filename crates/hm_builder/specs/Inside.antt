@@ -1,5 +1,5 @@
 -- How the parts of a builder stand for a state and a walk.
-use Rattle.std.specs.Prelude.{◌≡◌, ℕ, Bool, true, false, not, ◌&&◌, List, [], ◌∷◌, ◌++◌, bytes_eq, map, codes, Option, Some, None, if◌then◌else◌}
+use Rattle.std.specs.Prelude.{◌≡◌, ℕ, Bool, true, false, not, ◌&&◌, List, [], ◌∷◌, ◌++◌, bytes_eq, map, codes, Option, Some, None, Result, Ok, Err, if◌then◌else◌}
 use Rattle.hm_base.specs.Bytes.{is_space, all_pass, head_is}
 use Rattle.hm_base.specs.Walks.{with_text, Event, doctype, start, text, comment, end, Element, path_after, begins_text}
 use Rattle.hm_base.specs.declared.rules.Rule.{Rule}
@@ -13,14 +13,15 @@ use Rattle.hm_construction.specs.Steps as steps
 use Rattle.hm_construction.specs.Steps.{State, Stepped, under_html, under_head, under_body}
 use Rattle.hm_elements.specs.Tables.{is_root}
 use Rattle.hm_elements.specs.Nesting.{is_name}
-use Rattle.hm_builder.specs.Building.{Building, IsStepped, grown}
+use Rattle.hm_builder.specs.Building.{Building, IsStepped, IsRefused, grown}
+use Rattle.hm_builder.specs.declared.fault.BuildFault.{BuildFault}
 use Rattle.hm_builder.specs.declared.insertion.HeadText.{HeadText}
 use Rattle.hm_builder.specs.declared.insertion.HeadText.TheVariants.{Title, Style, Script}
-use Rattle.hm_builder.specs.declared.insertion.InsertionMode.{InsertionMode}
-use Rattle.hm_builder.specs.declared.insertion.InsertionMode.TheVariants.{Initial, BeforeHtml, BeforeHead, InHead, AfterHead, InBody, AfterBody as PastBody, AfterHtml}
+use Rattle.hm_builder.specs.declared.insertion.BuilderMode.{BuilderMode}
+use Rattle.hm_builder.specs.declared.insertion.BuilderMode.TheVariants.{Initial, BeforeHtml, BeforeHead, InHead, AfterHead, InBody, AfterBody as PastBody, AfterHtml}
 use Rattle.hm_builder.specs.declared.parts.Parts.{Parts}
 
-abbrev pub insertion_mode_of : InsertionMode → steps.InsertionMode
+abbrev pub insertion_mode_of : BuilderMode → steps.InsertionMode
 insertion_mode_of Initial = steps.initial
 insertion_mode_of BeforeHtml = steps.before_html
 insertion_mode_of BeforeHead = steps.before_head
@@ -45,7 +46,7 @@ inside_head here None = under_noscript here
 inside_head here (Some inner) = html_element (text_name inner) ∷ under_noscript here
 
 -- the open elements, of which the path knows only those of a page in its body
-abbrev pub open_path : InsertionMode → List Element → List Element
+abbrev pub open_path : BuilderMode → List Element → List Element
 open_path Initial path = []
 open_path BeforeHtml path = []
 open_path BeforeHead path = under_html
@@ -67,7 +68,7 @@ has_no_svg_root [] = true
 has_no_svg_root (e ∷ path) = not (e.foreign && is_root e.name) && has_no_svg_root path
 
 -- before the body only html and body are on the path
-abbrev pub IsFresh : InsertionMode → List Element → Type 0
+abbrev pub IsFresh : BuilderMode → List Element → Type 0
 IsFresh InBody path = has_no_svg_root path ≡ true
 IsFresh PastBody path = has_no_svg_root path ≡ true
 IsFresh AfterHtml path = has_no_svg_root path ≡ true
@@ -115,7 +116,7 @@ head_made = start head false [] ∷ head_closed
 abbrev pub html_made : List Event
 html_made = start html false [] ∷ head_made
 
-abbrev pub missing : InsertionMode → List Event
+abbrev pub missing : BuilderMode → List Event
 missing BeforeHtml = html_made
 missing BeforeHead = head_made
 missing (InHead here inner) = head_closed
@@ -123,7 +124,7 @@ missing AfterHead = body_made
 missing insertion_mode = []
 
 -- the elements that are open where the missing ones can be made
-abbrev pub CanMake : InsertionMode → List Element → Type 0
+abbrev pub CanMake : BuilderMode → List Element → Type 0
 CanMake BeforeHtml path = path ≡ []
 CanMake BeforeHead path = path ≡ under_html
 CanMake (InHead here inner) path = path ≡ under_head
@@ -131,14 +132,14 @@ CanMake AfterHead path = path ≡ under_html
 CanMake insertion_mode path = Unit {0}
 
 -- whitespace stands where it is
-abbrev pub keeps_space : InsertionMode → Bool
+abbrev pub keeps_space : BuilderMode → Bool
 keeps_space Initial = false
 keeps_space BeforeHtml = false
 keeps_space BeforeHead = false
 keeps_space insertion_mode = true
 
 -- why a text that isn't whitespace is refused
-abbrev pub text_rule : InsertionMode → List Element → Option Rule
+abbrev pub text_rule : BuilderMode → List Element → Option Rule
 text_rule Initial path = Some NoDoctype
 text_rule (InHead true None) path = Some TextHere
 text_rule InBody path = if is_in_blank path then Some TextHere else None
@@ -147,12 +148,12 @@ text_rule AfterHtml path = Some AfterBody
 text_rule insertion_mode path = None
 
 -- the open elements once all is made up to body
-abbrev pub body_path : InsertionMode → List Element → List Element
+abbrev pub body_path : BuilderMode → List Element → List Element
 body_path InBody path = path
 body_path insertion_mode path = under_body
 
 -- a state in which no line feed is dropped
-abbrev pub at_state : InsertionMode → List Element → List (List ℕ) → List (List ℕ) → State
+abbrev pub at_state : BuilderMode → List Element → List (List ℕ) → List (List ℕ) → State
 at_state insertion_mode path inner last = record { insertion_mode = insertion_mode_of insertion_mode; path = path; drops_line_feed = false; behind_body = inner; behind_html = last }
 
 -- noscript in head is the innermost element
@@ -166,7 +167,7 @@ pub record IsCut (s blank rest : List ℕ) : Type 0 where
   pub stops : head_is is_space rest ≡ false
 
 -- a walk with whitespace behind it, where that stands
-abbrev pub with_blank : InsertionMode → List Event → List ℕ → List Event
+abbrev pub with_blank : BuilderMode → List Event → List ℕ → List Event
 with_blank insertion_mode w s = if keeps_space insertion_mode then with_text w s false else w
 
 -- whitespace byte by byte, where it stands
@@ -175,13 +176,18 @@ kept_bytes true s raw = each_byte s raw
 kept_bytes false s raw = []
 
 -- whitespace, what is missing, and a text of the body
-abbrev pub mixed_events : InsertionMode → List ℕ → List ℕ → List Event
+abbrev pub mixed_events : BuilderMode → List ℕ → List ℕ → List Event
 mixed_events insertion_mode front s = kept_bytes (keeps_space insertion_mode) front false ++ (missing insertion_mode ++ each_byte s false)
 
 -- a step was carried out
 pub record IsDone (step : Stepped) (old new : Parts) : Type 0 where
   pub kept : IsKept new
   pub stepped : IsStepped step (building_of old) (building_of new)
+
+-- The answer to a step: it was carried out, or is refused by the rule of the fault.
+abbrev pub Takes : {A : Type 0} → Stepped → Result A BuildFault → Parts → Parts → Type 0
+Takes step (Ok done) old new = IsDone step old new
+Takes step (Err fault) old new = IsRefused step fault
 
 -- these events, which make what is missing, are put behind the walk
 pub record IsPutBehind (es : List Event) (old new : Parts) : Type 0 where
@@ -194,7 +200,7 @@ pub record IsPutBehind (es : List Event) (old new : Parts) : Type 0 where
   pub last : new.behind_html ≡ old.behind_html
 
 -- the insertion modes in which the open elements are those of the body's path
-abbrev pub HasBodyPath : InsertionMode → Type 0
+abbrev pub HasBodyPath : BuilderMode → Type 0
 HasBodyPath InBody = Unit {0}
 HasBodyPath PastBody = Unit {0}
 HasBodyPath AfterHtml = Unit {0}
@@ -207,14 +213,14 @@ only_head = start head false [] ∷ end head false ∷ []
 abbrev pub html_then_head : List Event
 html_then_head = start html false [] ∷ only_head
 
-abbrev pub head_ended : InsertionMode → List Event
+abbrev pub head_ended : BuilderMode → List Event
 head_ended BeforeHtml = html_then_head
 head_ended BeforeHead = only_head
 head_ended (InHead here inner) = end head false ∷ []
 head_ended insertion_mode = []
 
 -- the insertion modes in which html, head or body is missing, and nothing is open in head
-abbrev pub IsUnbegun : InsertionMode → Type 0
+abbrev pub IsUnbegun : BuilderMode → Type 0
 IsUnbegun BeforeHtml = Unit {0}
 IsUnbegun BeforeHead = Unit {0}
 IsUnbegun (InHead false None) = Unit {0}
@@ -238,12 +244,12 @@ IsSound true p = Unit {0}
 IsSound false p = IsKept p
 
 -- the insertion modes in which a body can be reached
-abbrev pub CanReach : InsertionMode → Type 0
+abbrev pub CanReach : BuilderMode → Type 0
 CanReach InBody = Unit {0}
 CanReach insertion_mode = IsUnbegun insertion_mode
 
 -- why a page doesn't end here
-abbrev pub end_rule : InsertionMode → List Element → Option Rule
+abbrev pub end_rule : BuilderMode → List Element → Option Rule
 end_rule Initial path = Some NoDoctype
 end_rule (InHead true None) path = Some Unclosed
 end_rule InBody path = if not (steps.is_at_end path) then Some Unclosed else None

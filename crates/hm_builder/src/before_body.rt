@@ -1,5 +1,5 @@
 //! Start tags before the body (HTML Standard, 13.2.6.4.2 to 13.2.6.4.6).
-ghost use Rattle.std.specs.Prelude.{◌≡◌, [], ◌∷◌, ◌++◌, false, true, Some, None, OnOk, IfErr};
+ghost use Rattle.std.specs.Prelude.{◌≡◌, [], ◌∷◌, ◌++◌, false, true, Some, None, OnOk};
 ghost use Rattle.hm_construction.specs.Steps as steps;
 ghost use Rattle.hm_construction.specs.Steps.{html_start, opened, start_inside, under_head};
 ghost use Rattle.hm_elements.specs.Names.{noscript};
@@ -8,20 +8,20 @@ ghost use Rattle.hm_elements.specs.Tables.{is_root, is_void};
 ghost use Rattle.hm_tree.specs.Trees.{HasRoom};
 ghost use Rattle.hm_builder.specs.BeforeBody as before_body;
 ghost use Rattle.hm_builder.specs.BeforeBody.{IsBefore, TakesChildren, html_opened, head_opened, in_open_head};
-ghost use Rattle.hm_builder.specs.Building.{Fits, IsRefused};
-ghost use Rattle.hm_builder.specs.Inside.{IsDone, IsKept, IsUnbegun, open_path, insertion_mode_of, state_of, text_name};
+ghost use Rattle.hm_builder.specs.Building.{Fits};
+ghost use Rattle.hm_builder.specs.Inside.{IsDone, IsKept, IsUnbegun, Takes, insertion_mode_of, open_path, state_of, text_name};
 
 use crate::BuildFault;
-use crate::insertion::{HeadText, InsertionMode};
+use crate::insertion::{BuilderMode, HeadText};
 use crate::make::close_made_head;
 use crate::parts::Parts;
 use hm_base::{Memory, Rule};
-use hm_elements::{Named, is_one_of, may_stand};
+use hm_elements::{Named, is_metadata, may_stand};
 use hm_tree::{Attrs, Maker};
 use std::alloc::Global;
 
 impl Parts {
-    /// Takes the start tag of `html`, `head` or `body`, which opens once.
+    /// Takes the start tag of `html`, `head` or `body`, which opens once (13.2.6.4.2, 13.2.6.4.3, 13.2.6.4.6).
     pub(crate) fn open_root(
         &mut self,
         alloc: Global,
@@ -34,8 +34,7 @@ impl Parts {
         requires not_svg { is_in_svg (open_path self.old.insertion_mode self.old.path) ≡ false }
         requires root { is_root name.now ≡ true }
         requires room { Fits (html_start name.now attrs false (state_of self.old)) self.old.maker }
-        ensures ok { OnOk result (IsDone (html_start name.now attrs false (state_of self.old)) self.old self.new) }
-        ensures err { IfErr result (IsRefused (html_start name.now attrs false (state_of self.old))) }
+        ensures { Takes (html_start name.now attrs false (state_of self.old)) result self.old self.new }
     {
         match name {
             "html" => self.open_html(attrs),
@@ -44,35 +43,33 @@ impl Parts {
         }
     }
 
-    /// Takes the start tag of `html`.
+    /// Takes the start tag of `html` (13.2.6.4.2).
     fn open_html(&mut self, attrs: Attrs) -> Result<(), BuildFault>
         requires kept { IsKept self.old }
         requires room { Fits (steps.open_html (insertion_mode_of self.old.insertion_mode) attrs (state_of self.old)) self.old.maker }
-        ensures ok { OnOk result (IsDone (steps.open_html (insertion_mode_of self.old.insertion_mode) attrs (state_of self.old)) self.old self.new) }
-        ensures err { IfErr result (IsRefused (steps.open_html (insertion_mode_of self.old.insertion_mode) attrs (state_of self.old))) }
+        ensures { Takes (steps.open_html (insertion_mode_of self.old.insertion_mode) attrs (state_of self.old)) result self.old self.new }
     {
         match self.insertion_mode {
-            InsertionMode::BeforeHtml => {
+            BuilderMode::BeforeHtml => {
                 self.maker.start("html", false, attrs)?;
-                self.insertion_mode = InsertionMode::BeforeHead;
+                self.insertion_mode = BuilderMode::BeforeHead;
                 Ok(())
             }
             _ => Err(BuildFault::from(Rule::SecondRoot)),
         }
     }
 
-    /// Takes the start tag of `head`.
+    /// Takes the start tag of `head` (13.2.6.4.3).
     fn open_head(&mut self, alloc: Global, attrs: Attrs) -> Result<(), BuildFault>
         requires kept { IsKept self.old }
         requires room { Fits (steps.open_head (insertion_mode_of self.old.insertion_mode) attrs (state_of self.old)) self.old.maker }
-        ensures ok { OnOk result (IsDone (steps.open_head (insertion_mode_of self.old.insertion_mode) attrs (state_of self.old)) self.old self.new) }
-        ensures err { IfErr result (IsRefused (steps.open_head (insertion_mode_of self.old.insertion_mode) attrs (state_of self.old))) }
+        ensures { Takes (steps.open_head (insertion_mode_of self.old.insertion_mode) attrs (state_of self.old)) result self.old self.new }
     {
         match self.insertion_mode {
-            InsertionMode::BeforeHtml | InsertionMode::BeforeHead => {
+            BuilderMode::BeforeHtml | BuilderMode::BeforeHead => {
                 make_only_html(alloc, &mut self.maker, self.insertion_mode)?;
                 self.maker.start("head", false, attrs)?;
-                self.insertion_mode = InsertionMode::InHead {
+                self.insertion_mode = BuilderMode::InHead {
                     noscript: false,
                     text: None,
                 };
@@ -82,13 +79,12 @@ impl Parts {
         }
     }
 
-    /// Takes the start tag of `body`. Where `head` is missing it is made, and it closes.
+    /// Takes the start tag of `body` (13.2.6.4.6). Where `head` is missing it is made, and it closes.
     fn open_body(&mut self, alloc: Global, attrs: Attrs) -> Result<(), BuildFault>
         requires kept { IsKept self.old }
         requires not_text { is_in_text (open_path self.old.insertion_mode self.old.path) ≡ false }
         requires room { Fits (steps.open_body (insertion_mode_of self.old.insertion_mode) attrs (state_of self.old)) self.old.maker }
-        ensures ok { OnOk result (IsDone (steps.open_body (insertion_mode_of self.old.insertion_mode) attrs (state_of self.old)) self.old self.new) }
-        ensures err { IfErr result (IsRefused (steps.open_body (insertion_mode_of self.old.insertion_mode) attrs (state_of self.old))) }
+        ensures { Takes (steps.open_body (insertion_mode_of self.old.insertion_mode) attrs (state_of self.old)) result self.old self.new }
     {
         if has_begun(self.insertion_mode) {
             return Err(BuildFault::from(Rule::SecondRoot));
@@ -96,21 +92,20 @@ impl Parts {
         self.open_body_here(alloc, attrs)
     }
 
-    /// Opens `body` where it is missing and nothing is open in `head`.
+    /// Opens `body` where it is missing and nothing is open in `head` (13.2.6.4.6).
     fn open_body_here(&mut self, alloc: Global, attrs: Attrs) -> Result<(), BuildFault>
         requires kept { IsKept self.old }
         requires unbegun { IsUnbegun self.old.insertion_mode }
         requires room { Fits (steps.open_body (insertion_mode_of self.old.insertion_mode) attrs (state_of self.old)) self.old.maker }
-        ensures ok { OnOk result (IsDone (steps.open_body (insertion_mode_of self.old.insertion_mode) attrs (state_of self.old)) self.old self.new) }
-        ensures err { IfErr result (IsRefused (steps.open_body (insertion_mode_of self.old.insertion_mode) attrs (state_of self.old))) }
+        ensures { Takes (steps.open_body (insertion_mode_of self.old.insertion_mode) attrs (state_of self.old)) result self.old self.new }
     {
         close_made_head(alloc, &mut self.maker, self.insertion_mode)?;
         self.maker.start("body", false, attrs)?;
-        self.insertion_mode = InsertionMode::InBody;
+        self.insertion_mode = BuilderMode::InBody;
         Ok(())
     }
 
-    /// Takes the start tag of any other element, where the body hasn't begun.
+    /// Takes the start tag of any other element, where the body hasn't begun (13.2.6.4.2 to 13.2.6.4.6).
     pub(crate) fn start_before_body(
         &mut self,
         alloc: Global,
@@ -123,12 +118,11 @@ impl Parts {
         requires not_text { is_in_text (open_path self.old.insertion_mode self.old.path) ≡ false }
         requires before { IsBefore self.old.insertion_mode }
         requires room { Fits (start_inside (insertion_mode_of self.old.insertion_mode) name.now attrs slash (state_of self.old)) self.old.maker }
-        ensures ok { OnOk result (IsDone (start_inside (insertion_mode_of self.old.insertion_mode) name.now attrs slash (state_of self.old)) self.old self.new) }
-        ensures err { IfErr result (IsRefused (start_inside (insertion_mode_of self.old.insertion_mode) name.now attrs slash (state_of self.old))) }
+        ensures { Takes (start_inside (insertion_mode_of self.old.insertion_mode) name.now attrs slash (state_of self.old)) result self.old self.new }
     {
         match self.insertion_mode {
-            InsertionMode::AfterHead => self.start_after_head(alloc, name, attrs, slash),
-            InsertionMode::InHead { noscript, .. } => {
+            BuilderMode::AfterHead => self.start_after_head(alloc, name, attrs, slash),
+            BuilderMode::InHead { noscript, .. } => {
                 if noscript {
                     self.start_in_noscript(name, attrs)
                 } else {
@@ -139,7 +133,7 @@ impl Parts {
         }
     }
 
-    /// Between `head` and `body`.
+    /// Takes a start tag between `head` and `body` (13.2.6.4.6).
     fn start_after_head(
         &mut self,
         alloc: Global,
@@ -149,10 +143,9 @@ impl Parts {
     ) -> Result<(), BuildFault>
         requires kept { IsKept self.old }
         requires all { self.old.drops_line_feed ≡ false }
-        requires insertion_mode { self.old.insertion_mode ≡ InsertionMode.AfterHead }
+        requires insertion_mode { self.old.insertion_mode ≡ BuilderMode.AfterHead }
         requires room { Fits (steps.start_after_head name.now attrs slash (state_of self.old)) self.old.maker }
-        ensures ok { OnOk result (IsDone (steps.start_after_head name.now attrs slash (state_of self.old)) self.old self.new) }
-        ensures err { IfErr result (IsRefused (steps.start_after_head name.now attrs slash (state_of self.old))) }
+        ensures { Takes (steps.start_after_head name.now attrs slash (state_of self.old)) result self.old self.new }
     {
         if is_metadata(name) {
             return Err(BuildFault::from(Rule::AfterHead));
@@ -161,7 +154,7 @@ impl Parts {
     }
 
     /// Takes a start tag where `head` can take a child. One that may stand in `head` opens in it; before any other `head`
-    /// closes and the body begins.
+    /// closes and the body begins (13.2.6.4.4).
     fn start_in_head(
         &mut self,
         alloc: Global,
@@ -173,8 +166,7 @@ impl Parts {
         requires all { self.old.drops_line_feed ≡ false }
         requires takes { TakesChildren self.old.insertion_mode }
         requires room { Fits (start_inside (insertion_mode_of self.old.insertion_mode) name.now attrs slash (state_of self.old)) self.old.maker }
-        ensures ok { OnOk result (IsDone (start_inside (insertion_mode_of self.old.insertion_mode) name.now attrs slash (state_of self.old)) self.old self.new) }
-        ensures err { IfErr result (IsRefused (start_inside (insertion_mode_of self.old.insertion_mode) name.now attrs slash (state_of self.old))) }
+        ensures { Takes (start_inside (insertion_mode_of self.old.insertion_mode) name.now attrs slash (state_of self.old)) result self.old self.new }
     {
         if may_stand(Named::of(name), Named::of("head"), Some("html")) {
             self.reach_head(alloc)?;
@@ -185,7 +177,7 @@ impl Parts {
         }
     }
 
-    /// Makes `html` and `head` where they are missing.
+    /// Makes `html` and `head` where they are missing (13.2.6.4.2, 13.2.6.4.3).
     fn reach_head(&mut self, alloc: Global) -> Result<(), Memory>
         requires kept { IsKept self.old }
         requires takes { TakesChildren self.old.insertion_mode }
@@ -193,18 +185,18 @@ impl Parts {
         ensures { OnOk result (self.new ≡ in_open_head self.old) }
     {
         make_open_head(alloc, &mut self.maker, self.insertion_mode)?;
-        self.insertion_mode = InsertionMode::InHead {
+        self.insertion_mode = BuilderMode::InHead {
             noscript: false,
             text: None,
         };
         Ok(())
     }
 
-    /// Starts a child of `head`. A void one closes at once.
+    /// Starts a child of `head` (13.2.6.4.4). A void one closes at once.
     fn start_child(&mut self, name: &str, attrs: Attrs) -> Result<(), Memory>
         requires kept { IsKept self.old }
         requires all { self.old.drops_line_feed ≡ false }
-        requires insertion_mode { self.old.insertion_mode ≡ InsertionMode.InHead false None }
+        requires insertion_mode { self.old.insertion_mode ≡ BuilderMode.InHead false None }
         requires stands { stands_on name.now under_head ≡ true }
         requires room { Fits (opened name.now attrs (state_of self.old)) self.old.maker }
         ensures { OnOk result (IsDone (opened name.now attrs (state_of self.old)) self.old self.new) }
@@ -218,14 +210,13 @@ impl Parts {
         }
     }
 
-    /// In `noscript` in `head`.
+    /// Takes a start tag in `noscript` in `head` (13.2.6.4.5).
     fn start_in_noscript(&mut self, name: &str, attrs: Attrs) -> Result<(), BuildFault>
         requires kept { IsKept self.old }
         requires all { self.old.drops_line_feed ≡ false }
-        requires insertion_mode { self.old.insertion_mode ≡ InsertionMode.InHead true None }
+        requires insertion_mode { self.old.insertion_mode ≡ BuilderMode.InHead true None }
         requires room { Fits (steps.start_in_noscript name.now attrs (state_of self.old)) self.old.maker }
-        ensures ok { OnOk result (IsDone (steps.start_in_noscript name.now attrs (state_of self.old)) self.old self.new) }
-        ensures err { IfErr result (IsRefused (steps.start_in_noscript name.now attrs (state_of self.old))) }
+        ensures { Takes (steps.start_in_noscript name.now attrs (state_of self.old)) result self.old self.new }
     {
         match name {
             "link" | "meta" => self.start_void(true, name, attrs)?,
@@ -235,43 +226,43 @@ impl Parts {
         Ok(())
     }
 
-    /// Starts `noscript` in `head`.
+    /// Starts `noscript` in `head` (13.2.6.4.4).
     fn start_noscript(&mut self, attrs: Attrs) -> Result<(), Memory>
         requires kept { IsKept self.old }
         requires all { self.old.drops_line_feed ≡ false }
-        requires insertion_mode { self.old.insertion_mode ≡ InsertionMode.InHead false None }
+        requires insertion_mode { self.old.insertion_mode ≡ BuilderMode.InHead false None }
         requires room { Fits (opened noscript attrs (state_of self.old)) self.old.maker }
         ensures { OnOk result (IsDone (opened noscript attrs (state_of self.old)) self.old self.new) }
     {
         self.maker.start("noscript", false, attrs)?;
-        self.insertion_mode = InsertionMode::InHead {
+        self.insertion_mode = BuilderMode::InHead {
             noscript: true,
             text: None,
         };
         Ok(())
     }
 
-    /// Starts an element that holds a text, in `head` or in `noscript` in it.
+    /// Starts an element that holds a text, in `head` or in `noscript` in it (13.2.6.4.4, 13.2.6.4.5).
     fn start_text(&mut self, noscript: bool, text: HeadText, attrs: Attrs) -> Result<(), Memory>
         requires kept { IsKept self.old }
         requires all { self.old.drops_line_feed ≡ false }
-        requires insertion_mode { self.old.insertion_mode ≡ InsertionMode.InHead noscript None }
+        requires insertion_mode { self.old.insertion_mode ≡ BuilderMode.InHead noscript None }
         requires room { Fits (opened (text_name text) attrs (state_of self.old)) self.old.maker }
         ensures { OnOk result (IsDone (opened (text_name text) attrs (state_of self.old)) self.old self.new) }
     {
         self.maker.start(text.name(), false, attrs)?;
-        self.insertion_mode = InsertionMode::InHead {
+        self.insertion_mode = BuilderMode::InHead {
             noscript,
             text: Some(text),
         };
         Ok(())
     }
 
-    /// Starts and ends a void element, in `head` or in `noscript` in it.
+    /// Starts and ends a void element, in `head` or in `noscript` in it (13.2.6.4.4, 13.2.6.4.5).
     fn start_void(&mut self, noscript: bool, name: &str, attrs: Attrs) -> Result<(), Memory>
         requires kept { IsKept self.old }
         requires all { self.old.drops_line_feed ≡ false }
-        requires insertion_mode { self.old.insertion_mode ≡ InsertionMode.InHead noscript None }
+        requires insertion_mode { self.old.insertion_mode ≡ BuilderMode.InHead noscript None }
         requires void { is_void name.now ≡ true }
         requires room { Fits (opened name.now attrs (state_of self.old)) self.old.maker }
         ensures { OnOk result (IsDone (opened name.now attrs (state_of self.old)) self.old self.new) }
@@ -282,57 +273,49 @@ impl Parts {
 }
 
 /// Whether `body` can't open any more, or not before the end of `noscript` in `head`.
-fn has_begun(insertion_mode: InsertionMode) -> bool
+fn has_begun(insertion_mode: BuilderMode) -> bool
     ensures { result ≡ before_body.has_begun insertion_mode }
 {
     match insertion_mode {
-        InsertionMode::BeforeHtml | InsertionMode::BeforeHead | InsertionMode::AfterHead => false,
-        InsertionMode::InHead { noscript, .. } => noscript,
-        InsertionMode::Initial
-        | InsertionMode::InBody
-        | InsertionMode::AfterBody
-        | InsertionMode::AfterHtml => true,
+        BuilderMode::BeforeHtml | BuilderMode::BeforeHead | BuilderMode::AfterHead => false,
+        BuilderMode::InHead { noscript, .. } => noscript,
+        BuilderMode::Initial
+        | BuilderMode::InBody
+        | BuilderMode::AfterBody
+        | BuilderMode::AfterHtml => true,
     }
 }
 
-/// Makes `html` where it is missing.
+/// Makes `html` where it is missing (13.2.6.4.2).
 fn make_only_html(
     alloc: Global,
     maker: &mut Maker,
-    insertion_mode: InsertionMode,
+    insertion_mode: BuilderMode,
 ) -> Result<(), Memory>
     requires { HasRoom (maker.old ++ html_opened insertion_mode) }
     ensures { OnOk result (maker.new ≡ maker.old ++ html_opened insertion_mode) }
 {
     match insertion_mode {
-        InsertionMode::BeforeHtml => maker.start("html", false, Attrs::new(alloc)),
+        BuilderMode::BeforeHtml => maker.start("html", false, Attrs::new(alloc)),
         _ => Ok(()),
     }
 }
 
-/// Makes `html` and `head` where they are missing.
+/// Makes `html` and `head` where they are missing (13.2.6.4.2, 13.2.6.4.3).
 fn make_open_head(
     alloc: Global,
     maker: &mut Maker,
-    insertion_mode: InsertionMode,
+    insertion_mode: BuilderMode,
 ) -> Result<(), Memory>
     requires { HasRoom (maker.old ++ head_opened insertion_mode) }
     ensures { OnOk result (maker.new ≡ maker.old ++ head_opened insertion_mode) }
 {
     match insertion_mode {
-        InsertionMode::BeforeHtml => {
+        BuilderMode::BeforeHtml => {
             maker.start("html", false, Attrs::new(alloc))?;
             maker.start("head", false, Attrs::new(alloc))
         }
-        InsertionMode::BeforeHead => maker.start("head", false, Attrs::new(alloc)),
+        BuilderMode::BeforeHead => maker.start("head", false, Attrs::new(alloc)),
         _ => Ok(()),
     }
-}
-
-/// Whether the element is metadata, which doesn't stand between `head` and `body`.
-#[tactic(auto, unfolding(hm_construction::specs::Steps::is_metadata))]
-fn is_metadata(name: &str) -> bool
-    ensures { result ≡ steps.is_metadata name.now }
-{
-    is_one_of(name, &["base", "link", "meta", "script", "style", "title"])
 }

@@ -1,13 +1,13 @@
 //! A tree that is being built.
-ghost use Rattle.std.specs.Prelude.{◌≡◌, ◌^◌, ◌<◌, false, length, IfOk, OnOk, IfErr};
+ghost use Rattle.std.specs.Prelude.{◌≡◌, ◌^◌, ◌<◌, false, length, IfOk};
 ghost use Rattle.hm_construction.specs.Steps.{step, step_over};
 ghost use Rattle.hm_elements.specs.Paths as paths;
 ghost use Rattle.hm_tree.specs.Tokens as tokens;
 ghost use Rattle.hm_tree.specs.Tokens.{points_of};
-ghost use Rattle.hm_builder.specs.Building.{Fits, IsBuilt, IsRefused, IsStepped, first_building};
+ghost use Rattle.hm_builder.specs.Building.{Builds, Answers, Fits, first_building};
 
 use crate::BuildFault;
-use crate::insertion::InsertionMode;
+use crate::insertion::BuilderMode;
 use crate::parts::{Parts, current, is_in_svg, is_in_text};
 use hm_base::{Memory, Points};
 use hm_settle::Path;
@@ -25,11 +25,11 @@ pub struct TreeBuilder {
 }
 
 impl Model for TreeBuilder {
-    ghost use Rattle.hm_builder.specs.Building.{Building};
+    ghost use Rattle.hm_builder.specs.Building.{Builds, Answers, Building};
 
     ghost Value = { Building };
 
-    ghost use Rattle.hm_builder.specs.Inside.{IsSound, building_of};
+    ghost use Rattle.hm_builder.specs.Inside.{IsSound, Takes, building_of};
 
     ghost view = { λ b. building_of b.parts };
 
@@ -43,7 +43,7 @@ impl TreeBuilder {
     {
         let parts = Parts {
             maker: Tree::maker(alloc),
-            insertion_mode: InsertionMode::Initial,
+            insertion_mode: BuilderMode::Initial,
             path: Path::new(alloc)?,
             drops_line_feed: false,
             behind_body: Vec::new(alloc),
@@ -77,11 +77,10 @@ impl TreeBuilder {
         current(self.parts.insertion_mode, &self.parts.path)
     }
 
-    /// Takes a doctype. After a fault no token is taken any more: each call answers that memory is refused.
+    /// Takes a doctype (13.2.6.4.1). After a fault no token is taken any more: each call answers that memory is refused.
     pub fn doctype(&mut self, legacy: bool) -> Result<(), BuildFault>
         requires { Fits (step self.old.state (tokens.doctype legacy)) self.old.walk }
-        ensures ok { OnOk result (IsStepped (step self.old.state (tokens.doctype legacy)) self.old self.new) }
-        ensures err { IfErr result (IsRefused (step self.old.state (tokens.doctype legacy))) }
+        ensures { Answers (step self.old.state (tokens.doctype legacy)) result self.old self.new }
     {
         if self.is_broken {
             return Err(BuildFault::Memory);
@@ -92,7 +91,7 @@ impl TreeBuilder {
         Ok(())
     }
 
-    /// Takes a start tag. None is read inside an element that holds a text.
+    /// Takes a start tag (13.2.6.4). None is read inside an element that holds a text.
     pub fn start_tag(
         &mut self,
         alloc: Global,
@@ -102,8 +101,7 @@ impl TreeBuilder {
     ) -> Result<(), BuildFault>
         requires not_text { paths.is_in_text self.old.state.path ≡ false }
         requires room { Fits (step self.old.state (tokens.start_tag name.now attrs slash)) self.old.walk }
-        ensures ok { OnOk result (IsStepped (step self.old.state (tokens.start_tag name.now attrs slash)) self.old self.new) }
-        ensures err { IfErr result (IsRefused (step self.old.state (tokens.start_tag name.now attrs slash))) }
+        ensures { Answers (step self.old.state (tokens.start_tag name.now attrs slash)) result self.old self.new }
     {
         if self.is_broken {
             return Err(BuildFault::Memory);
@@ -114,11 +112,10 @@ impl TreeBuilder {
         Ok(())
     }
 
-    /// Takes an end tag.
+    /// Takes an end tag (13.2.6.4).
     pub fn end_tag(&mut self, alloc: Global, name: &str) -> Result<(), BuildFault>
         requires { Fits (step self.old.state (tokens.end_tag name.now)) self.old.walk }
-        ensures ok { OnOk result (IsStepped (step self.old.state (tokens.end_tag name.now)) self.old self.new) }
-        ensures err { IfErr result (IsRefused (step self.old.state (tokens.end_tag name.now))) }
+        ensures { Answers (step self.old.state (tokens.end_tag name.now)) result self.old self.new }
     {
         if self.is_broken {
             return Err(BuildFault::Memory);
@@ -129,13 +126,12 @@ impl TreeBuilder {
         Ok(())
     }
 
-    /// Takes a text as it is written, of fewer than 2 ^ 32 bytes.
+    /// Takes a text as it is written, of fewer than 2 ^ 32 bytes (13.2.6.4).
     #[tactic(auto, unfolding(hm_construction::specs::Steps::step))]
     pub fn text(&mut self, alloc: Global, text: &str) -> Result<(), BuildFault>
         requires short { length text.now < 2 ^ 32 }
         requires room { Fits (step self.old.state (tokens.slice text.now)) self.old.walk }
-        ensures ok { OnOk result (IsStepped (step self.old.state (tokens.slice text.now)) self.old self.new) }
-        ensures err { IfErr result (IsRefused (step self.old.state (tokens.slice text.now))) }
+        ensures { Answers (step self.old.state (tokens.slice text.now)) result self.old self.new }
     {
         if self.is_broken {
             return Err(BuildFault::Memory);
@@ -146,11 +142,10 @@ impl TreeBuilder {
         Ok(())
     }
 
-    /// Takes a comment.
+    /// Takes a comment (13.2.6.4).
     pub fn comment(&mut self, alloc: Global, text: &str) -> Result<(), BuildFault>
         requires { Fits (step self.old.state (tokens.comment text.now)) self.old.walk }
-        ensures ok { OnOk result (IsStepped (step self.old.state (tokens.comment text.now)) self.old self.new) }
-        ensures err { IfErr result (IsRefused (step self.old.state (tokens.comment text.now))) }
+        ensures { Answers (step self.old.state (tokens.comment text.now)) result self.old self.new }
     {
         if self.is_broken {
             return Err(BuildFault::Memory);
@@ -161,11 +156,10 @@ impl TreeBuilder {
         Ok(())
     }
 
-    /// Takes what a character reference stands for. It is refused at its front.
+    /// Takes what a character reference stands for (13.2.6.4). It is refused at its front.
     pub fn points(&mut self, alloc: Global, points: Points) -> Result<(), BuildFault>
         requires { Fits (step self.old.state (tokens.points (points_of points))) self.old.walk }
-        ensures ok { OnOk result (IsStepped (step self.old.state (tokens.points (points_of points))) self.old self.new) }
-        ensures err { IfErr result (IsRefused (step self.old.state (tokens.points (points_of points)))) }
+        ensures { Answers (step self.old.state (tokens.points (points_of points))) result self.old self.new }
     {
         if self.is_broken {
             return Err(BuildFault::Memory);
@@ -176,11 +170,10 @@ impl TreeBuilder {
         Ok(())
     }
 
-    /// The tree, at the end of the page: what is missing is made, and all closes.
+    /// The tree, at the end of the page: what is missing is made, and all closes (13.2.6.4).
     pub fn finish(self, alloc: Global) -> Result<Tree, BuildFault>
         requires { Fits (step_over self.state) self.walk }
-        ensures ok { IfOk result (λ tree. IsBuilt (step_over self.state) self.walk tree) }
-        ensures err { IfErr result (IsRefused (step_over self.state)) }
+        ensures { Builds (step_over self.state) result self.walk }
     {
         let TreeBuilder { parts, is_broken } = self;
         if is_broken {

@@ -1,17 +1,17 @@
 //! End tags (HTML Standard, 13.2.6.4).
-ghost use Rattle.std.specs.Prelude.{◌≡◌, ◌≢◌, ◌||◌, false, true, OnOk, IfErr};
+ghost use Rattle.std.specs.Prelude.{◌≡◌, ◌≢◌, ◌||◌, false, true};
 ghost use Rattle.hm_construction.specs.Steps as steps;
 ghost use Rattle.hm_construction.specs.Steps.{after_end_moves, end_current, step, step_end};
 ghost use Rattle.hm_elements.specs.Names.{body, html};
 ghost use Rattle.hm_settle.specs.Moves.{end_moves};
 ghost use Rattle.hm_elements.specs.Paths as paths;
 ghost use Rattle.hm_tree.specs.Tokens as tokens;
-ghost use Rattle.hm_builder.specs.Building.{Fits, IsRefused};
+ghost use Rattle.hm_builder.specs.Building.{Fits};
 ghost use Rattle.hm_builder.specs.Inside as inside;
-ghost use Rattle.hm_builder.specs.Inside.{HasBodyPath, IsDone, IsInner, IsKept, IsUnbegun, insertion_mode_of, state_of, under_noscript};
+ghost use Rattle.hm_builder.specs.Inside.{HasBodyPath, IsInner, IsKept, IsUnbegun, Takes, insertion_mode_of, state_of, under_noscript};
 
 use crate::BuildFault;
-use crate::insertion::{HeadText, InsertionMode};
+use crate::insertion::{BuilderMode, HeadText};
 use crate::make::{close_made_head, make_missing};
 use crate::moves::end_elements;
 use crate::parts::{Parts, current_in_head, is_in_text};
@@ -21,28 +21,25 @@ use hm_settle::Path;
 use std::alloc::Global;
 
 impl Parts {
-    /// Takes an end tag.
+    /// Takes an end tag (13.2.6.4).
     pub(crate) fn end_tag(&mut self, alloc: Global, name: &str) -> Result<(), BuildFault>
         requires kept { IsKept self.old }
         requires room { Fits (step (state_of self.old) (tokens.end_tag name.now)) self.old.maker }
-        ensures ok { OnOk result (IsDone (step (state_of self.old) (tokens.end_tag name.now)) self.old self.new) }
-        ensures err { IfErr result (IsRefused (step (state_of self.old) (tokens.end_tag name.now))) }
+        ensures { Takes (step (state_of self.old) (tokens.end_tag name.now)) result self.old self.new }
     {
         self.drops_line_feed = false;
         match self.insertion_mode {
-            InsertionMode::Initial => Err(BuildFault::from(Rule::NoDoctype)),
-            InsertionMode::InHead { noscript, text } => self.end_in_head(
-                alloc, noscript, text, name,
-            ),
-            InsertionMode::BeforeHtml | InsertionMode::BeforeHead | InsertionMode::AfterHead => {
+            BuilderMode::Initial => Err(BuildFault::from(Rule::NoDoctype)),
+            BuilderMode::InHead { noscript, text } => self.end_in_head(alloc, noscript, text, name),
+            BuilderMode::BeforeHtml | BuilderMode::BeforeHead | BuilderMode::AfterHead => {
                 self.end_unbegun(alloc, name)
             }
-            InsertionMode::InBody | InsertionMode::AfterBody | InsertionMode::AfterHtml =>
+            BuilderMode::InBody | BuilderMode::AfterBody | BuilderMode::AfterHtml =>
                 self.end_in_body(name),
         }
     }
 
-    /// In head.
+    /// Takes an end tag in `head` (13.2.6.4.4, 13.2.6.4.5, 13.2.6.4.8).
     fn end_in_head(
         &mut self,
         alloc: Global,
@@ -51,10 +48,9 @@ impl Parts {
         name: &str,
     ) -> Result<(), BuildFault>
         requires kept { IsKept self.old }
-        requires insertion_mode { self.old.insertion_mode ≡ InsertionMode.InHead noscript text }
+        requires insertion_mode { self.old.insertion_mode ≡ BuilderMode.InHead noscript text }
         requires room { Fits (step_end name.now (state_of self.old)) self.old.maker }
-        ensures ok { OnOk result (IsDone (step_end name.now (state_of self.old)) self.old self.new) }
-        ensures err { IfErr result (IsRefused (step_end name.now (state_of self.old))) }
+        ensures { Takes (step_end name.now (state_of self.old)) result self.old self.new }
     {
         if noscript || text.is_some() {
             self.end_inside_head(noscript, text, name)
@@ -63,7 +59,7 @@ impl Parts {
         }
     }
 
-    /// Where something is open in head, its own end tag alone ends it.
+    /// Where something is open in `head`, its own end tag alone ends it (13.2.6.4.5, 13.2.6.4.8).
     fn end_inside_head(
         &mut self,
         noscript: bool,
@@ -71,15 +67,14 @@ impl Parts {
         name: &str,
     ) -> Result<(), BuildFault>
         requires kept { IsKept self.old }
-        requires insertion_mode { self.old.insertion_mode ≡ InsertionMode.InHead noscript text }
+        requires insertion_mode { self.old.insertion_mode ≡ BuilderMode.InHead noscript text }
         requires inner { IsInner noscript text }
-        ensures ok { OnOk result (IsDone (step_end name.now (state_of self.old)) self.old self.new) }
-        ensures err { IfErr result (IsRefused (step_end name.now (state_of self.old))) }
+        ensures { Takes (step_end name.now (state_of self.old)) result self.old self.new }
     {
         let around = is_noscript_around(noscript, text);
         if current_in_head(noscript, text) == name {
             self.maker.end()?;
-            self.insertion_mode = InsertionMode::InHead {
+            self.insertion_mode = BuilderMode::InHead {
                 noscript: around,
                 text: None,
             };
@@ -91,107 +86,101 @@ impl Parts {
         Err(BuildFault::from(Rule::StrayEnd))
     }
 
-    /// Before the body.
+    /// Takes an end tag before the body (13.2.6.4.2 to 13.2.6.4.6).
     fn end_unbegun(&mut self, alloc: Global, name: &str) -> Result<(), BuildFault>
         requires kept { IsKept self.old }
         requires unbegun { IsUnbegun self.old.insertion_mode }
         requires room { Fits (step_end name.now (state_of self.old)) self.old.maker }
-        ensures ok { OnOk result (IsDone (step_end name.now (state_of self.old)) self.old self.new) }
-        ensures err { IfErr result (IsRefused (step_end name.now (state_of self.old))) }
+        ensures { Takes (step_end name.now (state_of self.old)) result self.old self.new }
     {
         match name {
             "head" => self.end_head(alloc),
-            "body" => self.leave_unbegun(alloc, InsertionMode::AfterBody),
-            "html" => self.leave_unbegun(alloc, InsertionMode::AfterHtml),
+            "body" => self.leave_unbegun(alloc, BuilderMode::AfterBody),
+            "html" => self.leave_unbegun(alloc, BuilderMode::AfterHtml),
             _ => Err(BuildFault::from(Rule::StrayEnd)),
         }
     }
 
-    /// The end tag of head.
+    /// Takes the end tag of `head` (13.2.6.4.4).
     fn end_head(&mut self, alloc: Global) -> Result<(), BuildFault>
         requires kept { IsKept self.old }
         requires unbegun { IsUnbegun self.old.insertion_mode }
         requires room { Fits (steps.end_head (insertion_mode_of self.old.insertion_mode) (state_of self.old)) self.old.maker }
-        ensures ok { OnOk result (IsDone (steps.end_head (insertion_mode_of self.old.insertion_mode) (state_of self.old)) self.old self.new) }
-        ensures err { IfErr result (IsRefused (steps.end_head (insertion_mode_of self.old.insertion_mode) (state_of self.old))) }
+        ensures { Takes (steps.end_head (insertion_mode_of self.old.insertion_mode) (state_of self.old)) result self.old self.new }
     {
-        if let InsertionMode::AfterHead = self.insertion_mode {
+        if let BuilderMode::AfterHead = self.insertion_mode {
             return Err(BuildFault::from(Rule::StrayEnd));
         }
         close_made_head(alloc, &mut self.maker, self.insertion_mode)?;
-        self.insertion_mode = InsertionMode::AfterHead;
+        self.insertion_mode = BuilderMode::AfterHead;
         Ok(())
     }
 
-    /// The body ends before anything of it.
+    /// The body ends before anything of it (13.2.6.4.7).
     fn leave_unbegun(
         &mut self,
         alloc: Global,
-        insertion_mode: InsertionMode,
+        insertion_mode: BuilderMode,
     ) -> Result<(), BuildFault>
         requires kept { IsKept self.old }
         requires unbegun { IsUnbegun self.old.insertion_mode }
         requires there { HasBodyPath insertion_mode }
         requires room { Fits (steps.reach_body (insertion_mode_of self.old.insertion_mode) (steps.leave_body (insertion_mode_of insertion_mode)) (state_of self.old)) self.old.maker }
-        ensures ok { OnOk result (IsDone (steps.reach_body (insertion_mode_of self.old.insertion_mode) (steps.leave_body (insertion_mode_of insertion_mode)) (state_of self.old)) self.old self.new) }
-        ensures err { IfErr result (IsRefused (steps.reach_body (insertion_mode_of self.old.insertion_mode) (steps.leave_body (insertion_mode_of insertion_mode)) (state_of self.old))) }
+        ensures { Takes (steps.reach_body (insertion_mode_of self.old.insertion_mode) (steps.leave_body (insertion_mode_of insertion_mode)) (state_of self.old)) result self.old self.new }
     {
         make_missing(alloc, &mut self.maker, self.insertion_mode)?;
         self.insertion_mode = insertion_mode;
         Ok(())
     }
 
-    /// Takes an end tag where the innermost elements are those of a body.
+    /// Takes an end tag where the innermost elements are those of a body (13.2.6.4.7, 13.2.6.4.8).
     fn end_in_body(&mut self, name: &str) -> Result<(), BuildFault>
         requires kept { IsKept self.old }
         requires body { HasBodyPath self.old.insertion_mode }
         requires room { Fits (step_end name.now (state_of self.old)) self.old.maker }
-        ensures ok { OnOk result (IsDone (step_end name.now (state_of self.old)) self.old self.new) }
-        ensures err { IfErr result (IsRefused (step_end name.now (state_of self.old))) }
+        ensures { Takes (step_end name.now (state_of self.old)) result self.old self.new }
     {
         if is_in_text(self.insertion_mode, &self.path) {
             return self.end_inner(name);
         }
         match self.insertion_mode {
-            InsertionMode::AfterBody => self.end_behind_body(name),
-            InsertionMode::AfterHtml => Err(BuildFault::from(Rule::AfterBody)),
+            BuilderMode::AfterBody => self.end_behind_body(name),
+            BuilderMode::AfterHtml => Err(BuildFault::from(Rule::AfterBody)),
             _ => self.end_open(name),
         }
     }
 
-    /// Behind `body`.
+    /// Takes an end tag behind `body` (13.2.6.4, "after body").
     fn end_behind_body(&mut self, name: &str) -> Result<(), BuildFault>
         requires kept { IsKept self.old }
-        requires insertion_mode { self.old.insertion_mode ≡ InsertionMode.AfterBody }
+        requires insertion_mode { self.old.insertion_mode ≡ BuilderMode.AfterBody }
         requires no_text { paths.is_in_text self.old.path ≡ false }
-        ensures ok { OnOk result (IsDone (step_end name.now (state_of self.old)) self.old self.new) }
-        ensures err { IfErr result (IsRefused (step_end name.now (state_of self.old))) }
+        ensures { Takes (step_end name.now (state_of self.old)) result self.old self.new }
     {
         if name == "html" {
-            self.insertion_mode = InsertionMode::AfterHtml;
+            self.insertion_mode = BuilderMode::AfterHtml;
             Ok(())
         } else {
             Err(BuildFault::from(Rule::AfterBody))
         }
     }
 
-    /// In the body.
+    /// Takes an end tag in the body (13.2.6.4.7).
     fn end_open(&mut self, name: &str) -> Result<(), BuildFault>
         requires kept { IsKept self.old }
-        requires insertion_mode { self.old.insertion_mode ≡ InsertionMode.InBody }
+        requires insertion_mode { self.old.insertion_mode ≡ BuilderMode.InBody }
         requires no_text { paths.is_in_text self.old.path ≡ false }
         requires room { Fits (step_end name.now (state_of self.old)) self.old.maker }
-        ensures ok { OnOk result (IsDone (step_end name.now (state_of self.old)) self.old self.new) }
-        ensures err { IfErr result (IsRefused (step_end name.now (state_of self.old))) }
+        ensures { Takes (step_end name.now (state_of self.old)) result self.old self.new }
     {
         if self.path.is_in_svg() {
             return self.end_inner(name);
         }
         if same_name(name, "body") {
-            return self.leave_body(InsertionMode::AfterBody);
+            return self.leave_body(BuilderMode::AfterBody);
         }
         if same_name(name, "html") {
-            return self.leave_body(InsertionMode::AfterHtml);
+            return self.leave_body(BuilderMode::AfterHtml);
         }
         if same_name(name, "head") {
             return Err(BuildFault::from(Rule::StrayEnd));
@@ -199,13 +188,12 @@ impl Parts {
         self.end_named(name)
     }
 
-    /// The body ends where nothing but a `p` is open in it.
-    fn leave_body(&mut self, insertion_mode: InsertionMode) -> Result<(), BuildFault>
+    /// The body ends where nothing but a `p` is open in it (13.2.6.4.7).
+    fn leave_body(&mut self, insertion_mode: BuilderMode) -> Result<(), BuildFault>
         requires kept { IsKept self.old }
-        requires here { self.old.insertion_mode ≡ InsertionMode.InBody }
+        requires here { self.old.insertion_mode ≡ BuilderMode.InBody }
         requires there { HasBodyPath insertion_mode }
-        ensures ok { OnOk result (IsDone (steps.leave_body (insertion_mode_of insertion_mode) (state_of self.old)) self.old self.new) }
-        ensures err { IfErr result (IsRefused (steps.leave_body (insertion_mode_of insertion_mode) (state_of self.old))) }
+        ensures { Takes (steps.leave_body (insertion_mode_of insertion_mode) (state_of self.old)) result self.old self.new }
     {
         if is_at_end(&self.path) {
             self.insertion_mode = insertion_mode;
@@ -215,28 +203,27 @@ impl Parts {
         }
     }
 
-    /// Ends an element of HTML, and those whose ends are implied.
+    /// Ends an element of HTML, and those whose ends are implied (13.2.6.4.7 to 13.2.6.4.15).
     fn end_named(&mut self, name: &str) -> Result<(), BuildFault>
         requires kept { IsKept self.old }
         requires body { HasBodyPath self.old.insertion_mode }
         requires not_body { name.now ≢ body }
         requires not_html { name.now ≢ html }
-        ensures ok { OnOk result (IsDone (after_end_moves (state_of self.old) (end_moves name.now self.old.path)) self.old self.new) }
-        ensures err { IfErr result (IsRefused (after_end_moves (state_of self.old) (end_moves name.now self.old.path))) }
+        ensures { Takes (after_end_moves (state_of self.old) (end_moves name.now self.old.path)) result self.old self.new }
     {
         let moves = self.path.end(name)?;
         end_elements(&mut self.maker, moves.closes)?;
         Ok(())
     }
 
-    /// Ends the innermost element of a body, which is one of SVG or holds a text, if the tag has its name.
+    /// Ends the innermost element of a body, which is one of SVG or holds a text, if the tag has its name (13.2.6.5,
+    /// 13.2.6.4.8).
     fn end_inner(&mut self, name: &str) -> Result<(), BuildFault>
         requires kept { IsKept self.old }
         requires body { HasBodyPath self.old.insertion_mode }
         requires only_current { paths.is_in_svg self.old.path || paths.is_in_text self.old.path ≡ true }
         requires room { Fits (end_current name.now (state_of self.old) self.old.path) self.old.maker }
-        ensures ok { OnOk result (IsDone (end_current name.now (state_of self.old) self.old.path) self.old self.new) }
-        ensures err { IfErr result (IsRefused (end_current name.now (state_of self.old) self.old.path)) }
+        ensures { Takes (end_current name.now (state_of self.old) self.old.path) result self.old self.new }
     {
         // The length of the path comes with its outermost elements, html and body.
         let _depth = self.path.len();
@@ -252,7 +239,7 @@ impl Parts {
     }
 }
 
-/// Whether nothing but `html`, `body` and at most one `p` in it is open.
+/// Whether nothing but `html`, `body` and at most one `p` in it is open (13.2.6.4.7).
 pub(crate) fn is_at_end(path: &Path) -> bool
     ensures { result ≡ steps.is_at_end path.now }
 {

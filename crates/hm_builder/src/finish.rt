@@ -1,16 +1,16 @@
 //! The end of the page (HTML Standard, 13.2.6.4).
-ghost use Rattle.std.specs.Prelude.{◌≡◌, ◌<◌, [], ◌++◌, length, map, IfOk, OnOk, IfErr};
+ghost use Rattle.std.specs.Prelude.{◌≡◌, ◌<◌, [], ◌++◌, length, map, OnOk};
 ghost use Rattle.hm_base.specs.Walks as walks;
 ghost use Rattle.hm_base.specs.Walks.{path_after};
 ghost use Rattle.hm_construction.specs.Steps.{closing, step_over};
 ghost use Rattle.hm_tree.specs.Trees.{HasRoom};
-ghost use Rattle.hm_builder.specs.Building.{Fits, IsBuilt, IsRefused};
+ghost use Rattle.hm_builder.specs.Building.{Builds, Fits};
 ghost use Rattle.hm_builder.specs.Inside as inside;
 ghost use Rattle.hm_builder.specs.Inside.{IsKept, state_of};
 
 use crate::BuildFault;
 use crate::end_tag::is_at_end;
-use crate::insertion::InsertionMode;
+use crate::insertion::BuilderMode;
 use crate::make::make_missing;
 use crate::moves::end_elements;
 use crate::parts::{Parts, is_in_text};
@@ -20,12 +20,11 @@ use hm_tree::{Maker, Tree};
 use std::alloc::Global;
 
 impl Parts {
-    /// All that is missing is made, and all closes.
+    /// All that is missing is made, and all closes (13.2.6.4.2 to 13.2.6.4.7).
     pub(crate) fn finish(self, alloc: Global) -> Result<Tree, BuildFault>
         requires kept { IsKept self }
         requires room { Fits (step_over (state_of self)) self.maker }
-        ensures ok { IfOk result (λ tree. IsBuilt (step_over (state_of self)) self.maker tree) }
-        ensures err { IfErr result (IsRefused (step_over (state_of self))) }
+        ensures { Builds (step_over (state_of self)) result self.maker }
     {
         if is_in_text(self.insertion_mode, &self.path) {
             return Err(BuildFault::from(Rule::Cut));
@@ -46,17 +45,17 @@ impl Parts {
     }
 }
 
-/// Why a page doesn't end here.
-fn end_rule(insertion_mode: InsertionMode, path: &Path) -> Option<Rule>
+/// Why a page doesn't end here (13.2.6.4.1, 13.2.6.4.5, 13.2.6.4.7).
+fn end_rule(insertion_mode: BuilderMode, path: &Path) -> Option<Rule>
     ensures { result ≡ inside.end_rule insertion_mode path.now }
 {
     match insertion_mode {
-        InsertionMode::Initial => Some(Rule::NoDoctype),
-        InsertionMode::InHead {
+        BuilderMode::Initial => Some(Rule::NoDoctype),
+        BuilderMode::InHead {
             noscript: true,
             text: None,
         } => Some(Rule::Unclosed),
-        InsertionMode::InBody => (!is_at_end(path)).then_some(Rule::Unclosed),
+        BuilderMode::InBody => (!is_at_end(path)).then_some(Rule::Unclosed),
         _ => None,
     }
 }

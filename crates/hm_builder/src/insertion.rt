@@ -11,7 +11,7 @@ pub(crate) enum HeadText {
 /// The insertion modes (HTML Standard, 13.2.4.1), as far as they are told apart. Before the body the
 /// mode tells which elements are open.
 #[derive(Clone, Copy, Debug, PartialEq, Eq)]
-pub(crate) enum InsertionMode {
+pub(crate) enum BuilderMode {
     Initial,
     BeforeHtml,
     BeforeHead,

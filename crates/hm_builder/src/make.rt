@@ -5,30 +5,30 @@ ghost use Rattle.hm_construction.specs.Steps.{under_html, under_head};
 ghost use Rattle.hm_tree.specs.Trees.{HasRoom};
 ghost use Rattle.hm_builder.specs.Inside.{CanMake, missing, body_made, head_closed, head_ended, head_made, html_made, html_then_head, only_head};
 
-use crate::insertion::InsertionMode;
+use crate::insertion::BuilderMode;
 use hm_base::Memory;
 use hm_tree::{Attrs, Maker};
 use std::alloc::Global;
 
-/// Makes what is missing up to `body`, and closes `head`.
+/// Makes what is missing up to `body`, and closes `head` (13.2.6.4.2 to 13.2.6.4.6).
 pub(crate) fn make_missing(
     alloc: Global,
     maker: &mut Maker,
-    insertion_mode: InsertionMode,
+    insertion_mode: BuilderMode,
 ) -> Result<(), Memory>
     requires room { HasRoom (maker.old ++ missing insertion_mode) }
     requires open_there { CanMake insertion_mode (path_after [] maker.old) }
     ensures { OnOk result (maker.new ≡ maker.old ++ missing insertion_mode) }
 {
     match insertion_mode {
-        InsertionMode::BeforeHtml => make_html(alloc, maker),
-        InsertionMode::BeforeHead => make_head(alloc, maker),
-        InsertionMode::InHead { .. } => close_head(alloc, maker),
-        InsertionMode::AfterHead => make_body(alloc, maker),
-        InsertionMode::Initial
-        | InsertionMode::InBody
-        | InsertionMode::AfterBody
-        | InsertionMode::AfterHtml => Ok(()),
+        BuilderMode::BeforeHtml => make_html(alloc, maker),
+        BuilderMode::BeforeHead => make_head(alloc, maker),
+        BuilderMode::InHead { .. } => close_head(alloc, maker),
+        BuilderMode::AfterHead => make_body(alloc, maker),
+        BuilderMode::Initial
+        | BuilderMode::InBody
+        | BuilderMode::AfterBody
+        | BuilderMode::AfterHtml => Ok(()),
     }
 }
 
@@ -66,20 +66,20 @@ fn make_body(alloc: Global, maker: &mut Maker) -> Result<(), Memory>
     maker.start("body", false, Attrs::new(alloc))
 }
 
-/// Makes `head` where it is missing, and closes it.
+/// Makes `head` where it is missing, and closes it (13.2.6.4.2 to 13.2.6.4.4).
 pub(crate) fn close_made_head(
     alloc: Global,
     maker: &mut Maker,
-    insertion_mode: InsertionMode,
+    insertion_mode: BuilderMode,
 ) -> Result<(), Memory>
     requires room { HasRoom (maker.old ++ head_ended insertion_mode) }
     requires open_there { CanMake insertion_mode (path_after [] maker.old) }
     ensures { OnOk result (maker.new ≡ maker.old ++ head_ended insertion_mode) }
 {
     match insertion_mode {
-        InsertionMode::BeforeHtml => make_html_and_head(alloc, maker),
-        InsertionMode::BeforeHead => make_only_head(alloc, maker),
-        InsertionMode::InHead { .. } => maker.end(),
+        BuilderMode::BeforeHtml => make_html_and_head(alloc, maker),
+        BuilderMode::BeforeHead => make_only_head(alloc, maker),
+        BuilderMode::InHead { .. } => maker.end(),
         _ => Ok(()),
     }
 }

@@ -1,14 +1,12 @@
 //! The parts of a builder, and which elements are open.
 ghost use Rattle.std.specs.Prelude.{◌≡◌};
-ghost use Rattle.hm_elements.specs.Names.{is_among};
 ghost use Rattle.hm_elements.specs.Paths as paths;
-ghost use Rattle.hm_elements.specs.Paths.{blank_parents};
 ghost use Rattle.hm_builder.specs.Inside as inside;
 ghost use Rattle.hm_builder.specs.Inside.{inside_head, open_path, text_name};
 
-use crate::insertion::{HeadText, InsertionMode};
+use crate::insertion::{BuilderMode, HeadText};
 use hm_base::Word;
-use hm_elements::{is_one_of, is_raw, same_name};
+use hm_elements::{is_blank_parent, is_raw, same_name};
 use hm_settle::Path;
 use hm_tree::Maker;
 
@@ -16,7 +14,7 @@ use hm_tree::Maker;
 #[derive(Debug, Drop)]
 pub(crate) struct Parts {
     pub maker: Maker,
-    pub insertion_mode: InsertionMode,
+    pub insertion_mode: BuilderMode,
     /// The open elements of the body; `html` and `body` before it begins.
     pub path: Path,
     /// Whether a line feed that comes next is dropped.
@@ -40,15 +38,14 @@ impl HeadText {
 }
 
 /// The name of the innermost element, and no bytes where none is open.
-pub(crate) fn current(insertion_mode: InsertionMode, path: &Path) -> &str
+pub(crate) fn current(insertion_mode: BuilderMode, path: &Path) -> &str
     ensures { result.now ≡ paths.current (open_path insertion_mode path.now) }
 {
     match insertion_mode {
-        InsertionMode::Initial | InsertionMode::BeforeHtml => "",
-        InsertionMode::BeforeHead | InsertionMode::AfterHead => "html",
-        InsertionMode::InHead { noscript, text } => current_in_head(noscript, text),
-        InsertionMode::InBody | InsertionMode::AfterBody | InsertionMode::AfterHtml =>
-            path.current(),
+        BuilderMode::Initial | BuilderMode::BeforeHtml => "",
+        BuilderMode::BeforeHead | BuilderMode::AfterHead => "html",
+        BuilderMode::InHead { noscript, text } => current_in_head(noscript, text),
+        BuilderMode::InBody | BuilderMode::AfterBody | BuilderMode::AfterHtml => path.current(),
     }
 }
 
@@ -62,32 +59,31 @@ pub(crate) fn current_in_head(noscript: bool, text: Option<HeadText>) -> &'stati
 }
 
 /// Whether the innermost element is one of SVG.
-pub(crate) fn is_in_svg(insertion_mode: InsertionMode, path: &Path) -> bool
+pub(crate) fn is_in_svg(insertion_mode: BuilderMode, path: &Path) -> bool
     ensures { result ≡ paths.is_in_svg (open_path insertion_mode path.now) }
 {
     matches!(
         insertion_mode,
-        InsertionMode::InBody | InsertionMode::AfterBody | InsertionMode::AfterHtml
+        BuilderMode::InBody | BuilderMode::AfterBody | BuilderMode::AfterHtml
     ) && path.is_in_svg()
 }
 
 /// Whether the innermost element is one of HTML that holds one text and nothing else. No name is looked up.
-pub(crate) fn is_in_text(insertion_mode: InsertionMode, path: &Path) -> bool
+pub(crate) fn is_in_text(insertion_mode: BuilderMode, path: &Path) -> bool
     ensures { result ≡ paths.is_in_text (open_path insertion_mode path.now) }
 {
     match insertion_mode {
-        InsertionMode::Initial
-        | InsertionMode::BeforeHtml
-        | InsertionMode::BeforeHead
-        | InsertionMode::AfterHead => false,
-        InsertionMode::InHead { text, .. } => text.is_some(),
-        InsertionMode::InBody | InsertionMode::AfterBody | InsertionMode::AfterHtml =>
-            path.is_in_text(),
+        BuilderMode::Initial
+        | BuilderMode::BeforeHtml
+        | BuilderMode::BeforeHead
+        | BuilderMode::AfterHead => false,
+        BuilderMode::InHead { text, .. } => text.is_some(),
+        BuilderMode::InBody | BuilderMode::AfterBody | BuilderMode::AfterHtml => path.is_in_text(),
     }
 }
 
 /// Whether a text is raw here. Only the name of an element that holds one text is looked up.
-pub(crate) fn is_in_raw(insertion_mode: InsertionMode, path: &Path) -> bool
+pub(crate) fn is_in_raw(insertion_mode: BuilderMode, path: &Path) -> bool
     ensures { result ≡ paths.is_in_raw (open_path insertion_mode path.now) }
 {
     is_in_text(insertion_mode, path) && is_raw(current(insertion_mode, path))
@@ -98,18 +94,6 @@ pub(crate) fn is_in_blank(path: &Path) -> bool
     ensures { result ≡ paths.is_in_blank path.now }
 {
     !path.is_in_svg() && (is_blank_parent(path.current()) || is_noscript_in_head(path))
-}
-
-#[tactic(auto, unfolding(hm_elements::specs::Paths::blank_parents))]
-fn is_blank_parent(name: &str) -> bool
-    ensures { result ≡ is_among name.now blank_parents }
-{
-    is_one_of(
-        name,
-        &[
-            "head", "table", "thead", "tbody", "tfoot", "tr", "colgroup", "select", "optgroup",
-        ],
-    )
 }
 
 fn is_noscript_in_head(path: &Path) -> bool

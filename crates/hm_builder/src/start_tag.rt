@@ -3,7 +3,6 @@ ghost use Rattle.std.specs.Prelude.{◌≡◌, ◌≤◌, [], ◌∷◌, ◌++�
 ghost use Rattle.hm_base.specs.Walks as walks;
 ghost use Rattle.hm_base.specs.Walks.{path_after};
 ghost use Rattle.hm_construction.specs.Steps.{end_event, html_start, reach_body, start_in_body, starts, step, step_start};
-ghost use Rattle.hm_elements.specs.Names.{is_among, words};
 ghost use Rattle.hm_elements.specs.Paths.{is_in_text};
 ghost use Rattle.hm_elements.specs.Tables as tables;
 ghost use Rattle.hm_settle.specs.Answers.{elements_of};
@@ -11,22 +10,22 @@ ghost use Rattle.hm_settle.specs.Plans as plans;
 ghost use Rattle.hm_tree.specs.Tokens as tokens;
 ghost use Rattle.hm_tree.specs.Trees.{HasRoom};
 ghost use Rattle.hm_builder.specs.BeforeBody.{IsBefore};
-ghost use Rattle.hm_builder.specs.Building.{Fits, IsRefused};
-ghost use Rattle.hm_builder.specs.Inside.{CanReach, IsDone, IsEntered, IsKept, IsOpened, open_path, insertion_mode_of, state_of};
+ghost use Rattle.hm_builder.specs.Building.{Fits};
+ghost use Rattle.hm_builder.specs.Inside.{CanReach, IsEntered, IsKept, IsOpened, Takes, insertion_mode_of, open_path, state_of};
 
 use crate::BuildFault;
-use crate::insertion::InsertionMode;
+use crate::insertion::BuilderMode;
 use crate::make::make_missing;
 use crate::moves::{end_elements, start_made};
 use crate::parts::Parts;
 use hm_base::{Memory, Rule};
-use hm_elements::{is_one_of, is_refused, is_void, same_name};
+use hm_elements::{is_preformatted, is_refused, is_root, is_void, same_name};
 use hm_settle::{Moves, Path};
 use hm_tree::{Attrs, Maker};
 use std::alloc::Global;
 
 impl Parts {
-    /// Takes a start tag. None is read inside an element that holds a text.
+    /// Takes a start tag (13.2.6.4). None is read inside an element that holds a text.
     pub(crate) fn start_tag(
         &mut self,
         alloc: Global,
@@ -37,14 +36,13 @@ impl Parts {
         requires kept { IsKept self.old }
         requires not_text { is_in_text (open_path self.old.insertion_mode self.old.path) ≡ false }
         requires room { Fits (step (state_of self.old) (tokens.start_tag name.now attrs slash)) self.old.maker }
-        ensures ok { OnOk result (IsDone (step (state_of self.old) (tokens.start_tag name.now attrs slash)) self.old self.new) }
-        ensures err { IfErr result (IsRefused (step (state_of self.old) (tokens.start_tag name.now attrs slash))) }
+        ensures { Takes (step (state_of self.old) (tokens.start_tag name.now attrs slash)) result self.old self.new }
     {
         self.drops_line_feed = false;
         self.start_undropped(alloc, name, attrs, slash)
     }
 
-    /// Takes a start tag where no line feed is dropped any more.
+    /// Takes a start tag where no line feed is dropped any more (13.2.6.4).
     fn start_undropped(
         &mut self,
         alloc: Global,
@@ -56,20 +54,19 @@ impl Parts {
         requires all { self.old.drops_line_feed ≡ false }
         requires not_text { is_in_text (open_path self.old.insertion_mode self.old.path) ≡ false }
         requires room { Fits (step_start name.now attrs slash (state_of self.old)) self.old.maker }
-        ensures ok { OnOk result (IsDone (step_start name.now attrs slash (state_of self.old)) self.old self.new) }
-        ensures err { IfErr result (IsRefused (step_start name.now attrs slash (state_of self.old))) }
+        ensures { Takes (step_start name.now attrs slash (state_of self.old)) result self.old self.new }
     {
         match self.insertion_mode {
-            InsertionMode::Initial => Err(BuildFault::from(Rule::NoDoctype)),
-            InsertionMode::AfterBody | InsertionMode::AfterHtml => Err(BuildFault::from(
+            BuilderMode::Initial => Err(BuildFault::from(Rule::NoDoctype)),
+            BuilderMode::AfterBody | BuilderMode::AfterHtml => Err(BuildFault::from(
                 Rule::AfterBody,
             )),
-            InsertionMode::InBody => self.start_in_body(alloc, name, attrs, slash),
+            BuilderMode::InBody => self.start_in_body(alloc, name, attrs, slash),
             _ => self.start_html(alloc, name, attrs, slash),
         }
     }
 
-    /// Before the body.
+    /// Takes a start tag before the body (13.2.6.4.2 to 13.2.6.4.6).
     fn start_html(
         &mut self,
         alloc: Global,
@@ -82,8 +79,7 @@ impl Parts {
         requires not_text { is_in_text (open_path self.old.insertion_mode self.old.path) ≡ false }
         requires before { IsBefore self.old.insertion_mode }
         requires room { Fits (html_start name.now attrs slash (state_of self.old)) self.old.maker }
-        ensures ok { OnOk result (IsDone (html_start name.now attrs slash (state_of self.old)) self.old self.new) }
-        ensures err { IfErr result (IsRefused (html_start name.now attrs slash (state_of self.old))) }
+        ensures { Takes (html_start name.now attrs slash (state_of self.old)) result self.old self.new }
     {
         if is_refused(name) {
             return Err(BuildFault::from(Rule::RefusedName));
@@ -94,7 +90,7 @@ impl Parts {
         self.start_before_body(alloc, name, attrs, slash)
     }
 
-    /// Opens an element in the body, which is made where it is missing.
+    /// Opens an element in the body, which is made where it is missing (13.2.6.4.7, 13.2.6.5).
     pub(crate) fn start_in_body(
         &mut self,
         alloc: Global,
@@ -106,19 +102,18 @@ impl Parts {
         requires reach { CanReach self.old.insertion_mode }
         requires all { self.old.drops_line_feed ≡ false }
         requires room { Fits (reach_body (insertion_mode_of self.old.insertion_mode) (start_in_body name.now attrs slash) (state_of self.old)) self.old.maker }
-        ensures ok { OnOk result (IsDone (reach_body (insertion_mode_of self.old.insertion_mode) (start_in_body name.now attrs slash) (state_of self.old)) self.old self.new) }
-        ensures err { IfErr result (IsRefused (reach_body (insertion_mode_of self.old.insertion_mode) (start_in_body name.now attrs slash) (state_of self.old))) }
+        ensures { Takes (reach_body (insertion_mode_of self.old.insertion_mode) (start_in_body name.now attrs slash) (state_of self.old)) result self.old self.new }
     {
         let foreign = opens_as_svg(&self.path, name);
         let moves = self.path.start(name, foreign)?;
         make_missing(alloc, &mut self.maker, self.insertion_mode)?;
-        self.insertion_mode = InsertionMode::InBody;
+        self.insertion_mode = BuilderMode::InBody;
         move_and_start(alloc, &mut self.maker, moves, name, foreign, attrs)?;
         self.close_at_once(name, foreign, slash)
     }
 
     /// Closes a void element, and one of SVG whose tag closes itself; else the element stays open. Behind `pre` and
-    /// `textarea` a line feed is dropped.
+    /// `textarea` a line feed is dropped (13.2.6.4.7, 13.2.6.5).
     fn close_at_once(&mut self, name: &str, foreign: bool, slash: bool) -> Result<(), BuildFault>
         requires { IsOpened name.now foreign self.old }
         ensures ok { OnOk result (IsEntered slash self.old self.new) }
@@ -135,27 +130,19 @@ impl Parts {
             self.maker.end()?;
             return Ok(());
         }
-        self.drops_line_feed = drops_behind(name);
+        self.drops_line_feed = is_preformatted(name);
         Ok(())
     }
 }
 
-/// Whether the element is html, head or body.
-#[tactic(auto, unfolding(hm_elements::specs::Tables::is_root, hm_elements::specs::Tables::roots))]
-fn is_root(name: &str) -> bool
-    ensures { result ≡ tables.is_root name.now }
-{
-    is_one_of(name, &["html", "head", "body"])
-}
-
-/// Whether the element opens as one of SVG.
+/// Whether the element opens as one of SVG (13.2.6.5).
 fn opens_as_svg(path: &Path, name: &str) -> bool
     ensures { result ≡ plans.opens_as_svg name.now path.now }
 {
     path.is_in_svg() || same_name(name, "svg")
 }
 
-/// Ends the elements that close, starts those that are made, and then the element of the tag.
+/// Ends the elements that close, starts those that are made, and then the element of the tag (13.2.6.4.7 and following).
 fn move_and_start(
     alloc: Global,
     maker: &mut Maker,
@@ -171,11 +158,4 @@ fn move_and_start(
     end_elements(maker, moves.closes)?;
     start_made(alloc, maker, moves.made)?;
     maker.start(name, foreign, attrs)
-}
-
-/// Whether a line feed directly behind the start tag of the HTML element is dropped (13.2.6.4.7).
-fn drops_behind(name: &str) -> bool
-    ensures { result ≡ is_among name.now (words "pre textarea") }
-{
-    is_one_of(name, &["pre", "textarea"])
 }

@@ -1,16 +1,16 @@
-//! Texts (HTML Standard, 13.2.6).
-ghost use Rattle.std.specs.Prelude.{◌≡◌, ◌+◌, ◌^◌, ◌<◌, ◌++◌, length, string_bytes, encode_utf8_all, true, false, None, IfOk, OnOk, IfErr};
+//! Texts (HTML Standard, 13.2.6.4).
+ghost use Rattle.std.specs.Prelude.{◌≡◌, ◌+◌, ◌^◌, ◌<◌, ◌++◌, length, string_bytes, encode_utf8_all, true, false, None, IfOk, OnOk};
 ghost use Rattle.hm_elements.specs.Paths as paths;
 ghost use Rattle.hm_tree.specs.Trees.{HasRoom, last_agrees};
 ghost use Rattle.hm_construction.specs.Steps.{behind_bytes, step, step_bytes};
 ghost use Rattle.hm_tree.specs.Tokens as tokens;
 ghost use Rattle.hm_tree.specs.Tokens.{points_of};
-ghost use Rattle.hm_builder.specs.Building.{Fits, IsRefused};
+ghost use Rattle.hm_builder.specs.Building.{Fits};
 ghost use Rattle.hm_builder.specs.Inside as inside;
-ghost use Rattle.hm_builder.specs.Inside.{IsCut, IsDone, IsKept, IsPutBehind, mixed_events, open_path, state_of, with_blank};
+ghost use Rattle.hm_builder.specs.Inside.{IsCut, IsKept, IsPutBehind, Takes, mixed_events, open_path, state_of, with_blank};
 
 use crate::BuildFault;
-use crate::insertion::InsertionMode;
+use crate::insertion::BuilderMode;
 use crate::make::make_missing;
 use crate::parts::{Parts, is_in_blank, is_in_raw, is_in_text};
 use hm_base::{Memory, Points, Rule, is_space};
@@ -29,46 +29,45 @@ fn split_blank(text: &str) -> (&str, &str)
     (&text[..at], &text[at..])
 }
 
-/// Why a text that isn't whitespace is refused.
-fn text_rule(insertion_mode: InsertionMode, path: &hm_settle::Path) -> Option<Rule>
+/// Why a text that isn't whitespace is refused (13.2.6.4).
+fn text_rule(insertion_mode: BuilderMode, path: &hm_settle::Path) -> Option<Rule>
     ensures { result ≡ inside.text_rule insertion_mode path.now }
 {
     match insertion_mode {
-        InsertionMode::Initial => Some(Rule::NoDoctype),
-        InsertionMode::InHead {
+        BuilderMode::Initial => Some(Rule::NoDoctype),
+        BuilderMode::InHead {
             noscript: true,
             text: None,
         } => Some(Rule::TextHere),
-        InsertionMode::InBody => is_in_blank(path).then_some(Rule::TextHere),
-        InsertionMode::AfterBody | InsertionMode::AfterHtml => Some(Rule::AfterBody),
+        BuilderMode::InBody => is_in_blank(path).then_some(Rule::TextHere),
+        BuilderMode::AfterBody | BuilderMode::AfterHtml => Some(Rule::AfterBody),
         _ => None,
     }
 }
 
-/// Puts whitespace where it stands, or drops it.
-fn keep_blank(maker: &mut Maker, insertion_mode: InsertionMode, text: &str) -> Result<(), Memory>
+/// Puts whitespace where it stands, or drops it (13.2.6.4.1 to 13.2.6.4.3).
+fn keep_blank(maker: &mut Maker, insertion_mode: BuilderMode, text: &str) -> Result<(), Memory>
     requires room { HasRoom (with_blank insertion_mode maker.old text.now) }
     requires same_raw { last_agrees maker.old false ≡ true }
     ensures { OnOk result (maker.new ≡ with_blank insertion_mode maker.old text.now) }
 {
     match insertion_mode {
-        InsertionMode::Initial | InsertionMode::BeforeHtml | InsertionMode::BeforeHead => Ok(()),
-        InsertionMode::InHead { .. }
-        | InsertionMode::AfterHead
-        | InsertionMode::InBody
-        | InsertionMode::AfterBody
-        | InsertionMode::AfterHtml => maker.text(text, false),
+        BuilderMode::Initial | BuilderMode::BeforeHtml | BuilderMode::BeforeHead => Ok(()),
+        BuilderMode::InHead { .. }
+        | BuilderMode::AfterHead
+        | BuilderMode::InBody
+        | BuilderMode::AfterBody
+        | BuilderMode::AfterHtml => maker.text(text, false),
     }
 }
 
 impl Parts {
-    /// Takes a text of fewer than 2 ^ 32 bytes.
+    /// Takes a text of fewer than 2 ^ 32 bytes (13.2.6.4). A line feed directly behind `pre` or `textarea` is dropped (13.2.6.4.7).
     pub(crate) fn text(&mut self, alloc: Global, text: &str) -> Result<(), BuildFault>
         requires kept { IsKept self.old }
         requires short { length text.now < 2 ^ 32 }
         requires room { Fits (step_bytes text.now (state_of self.old)) self.old.maker }
-        ensures ok { OnOk result (IsDone (step_bytes text.now (state_of self.old)) self.old self.new) }
-        ensures err { IfErr result (IsRefused (step_bytes text.now (state_of self.old))) }
+        ensures { Takes (step_bytes text.now (state_of self.old)) result self.old self.new }
     {
         if !self.drops_line_feed {
             return self.plain_text(alloc, text, 0);
@@ -83,12 +82,11 @@ impl Parts {
         }
     }
 
-    /// Takes what a character reference stands for.
+    /// Takes what a character reference stands for (13.2.6.4).
     pub(crate) fn points(&mut self, alloc: Global, points: Points) -> Result<(), BuildFault>
         requires kept { IsKept self.old }
         requires room { Fits (step (state_of self.old) (tokens.points (points_of points))) self.old.maker }
-        ensures ok { OnOk result (IsDone (step (state_of self.old) (tokens.points (points_of points))) self.old self.new) }
-        ensures err { IfErr result (IsRefused (step (state_of self.old) (tokens.points (points_of points)))) }
+        ensures { Takes (step (state_of self.old) (tokens.points (points_of points))) result self.old self.new }
     {
         let text = text_of(alloc, points)?;
         match self.text(alloc, text.as_str()) {
@@ -97,14 +95,13 @@ impl Parts {
         }
     }
 
-    /// Takes a text of which no line feed is dropped, with so many bytes of its token before it.
+    /// Takes a text of which no line feed is dropped, with so many bytes of its token before it (13.2.6.4).
     fn plain_text(&mut self, alloc: Global, text: &str, before: u32) -> Result<(), BuildFault>
         requires kept { IsKept self.old }
         requires all { self.old.drops_line_feed ≡ false }
         requires short { before + length text.now < 2 ^ 32 }
         requires room { Fits (step_bytes text.now (state_of self.old)) self.old.maker }
-        ensures ok { OnOk result (IsDone (step_bytes text.now (state_of self.old)) self.old self.new) }
-        ensures err { IfErr result (IsRefused (behind_bytes before (step_bytes text.now (state_of self.old)))) }
+        ensures { Takes (behind_bytes before (step_bytes text.now (state_of self.old))) result self.old self.new }
     {
         if is_in_text(self.insertion_mode, &self.path) {
             let raw = is_in_raw(self.insertion_mode, &self.path);
@@ -124,7 +121,7 @@ impl Parts {
         Ok(())
     }
 
-    /// Takes whitespace and a text behind it that isn't, where text may stand.
+    /// Takes whitespace and a text behind it that isn't, where text may stand (13.2.6.4.2 to 13.2.6.4.7).
     fn mixed_text(&mut self, alloc: Global, blank: &str, rest: &str) -> Result<(), Memory>
         requires kept { IsKept self.old }
         requires not_text { paths.is_in_text (open_path self.old.insertion_mode self.old.path) ≡ false }
@@ -134,7 +131,7 @@ impl Parts {
     {
         keep_blank(&mut self.maker, self.insertion_mode, blank)?;
         make_missing(alloc, &mut self.maker, self.insertion_mode)?;
-        self.insertion_mode = InsertionMode::InBody;
+        self.insertion_mode = BuilderMode::InBody;
         self.maker.text(rest, false)?;
         Ok(())
     }

@@ -6,12 +6,12 @@ use Rattle.hm_base.specs.Forms.{is_tag_name}
 use Rattle.hm_base.specs.Walks.{Event, start, end, Attribute, Element, begins_end}
 use Rattle.hm_base.specs.declared.rules.Rule.TheVariants.{WrongParent, AfterHead}
 use Rattle.hm_elements.specs.Names.{words, is_among, head, noscript, svg}
-use Rattle.hm_elements.specs.Tables.{is_void, voids, is_refused, is_raw, raw_names, is_rcdata, rcdata_names, holds_text, closes_p, paragraph_ends, blocks, headings, is_unnested, unnested_names, is_heading, parts}
+use Rattle.hm_elements.specs.Tables.{is_metadata, is_void, voids, is_refused, is_raw, raw_names, is_rcdata, rcdata_names, holds_text, closes_p, paragraph_ends, blocks, headings, is_unnested, unnested_names, is_heading, parts}
 use Rattle.hm_elements.specs.Nesting.{may_stand, children, noscript_children, yields, yield_rows}
 use Rattle.hm_elements.specs.Paths.{html_element, is_in_svg, is_in_text, stands_on, head_yields, is_block_in_p, is_nested, is_deep}
 use Rattle.hm_elements.specs.Places.{AttributesAllowed, StartAllowed}
 use Rattle.hm_elements.proofs.TableTools.{same_bytes, entry_passes}
-use Rattle.hm_construction.specs.Steps.{in_head, after_head, State, went, stops, under_html, under_head, under_body, close_head, make_body, is_in_noscript, drops_behind, opened, is_metadata, start_in_body, start_after_head, start_in_noscript, start_in_head}
+use Rattle.hm_construction.specs.Steps.{in_head, after_head, State, went, stops, under_html, under_head, under_body, close_head, make_body, is_in_noscript, drops_behind, opened, start_in_body, start_after_head, start_in_noscript, start_in_head}
 use Rattle.hm_construction.proofs.Standing.{HeadOuter, at_head, at_noscript, HeadPath, outside_text, inside_text, at_body, Leads, closed_leads, body_leads, head_is}
 use Rattle.hm_construction.proofs.Starts.{CommentsGood, raw_keeps, start_leads}
 use Rattle.hm_construction.proofs.Ends.{before_tag}

@@ -13,3 +13,4 @@ pub mod Rests
 pub mod RawTexts
 pub mod Built
 pub mod Pages
+pub mod Weights

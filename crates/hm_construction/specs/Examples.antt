@@ -7,7 +7,7 @@ use Rattle.hm_base.specs.RawText.{begins_end_tag, is_name_end, mark_at}
 use Rattle.hm_base.specs.Walks.{Event, doctype, start, text, comment, end}
 use Rattle.hm_base.specs.declared.rules.Rule.TheVariants as rules
 use Rattle.hm_elements.specs.Names.{is_among, html, head, body, p}
-use Rattle.hm_elements.specs.Tables.{roots, refused_names, headings, sections, parts, blocks, paragraph_ends, boundaries, svg_boundaries, svg_names, unnested_names, voids, rcdata_names, raw_names, is_root, is_void, is_refused, is_rcdata, is_raw, holds_text, is_heading, is_section, is_unnested, closes_p, is_boundary, is_svg_name, holds_svg_text}
+use Rattle.hm_elements.specs.Tables.{is_metadata, roots, refused_names, headings, sections, parts, blocks, paragraph_ends, boundaries, svg_boundaries, svg_names, unnested_names, voids, rcdata_names, raw_names, is_root, is_void, is_refused, is_rcdata, is_raw, holds_text, is_heading, is_section, is_unnested, closes_p, is_boundary, is_svg_name, holds_svg_text}
 use Rattle.hm_elements.specs.Nesting.{children, noscript_children, own_parents, bound_names, may_stand, yield_rows, yields, end_rows, ends_with, made_under}
 use Rattle.hm_elements.specs.Paths.{is_block_in_p, is_nested, is_deep, blank_parents, is_in_blank}
 use Rattle.hm_refs.specs.Names.{found_here}
@@ -21,7 +21,7 @@ use Rattle.hm_text_scan.specs.Texts.{read_text, begins_markup, reference_in}
 use Rattle.hm_mark_scan.specs.Comments.{read_comment, begins_cdata, read_cdata}
 use Rattle.hm_mark_scan.specs.Doctypes.{read_doctype, doctype_form, begins_doctype}
 use Rattle.hm_tokens.specs.First.{first}
-use Rattle.hm_construction.specs.Steps.{step, step_byte, step_start, step_end, step_over, is_metadata, is_at_end}
+use Rattle.hm_construction.specs.Steps.{step, step_byte, step_start, step_end, step_over, is_at_end}
 use Rattle.hm_construction.specs.Trees.{Outcome, built, refused_by, tree_of_text, tree_of_source}
 
 abbrev pub d : List ℕ

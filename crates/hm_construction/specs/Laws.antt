@@ -1,11 +1,14 @@
 -- What holds of trees that are built.
-use Rattle.std.specs.Prelude.{◌≡◌, ℕ, List, None, map}
+use Rattle.std.specs.Prelude.{◌≡◌, ℕ, ◌+◌, List, None, map}
 use Rattle.hm_base.specs.Source.{Source, byte_of, text_fault, source_of}
 use Rattle.hm_base.specs.Walks.{Event}
 use Rattle.hm_elements.specs.Settled.{Settled}
 use Rattle.hm_refs.specs.Names.{Entry}
 use Rattle.hm_tokens.specs.Laws.{IsPlain, SoundNames}
+use Rattle.hm_tree.specs.Tokens.{Seen}
+use Rattle.hm_construction.specs.Steps.{State, step, step_over}
 use Rattle.hm_construction.specs.Trees.{built, tree_of_source, page_tree}
+use Rattle.hm_construction.specs.Weights.{load, load_size, cost, size_cost, span, Within, WithinAll}
 
 -- Every walk that is built of the text of a page is settled.
 abbrev pub BuiltIsSettled : Type 0
@@ -18,3 +21,11 @@ TextsArePlain = (page : List ℕ) → text_fault page ≡ None → IsPlain (map 
 -- So every walk that is built of a page is settled, whatever the page.
 abbrev pub PagesAreSettled : Type 0
 PagesAreSettled = (t : List Entry) (page : List ℕ) (w : List Event) → SoundNames t → page_tree t page ≡ built w → Settled w
+
+-- How large a tree can grow: a step adds no more than its token may add and what was still to come, and is refused inside its token.
+abbrev pub StepsAreWithin : Type 0
+StepsAreWithin = (st : State) (token : Seen) → Within (load st + cost token) (load_size st + size_cost token) (span token) (step st token)
+
+-- The end of a page adds no more than what was still to come.
+abbrev pub EndsAreWithin : Type 0
+EndsAreWithin = (st : State) → WithinAll (load st) (load_size st) (step_over st)

@@ -2,13 +2,13 @@
 --
 -- A step answers the events that it makes and the state then, or the rule that refuses the token. Texts are taken byte by
 -- byte: the bytes of a code point above U+007F are none that a rule asks for, and all of them fare like the first.
-use Rattle.std.specs.Prelude.{ℕ, ◌+◌, Bool, true, false, not, ◌&&◌, ◌||◌, ◌==◌, List, [], ◌∷◌, ◌++◌, map, Some, None, if◌then◌else◌, codes, bytes_eq, encode_utf8_all}
+use Rattle.std.specs.Prelude.{ℕ, ◌+◌, Bool, true, false, not, ◌&&◌, ◌||◌, ◌==◌, List, [], ◌∷◌, ◌++◌, map, if◌then◌else◌, bytes_eq, encode_utf8_all}
 use Rattle.hm_base.specs.Bytes.{is_space}
 use Rattle.hm_base.specs.Walks.{Attribute, Event, doctype, start, text, comment, end, Element}
 use Rattle.hm_base.specs.declared.rules.Rule.{Rule}
 use Rattle.hm_base.specs.declared.rules.Rule.TheVariants.{Cut, NoDoctype, SecondDoctype, RefusedName, SecondRoot, StrayEnd, NotCurrent, WrongParent, TextHere, AfterHead, AfterBody, Unclosed}
-use Rattle.hm_elements.specs.Names.{words, is_among, html, head, body, noscript, p}
-use Rattle.hm_elements.specs.Tables.{is_refused}
+use Rattle.hm_elements.specs.Names.{is_among, html, head, body, noscript, p}
+use Rattle.hm_elements.specs.Tables.{is_refused, is_metadata, preformatted}
 use Rattle.hm_elements.specs.Nesting.{noscript_children}
 use Rattle.hm_elements.specs.Paths.{html_element, current, is_in_svg, stands_on, is_open, is_in_raw, is_in_text, is_in_blank}
 use Rattle.hm_settle.specs.Moves.{Moves, moves, refuses, start_moves, end_moves, is_void_open}
@@ -147,7 +147,7 @@ at_front (stops rule n) = stops rule 0
 -- a line feed directly behind the start tags of these is dropped
 abbrev pub drops_behind : List Element → Bool
 drops_behind [] = false
-drops_behind (e ∷ path) = not e.foreign && is_among e.name (words "pre textarea")
+drops_behind (e ∷ path) = not e.foreign && is_among e.name preformatted
 
 -- the innermost element was opened by a tag: it closes at once if it is void, or one of SVG whose tag closes itself
 abbrev pub closes_at_once : Bool → List Element → Bool
@@ -201,10 +201,6 @@ open_body before_head attributes st = make_head (close_head (open_body_here attr
 open_body in_head attributes st = if is_in_noscript in_head st.path then stops SecondRoot 0 else close_head (open_body_here attributes) st
 open_body after_head attributes st = open_body_here attributes st
 open_body insertion_mode attributes st = stops SecondRoot 0
-
--- metadata, which doesn't stand between head and body
-unfoldable pub is_metadata : List ℕ → Bool
-is_metadata n = is_among n (words "base link meta script style title")
 
 abbrev pub start_after_head : List ℕ → List Attribute → Bool → State → Stepped
 start_after_head n attributes slash st = if is_metadata n then stops AfterHead 0 else make_body (start_in_body n attributes slash) st

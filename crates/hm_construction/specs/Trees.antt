@@ -1,5 +1,5 @@
 -- The tree of a page, or its first refusal with its rule and the byte of the page where it comes.
-use Rattle.std.specs.Prelude.{ℕ, zero, suc, pred, ◌+◌, ◌-◌, Bool, true, false, List, [], ◌∷◌, ◌++◌, length, map, Option, Some, None, if◌then◌else◌, bytes_eq}
+use Rattle.std.specs.Prelude.{ℕ, zero, suc, pred, ◌+◌, ◌-◌, List, [], ◌∷◌, length, map, Option, Some, None, if◌then◌else◌, bytes_eq}
 use Rattle.hm_base.specs.Source.{Source, Refusal, text_fault, byte_of, source_of, place_in}
 use Rattle.hm_base.specs.Walks.{Event, Element, pushes}
 use Rattle.hm_base.specs.declared.rules.Rule.{Rule}

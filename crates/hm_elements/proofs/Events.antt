@@ -4,6 +4,7 @@ use Rattle.std.proofs.lemmas.Bool.{and_parts, and_from, or_right, and_right, not
 use Rattle.hm_base.specs.Bytes.{is_null}
 use Rattle.hm_base.specs.Forms.{has_byte, is_blank, is_tag_name}
 use Rattle.hm_base.specs.Walks.{Attribute, Event, start, text, comment, Element, same_flag, has_distinct_names, begins_end, begins_text}
+use Rattle.hm_base.specs.declared.limits.TheConstants.{ATTRIBUTE_LIMIT}
 use Rattle.hm_elements.specs.Names.{svg}
 use Rattle.hm_elements.specs.Tables.{is_root, is_void, is_refused, is_svg_name, holds_svg_text, holds_text}
 use Rattle.hm_elements.specs.Paths.{current, is_in_svg, stands_on, head_yields, is_block_in_p, is_nested, is_deep, is_in_raw, is_in_text, is_in_blank}
@@ -64,8 +65,8 @@ text_allowed path s raw w st =
 pub attributes_allowed : (path : List Element) (n : List ℕ) (foreign : Bool) (attributes : List Attribute) (w : List Event) → EventStands path (start n foreign attributes) w → AttributesAllowed attributes
 unfolding is_text_in_place has_attributes_in_form is_event_utf8
 attributes_allowed path n foreign attributes w st =
-    let two = and_parts (nat_le (length attributes) 256 && has_distinct_names attributes) (all_names_in_form attributes) st.attributes in
-    let one = and_parts (nat_le (length attributes) 256) (has_distinct_names attributes) two.0 in
+    let two = and_parts (nat_le (length attributes) ATTRIBUTE_LIMIT && has_distinct_names attributes) (all_names_in_form attributes) st.attributes in
+    let one = and_parts (nat_le (length attributes) ATTRIBUTE_LIMIT) (has_distinct_names attributes) two.0 in
     record { few = one.0; distinct = one.1; names = two.1; no_zero = (and_parts (no_zero_in_values attributes) (not (is_in_text path)) st.texts).0; utf8 = st.utf8 }
 
 -- an element of HTML in one of HTML

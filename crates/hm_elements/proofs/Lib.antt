@@ -11,3 +11,4 @@ pub mod NestingFacts
 pub mod Listed
 pub mod KnownFacts
 pub mod ClassFacts
+pub mod Defaults

@@ -4,6 +4,7 @@ use Rattle.std.proofs.lemmas.Bool.{or_cases, and_parts, not-true, false_from_ne_
 use Rattle.hm_base.specs.Bytes.{is_digit_of}
 use Rattle.hm_base.specs.Forms.{is_small, is_tag_byte, is_tag_name}
 use Rattle.hm_base.specs.Walks.{Element}
+use Rattle.hm_base.specs.declared.limits.TheConstants.{DEPTH_LIMIT}
 use Rattle.hm_elements.specs.Names.{words, is_among, find, is_pair, head, table, tbody, tr, col, colgroup, script, svg}
 use Rattle.hm_elements.specs.Tables.{is_raw, is_rcdata, holds_text, roots, voids, rcdata_names, raw_names, refused_names, headings, sections, parts, blocks, paragraph_ends, unnested_names, is_root, is_void, is_refused, is_section, is_heading, is_unnested, closes_p}
 use Rattle.hm_elements.specs.Nesting.{children, noscript_children, own_parents, bound_names, may_stand, yield_rows, yields, end_rows, ends_with, made_under}
@@ -207,4 +208,4 @@ stands_parent_holds n t g h = holds_more_means t (stands_passes (λ c t'. holds_
 
 pub outer_is_not_deep : (e : Element) (path : List Element) → is_deep (e ∷ path) ≡ false → is_deep path ≡ false
 unfolding is_deep
-outer_is_not_deep e path h = let l : suc (length path) ≤ 512 = ltb-false 512 (suc (length path)) h in le-ltb 512 (length path) (omega arith)
+outer_is_not_deep e path h = let l : suc (length path) ≤ DEPTH_LIMIT = ltb-false DEPTH_LIMIT (suc (length path)) h in le-ltb DEPTH_LIMIT (length path) (omega arith)

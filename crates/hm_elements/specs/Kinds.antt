@@ -1,7 +1,6 @@
 -- What the tables say of a name, all at once.
-use Rattle.std.specs.Prelude.{◌≡◌, ℕ, Bool, true, false, ◌||◌, List, Option, Some, None, bytes_eq}
+use Rattle.std.specs.Prelude.{ℕ, Bool, true, false, ◌||◌, List, Option, Some, None, bytes_eq}
 use Rattle.hm_elements.specs.declared.kind.Kind.{Kind}
-use Rattle.hm_elements.specs.declared.kind.Named.{Named}
 use Rattle.hm_elements.specs.Names.{is_among, Row, find, p, colgroup}
 use Rattle.hm_elements.specs.Nesting.{children, own_parents, bound_names, yield_rows, end_rows, yields, ends_with}
 use Rattle.hm_elements.specs.Tables.{class_of, is_heading, is_unnested, closes_p, is_boundary, is_block}
@@ -31,7 +30,3 @@ kind n = record {
   has_parents = has_row own_parents n;
   bound = is_among n bound_names;
 }
-
--- a name stands with its own kind
-abbrev pub IsNamed : Named → Type 0
-IsNamed n = n.kind ≡ kind n.name.now

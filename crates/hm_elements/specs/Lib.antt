@@ -1,3 +1,4 @@
+pub mod Attributes
 pub mod Classes
 pub mod Kinds
 pub mod KnownNames

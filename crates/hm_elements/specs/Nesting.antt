@@ -1,7 +1,7 @@
 -- Which element may stand in which, and which closes before which tag.
 use Rattle.std.specs.Prelude.{ℕ, Bool, false, not, ◌&&◌, ◌||◌, List, [], ◌∷◌, ◌++◌, Option, Some, None, if◌then◌else◌, bytes_eq}
 use Rattle.hm_elements.specs.Names.{words, is_among, Row, row, find, is_pair, head, noscript, div, dl, table, colgroup, col, tbody, tr}
-use Rattle.hm_elements.specs.Tables.{voids, rcdata_names, raw_names, sections, parts, blocks, paragraph_ends, is_section}
+use Rattle.hm_elements.specs.Tables.{voids, rcdata_names, raw_names, sections, cells, parts, blocks, paragraph_ends, is_section}
 
 -- Parents with children of their own.
 unfoldable pub children : List Row
@@ -97,8 +97,8 @@ unfoldable pub made_under : List ℕ → List ℕ → List (List ℕ)
 made_under parent n =
     if bytes_eq parent table then
     (if bytes_eq n tr then tbody ∷ []
-    else if is_among n (words "td th") then tr ∷ tbody ∷ []
+    else if is_among n cells then tr ∷ tbody ∷ []
     else if bytes_eq n col then colgroup ∷ []
     else [])
-    else if is_section parent && is_among n (words "td th") then tr ∷ []
+    else if is_section parent && is_among n cells then tr ∷ []
     else []

@@ -1,6 +1,7 @@
 -- Open elements, innermost first, and what the rules of nesting ask of them.
 use Rattle.std.specs.Prelude.{ℕ, Bool, false, not, ◌&&◌, ◌||◌, nat_lt, List, [], ◌∷◌, length, map, Option, Some, None, if◌then◌else◌, bytes_eq}
 use Rattle.hm_base.specs.Walks.{Element}
+use Rattle.hm_base.specs.declared.limits.TheConstants.{DEPTH_LIMIT}
 use Rattle.hm_elements.specs.Names.{words, is_among, head, noscript, p}
 use Rattle.hm_elements.specs.Tables.{is_raw, holds_text, is_heading, is_unnested, closes_p, is_boundary}
 use Rattle.hm_elements.specs.Nesting.{is_name, may_stand, yields, ends_with, made_under}
@@ -69,9 +70,9 @@ is_block_in_p n path = closes_p n && is_p_open path
 unfoldable pub is_nested : List ℕ → List Element → Bool
 is_nested n path = (is_unnested n && is_open n path) || (is_heading n && is_heading_open path)
 
--- More than 512 elements are open.
+-- More elements are open than may be.
 unfoldable pub is_deep : List Element → Bool
-is_deep path = nat_lt 512 (length path)
+is_deep path = nat_lt DEPTH_LIMIT (length path)
 
 -- the open element closes before a start tag of that name
 abbrev pub yields_to : List ℕ → Element → Bool

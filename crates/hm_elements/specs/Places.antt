@@ -4,6 +4,7 @@ use Rattle.std.specs.Str.{is_utf8}
 use Rattle.hm_base.specs.Bytes.{is_null}
 use Rattle.hm_base.specs.Forms.{has_byte, is_blank, is_tag_name, is_comment_text}
 use Rattle.hm_base.specs.Walks.{Attribute, Event, doctype, start, text, comment, end, Element, has_distinct_names, begins_end, begins_text}
+use Rattle.hm_base.specs.declared.limits.TheConstants.{ATTRIBUTE_LIMIT}
 use Rattle.hm_elements.specs.Names.{html, head, body, svg}
 use Rattle.hm_elements.specs.Tables.{is_void, is_refused, is_svg_name, holds_svg_text}
 use Rattle.hm_elements.specs.Paths.{html_element, current, is_in_svg, stands_on, head_yields, is_block_in_p, is_nested, is_deep, is_in_raw, is_in_text, is_in_blank}
@@ -11,7 +12,7 @@ use Rattle.hm_elements.specs.Settled.{is_html, no_zero_in_values, raw_text_end, 
 
 -- the attributes of an element
 pub record AttributesAllowed (attributes : List Attribute) : Type 0 where
-  pub few : nat_le (length attributes) 256 ≡ true
+  pub few : nat_le (length attributes) ATTRIBUTE_LIMIT ≡ true
   pub distinct : has_distinct_names attributes ≡ true
   pub names : all_names_in_form attributes ≡ true
   pub no_zero : no_zero_in_values attributes ≡ true

@@ -6,6 +6,7 @@ use Rattle.hm_base.specs.Bytes.{is_null}
 use Rattle.hm_base.specs.Forms.{has_byte, is_blank, is_tag_name, is_attribute_name, is_comment_text}
 use Rattle.hm_base.specs.RawText.{raw_end, script_end}
 use Rattle.hm_base.specs.Walks.{Attribute, Event, doctype, start, text, comment, end, Element, same_flag, path_behind, path_after, ends_match, has_distinct_names, begins_text, begins_end}
+use Rattle.hm_base.specs.declared.limits.TheConstants.{ATTRIBUTE_LIMIT}
 use Rattle.hm_elements.specs.Names.{html, head, body, script, svg}
 use Rattle.hm_elements.specs.Tables.{is_root, is_void, is_refused, is_svg_name, holds_svg_text}
 use Rattle.hm_elements.specs.Paths.{current, is_in_svg, stands_on, head_yields, is_block_in_p, is_nested, is_deep, is_in_raw, is_in_text, is_in_blank}
@@ -140,12 +141,12 @@ abbrev pub all_names_in_form : List Attribute → Bool
 all_names_in_form [] = true
 all_names_in_form (a ∷ attributes) = is_attribute_name a.name && all_names_in_form attributes
 
--- 9. An element has at most 256 attributes, with names that are distinct and can be written.
+-- 9. An element has no more attributes than may be written in a tag, with names that are distinct and can be written.
 unfoldable pub has_attributes_in_form : List Element → Event → List Event → Bool
-has_attributes_in_form path (start n foreign attributes) w = nat_le (length attributes) 256 && has_distinct_names attributes && all_names_in_form attributes
+has_attributes_in_form path (start n foreign attributes) w = nat_le (length attributes) ATTRIBUTE_LIMIT && has_distinct_names attributes && all_names_in_form attributes
 has_attributes_in_form path e w = true
 
--- 10. At most 512 elements are open.
+-- 10. No more elements are open than may be.
 unfoldable pub is_not_deep : List Element → Event → List Event → Bool
 is_not_deep path (start n foreign attributes) w = not (is_deep (record { name = n; foreign = foreign } ∷ path))
 is_not_deep path e w = true

@@ -29,6 +29,10 @@ headings = words "h1 h2 h3 h4 h5 h6"
 unfoldable pub sections : List (List ℕ)
 sections = words "thead tbody tfoot"
 
+-- the cells of a table
+abbrev pub cells : List (List ℕ)
+cells = words "td th"
+
 -- the parts of a table
 unfoldable pub parts : List (List ℕ)
 parts = words "caption col colgroup thead tbody tfoot tr td th"
@@ -53,6 +57,18 @@ svg_boundaries = words "title desc"
 -- elements at whose edges whitespace isn't seen
 unfoldable pub block_names : List (List ℕ)
 block_names = blocks ++ words "body caption col colgroup dd dt head html legend li optgroup option tbody td tfoot th thead title tr"
+
+-- elements directly in which whitespace alone isn't seen
+unfoldable pub space_parents : List (List ℕ)
+space_parents = words "html head table colgroup thead tbody tfoot tr select optgroup datalist ul ol menu dir dl"
+
+-- elements in which whitespace is seen as it is, and behind whose start tags a line feed is dropped
+abbrev pub preformatted : List (List ℕ)
+preformatted = words "pre textarea"
+
+-- metadata, which doesn't stand between head and body
+abbrev pub metadata_names : List (List ℕ)
+metadata_names = words "base link meta script style title"
 
 -- attributes whose value says nothing
 unfoldable pub boolean_attributes : List (List ℕ)
@@ -95,6 +111,9 @@ is_heading n = is_among n headings
 
 unfoldable pub is_section : List ℕ → Bool
 is_section n = is_among n sections
+
+unfoldable pub is_metadata : List ℕ → Bool
+is_metadata n = is_among n metadata_names
 
 unfoldable pub is_unnested : List ℕ → Bool
 is_unnested n = is_among n unnested_names

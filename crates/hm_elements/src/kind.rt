@@ -1,6 +1,6 @@
 //! What the tables say of a name, all at once.
 ghost use Rattle.std.specs.Prelude.{◌≡◌};
-ghost use Rattle.hm_elements.specs.Kinds.{IsNamed, kind};
+ghost use Rattle.hm_elements.specs.Kinds as kinds;
 ghost use Rattle.hm_elements.specs.KnownNames.{kind_in};
 
 use crate::class::Class;
@@ -39,7 +39,7 @@ pub struct Kind {
 
 /// What the tables say of the name.
 pub fn kind_of(name: &str) -> Kind
-    ensures { result ≡ kind name.now }
+    ensures { result ≡ kinds.kind name.now }
 {
     match name.as_bytes().first() {
         Some(first) => kind_among(name, beginning_with(*first)),
@@ -59,23 +59,45 @@ fn kind_among(name: &str, among: &[Known]) -> Kind
     OTHER
 }
 
-/// A name of an HTML element, with what the tables say of it.
+/// A name of an HTML element, with what the tables say of it: looked up once, and kept.
 #[derive(Clone, Copy, Debug)]
 pub struct Named<'n> {
-    pub name: &'n str,
-    pub kind: Kind,
+    name: &'n str,
+    kind: Kind,
+    ghost known: { kind ≡ kinds.kind name.now },
 }
 
 impl<'n> Named<'n> {
-    /// The name with its kind.
+    /// The name, looked up in the tables.
     pub fn of(name: &'n str) -> Named<'n>
-        ensures named { IsNamed result }
-        ensures name { result.name.now ≡ name.now }
+        ensures { result.name.now ≡ name.now }
     {
         Named {
             name,
             kind: kind_of(name),
         }
+    }
+
+    /// The name with its kind, which is known from an earlier look-up.
+    pub fn known(name: &'n str, kind: Kind) -> Named<'n>
+        requires { kind ≡ kinds.kind name.now }
+        ensures { result.name.now ≡ name.now }
+    {
+        Named { name, kind }
+    }
+
+    /// The name.
+    pub fn name(self) -> &'n str
+        ensures { result.now ≡ self.entry.name.now }
+    {
+        self.name
+    }
+
+    /// What the tables say of it.
+    pub fn kind(self) -> Kind
+        ensures { result ≡ kinds.kind self.entry.name.now }
+    {
+        self.kind
     }
 }
 

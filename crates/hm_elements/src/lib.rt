@@ -5,6 +5,7 @@ mod class;
 mod kind;
 mod known;
 pub mod laws;
+mod lists;
 mod look_up;
 mod nesting;
 
@@ -13,5 +14,9 @@ pub use class::{
     is_refused, is_unnested, is_void, svg_name,
 };
 pub use kind::{Kind, Named, kind_of};
+pub use lists::{
+    is_blank_parent, is_cell, is_metadata, is_preformatted, is_redundant, is_root, is_section,
+    is_space_parent, says_nothing_blank,
+};
 pub use look_up::{is_one_of, same_name};
 pub use nesting::{ends_with, may_stand, yields};

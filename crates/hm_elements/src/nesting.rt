@@ -1,7 +1,6 @@
 //! Which element may stand in which, and which closes before which tag.
 ghost use Rattle.std.specs.Prelude.{◌≡◌, false, bytes_eq};
 ghost use Rattle.hm_elements.specs.Names as names;
-ghost use Rattle.hm_elements.specs.Kinds.{IsNamed};
 ghost use Rattle.hm_elements.specs.Names.{p};
 ghost use Rattle.hm_elements.specs.Nesting as nesting;
 ghost use Rattle.hm_elements.specs.Nesting.{is_name};
@@ -59,18 +58,16 @@ const YIELDS: [Row<'static>; 8] = [
 /// Whether the open element `current` closes before the start tag of an HTML element `next` (13.1.2.4, 13.2.6.4.7 and following).
 #[tactic(auto, using(crate::proofs::NestingFacts::never_yields), unfolding(crate::specs::Nesting::yields))]
 pub fn yields(current: Named<'_>, next: Named<'_>) -> bool
-    requires current { IsNamed current }
-    requires next { IsNamed next }
     ensures { result ≡ nesting.yields current.entry.name.now next.entry.name.now }
 {
-    if !current.kind.yields {
+    if !current.kind().yields {
         false
-    } else if same_name(current.name, "colgroup") {
-        !same_name(next.name, "col")
-    } else if same_name("p", current.name) {
-        next.kind.p_yields
+    } else if same_name(current.name(), "colgroup") {
+        !same_name(next.name(), "col")
+    } else if same_name("p", current.name()) {
+        next.kind().p_yields
     } else {
-        yields_by_rows(current.name, next.name)
+        yields_by_rows(current.name(), next.name())
     }
 }
 
@@ -121,15 +118,14 @@ const ENDS: [Row<'static>; 8] = [
 /// Whether the open element `child` ends with the end tag `ending` (13.1.2.4).
 #[tactic(auto, using(crate::proofs::NestingFacts::never_ends))]
 pub fn ends_with(child: Named<'_>, ending: &str) -> bool
-    requires { IsNamed child }
     ensures { result ≡ nesting.ends_with child.entry.name.now ending.now }
 {
-    if !child.kind.ends {
+    if !child.kind().ends {
         false
-    } else if same_name("p", child.name) {
+    } else if same_name("p", child.name()) {
         kind_of(ending).p_ends
     } else {
-        ends_by_rows(child.name, ending)
+        ends_by_rows(child.name(), ending)
     }
 }
 
@@ -212,26 +208,23 @@ const PARENTS: [Row<'static>; 5] = [
 /// Whether an HTML element `name` may stand under the element `parent`, which itself stands under `grandparent` or at the top.
 #[tactic(auto, unfolding(crate::specs::Nesting::may_stand, crate::specs::Nesting::noscript_children))]
 pub fn may_stand(name: Named<'_>, parent: Named<'_>, grandparent: Option<&str>) -> bool
-    requires name { IsNamed name }
-    requires parent { IsNamed parent }
     ensures { result ≡ nesting.may_stand name.entry.name.now parent.entry.name.now (text_of grandparent.entry) }
 {
-    if same_name(parent.name, "noscript") && is_named(grandparent, "head") {
-        return is_one_of(name.name, &["link", "meta", "style"]);
+    if same_name(parent.name(), "noscript") && is_named(grandparent, "head") {
+        return is_one_of(name.name(), &["link", "meta", "style"]);
     }
     match own_children(parent) {
-        Some(children) => is_in_one_of(name.name, children),
-        None => stands_by_parents(name, parent.name, grandparent),
+        Some(children) => is_in_one_of(name.name(), children),
+        None => stands_by_parents(name, parent.name(), grandparent),
     }
 }
 
 /// The names of the children that the element takes, where it takes those alone.
 fn own_children(parent: Named<'_>) -> Option<&'static [&'static [&'static str]]>
-    requires { IsNamed parent }
     ensures { names_of result ≡ names.find parent.entry.name.now nesting.children }
 {
-    if parent.kind.has_children {
-        children_by_rows(parent.name)
+    if parent.kind().has_children {
+        children_by_rows(parent.name())
     } else {
         None
     }
@@ -246,11 +239,10 @@ fn children_by_rows(parent: &str) -> Option<&'static [&'static [&'static str]]>
 
 /// The names of the parents that the element stands in, where it stands in those alone.
 fn own_parents(child: Named<'_>) -> Option<&'static [&'static [&'static str]]>
-    requires { IsNamed child }
     ensures { names_of result ≡ names.find child.entry.name.now nesting.own_parents }
 {
-    if child.kind.has_parents {
-        parents_by_rows(child.name)
+    if child.kind().has_parents {
+        parents_by_rows(child.name())
     } else {
         None
     }
@@ -265,17 +257,16 @@ fn parents_by_rows(child: &str) -> Option<&'static [&'static [&'static str]]>
 
 /// The rule for a parent without children of its own.
 fn stands_by_parents(name: Named<'_>, parent: &str, grandparent: Option<&str>) -> bool
-    requires { IsNamed name }
     ensures { result ≡ nesting.stands_by_parents (names.find name.entry.name.now nesting.own_parents) name.entry.name.now parent.now (text_of grandparent.entry) }
 {
     match own_parents(name) {
         Some(parents) => {
             is_in_one_of(parent, parents)
-                || (is_one_of(name.name, &["dt", "dd"])
+                || (is_one_of(name.name(), &["dt", "dd"])
                     && same_name(parent, "div")
                     && is_named(grandparent, "dl"))
         }
-        None => !name.kind.bound,
+        None => !name.kind().bound,
     }
 }
 

@@ -1,21 +1,24 @@
--- What the files of a run give: a table of names, and the tree of a page, rewritten.
-use Rattle.std.specs.Prelude.{ℕ, ◌≡◌, Bool, true, false, nat_lt, List, [], length, Option, Some, None, IsSome, option_map, Result, Ok, Err, if◌then◌else◌, codes, bytes_eq}
+-- What the files of a command give: a table of names with the tree of a page, rewritten, or the first reason why there is none.
+use Rattle.std.specs.Prelude.{ℕ, ◌≡◌, Bool, true, false, nat_lt, List, [], length, Option, Some, None, option_map, Result, Ok, Err, if◌then◌else◌, codes, bytes_eq}
 use Rattle.hm_base.specs.Walks.{Event}
+use Rattle.hm_base.specs.declared.limits.TheConstants.{PAGE_LIMIT}
 use Rattle.hm_base.specs.declared.plain.TreeOptions.{TreeOptions}
 use Rattle.hm_base.specs.declared.rules.Rule.{Rule}
 use Rattle.hm_base.specs.declared.rules.Rule.TheVariants.{TooLong}
-use Rattle.hm_store.specs.Files.{FileMap, file_of}
+use Rattle.hm_store.specs.Contents.{Contents, Sees}
+use Rattle.hm_store.specs.Files.{FileMap}
 use Rattle.hm_refs.specs.Json.{names}
 use Rattle.hm_refs.specs.Names.{Entry}
 use Rattle.hm_refs.specs.declared.fault.TableFault.{TableFault}
 use Rattle.hm_construction.specs.Trees.{Outcome, built, refused_by, page_tree}
 use Rattle.hm_options.specs.Rewrites.{rewrite}
+use Rattle.hm_words.specs.Words.{Command, minify, tree as show_tree}
 
 pub data Input : Type 0 where
   missing : Input  -- a file isn't there
   bad_table : TableFault → Input
   bad_page : Rule → ℕ → Input  -- at a byte of the page
-  tree : List Event → Input
+  tree : List Entry → List Event → Input  -- the names of the table, and the tree
 
 -- ---- a table
 
@@ -30,37 +33,35 @@ table_names false content = option_map names content
 
 -- ---- a page
 
--- the most bytes of a page
-abbrev pub page_limit : ℕ
-page_limit = 4194304
-
 -- the tree of a page within the limit
 unfoldable pub page_outcome : List Entry → List ℕ → Outcome
-page_outcome t page = if nat_lt page_limit (length page) then refused_by TooLong page_limit else page_tree t page
+page_outcome t page = if nat_lt PAGE_LIMIT (length page) then refused_by TooLong PAGE_LIMIT else page_tree t page
 
-abbrev pub rewritten_input : TreeOptions → Outcome → Input
-rewritten_input o (built w) = tree (rewrite o w)
-rewritten_input o (refused_by rule at) = bad_page rule at
+abbrev pub rewritten_input : List Entry → TreeOptions → Outcome → Input
+rewritten_input t o (built w) = tree t (rewrite o w)
+rewritten_input t o (refused_by rule at) = bad_page rule at
 
 abbrev pub page_input : TreeOptions → List Entry → Option (List ℕ) → Input
 page_input o t None = missing
-page_input o t (Some page) = rewritten_input o (page_outcome t page)
+page_input o t (Some page) = rewritten_input t o (page_outcome t page)
 
 -- ---- both
 
+-- what the contents of two files give: the table is read first
 abbrev pub input_from : TreeOptions → Option (Result (List Entry) TableFault) → Option (List ℕ) → Input
 input_from o None page = missing
 input_from o (Some (Err fault)) page = bad_table fault
 input_from o (Some (Ok t)) page = page_input o t page
 
--- what told files give
-abbrev pub input_of : Option FileMap → List ℕ → List ℕ → TreeOptions → Input
-input_of told table page o = input_from o (table_names (is_none table) (file_of told table)) (file_of told page)
+-- what a table and a page give
+abbrev pub page_with_table : List ℕ → List ℕ → TreeOptions → Contents → Input
+page_with_table table page o seen = input_from o (table_names (is_none table) (seen table)) (seen page)
 
--- What the contents of two files give. Where the store tells its files they are theirs.
-pub record IsInput (told : Option FileMap) (table page : List ℕ) (o : TreeOptions) (input : Input) : Type 0 where
-  pub table_content : Option (List ℕ)
-  pub page_content : Option (List ℕ)
-  pub table_told : IsSome told → file_of told table ≡ table_content
-  pub page_told : IsSome told → file_of told page ≡ page_content
-  pub is : input_from o (table_names (is_none table) table_content) page_content ≡ input
+-- what the files of a command give
+abbrev pub input_of : Command → TreeOptions → Contents → Input
+input_of (minify table page out cert) o seen = page_with_table table page o seen
+input_of (show_tree table page) o seen = page_with_table table page o seen
+
+-- A table and a page give this, as far as the store tells its files.
+abbrev pub IsInput : Option FileMap → List ℕ → List ℕ → TreeOptions → Input → Type 0
+IsInput told table page o input = Sees told (λ seen. page_with_table table page o seen ≡ input)

@@ -2,6 +2,7 @@
 use Rattle.std.specs.Prelude.{ℕ, ◌≡◌, ◌⊎◌, ◌+◌, false, nat_lt, List, length, take, Option, Some, None, IsSome, Result, Ok, Err}
 use Rattle.hm_base.specs.Source.{Source, source_of, text_fault}
 use Rattle.hm_base.specs.Walks.{Event}
+use Rattle.hm_base.specs.declared.limits.TheConstants.{PAGE_LIMIT}
 use Rattle.hm_base.specs.declared.plain.TreeOptions.{TreeOptions}
 use Rattle.hm_base.specs.declared.rules.Rule.{Rule}
 use Rattle.hm_store.specs.Files.{FileMap, file_of, IsMissing}
@@ -9,7 +10,7 @@ use Rattle.hm_refs.specs.Names.{Entry}
 use Rattle.hm_refs.specs.declared.fault.TableFault.{TableFault}
 use Rattle.hm_construction.specs.Trees.{built, refused_by, tree_of_source}
 use Rattle.hm_options.specs.Rewrites.{rewrite}
-use Rattle.hm_input.specs.Inputs.{IsInput, bad_table, bad_page, is_none, table_names, page_limit, page_outcome}
+use Rattle.hm_input.specs.Inputs.{IsInput, bad_table, bad_page, is_none, table_names, page_outcome}
 use Rattle.hm_input.specs.declared.unread.Unread.{Unread}
 use Rattle.hm_input.specs.declared.unread.Unread.TheVariants as reasons
 
@@ -29,7 +30,7 @@ pub record IsTableOf (told : Option FileMap) (name : List ℕ) (read : Result (L
 pub record IsTextOf (told : Option FileMap) (name : List ℕ) (text : Source) : Type 0 where
   pub page : List ℕ
   pub there : IsSome told → file_of told name ≡ Some page
-  pub short : nat_lt page_limit (length page) ≡ false
+  pub short : nat_lt PAGE_LIMIT (length page) ≡ false
   pub sound : text_fault page ≡ None
   pub is : text ≡ source_of page
 

@@ -1,7 +1,8 @@
 //! The tree that a run works on.
-ghost use Rattle.std.specs.Prelude.{◌≡◌, ◌⊎◌, ◌≤◌, IfOk, IfErr, Err};
+ghost use Rattle.std.specs.Prelude.{◌≡◌, ◌⊎◌, ◌≤◌, IfOk, IfErr, Err, true};
 ghost use Rattle.hm_elements.specs.Settled.{Settled};
 ghost use Rattle.hm_store.specs.Causes.{Rose};
+ghost use Rattle.hm_words.specs.Words.{are_apart};
 ghost use Rattle.hm_input.specs.Inputs as inputs;
 ghost use Rattle.hm_input.specs.Inputs.{IsInput};
 ghost use Rattle.hm_input.specs.Loads.{IsFileMissing, IsTreeRead, NoInput, NoTreeRead};
@@ -12,7 +13,6 @@ use hm_base::{Memory, Refused, SourceText, TreeOptions};
 use hm_build::parse;
 use hm_options::rewrite;
 use hm_refs::Table;
-use hm_space::laws::settled_texts_are_apart;
 use hm_store::Store;
 use hm_tree::Tree;
 use std::alloc::Global;
@@ -28,7 +28,6 @@ fn read_tree(
     ensures settled { IfOk result (λ tree. Settled tree) }
     ensures err { IfErr result (NoTreeRead table.now.entries text.now) }
 {
-    settled_texts_are_apart();
     match parse(alloc, text, table) {
         Ok(tree) => match rewrite(alloc, tree, options) {
             Ok(tree) => Ok(tree),
@@ -39,29 +38,41 @@ fn read_tree(
     }
 }
 
-/// Loads a table and then a page, and gives the page's tree after the rewrites that are asked for. The table `none`
-/// has no names and is no file.
+/// A table of names, and a tree that was read with it.
+#[derive(Drop)]
+pub struct Input {
+    pub table: Table,
+    pub tree: Tree,
+}
+
+/// Loads a table and then a page, and gives the table with the page's tree after the rewrites that are asked for. The
+/// table `none` has no names and is no file.
 pub fn load_tree<S: Store>(
     alloc: Global,
     store: &mut S,
     table: &str,
     page: &str,
     options: &TreeOptions,
-) -> Result<Tree, Unread>
-    ensures ok { IfOk result (λ tree. IsInput (S.files store.old) table.now page.now options.now (inputs.tree tree)) }
-    ensures settled { IfOk result (λ tree. Settled tree) }
+) -> Result<Input, Unread>
+    requires apart { are_apart table.now page.now ≡ true }
+    ensures ok { IfOk result (λ input. IsInput (S.files store.old) table.now page.now options.now (inputs.tree input.table.entries input.tree)) }
+    ensures settled { IfOk result (λ input. Settled input.tree) }
     ensures err { IfErr result (NoInput (S.files store.old) table.now page.now options.now) }
     ensures same { S.files store.new ≡ S.files store.old }
+    ensures writing { S.is_writing store.new ≡ S.is_writing store.old }
     ensures later { S.faults store.old ≤ S.faults store.new }
     ensures store { result ≡ Err Unread.Store → Rose (S.faults store.old) (S.faults store.new) ⊎ IsFileMissing (S.files store.old) table.now page.now }
 {
-    let names = match load_table(alloc, store, table) {
-        Ok(names) => names,
+    let table = match load_table(alloc, store, table) {
+        Ok(table) => table,
         Err(unread) => return Err(unread),
     };
     let text = match load_text(alloc, store, page) {
         Ok(text) => text,
         Err(unread) => return Err(unread),
     };
-    read_tree(alloc, &text, &names, options)
+    match read_tree(alloc, &text, &table, options) {
+        Ok(tree) => Ok(Input { table, tree }),
+        Err(unread) => Err(unread),
+    }
 }

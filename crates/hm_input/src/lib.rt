@@ -5,5 +5,6 @@ mod input;
 mod loads;
 mod unread;
 
-pub use input::load_tree;
+pub use input::{Input, load_tree};
+pub use loads::load_bytes;
 pub use unread::Unread;

@@ -4,39 +4,31 @@ ghost use Rattle.hm_base.specs.Faults.{HasText, IsRefusedBy};
 ghost use Rattle.hm_base.specs.Source.{source_of};
 ghost use Rattle.hm_store.specs.Causes.{Rose};
 ghost use Rattle.hm_store.specs.Files.{FileMap, IsMissing};
-ghost use Rattle.hm_input.specs.Inputs.{is_none, page_limit};
+ghost use Rattle.hm_input.specs.Inputs.{is_none};
 ghost use Rattle.hm_input.specs.Loads.{IsLoaded, IsTableOf, IsTextOf, NoTable, NoText};
 
 use crate::Unread;
-use hm_base::{Memory, Rule, SourceText, TextFault};
+use hm_base::{Memory, PAGE_LIMIT, Rule, SourceText, TABLE_LIMIT, TextFault};
 use hm_refs::{Table, TableFault};
 use hm_store::{LoadFault, Store, load};
 use std::alloc::Global;
 
-/// The most bytes of a table.
-const TABLE_LIMIT: u32 = 1_048_576;
-
-/// The most bytes of a page.
-const PAGE_LIMIT: u32 = 4_194_304;
-
 /// The bytes of a file, or one more than the limit of them, so that a longer file shows.
-fn load_bytes<S: Store>(
+pub fn load_bytes<S: Store>(
     alloc: Global,
     store: &mut S,
     name: &str,
     limit: u32,
-) -> Result<Vec<u8>, Unread>
-    requires { limit ≤ 4194304 }
+) -> Result<Vec<u8>, LoadFault>
     ensures same { S.files store.new ≡ S.files store.old }
+    ensures writing { S.is_writing store.new ≡ S.is_writing store.old }
     ensures loaded { IfOk result (λ bytes. IsLoaded (S.files store.old) name.now limit bytes.items) }
     ensures later { S.faults store.old ≤ S.faults store.new }
-    ensures store { result ≡ Err Unread.Store → Rose (S.faults store.old) (S.faults store.new) ⊎ IsMissing (S.files store.old) name.now }
-    ensures only { IfErr result (λ unread. (unread ≡ Unread.Store) ⊎ (unread ≡ Unread.Memory)) }
+    ensures store { result ≡ Err LoadFault.Store → Rose (S.faults store.old) (S.faults store.new) ⊎ IsMissing (S.files store.old) name.now }
 {
     match load(alloc, store, name, limit) {
         Ok(bytes) => Ok(bytes),
-        Err(LoadFault::Store) => Err(Unread::Store),
-        Err(LoadFault::Memory) => Err(Unread::Memory),
+        Err(fault) => Err(fault),
     }
 }
 
@@ -54,6 +46,7 @@ fn unread_table(fault: TableFault) -> Unread
 /// The table of that name; `none` is the one without names, and no file.
 pub fn load_table<S: Store>(alloc: Global, store: &mut S, name: &str) -> Result<Table, Unread>
     ensures same { S.files store.new ≡ S.files store.old }
+    ensures writing { S.is_writing store.new ≡ S.is_writing store.old }
     ensures ok { IfOk result (λ table. IsTableOf (S.files store.old) name.now (Ok table.entries)) }
     ensures err { IfErr result (NoTable (S.files store.old) name.now) }
     ensures later { S.faults store.old ≤ S.faults store.new }
@@ -67,7 +60,8 @@ pub fn load_table<S: Store>(alloc: Global, store: &mut S, name: &str) -> Result<
     }
     let bytes = match load_bytes(alloc, store, name, TABLE_LIMIT) {
         Ok(bytes) => bytes,
-        Err(unread) => return Err(unread),
+        Err(LoadFault::Store) => return Err(Unread::Store),
+        Err(LoadFault::Memory) => return Err(Unread::Memory),
     };
     match Table::read(alloc, bytes.as_slice()) {
         Ok(table) => Ok(table),
@@ -78,8 +72,8 @@ pub fn load_table<S: Store>(alloc: Global, store: &mut S, name: &str) -> Result<
 /// The text of the bytes of a page, which may be up to the limit.
 fn read_page(alloc: Global, bytes: &[u8]) -> Result<SourceText, TextFault>
     ensures read { IfOk result (λ text. text ≡ source_of bytes.now) }
-    ensures sound { OnOk result (HasText page_limit bytes.now) }
-    ensures refused { IfErr result (λ fault. IsRefusedBy fault page_limit bytes.now) }
+    ensures sound { OnOk result (HasText PAGE_LIMIT bytes.now) }
+    ensures refused { IfErr result (λ fault. IsRefusedBy fault PAGE_LIMIT bytes.now) }
 {
     SourceText::read(alloc, bytes, PAGE_LIMIT)
 }
@@ -87,6 +81,7 @@ fn read_page(alloc: Global, bytes: &[u8]) -> Result<SourceText, TextFault>
 /// The text of the page of that name.
 pub fn load_text<S: Store>(alloc: Global, store: &mut S, name: &str) -> Result<SourceText, Unread>
     ensures same { S.files store.new ≡ S.files store.old }
+    ensures writing { S.is_writing store.new ≡ S.is_writing store.old }
     ensures ok { IfOk result (λ text. IsTextOf (S.files store.old) name.now text) }
     ensures err { IfErr result (NoText (S.files store.old) name.now) }
     ensures later { S.faults store.old ≤ S.faults store.new }
@@ -94,7 +89,8 @@ pub fn load_text<S: Store>(alloc: Global, store: &mut S, name: &str) -> Result<S
 {
     let bytes = match load_bytes(alloc, store, name, PAGE_LIMIT) {
         Ok(bytes) => bytes,
-        Err(unread) => return Err(unread),
+        Err(LoadFault::Store) => return Err(Unread::Store),
+        Err(LoadFault::Memory) => return Err(Unread::Memory),
     };
     match read_page(alloc, bytes.as_slice()) {
         Ok(text) => Ok(text),

@@ -3,10 +3,12 @@ use Rattle.std.proofs.Common.{◌≡◌, ◌⊎◌, inl, inr, ℕ, Bool, true, f
 use Rattle.std.proofs.lemmas.List.{drop_at, length-map}
 use Rattle.std.proofs.lemmas.Bool.Decides.{Decides-eqb}
 use Rattle.hm_base.specs.Bytes.{cut_at, strip_word, lower, is_space, all_pass, head_is, is_null, behind}
-use Rattle.hm_base.specs.Forms.{has_byte}
+use Rattle.hm_base.specs.Forms.{has_byte, is_blank}
+use Rattle.hm_markup_forms.specs.Gaps.{is_gap, IsWord}
+use Rattle.hm_markup_forms.specs.Doctypes.{IsPlainDoctype, IsLegacyDoctype, WritesDoctype}
 use Rattle.hm_tree.specs.Tokens.{taken, doctype}
 use Rattle.hm_mark_scan.specs.Doctypes.{doctype_form, form_behind_name, is_identifier, read_doctype}
-use Rattle.hm_mark_scan.specs.Written.{IsWord, IsBlank, IsPlainDoctype, IsLegacyDoctype, IsWrittenDoctype}
+use Rattle.hm_markup_forms.proofs.Gaps.{gap_blank, gap_front}
 use Rattle.hm_mark_scan.proofs.Lowered.{eqb_lower'}
 
 -- a word at the front
@@ -26,14 +28,14 @@ both true false e = cc
 both false b e = cc
 
 -- whitespace at the front
-space_front : (xs s : List ℕ) → IsBlank xs → head_is is_space s ≡ false → behind is_space (xs ++ s) ≡ s
+space_front : (xs s : List ℕ) → is_blank xs ≡ true → head_is is_space s ≡ false → behind is_space (xs ++ s) ≡ s
 space_front [] [] all stop = refl
 space_front [] (c ∷ s) all stop = rw stop refl
 space_front (x ∷ xs) s all stop =
     let parts = both (is_space x) (all_pass is_space xs) all in
     rw (parts.0, space_front xs s parts.1 stop) refl
 
-blank_all : (xs : List ℕ) → IsBlank xs → behind is_space xs ≡ []
+blank_all : (xs : List ℕ) → is_blank xs ≡ true → behind is_space xs ≡ []
 blank_all [] all = refl
 blank_all (x ∷ xs) all =
     let parts = both (is_space x) (all_pass is_space xs) all in
@@ -73,7 +75,7 @@ space_apart c e = either (c == 62) refl
     either false f = refl
     either true f = sym e ∙ ap is_space ((Decides-eqb c 62).0 f) ∙ greater_is_no_space
 
-space_without : (xs : List ℕ) → IsBlank xs → has_byte 62 xs ≡ false
+space_without : (xs : List ℕ) → is_blank xs ≡ true → has_byte 62 xs ≡ false
 space_without [] all = refl
 space_without (x ∷ xs) all =
     let parts = both (is_space x) (all_pass is_space xs) all in
@@ -108,12 +110,12 @@ letter_s : is_space 115 ≡ false
 unfolding is_space
 letter_s = refl
 
-plain_form : (gap name tail : List ℕ) → IsBlank gap → IsWord (codes "html") name → IsBlank tail → doctype_form (gap ++ (name ++ tail)) ≡ Some false
+plain_form : (gap name tail : List ℕ) → is_blank gap ≡ true → IsWord (codes "html") name → is_blank tail ≡ true → doctype_form (gap ++ (name ++ tail)) ≡ Some false
 unfolding doctype_form
 plain_form gap name tail g n t =
     rw (space_front gap (name ++ tail) g (head_lower name tail 104 (codes "tml") n letter_h), word_front (codes "html") name tail n, blank_all tail t) refl
 
-identified : (identifier tail : List ℕ) → (identifier ≡ codes "\"about:legacy-compat\"") ⊎ (identifier ≡ codes "'about:legacy-compat'") → IsBlank tail → is_identifier (identifier ++ tail) ≡ true
+identified : (identifier tail : List ℕ) → (identifier ≡ codes "\"about:legacy-compat\"") ⊎ (identifier ≡ codes "'about:legacy-compat'") → is_blank tail ≡ true → is_identifier (identifier ++ tail) ≡ true
 identified identifier tail (inl e) t = rw e (rw (blank_all tail t) refl)
 identified identifier tail (inr e) t = rw e (rw (blank_all tail t) refl)
 
@@ -132,18 +134,18 @@ word_there (x ∷ xs) s c w e = refl
 legacy_by : (z q r : List ℕ) → behind is_space z ≡ q → is_null q ≡ false → head_is is_space z ≡ true → strip_word (codes "system") q ≡ Some r → is_identifier (behind is_space r) ≡ true → form_behind_name (Some z) ≡ Some true
 legacy_by z q r rest some spaced found named = rw (rest, some, spaced, found, named) refl
 
-legacy_form : (gap name : List ℕ) (first : ℕ) (space keyword between identifier tail : List ℕ) → IsBlank gap → IsWord (codes "html") name → IsBlank (first ∷ space) → IsWord (codes "system") keyword → IsBlank between
-    → (identifier ≡ codes "\"about:legacy-compat\"") ⊎ (identifier ≡ codes "'about:legacy-compat'") → IsBlank tail
-    → doctype_form (gap ++ (name ++ (first ∷ space ++ (keyword ++ (between ++ (identifier ++ tail)))))) ≡ Some true
+legacy_form : (gap name space keyword between identifier tail : List ℕ) → is_blank gap ≡ true → IsWord (codes "html") name → is_gap true space ≡ true → IsWord (codes "system") keyword → is_blank between ≡ true
+    → (identifier ≡ codes "\"about:legacy-compat\"") ⊎ (identifier ≡ codes "'about:legacy-compat'") → is_blank tail ≡ true
+    → doctype_form (gap ++ (name ++ (space ++ (keyword ++ (between ++ (identifier ++ tail)))))) ≡ Some true
 unfolding doctype_form
-legacy_form gap name first space keyword between identifier tail g n s k b i t =
+legacy_form gap name space keyword between identifier tail g n s k b i t =
     let r = between ++ (identifier ++ tail) in
     let q = keyword ++ r in
-    let z = first ∷ space ++ q in
+    let z = space ++ q in
     let named : is_identifier (behind is_space r) ≡ true = rw (space_front between (identifier ++ tail) b (identifier_front identifier tail i)) (identified identifier tail i t) in
     let found : strip_word (codes "system") q ≡ Some r = word_front (codes "system") keyword r k in
-    let rest : behind is_space z ≡ q = space_front (first ∷ space) q s (head_lower keyword r 115 (codes "ystem") k letter_s) in
-    let spaced : head_is is_space z ≡ true = (both (is_space first) (all_pass is_space space) s).0 in
+    let rest : behind is_space z ≡ q = space_front space q (gap_blank true space s) (head_lower keyword r 115 (codes "ystem") k letter_s) in
+    let spaced : head_is is_space z ≡ true = gap_front space q s in
     rw (space_front gap (name ++ z) g (head_lower name z 104 (codes "tml") n letter_h), word_front (codes "html") name z n)
     (legacy_by z q r rest (word_there keyword r 115 (codes "ystem") k) spaced found named)
 
@@ -157,24 +159,24 @@ identifier_without : (identifier : List ℕ) → (identifier ≡ codes "\"about:
 identifier_without identifier (inl e) = rw e refl
 identifier_without identifier (inr e) = rw e refl
 
-plain_read : (b rest : List ℕ) → IsPlainDoctype b → read_doctype (b ++ rest) ≡ taken (doctype false) rest
+plain_read : (b rest : List ℕ) → IsPlainDoctype false b → read_doctype (b ++ rest) ≡ taken (doctype false) rest
 plain_read b rest p =
     let x = p.gap ++ (p.name ++ p.tail) in
     let cut : b ++ rest ≡ p.word ++ (x ++ 62 ∷ rest) = rw p.whole (simp append_assoc) in
-    let without : has_byte 62 x ≡ false = joined 62 p.gap (p.name ++ p.tail) (space_without p.gap p.gap_is) (joined 62 p.name p.tail (html_without p.name p.name_is) (space_without p.tail p.tail_is)) in
-    rw cut (read_whole p.word x rest false p.word_is without (plain_form p.gap p.name p.tail p.gap_is p.name_is p.tail_is))
+    let without : has_byte 62 x ≡ false = joined 62 p.gap (p.name ++ p.tail) (space_without p.gap (gap_blank false p.gap p.gap_is)) (joined 62 p.name p.tail (html_without p.name p.name_is) (space_without p.tail p.tail_is)) in
+    rw cut (read_whole p.word x rest false p.word_is without (plain_form p.gap p.name p.tail (gap_blank false p.gap p.gap_is) p.name_is p.tail_is))
 
-legacy_read : (b rest : List ℕ) → IsLegacyDoctype b → read_doctype (b ++ rest) ≡ taken (doctype true) rest
+legacy_read : (b rest : List ℕ) → IsLegacyDoctype false b → read_doctype (b ++ rest) ≡ taken (doctype true) rest
 legacy_read b rest p =
     let r = p.between ++ (p.identifier ++ p.tail) in
-    let z = p.first ∷ p.space ++ (p.keyword ++ r) in
+    let z = p.space ++ (p.keyword ++ r) in
     let x = p.gap ++ (p.name ++ z) in
     let cut : b ++ rest ≡ p.word ++ (x ++ 62 ∷ rest) = rw p.whole (simp append_assoc) in
-    let in_r : has_byte 62 r ≡ false = joined 62 p.between (p.identifier ++ p.tail) (space_without p.between p.between_is) (joined 62 p.identifier p.tail (identifier_without p.identifier p.identifier_is) (space_without p.tail p.tail_is)) in
-    let in_z : has_byte 62 z ≡ false = joined 62 (p.first ∷ p.space) (p.keyword ++ r) (space_without (p.first ∷ p.space) p.space_is) (joined 62 p.keyword r (system_without p.keyword p.keyword_is) in_r) in
-    let without : has_byte 62 x ≡ false = joined 62 p.gap (p.name ++ z) (space_without p.gap p.gap_is) (joined 62 p.name z (html_without p.name p.name_is) in_z) in
-    rw cut (read_whole p.word x rest true p.word_is without (legacy_form p.gap p.name p.first p.space p.keyword p.between p.identifier p.tail p.gap_is p.name_is p.space_is p.keyword_is p.between_is p.identifier_is p.tail_is))
+    let in_r : has_byte 62 r ≡ false = joined 62 p.between (p.identifier ++ p.tail) (space_without p.between (gap_blank false p.between p.between_is)) (joined 62 p.identifier p.tail (identifier_without p.identifier p.identifier_is) (space_without p.tail p.tail_is)) in
+    let in_z : has_byte 62 z ≡ false = joined 62 p.space (p.keyword ++ r) (space_without p.space (gap_blank true p.space p.space_is)) (joined 62 p.keyword r (system_without p.keyword p.keyword_is) in_r) in
+    let without : has_byte 62 x ≡ false = joined 62 p.gap (p.name ++ z) (space_without p.gap (gap_blank false p.gap p.gap_is)) (joined 62 p.name z (html_without p.name p.name_is) in_z) in
+    rw cut (read_whole p.word x rest true p.word_is without (legacy_form p.gap p.name p.space p.keyword p.between p.identifier p.tail (gap_blank false p.gap p.gap_is) p.name_is p.space_is p.keyword_is (gap_blank false p.between p.between_is) p.identifier_is p.tail_is))
 
-pub doctype_is_read : (legacy : Bool) (b rest : List ℕ) → IsWrittenDoctype legacy b → read_doctype (b ++ rest) ≡ taken (doctype legacy) rest
+pub doctype_is_read : (legacy : Bool) (b rest : List ℕ) → WritesDoctype false legacy b → read_doctype (b ++ rest) ≡ taken (doctype legacy) rest
 doctype_is_read false b rest p = plain_read b rest p
 doctype_is_read true b rest p = legacy_read b rest p

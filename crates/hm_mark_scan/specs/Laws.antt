@@ -1,12 +1,12 @@
 -- What is written is read as it was meant, whatever follows it.
-use Rattle.std.specs.Prelude.{◌≡◌, ℕ, Bool, true, List, ◌++◌, length, Some, codes}
+use Rattle.std.specs.Prelude.{◌≡◌, ℕ, Bool, true, false, List, ◌++◌, length, Some, codes}
 use Rattle.hm_base.specs.Forms.{is_comment_text}
 use Rattle.hm_base.specs.RawText.{begins_end_tag, raw_end, script_end}
+use Rattle.hm_markup_forms.specs.Doctypes.{WritesDoctype}
 use Rattle.hm_tree.specs.Tokens.{taken, doctype, slice, comment, Extends}
 use Rattle.hm_mark_scan.specs.Comments.{read_comment, read_cdata}
 use Rattle.hm_mark_scan.specs.Doctypes.{read_doctype}
 use Rattle.hm_mark_scan.specs.RawTexts.{read_raw, read_script}
-use Rattle.hm_mark_scan.specs.Written.{IsWrittenDoctype}
 
 -- What ends by itself is the same in a longer text: comments, CDATA sections, doctypes, raw text and scripts with their end tags.
 
@@ -31,7 +31,7 @@ CommentsAreRead = (t rest : List ℕ) → is_comment_text t ≡ true → read_co
 
 -- a written doctype
 abbrev pub DoctypesAreRead : Type 0
-DoctypesAreRead = (legacy : Bool) (b rest : List ℕ) → IsWrittenDoctype legacy b → read_doctype (b ++ rest) ≡ taken (doctype legacy) rest
+DoctypesAreRead = (legacy : Bool) (b rest : List ℕ) → WritesDoctype false legacy b → read_doctype (b ++ rest) ≡ taken (doctype legacy) rest
 
 -- Where some end tag of the element ends a raw text, each one does.
 abbrev pub RawTextIsRead : Type 0

@@ -6,4 +6,3 @@ pub mod Laws
 pub mod Pieces
 pub mod RawTexts
 pub mod Scripts
-pub mod Written

@@ -1,7 +1,7 @@
 -- How a doctype may be written (HTML Standard, 13.1.1).
 --
 -- Whether whitespace has to stand between its words is told: a reader takes `<!doctypehtml>` too, who writes keeps words apart.
-use Rattle.std.specs.Prelude.{◌≡◌, ◌⊎◌, ℕ, Bool, true, false, List, ◌∷◌, ◌++◌, codes}
+use Rattle.std.specs.Prelude.{◌≡◌, ◌⊎◌, ℕ, Bool, true, false, List, ◌++◌, codes}
 use Rattle.hm_base.specs.Forms.{is_blank}
 use Rattle.hm_markup_forms.specs.Gaps.{is_gap, IsWord}
 

@@ -1,5 +1,6 @@
 pub mod Loaded
-pub mod Saved
-pub mod Minified
-pub mod Endings
+pub mod Headline
+pub mod Courses
+pub mod Steps
 pub mod Others
+pub mod Meanings

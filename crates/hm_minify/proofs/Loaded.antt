@@ -5,12 +5,15 @@ use Rattle.std.proofs.lemmas.Grind.{common_steps}
 use Rattle.std.proofs.lemmas.Bool.Decides.{nat_tests}
 use Rattle.std.specs.Bool.{nat_lt}
 use Rattle.std.specs.declared.option.Option.{Option}
-use Rattle.hm_store.specs.Files.{FileMap, file_of, Takes}
+use Rattle.std.specs.Prelude.{Result, Ok, Err, IfOk}
+use Rattle.hm_store.specs.Contents.{Sees}
+use Rattle.hm_store.specs.Files.{FileMap, file_of}
+use Rattle.hm_input.specs.Loads.{IsLoaded}
 use Rattle.hm_base.specs.Walks.{Event}
 use Rattle.hm_first_path.proofs.Reading.{read_is_first_form}
 use Rattle.hm_first_path.specs.Page.{page_outcome, page_tree, page_limit, built, refused, IsFirstForm}
 use Rattle.hm_base.specs.declared.rules.Rule.TheVariants.{TooLong}
-use Rattle.hm_minify.specs.Runs.{IsLoaded}
+use Rattle.hm_minify.specs.Endings.{Ending, minified_ending, page_ending}
 
 -- a page above the limit is refused for that alone
 pub outcome_long : (page : List ℕ) → page_limit < length page → page_outcome page ≡ refused TooLong page_limit
@@ -39,10 +42,25 @@ outcome_front page = by_length (nat_lt page_limit (length page)) refl
     by_length false e =
         ap page_outcome (take_all (page_limit + 1) page (short_by_test page_limit (length page) e))
 
-pub is_loaded : (told : Option FileMap) (name bytes : List ℕ) → (o : Option (List ℕ)) → file_of told name ≡ o → Takes o (page_limit + 1) bytes → (IsSome told → IsSome o) → IsLoaded told name bytes
-is_loaded None name bytes o e t s = record { page = bytes; there = λ i. cc; outcome = refl }
-is_loaded (Some files) name bytes None e t s = cc (s refl)
-is_loaded (Some files) name bytes (Some page) e t s = record { page = page; there = λ i. e; outcome = ap page_outcome t ∙ outcome_front page }
+-- so a page that was loaded is one that the files hold, told or not
+pub seen_page : (told : Option FileMap) (name bytes out cert : List ℕ) (ended : Ending) → IsLoaded told name page_limit bytes → ended ≡ minified_ending out cert (page_outcome bytes)
+    → Sees told (λ seen. ended ≡ page_ending out cert (seen name))
+seen_page told name bytes out cert ended l e = by_told told l.there
+  where
+    of_page : page_outcome bytes ≡ page_outcome l.content
+    of_page = ap page_outcome l.front ∙ outcome_front l.content
+    by_told : (o : Option FileMap) → (IsSome o → file_of o name ≡ Some l.content) → Sees o (λ seen. ended ≡ page_ending out cert (seen name))
+    by_told None there = record { seen = λ _. Some l.content; are_told = λ h. cc; holds = e ∙ ap (minified_ending out cert) of_page }
+    by_told (Some files) there = record {
+      seen = file_of (Some files);
+      are_told = λ _ _. refl;
+      holds = e ∙ ap (minified_ending out cert) of_page ∙ ap (page_ending out cert) (sym (there refl));
+    }
+
+pub seen_result : {E : Type 0} (told : Option FileMap) (name items bytes out cert : List ℕ) (r : Result Ending E) → IsLoaded told name page_limit items → bytes ≡ items → IfOk r (λ ended. ended ≡ minified_ending out cert (page_outcome bytes))
+    → IfOk r (λ ended. Sees told (λ seen. ended ≡ page_ending out cert (seen name)))
+seen_result told name items bytes out cert (Ok ended) l same e = seen_page told name items out cert ended l (e ∙ ap (λ b. minified_ending out cert (page_outcome b)) same)
+seen_result told name items bytes out cert (Err x) l same e = tt
 
 -- a page that is read is of the first form
 pub form_of_outcome : (bytes : List ℕ) (tree : List Event) → page_outcome bytes ≡ built tree → IsFirstForm tree

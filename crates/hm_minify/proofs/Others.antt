@@ -1,19 +1,31 @@
--- Writing two files changes no other.
-use Rattle.std.proofs.Common.{◌≡◌, ℕ, ◌⊎◌, inl, inr, Bool, true, false, cond, ◌||◌, List, Some, None, refl, sym, ap, ◌∙◌}
+-- Writing changes no other file.
+use Rattle.std.proofs.Common.{◌≡◌, ℕ, ◌⊎◌, inl, inr, Bool, true, false, cond, ◌||◌, List, [], ◌∷◌, Some, None, refl, sym, ap, ◌∙◌}
 use Rattle.std.specs.declared.option.Option.{Option}
 use Rattle.std.specs.Str.{bytes_eq}
 use Rattle.std.specs.Cmp.Lexicographic.{nat_list_cmp_total}
 use Rattle.std.specs.FinMap.{get, get-insert}
 use Rattle.std.proofs.lemmas.Map.Text.{is_eq-slice_cmp}
+use Rattle.hm_refs.proofs.Places.{same_bytes, other_bytes}
+use Rattle.hm_store.specs.Contents.{Contents, Sees}
 use Rattle.hm_store.specs.Files.{FileMap, file_of, with_file, HasFront}
 use Rattle.hm_first_path.specs.Page.{Outcome, built, refused, page_outcome}
-use Rattle.hm_words.specs.Words.{Asked, minify, asked}
-use Rattle.hm_minify.specs.Runs.{Ending, page_ending, is_written, IsHalfway, Works, Stops}
-use Rattle.hm_minify.specs.declared.status.Status.{Status}
+use Rattle.hm_input.specs.Inputs.{Input, missing, bad_table, bad_page, tree as tree_input, input_of}
+use Rattle.hm_words.specs.Words.{Command, Asked, minify, tree, asked, has}
+use Rattle.hm_minify.specs.Endings.{Ending, minified_ending, page_ending, shown_ending, command_ending, request_ending, ending, outputs, asked_outputs}
+use Rattle.hm_minify.specs.Writes.{Write, IsLeft}
 
-pub with_other : (old : Option FileMap) (n b name : List ℕ) → bytes_eq name n ≡ false → file_of (with_file old n b) name ≡ file_of old name
+abbrev names_of : List Write → List (List ℕ)
+names_of [] = []
+names_of (w ∷ ws) = w.name ∷ names_of ws
+
+-- ---- files
+
+flipped : (n m : List ℕ) → bytes_eq n m ≡ false → bytes_eq m n ≡ false
+flipped n m h = other_bytes m n (λ e. let t : bytes_eq n m ≡ true = ap (bytes_eq n) e ∙ same_bytes n in cc)
+
+with_other : (old : Option FileMap) (n b name : List ℕ) → bytes_eq n name ≡ false → file_of (with_file old n b) name ≡ file_of old name
 with_other None n b name h = refl
-with_other (Some m) n b name h = get-insert nat_list_cmp_total m n b name ∙ ap (λ t. cond t (Some b) (get m name)) (is_eq-slice_cmp name n ∙ h)
+with_other (Some m) n b name h = get-insert nat_list_cmp_total m n b name ∙ ap (λ t. cond t (Some b) (get m name)) (is_eq-slice_cmp name n ∙ flipped n name h)
 
 first_differs : (a b : Bool) → (a || b) ≡ false → a ≡ false
 first_differs true b h = cc
@@ -23,38 +35,40 @@ second_differs : (a b : Bool) → (a || b) ≡ false → b ≡ false
 second_differs true b h = cc
 second_differs false b h = h
 
-pub front_other : (old new : Option FileMap) (n b name : List ℕ) → HasFront old new n b → bytes_eq name n ≡ false → file_of new name ≡ file_of old name
+front_other : (old new : Option FileMap) (n b name : List ℕ) → HasFront old new n b → bytes_eq n name ≡ false → file_of new name ≡ file_of old name
 front_other old new n b name f h = ap (λ o. file_of o name) f.files ∙ with_other old n _ name h
 
-both_other : (old : Option FileMap) (out_name out cert_name cert name : List ℕ) → (bytes_eq name out_name || bytes_eq name cert_name) ≡ false → file_of (with_file (with_file old out_name out) cert_name cert) name ≡ file_of old name
-both_other old out_name out cert_name cert name h =
-    with_other (with_file old out_name out) cert_name cert name (second_differs (bytes_eq name out_name) (bytes_eq name cert_name) h)
-    ∙ with_other old out_name out name (first_differs (bytes_eq name out_name) (bytes_eq name cert_name) h)
+left_other : (old : Option FileMap) (ws : List Write) (new : Option FileMap) (name : List ℕ) → has (names_of ws) name ≡ false → IsLeft old ws new → file_of new name ≡ file_of old name
+left_other old [] new name h e = ap (λ o. file_of o name) e
+left_other old (w ∷ ws) new name h (inl e) = ap (λ o. file_of o name) e
+left_other old (w ∷ ws) new name h (inr (inl f)) = front_other old new w.name w.bytes name f (first_differs (bytes_eq w.name name) (has (names_of ws) name) h)
+left_other old (w ∷ ws) new name h (inr (inr l)) =
+    left_other (with_file old w.name w.bytes) ws new name (second_differs (bytes_eq w.name name) (has (names_of ws) name) h) l
+    ∙ with_other old w.name w.bytes name (first_differs (bytes_eq w.name name) (has (names_of ws) name) h)
 
-pub halfway_other : (old new : Option FileMap) (out_name out cert_name cert name : List ℕ) → IsHalfway old new out_name out cert_name cert → (bytes_eq name out_name || bytes_eq name cert_name) ≡ false → file_of new name ≡ file_of old name
-halfway_other old new out_name out cert_name cert name (inl same) h = ap (λ o. file_of o name) same
-halfway_other old new out_name out cert_name cert name (inr (inl f)) h = front_other old new out_name out name f (first_differs (bytes_eq name out_name) (bytes_eq name cert_name) h)
-halfway_other old new out_name out cert_name cert name (inr (inr (inl e))) h = ap (λ o. file_of o name) e ∙ with_other old out_name out name (first_differs (bytes_eq name out_name) (bytes_eq name cert_name) h)
-halfway_other old new out_name out cert_name cert name (inr (inr (inr f))) h =
-    front_other (with_file old out_name out) new cert_name cert name f (second_differs (bytes_eq name out_name) (bytes_eq name cert_name) h)
-    ∙ with_other old out_name out name (first_differs (bytes_eq name out_name) (bytes_eq name cert_name) h)
+-- ---- what is written
 
-written_of : (asks : Option Asked) (page out cert name : List ℕ) → asks ≡ Some (minify page out cert) → is_written asks name ≡ false → (bytes_eq name out || bytes_eq name cert) ≡ false
-written_of asks page out cert name e h = ap (λ a. is_written a name) (sym e) ∙ h
+minified_names : (out cert name : List ℕ) (x : Outcome) → has (out ∷ cert ∷ []) name ≡ false → has (names_of (minified_ending out cert x).writes) name ≡ false
+minified_names out cert name (refused rule at) h = refl
+minified_names out cert name (built w) h = h
 
--- a run that has worked
-pub works_other : (old new : Option FileMap) (words : List (List ℕ)) (page_name out_name cert_name line name : List ℕ) (ended : Status) → asked words ≡ Some (minify page_name out_name cert_name) → Works old new page_name out_name cert_name ended line
-    → is_written (asked words) name ≡ false → file_of new name ≡ file_of old name
-works_other old new words page_name out_name cert_name line name ended asks w h = by_outcome (page_outcome w.page) refl
+page_names : (out cert name : List ℕ) (x : Option (List ℕ)) → has (out ∷ cert ∷ []) name ≡ false → has (names_of (page_ending out cert x).writes) name ≡ false
+page_names out cert name None h = refl
+page_names out cert name (Some page) h = minified_names out cert name (page_outcome page) h
+
+shown_names : (name : List ℕ) (x : Input) → has (names_of (shown_ending x).writes) name ≡ false
+shown_names name missing = refl
+shown_names name (bad_table fault) = refl
+shown_names name (bad_page rule at) = refl
+shown_names name (tree_input t w) = refl
+
+request_names : (a : Option Asked) (seen : Contents) (name : List ℕ) → has (asked_outputs a) name ≡ false → has (names_of (request_ending a seen).writes) name ≡ false
+request_names None seen name h = refl
+request_names (Some a) seen name h = by_command a.command h
   where
-    by_outcome : (o : Outcome) → page_outcome w.page ≡ o → file_of new name ≡ file_of old name
-    by_outcome (refused rule at) is = ap (λ (x : Ending). file_of x.files name) (w.is ∙ ap (page_ending old out_name cert_name) is)
-    by_outcome (built tree) is =
-        ap (λ (x : Ending). file_of x.files name) (w.is ∙ ap (page_ending old out_name cert_name) is)
-        ∙ both_other old out_name _ cert_name _ name (written_of (asked words) page_name out_name cert_name name asks h)
+    by_command : (c : Command) → has (outputs c) name ≡ false → has (names_of (command_ending c a.options a.rules seen).writes) name ≡ false
+    by_command (minify table page out cert) h = page_names out cert name (seen page) h
+    by_command (tree table page) h = shown_names name (input_of (tree table page) a.options seen)
 
--- a run that a fault of the store has stopped
-pub stopped_other : (old new : Option FileMap) (words : List (List ℕ)) (page_name out_name cert_name name : List ℕ) → asked words ≡ Some (minify page_name out_name cert_name) → (new ≡ old) ⊎ Stops old new page_name out_name cert_name
-    → is_written (asked words) name ≡ false → file_of new name ≡ file_of old name
-stopped_other old new words page_name out_name cert_name name asks (inl same) h = ap (λ o. file_of o name) same
-stopped_other old new words page_name out_name cert_name name asks (inr s) h = halfway_other old new out_name _ cert_name _ name s.files (written_of (asked words) page_name out_name cert_name name asks h)
+pub others : (words : List (List ℕ)) (old new : Option FileMap) (name : List ℕ) → Sees old (λ seen. IsLeft old (ending words seen).writes new) → has (asked_outputs (asked words)) name ≡ false → file_of new name ≡ file_of old name
+others words old new name l h = left_other old (ending words l.seen).writes new name (request_names (asked words) l.seen name h) l.holds

@@ -1,3 +1,5 @@
 pub mod Codes
 pub mod Lines
+pub mod Writes
+pub mod Endings
 pub mod Runs

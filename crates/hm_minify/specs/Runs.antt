@@ -1,131 +1,57 @@
--- How a run ends: its status, its line, and the files behind it.
-use Rattle.std.specs.Prelude.{ℕ, ◌≡◌, ◌⊎◌, ◌||◌, bytes_eq, Bool, true, false, List, length, Option, Some, None, IsSome}
+-- What a run has done: what stands after it, and why.
+use Rattle.std.specs.Prelude.{ℕ, ◌≡◌, ◌⊎◌, false, List, length, [], ◌∷◌, Option, Some}
 use Rattle.std.specs.Io.KnownBytes.{append_known}
 use Rattle.hm_base.specs.Walks.{Event}
-use Rattle.hm_base.specs.declared.rules.Rule.{Rule}
-use Rattle.hm_store.specs.Files.{FileMap, file_of, with_file, HasFront, IsMissing}
-use Rattle.hm_first_path.specs.Page.{Outcome, built, refused, page_tree, page_outcome}
-use Rattle.hm_first_path.specs.Spellings.{SpellsTree, Shortest}
-use Rattle.hm_first_path.specs.Graph.{FeasibleFor, first_price, prices_of, shortest_text}
-use Rattle.hm_first_path.specs.Certificate.{certificate_text}
 use Rattle.hm_base.specs.declared.plain.TreeOptions.{TreeOptions}
+use Rattle.hm_base.specs.declared.rules.Rule.{Rule}
+use Rattle.hm_store.specs.Causes.{Rose}
+use Rattle.hm_store.specs.Contents.{Contents, Sees, Tells}
+use Rattle.hm_store.specs.Files.{FileMap, AppendsFront}
+use Rattle.hm_first_path.specs.Page.{built, refused, page_tree, page_outcome}
+use Rattle.hm_first_path.specs.Spellings.{SpellsTree, Shortest}
+use Rattle.hm_first_path.specs.Graph.{FeasibleFor, first_price}
+use Rattle.hm_first_path.specs.Certificate.{certificate_text}
+use Rattle.hm_refs.specs.Names.{Entry}
+use Rattle.hm_refs.specs.declared.fault.TableFault.{TableFault}
 use Rattle.hm_tree.specs.Dump.{dump_of}
-use Rattle.hm_input.specs.Inputs.{Input, missing, bad_table, bad_page, tree as tree_input, input_of, IsInput}
-use Rattle.hm_input.specs.Loads.{IsFileMissing}
-use Rattle.hm_words.specs.Words.{Asked, minify, tree as show_tree, asked}
-use Rattle.hm_minify.specs.Lines.{length_line, refused_line, table_line, usage_line, store_line}
+use Rattle.hm_input.specs.Inputs.{bad_table, bad_page, tree as tree_input, input_of}
+use Rattle.hm_words.specs.Words.{Command}
+use Rattle.hm_minify.specs.Endings.{Ending, store_fault, is_fault}
+use Rattle.hm_minify.specs.Lines.{length_line, refused_line, table_line, store_line}
+use Rattle.hm_minify.specs.Writes.{write, after_writes, IsLeft}
 use Rattle.hm_minify.specs.declared.status.Status.{Status}
 use Rattle.hm_minify.specs.declared.status.Status.TheVariants as status
 
--- The result of a run in which no call failed and no memory was refused
-
-pub record Ending : Type 0 where
-  pub status : Status
-  pub line : List ℕ
-  pub files : Option FileMap
-
-abbrev pub ends : Status → List ℕ → Option FileMap → Ending
-ends ended line files = record { status = ended; line = line; files = files }
-
--- a page was read or refused
-abbrev pub page_ending : Option FileMap → List ℕ → List ℕ → Outcome → Ending
-page_ending files out cert (refused rule at) = ends status.PageRefused (refused_line rule at) files
-page_ending files out cert (built tree) =
-    ends status.Done (length_line (length (shortest_text tree)))
-    (with_file (with_file files out (shortest_text tree)) cert (certificate_text (prices_of tree)))
-
--- a file was loaded, or isn't there
-abbrev pub loaded_ending : Option FileMap → List ℕ → List ℕ → Option (List ℕ) → Ending
-loaded_ending files out cert None = ends status.StoreFault store_line files
-loaded_ending files out cert (Some page) = page_ending files out cert (page_outcome page)
-
--- a tree is shown
-abbrev pub shown_ending : Option FileMap → Input → Ending
-shown_ending files missing = ends status.StoreFault store_line files
-shown_ending files (bad_table fault) = ends status.TableRefused (table_line fault) files
-shown_ending files (bad_page rule at) = ends status.PageRefused (refused_line rule at) files
-shown_ending files (tree_input w) = ends status.Done (dump_of w) files
-
-abbrev pub asked_ending : Option FileMap → Option Asked → Ending
-asked_ending files None = ends status.Usage usage_line files
-asked_ending files (Some (minify page out cert)) = loaded_ending files out cert (file_of files page)
-asked_ending files (Some (show_tree table page o)) = shown_ending files (input_of files table page o)
-
--- the result of a run on these words over told files
-abbrev pub ending : List (List ℕ) → FileMap → Ending
-ending words files = asked_ending (Some files) (asked words)
-
--- a status that says what the words and the page gave, and no fault
-abbrev pub is_answer : Status → Bool
-is_answer status.Done = true
-is_answer status.Usage = true
-is_answer status.PageRefused = true
-is_answer status.TableRefused = true
-is_answer status.StoreFault = false
-is_answer status.SinkFault = false
-is_answer status.Memory = false
-
 -- status, files and sink are those of an ending
-pub record EndsAs (e : Ending) (ended : Status) (new : Option FileMap) (sink_old sink_new : Option (List ℕ)) : Type 0 where
+pub record EndsAs (e : Ending) (ended : Status) (old new : Option FileMap) (sink_old sink_new : Option (List ℕ)) : Type 0 where
   pub status : ended ≡ e.status
-  pub files : new ≡ e.files
+  pub files : new ≡ after_writes old e.writes
   pub sink : sink_new ≡ append_known sink_old e.line
 
--- The work between the words and the line
+-- a line was put, and the status is the one that goes with it; or the sink has failed, and a front of the line was put
+abbrev pub Puts : (faults_old faults_new : ℕ) (sink_old sink_new : Option (List ℕ)) (line : List ℕ) (said ended : Status) → Type 0
+Puts faults_old faults_new sink_old sink_new line said ended =
+    ((ended ≡ said) × (sink_new ≡ append_known sink_old line))
+    ⊎ ((ended ≡ status.SinkFault) × AppendsFront sink_old sink_new line × Rose faults_old faults_new)
 
--- the bytes that were loaded of a page: where the store tells its files, the page is there, and its outcome is theirs
-pub record IsLoaded (told : Option FileMap) (name bytes : List ℕ) : Type 0 where
-  pub page : List ℕ
-  pub there : IsSome told → file_of told name ≡ Some page
-  pub outcome : page_outcome bytes ≡ page_outcome page
+-- all files of an ending are written and its line is put, or a call on the store has failed and that is said
+abbrev pub Finishes : (e : Ending) (old new : Option FileMap) (faults_old faults_new : ℕ) (sink_old sink_new : Option (List ℕ)) (sink_faults_old sink_faults_new : ℕ) (ended : Status) → Type 0
+Finishes e old new faults_old faults_new sink_old sink_new sink_faults_old sink_faults_new ended =
+    ((new ≡ after_writes old e.writes) × Puts sink_faults_old sink_faults_new sink_old sink_new e.line e.status ended)
+    ⊎ (IsLeft old e.writes new × Rose faults_old faults_new × Puts sink_faults_old sink_faults_new sink_old sink_new store_line status.StoreFault ended)
 
--- status, line and files are those of a page that is there
-pub record Works (old new : Option FileMap) (page_name out_name cert_name : List ℕ) (ended : Status) (line : List ℕ) : Type 0 where
-  pub page : List ℕ
-  pub there : IsSome old → file_of old page_name ≡ Some page
-  pub is : ends ended line new ≡ page_ending old out_name cert_name (page_outcome page)
+-- how a run goes that is to end so
+pub data Course (e : Contents → Ending) (old new : Option FileMap) (faults_old faults_new : ℕ) (sink_old sink_new : Option (List ℕ)) (sink_faults_old sink_faults_new : ℕ) (ended : Status) : Type 0 where
+  -- all files are written, and the line is put
+  written : Sees old (λ seen. (is_fault (e seen).status ≡ false) × (new ≡ after_writes old (e seen).writes) × Puts sink_faults_old sink_faults_new sink_old sink_new (e seen).line (e seen).status ended) → Course e old new faults_old faults_new sink_old sink_new sink_faults_old sink_faults_new ended
+  -- a file isn't there
+  missing : Tells old (λ seen. e seen ≡ store_fault) → new ≡ old → Puts sink_faults_old sink_faults_new sink_old sink_new store_line status.StoreFault ended → Course e old new faults_old faults_new sink_old sink_new sink_faults_old sink_faults_new ended
+  -- a call on the store has failed
+  stopped : Sees old (λ seen. IsLeft old (e seen).writes new) → Rose faults_old faults_new → Puts sink_faults_old sink_faults_new sink_old sink_new store_line status.StoreFault ended → Course e old new faults_old faults_new sink_old sink_new sink_faults_old sink_faults_new ended
+  -- memory was refused
+  unready : ended ≡ status.Memory → new ≡ old → sink_new ≡ sink_old → Course e old new faults_old faults_new sink_old sink_new sink_faults_old sink_faults_new ended
 
--- status and line are those of what table and page give
-pub record Shows (told : Option FileMap) (table page : List ℕ) (o : TreeOptions) (ended : Status) (line : List ℕ) : Type 0 where
-  pub input : Input
-  pub reads : IsInput told table page o input
-  pub is : ends ended line told ≡ shown_ending told input
-
--- after a fault of the store in the writing of two files: nothing is touched, or a front of the first stands, or the
--- first is whole and a front of the second stands
-abbrev pub IsHalfway : Option FileMap → Option FileMap → List ℕ → List ℕ → List ℕ → List ℕ → Type 0
-IsHalfway old new out_name out cert_name cert =
-    (new ≡ old) ⊎ (HasFront old new out_name out ⊎ ((new ≡ with_file old out_name out) ⊎ HasFront (with_file old out_name out) new cert_name cert))
-
--- after a fault of the store: halfway to what the page gives
-pub record Stops (old new : Option FileMap) (page_name out_name cert_name : List ℕ) : Type 0 where
-  pub page : List ℕ
-  pub there : IsSome old → file_of old page_name ≡ Some page
-  pub tree : List Event
-  pub reads : page_outcome page ≡ built tree
-  pub files : IsHalfway old new out_name (shortest_text tree) cert_name (certificate_text (prices_of tree))
-
--- after a fault of the store: halfway to what the words ask for
-pub record HasStopped (old new : Option FileMap) (words : List (List ℕ)) : Type 0 where
-  pub page_name : List ℕ
-  pub out_name : List ℕ
-  pub cert_name : List ℕ
-  pub asks : asked words ≡ Some (minify page_name out_name cert_name)
-  pub stops : Stops old new page_name out_name cert_name
-
--- a file that the words ask to be written
-abbrev pub is_written : Option Asked → List ℕ → Bool
-is_written None name = false
-is_written (Some (minify page out cert)) name = bytes_eq name out || bytes_eq name cert
-is_written (Some (show_tree table page o)) name = false
-
--- the words ask for a file that isn't there
-abbrev pub asks_missing : Option FileMap → Option Asked → Type 0
-asks_missing told None = ⊥
-asks_missing told (Some (minify page out cert)) = IsMissing told page
-asks_missing told (Some (show_tree table page o)) = IsFileMissing told table page
-
--- The headline
+-- ---- minify, over pages of the first form
 
 -- the output parses to the tree, is a spelling of it, and no spelling is shorter; and the certificate shows that by
 -- its prices alone
@@ -138,42 +64,49 @@ pub record IsMinified (tree : List Event) (out cert : List ℕ) : Type 0 where
   pub feasible : FeasibleFor tree prices
   pub bound : first_price prices ≡ Some (length out)
 
--- what a run has done: the page was read as a tree, OUT and CERT hold it minified, and the line says its length
-pub record HasMinified (old new : Option FileMap) (words : List (List ℕ)) (sink_old sink_new : Option (List ℕ)) : Type 0 where
-  pub page_name : List ℕ
-  pub out_name : List ℕ
-  pub cert_name : List ℕ
-  pub asks : asked words ≡ Some (minify page_name out_name cert_name)
+-- the page was read as a tree, OUT and CERT hold it minified, and the line says its length
+pub record HasMinified (page_name out_name cert_name : List ℕ) (old new : Option FileMap) (sink_old sink_new : Option (List ℕ)) (seen : Contents) : Type 0 where
   pub page : List ℕ
-  pub there : IsSome old → file_of old page_name ≡ Some page
+  pub there : seen page_name ≡ Some page
   pub tree : List Event
   pub reads : page_outcome page ≡ built tree
   pub out : List ℕ
   pub cert : List ℕ
   pub minified : IsMinified tree out cert
-  pub files : new ≡ with_file (with_file old out_name out) cert_name cert
+  pub files : new ≡ after_writes old (write out_name out ∷ write cert_name cert ∷ [])
   pub line : sink_new ≡ append_known sink_old (length_line (length out))
 
--- what a run has refused: the page isn't of the form that is read, and the line says its rule and place
-pub record HasRefused (old new : Option FileMap) (words : List (List ℕ)) (sink_old sink_new : Option (List ℕ)) : Type 0 where
-  pub page_name : List ℕ
-  pub out_name : List ℕ
-  pub cert_name : List ℕ
-  pub asks : asked words ≡ Some (minify page_name out_name cert_name)
+-- the page isn't of the form that is read, and the line says by which rule and where
+pub record HasRefused (page_name : List ℕ) (old new : Option FileMap) (sink_old sink_new : Option (List ℕ)) (seen : Contents) : Type 0 where
   pub page : List ℕ
-  pub there : IsSome old → file_of old page_name ≡ Some page
+  pub there : seen page_name ≡ Some page
   pub rule : Rule
   pub at : ℕ
   pub reads : page_outcome page ≡ refused rule at
   pub files : new ≡ old
   pub line : sink_new ≡ append_known sink_old (refused_line rule at)
 
--- what a run has shown: the tree of a page after the rewrites that are asked for, or why table or page is refused
-pub record HasShown (old new : Option FileMap) (words : List (List ℕ)) (sink_old sink_new : Option (List ℕ)) (ended : Status) : Type 0 where
-  pub table : List ℕ
-  pub page : List ℕ
-  pub options : TreeOptions
-  pub asks : asked words ≡ Some (show_tree table page options)
-  pub input : Input
-  pub reads : IsInput old table page options input
-  pub is : EndsAs (shown_ending old input) ended new sink_old sink_new
+-- ---- tree
+
+-- the files give a tree, whose lines are shown
+pub record HasShown (command : Command) (options : TreeOptions) (old new : Option FileMap) (sink_old sink_new : Option (List ℕ)) (seen : Contents) : Type 0 where
+  pub table : List Entry
+  pub tree : List Event
+  pub reads : input_of command options seen ≡ tree_input table tree
+  pub files : new ≡ old
+  pub lines : sink_new ≡ append_known sink_old (dump_of tree)
+
+-- the files give a page that is refused, and the line says by which rule and where
+pub record HasRefusedPage (command : Command) (options : TreeOptions) (old new : Option FileMap) (sink_old sink_new : Option (List ℕ)) (seen : Contents) : Type 0 where
+  pub rule : Rule
+  pub at : ℕ
+  pub reads : input_of command options seen ≡ bad_page rule at
+  pub files : new ≡ old
+  pub line : sink_new ≡ append_known sink_old (refused_line rule at)
+
+-- the files give a table that is refused, and the line says for which fault
+pub record HasRefusedTable (command : Command) (options : TreeOptions) (old new : Option FileMap) (sink_old sink_new : Option (List ℕ)) (seen : Contents) : Type 0 where
+  pub fault : TableFault
+  pub reads : input_of command options seen ≡ bad_table fault
+  pub files : new ≡ old
+  pub line : sink_new ≡ append_known sink_old (table_line fault)

@@ -1,26 +1,59 @@
 //! The top call.
-ghost use Rattle.std.specs.Prelude.{◌≡◌, ◌⊎◌, ◌≤◌, Some, None, true, false, ℕ, List};
+ghost use Rattle.std.specs.Prelude.{◌≡◌, ◌≢◌, ◌⊎◌, ◌≤◌, Some, None, IfOk, Err, true, false, ℕ, List};
 ghost use Rattle.std.specs.Io.KnownBytes.{append_known};
+ghost use Rattle.hm_base.specs.declared.plain.SpellRules.{SpellRules};
+ghost use Rattle.hm_base.specs.declared.plain.TreeOptions.{TreeOptions};
 ghost use Rattle.hm_store.specs.Causes.{Rose};
-ghost use Rattle.hm_store.specs.Files.{FileMap, AppendsFront, file_of};
+ghost use Rattle.hm_store.specs.Contents.{Sees, Tells};
+ghost use Rattle.hm_store.specs.Files.{AppendsFront, file_of};
+ghost use Rattle.hm_words.specs.Answers.{command_of, request_of};
 ghost use Rattle.hm_words.specs.Words as request;
-ghost use Rattle.hm_minify.specs.Runs as spec;
+ghost use Rattle.hm_words.specs.Words.{asked as asked_by, asks};
+ghost use Rattle.hm_minify.specs.Endings as endings;
+ghost use Rattle.hm_minify.specs.Endings.{ending, is_fault};
 ghost use Rattle.hm_minify.specs.Lines.{usage_line, store_line};
+ghost use Rattle.hm_minify.specs.Runs as spec;
+ghost use Rattle.hm_minify.specs.Writes.{after_writes, IsLeft};
 
 use crate::Status;
+use crate::ended::{Ended, Stop};
 use crate::lines::{STORE_FAULT, USAGE};
+use crate::minified::minify;
+use crate::saved::save;
 use crate::shown::show;
-use crate::work::{Names, Stop, minify};
 use hm_base::Word;
 use hm_store::{Failed, Sink, Store};
-use hm_words::Asked;
+use hm_words::{Asked, Command};
 use std::alloc::Global;
 
+/// What a request ends with. Files are read, and none is written yet.
+fn work<'w, S: Store>(
+    alloc: Global,
+    asked: &Asked<'w>,
+    store: &mut S,
+) -> Result<Ended<'w>, Stop>
+    requires apart { request.is_apart (command_of asked.now.command) ≡ true }
+    ensures ended { IfOk result (λ ended. Sees (S.files store.old) (λ seen. ended ≡ endings.asked_ending (request_of asked.now) seen)) }
+    ensures answers { IfOk result (λ ended. is_fault ended.status ≡ false) }
+    ensures same { S.files store.new ≡ S.files store.old }
+    ensures writing { S.is_writing store.new ≡ S.is_writing store.old }
+    ensures later { S.faults store.old ≤ S.faults store.new }
+    ensures store { result ≡ Err Stop.Store → Rose (S.faults store.old) (S.faults store.new) ⊎ Tells (S.files store.old) (λ seen. endings.asked_ending (request_of asked.now) seen ≡ endings.store_fault) }
+{
+    match asked.command {
+        Command::Minify {
+            table: _,
+            page,
+            out,
+            cert,
+        } => minify(alloc, store, page, out, cert),
+        Command::Tree { table, page } => show(alloc, store, table, page, &asked.options),
+    }
+}
+
 /// Puts a line: the status that it says, or that the sink has failed.
-fn finish<O: Sink>(out: &mut O, line: &[u8], status: Status) -> Status
-    ensures later { O.faults out.old ≤ O.faults out.new }
-    ensures ends { ((result ≡ status) × (O.contents out.new ≡ append_known (O.contents out.old) line.now))
-        ⊎ ((result ≡ Status.SinkFault) × AppendsFront (O.contents out.old) (O.contents out.new) line.now × Rose (O.faults out.old) (O.faults out.new)) }
+fn put_line<O: Sink>(out: &mut O, line: &[u8], status: Status) -> Status
+    ensures { spec.Puts (O.faults out.old) (O.faults out.new) (O.contents out.old) (O.contents out.new) line.now status result }
 {
     match out.put(line) {
         Ok(()) => status,
@@ -28,65 +61,80 @@ fn finish<O: Sink>(out: &mut O, line: &[u8], status: Status) -> Status
     }
 }
 
-/// Does what the words ask for, and puts one line to the sink, or the lines of a tree.
-pub fn run<S: Store, O: Sink>(alloc: Global, words: &[Word], store: &mut S, out: &mut O) -> Status
-    // The words alone decide whether they have a meaning.
-    ensures usage { result ≡ Status.Usage → (request.asked words.now ≡ None) × (S.files store.new ≡ S.files store.old) × (O.contents out.new ≡ append_known (O.contents out.old) usage_line) }
-    ensures no_meaning { request.asked words.now ≡ None → (result ≡ Status.Usage) ⊎ (result ≡ Status.SinkFault) }
+/// Writes the files, and then puts the line.
+fn finish<S: Store, O: Sink>(store: &mut S, out: &mut O, ended: &Ended<'_>) -> Status
+    ensures { spec.Finishes ended.now (S.files store.old) (S.files store.new) (S.faults store.old) (S.faults store.new) (O.contents out.old) (O.contents out.new) (O.faults out.old) (O.faults out.new) result }
+{
+    match save(store, ended.outputs.as_slice()) {
+        Ok(()) => put_line(out, ended.line.as_bytes(), ended.status),
+        Err(Failed) => put_line(out, STORE_FAULT, Status::StoreFault),
+    }
+}
 
-    // The headline: a page is refused at its first offending place with its rule, or written shortest and certified;
-    // a tree is shown as the options define it.
-    ensures refused { result ≡ Status.PageRefused → spec.HasRefused (S.files store.old) (S.files store.new) words.now (O.contents out.old) (O.contents out.new) ⊎ spec.HasShown (S.files store.old) (S.files store.new) words.now (O.contents out.old) (O.contents out.new) result }
-    ensures done { result ≡ Status.Done → spec.HasMinified (S.files store.old) (S.files store.new) words.now (O.contents out.old) (O.contents out.new) ⊎ spec.HasShown (S.files store.old) (S.files store.new) words.now (O.contents out.old) (O.contents out.new) result }
-    ensures table { result ≡ Status.TableRefused → spec.HasShown (S.files store.old) (S.files store.new) words.now (O.contents out.old) (O.contents out.new) result }
-
-    // Where the store tells its files, an answer is the one that words and files give, and without a failed call there is no other but for want of memory.
-    ensures answered { (files : FileMap) → S.files store.old ≡ Some files → spec.is_answer result ≡ true → spec.EndsAs (spec.ending words.now files) result (S.files store.new) (O.contents out.old) (O.contents out.new) }
-    ensures complete { (files : FileMap) → S.files store.old ≡ Some files → (Rose (S.faults store.old) (S.faults store.new) → ⊥) → (Rose (O.faults out.old) (O.faults out.new) → ⊥)
-        → (result ≡ Status.Memory) ⊎ spec.EndsAs (spec.ending words.now files) result (S.files store.new) (O.contents out.old) (O.contents out.new) }
-
-    // No file but OUT and CERT is ever changed.
-    ensures others { (name : List ℕ) → spec.is_written (request.asked words.now) name ≡ false → file_of (S.files store.new) name ≡ file_of (S.files store.old) name }
-
-    // Every other status has its cause.
-    ensures store_cause { result ≡ Status.StoreFault → Rose (S.faults store.old) (S.faults store.new) ⊎ spec.asks_missing (S.files store.old) (request.asked words.now) }
-    ensures sink_cause { result ≡ Status.SinkFault → Rose (O.faults out.old) (O.faults out.new) }
-    ensures store_line { result ≡ Status.StoreFault → O.contents out.new ≡ append_known (O.contents out.old) store_line }
-    ensures stopped { result ≡ Status.StoreFault → (S.files store.new ≡ S.files store.old) ⊎ spec.HasStopped (S.files store.old) (S.files store.new) words.now }
-    ensures memory { result ≡ Status.Memory → (S.files store.new ≡ S.files store.old) × (O.contents out.new ≡ O.contents out.old) }
+/// Does what the words ask for, step by step.
+fn perform<S: Store, O: Sink>(
+    alloc: Global,
+    words: &[Word],
+    store: &mut S,
+    out: &mut O,
+) -> Status
+    ensures unasked { asked_by words.now ≡ None → (store.new ≡ store.old) × spec.Puts (O.faults out.old) (O.faults out.new) (O.contents out.old) (O.contents out.new) usage_line Status.Usage result }
+    ensures course { spec.Course (ending words.now) (S.files store.old) (S.files store.new) (S.faults store.old) (S.faults store.new) (O.contents out.old) (O.contents out.new) (O.faults out.old) (O.faults out.new) result }
+    ensures writing { result ≡ Status.Memory → S.is_writing store.new ≡ S.is_writing store.old }
 {
     match Asked::read(words) {
-        None => finish(out, USAGE, Status::Usage),
-        Some(
-            Asked::Minify {
-                page,
-                out: output,
-                cert,
-            },
-        ) => {
-            let names = Names {
-                page,
-                out: output,
-                cert,
-            };
-            match minify(alloc, &names, store) {
-                Ok(ended) => finish(out, ended.line.as_bytes(), ended.status),
-                Err(Stop::Store) => finish(out, STORE_FAULT, Status::StoreFault),
-                Err(Stop::Memory) => Status::Memory,
-            }
-        }
-        Some(
-            Asked::Tree {
-                table,
-                page,
-                options,
-            },
-        ) => match show(alloc, store, table, page, &options) {
-            Ok(ended) => finish(out, ended.line.as_bytes(), ended.status),
-            Err(Stop::Store) => finish(out, STORE_FAULT, Status::StoreFault),
+        None => put_line(out, USAGE, Status::Usage),
+        Some(asked) => match work(alloc, &asked, store) {
+            Ok(ended) => finish(store, out, &ended),
+            Err(Stop::Store) => put_line(out, STORE_FAULT, Status::StoreFault),
             Err(Stop::Memory) => Status::Memory,
         },
     }
+}
+
+/// Does what the words ask for, and puts one line to the sink, or the lines of a tree.
+pub fn run<S: Store, O: Sink>(alloc: Global, words: &[Word], store: &mut S, out: &mut O) -> Status
+    // The words alone decide whether they have a meaning. Without one, nothing is asked of the store.
+    ensures usage { result ≡ Status.Usage → (asked_by words.now ≡ None) × (store.new ≡ store.old) × (O.contents out.new ≡ append_known (O.contents out.old) usage_line) }
+    ensures no_meaning { asked_by words.now ≡ None → (store.new ≡ store.old) × ((result ≡ Status.Usage) ⊎ (result ≡ Status.SinkFault)) }
+
+    // An answer is the ending that words and files give. Where no call has failed, there is nothing else but want of memory.
+    ensures answer { is_fault result ≡ false → Sees (S.files store.old) (λ seen. spec.EndsAs (ending words.now seen) result (S.files store.old) (S.files store.new) (O.contents out.old) (O.contents out.new)) }
+    ensures complete { (Rose (S.faults store.old) (S.faults store.new) → ⊥) → (Rose (O.faults out.old) (O.faults out.new) → ⊥)
+        → (result ≡ Status.Memory) ⊎ Sees (S.files store.old) (λ seen. spec.EndsAs (ending words.now seen) result (S.files store.old) (S.files store.new) (O.contents out.old) (O.contents out.new)) }
+
+    // Where no call on the store has failed, all files of the ending are written. Always a front of them is, each earlier one whole, and no other file is ever changed.
+    ensures whole { (Rose (S.faults store.old) (S.faults store.new) → ⊥) → result ≢ Status.Memory → Sees (S.files store.old) (λ seen. S.files store.new ≡ after_writes (S.files store.old) (ending words.now seen).writes) }
+    ensures left { Sees (S.files store.old) (λ seen. IsLeft (S.files store.old) (ending words.now seen).writes (S.files store.new)) }
+    ensures others { (name : List ℕ) → request.has (endings.asked_outputs (asked_by words.now)) name ≡ false → file_of (S.files store.new) name ≡ file_of (S.files store.old) name }
+
+    // A fault of the store: a call has failed, or a file isn't there. The sink has the line.
+    ensures store_cause { result ≡ Status.StoreFault → Rose (S.faults store.old) (S.faults store.new) ⊎ Tells (S.files store.old) (λ seen. (ending words.now seen).status ≡ Status.StoreFault) }
+    ensures store_line { result ≡ Status.StoreFault → O.contents out.new ≡ append_known (O.contents out.old) store_line }
+
+    // A fault of the sink: a call has failed, and a front of the line was put, that of the ending or that of a fault of the store.
+    ensures sink_cause { result ≡ Status.SinkFault → Rose (O.faults out.old) (O.faults out.new) }
+    ensures sink_front { result ≡ Status.SinkFault → (Rose (S.faults store.old) (S.faults store.new) × AppendsFront (O.contents out.old) (O.contents out.new) store_line)
+        ⊎ Sees (S.files store.old) (λ seen. AppendsFront (O.contents out.old) (O.contents out.new) (ending words.now seen).line) }
+
+    // Memory is refused only before a file is opened for writing.
+    ensures memory { result ≡ Status.Memory → (S.files store.new ≡ S.files store.old) × (O.contents out.new ≡ O.contents out.old) × (S.is_writing store.new ≡ S.is_writing store.old) }
+
+    // The headline: a page is written shortest and certified, or refused at its first offending place with its rule.
+    ensures minified { (table page output cert : List ℕ) (options : TreeOptions) (rules : SpellRules) → asked_by words.now ≡ Some (asks (request.minify table page output cert) options rules) → result ≡ Status.Done
+        → Sees (S.files store.old) (spec.HasMinified page output cert (S.files store.old) (S.files store.new) (O.contents out.old) (O.contents out.new)) }
+    ensures refused { (table page output cert : List ℕ) (options : TreeOptions) (rules : SpellRules) → asked_by words.now ≡ Some (asks (request.minify table page output cert) options rules) → result ≡ Status.PageRefused
+        → Sees (S.files store.old) (spec.HasRefused page (S.files store.old) (S.files store.new) (O.contents out.old) (O.contents out.new)) }
+
+    // A tree is shown as the options define it, or table or page is refused.
+    ensures shown { (table page : List ℕ) (options : TreeOptions) (rules : SpellRules) → asked_by words.now ≡ Some (asks (request.tree table page) options rules) → result ≡ Status.Done
+        → Sees (S.files store.old) (spec.HasShown (request.tree table page) options (S.files store.old) (S.files store.new) (O.contents out.old) (O.contents out.new)) }
+    ensures refused_page { (table page : List ℕ) (options : TreeOptions) (rules : SpellRules) → asked_by words.now ≡ Some (asks (request.tree table page) options rules) → result ≡ Status.PageRefused
+        → Sees (S.files store.old) (spec.HasRefusedPage (request.tree table page) options (S.files store.old) (S.files store.new) (O.contents out.old) (O.contents out.new)) }
+    ensures refused_table { (table page : List ℕ) (options : TreeOptions) (rules : SpellRules) → asked_by words.now ≡ Some (asks (request.tree table page) options rules) → result ≡ Status.TableRefused
+        → Sees (S.files store.old) (spec.HasRefusedTable (request.tree table page) options (S.files store.old) (S.files store.new) (O.contents out.old) (O.contents out.new)) }
+{
+    perform(alloc, words, store, out)
 }
 
 #[cfg(test)]

@@ -8,7 +8,7 @@ use Rattle.hm_tree.specs.declared.events.EventView.{EventView}
 use Rattle.hm_tree.specs.declared.events.EventView.TheVariants as views
 use Rattle.hm_options.specs.Joins.{may_join, IsLast}
 use Rattle.hm_options.specs.Rewrites.{no_comment, uncommented}
-use Rattle.hm_space.specs.Copies.{event_before, are_texts_apart}
+use Rattle.hm_space.specs.Copies.{event_before}
 use Rattle.hm_space.proofs.Apart.{text_there}
 use Rattle.hm_space.proofs.Behind.{some_null}
 use Rattle.hm_space.proofs.Collapsing.{stays_no_longer}
@@ -244,12 +244,12 @@ module _ (w : List Event) where
       last_told = told;
     }
 
-  pub uncommented_joins : (i : ℕ) (m : List Event) (last : Option Bool) (e : Event) → slice_get w i ≡ Some e → IsWalk w → are_texts_apart w ≡ true → IsUncommented w i m last → may_join m e ≡ true
-  uncommented_joins i m last (doctype legacy) at walk apart h = ended i m last (doctype legacy) at walk h
-  uncommented_joins i m last (start n foreign attributes) at walk apart h = ended i m last (start n foreign attributes) at walk h
-  uncommented_joins i m last (text s raw) at walk apart h = rw (text_there w i s raw apart at) refl
-  uncommented_joins i m last (comment s) at walk apart h = ended i m last (comment s) at walk h
-  uncommented_joins i m last (end n foreign) at walk apart h = ended i m last (end n foreign) at walk h
+  pub uncommented_joins : (i : ℕ) (m : List Event) (last : Option Bool) (e : Event) → slice_get w i ≡ Some e → IsWalk w → IsUncommented w i m last → may_join m e ≡ true
+  uncommented_joins i m last (doctype legacy) at walk h = ended i m last (doctype legacy) at walk h
+  uncommented_joins i m last (start n foreign attributes) at walk h = ended i m last (start n foreign attributes) at walk h
+  uncommented_joins i m last (text s raw) at walk h = rw (text_there w i s raw walk.apart at) refl
+  uncommented_joins i m last (comment s) at walk h = ended i m last (comment s) at walk h
+  uncommented_joins i m last (end n foreign) at walk h = ended i m last (end n foreign) at walk h
 
   pub IsUncommented-all : (i : ℕ) (m : List Event) (last : Option Bool) → length w ≤ i → IsUncommented w i m last → m ≡ uncommented w
   IsUncommented-all i m last past h = h.joined ∙ ap (λ v. pushes v []) (IsCopied-all no_comment w i h.events past h.copied)

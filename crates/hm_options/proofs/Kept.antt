@@ -4,7 +4,8 @@ use Rattle.std.proofs.lemmas.Grind.{flat_map-append}
 use Rattle.std.proofs.lemmas.List.{append-nil}
 use Rattle.hm_base.specs.Walks.{Attribute, has_name, has_distinct_names, attributes_size}
 use Rattle.hm_elements.specs.Tables.{is_boolean}
-use Rattle.hm_options.specs.Rewrites.{without, without_value, is_empty, is_redundant, no_boolean_values}
+use Rattle.hm_elements.specs.Attributes.{is_redundant}
+use Rattle.hm_options.specs.Rewrites.{without, without_value, is_empty, no_boolean_values}
 use Rattle.hm_options.specs.Rules.{attributes_rule, attribute_rule, is_dropped, valued}
 use Rattle.hm_options.specs.declared.rules.Rule.{Rule}
 use Rattle.hm_options.specs.declared.rules.Rule.TheVariants.{PlainDoctype, BooleanValues, EmptyAttributes, RedundantAttributes}

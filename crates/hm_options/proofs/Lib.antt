@@ -1,7 +1,5 @@
-pub mod Defaults
 pub mod InOrder
 pub mod Joined
 pub mod Kept
 pub mod Ruled
-pub mod StillApart
 pub mod StillSettled

@@ -6,7 +6,7 @@ use Rattle.hm_options.specs.Rules.{event_rule, attributes_rule}
 use Rattle.hm_options.specs.declared.rules.Rule.{Rule}
 use Rattle.hm_options.specs.declared.rules.Rule.TheVariants.{PlainDoctype, BooleanValues, EmptyAttributes, RedundantAttributes}
 use Rattle.hm_options.proofs.Kept.{rule_each, rule_size}
-use Rattle.hm_space.specs.Copies.{event_before, are_texts_apart, may_follow}
+use Rattle.hm_space.specs.Copies.{event_before, may_follow}
 use Rattle.hm_space.proofs.Apart.{EndsAlike, EndsAlike-more, may_follow-next}
 use Rattle.hm_space.proofs.Collapsing.{stays_no_longer}
 use Rattle.hm_space.proofs.Rewriting.{NoLonger, IsCopied, IsCopied-more, HasRoom-next, IsCopied-all, IsCopied-closed}
@@ -121,8 +121,8 @@ module _ (rule : Rule) (w : List Event) where
     pub ruled_room : HasRoom (v ++ e ∷ [])
     ruled_room = HasRoom-next (event_rule rule) w i v e at h.copied walk
 
-    pub ruled_follows : are_texts_apart w ≡ true → may_follow v e ≡ true
-    ruled_follows apart = may_follow-next (event_rule rule) w i v walk apart h.copied h.alike e at
+    pub ruled_follows : may_follow v e ≡ true
+    ruled_follows = may_follow-next (event_rule rule) w i v walk h.copied h.alike e at
 
     pub IsRuled-more : (u : List Event) → u ≡ v ++ event_rule rule [] None e None → IsRuled rule w (i + 1) u
     IsRuled-more u put = record {

@@ -16,10 +16,26 @@ use Rattle.hm_options.specs.declared.rules.Rule.{Rule}
 use Rattle.hm_options.specs.declared.rules.Rule.TheVariants.{PlainDoctype, BooleanValues, EmptyAttributes, RedundantAttributes}
 use Rattle.hm_options.proofs.Kept.{rule_each, rule_count, valued_name, fresh_name}
 use Rattle.hm_options.proofs.Ruled.{start_by, svg_by, text_by, comment_by, end_by}
-use Rattle.hm_options.proofs.StillApart.{doctype_one, begins_alike}
 use Rattle.hm_space.specs.Rewritten.{first_event, rewritten}
 use Rattle.hm_space.proofs.Becoming.{Fine, Becomes, element_of, settled_is_fine, settled_stays}
 use Rattle.hm_space.proofs.Collapsed.{text_before_others}
+
+-- a doctype becomes a doctype
+doctype_one : (rule : Rule) (legacy : Bool) (path : List Element) (before next : Option Event) → (other : Bool) × (event_rule rule path before (doctype legacy) next ≡ doctype other ∷ [])
+doctype_one PlainDoctype legacy path before next = (false, refl)
+doctype_one BooleanValues legacy path before next = (legacy, refl)
+doctype_one EmptyAttributes legacy path before next = (legacy, refl)
+doctype_one RedundantAttributes legacy path before next = (legacy, refl)
+
+-- where a text comes first, one comes first after the rewrite
+begins_alike : (rule : Rule) (path : List Element) (before : Option Event) (w : List Event) → begins_text (rewritten (event_rule rule) path before w) ≡ begins_text w
+begins_alike rule path before [] = refl
+begins_alike rule path before (doctype legacy ∷ w) = rw ((doctype_one rule legacy path before (first_event w)).1) refl
+begins_alike rule path before (start n false attributes ∷ w) = rw (start_by rule n attributes path before (first_event w)) refl
+begins_alike rule path before (start n true attributes ∷ w) = rw (svg_by rule n attributes path before (first_event w)) refl
+begins_alike rule path before (text s raw ∷ w) = rw (text_by rule s raw path before (first_event w)) refl
+begins_alike rule path before (comment s ∷ w) = rw (comment_by rule s path before (first_event w)) refl
+begins_alike rule path before (end n foreign ∷ w) = rw (end_by rule n foreign path before (first_event w)) refl
 
 fewer : (n m : ℕ) → nat_le n 256 ≡ true → m ≤ n → nat_le m 256 ≡ true
 fewer n m h le = grind (arith, h, le)

@@ -5,7 +5,8 @@ use Rattle.hm_base.specs.Walks.{Attribute, doctype, start, text, comment}
 use Rattle.hm_base.specs.declared.plain.TreeOptions.{TreeOptions}
 use Rattle.hm_elements.specs.Names.{is_among}
 use Rattle.hm_elements.specs.Tables.{is_boolean, boolean_attributes}
-use Rattle.hm_options.specs.Rewrites.{rewrite, is_empty, is_redundant, is_default, defaults}
+use Rattle.hm_elements.specs.Attributes.{is_redundant, is_default, defaults}
+use Rattle.hm_options.specs.Rewrites.{rewrite, is_empty}
 
 abbrev attribute : List ℕ → List ℕ → Attribute
 attribute n v = record { name = n; value = v }

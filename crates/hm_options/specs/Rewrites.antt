@@ -1,9 +1,10 @@
 -- The rewrites of a tree, and all that options ask for in their order.
-use Rattle.std.specs.Prelude.{ℕ, Bool, false, ◌&&◌, ◌||◌, List, [], ◌∷◌, Option, None, if◌then◌else◌, map, codes, bytes_eq}
-use Rattle.hm_base.specs.Bytes.{lower, is_space, all_pass}
+use Rattle.std.specs.Prelude.{ℕ, Bool, false, ◌&&◌, List, [], ◌∷◌, Option, None, if◌then◌else◌, map}
+use Rattle.hm_base.specs.Bytes.{is_space, all_pass}
 use Rattle.hm_base.specs.Walks.{Event, doctype, start, comment, Attribute, Element, pushes}
 use Rattle.hm_base.specs.declared.plain.TreeOptions.{TreeOptions}
-use Rattle.hm_elements.specs.Names.{words, is_among}
+use Rattle.hm_elements.specs.Attributes.{nothing_blank, is_redundant}
+use Rattle.hm_elements.specs.Names.{is_among}
 use Rattle.hm_elements.specs.Tables.{is_boolean}
 use Rattle.hm_space.specs.Rewritten.{rewritten}
 use Rattle.hm_space.specs.Space.{collapsed}
@@ -37,37 +38,10 @@ without test (a ∷ attributes) = if test a then without test attributes else a 
 
 -- a class, an id or a style of nothing but whitespace
 unfoldable pub is_empty : Attribute → Bool
-is_empty a = is_among a.name (words "class id style") && all_pass is_space a.value
+is_empty a = is_among a.name nothing_blank && all_pass is_space a.value
 
 abbrev pub no_empty : List ℕ → List Attribute → List Attribute
 no_empty n attributes = without is_empty attributes
-
--- an attribute of an element, with a value in small letters that says what holds without it
-pub record Default : Type 0 where
-  pub element : List ℕ
-  pub name : List ℕ
-  pub value : List ℕ
-
-unfoldable pub defaults : List Default
-defaults =
-    record { element = codes "form"; name = codes "method"; value = codes "get" }
-    ∷ record { element = codes "input"; name = codes "type"; value = codes "text" }
-    ∷ record { element = codes "area"; name = codes "shape"; value = codes "rect" }
-    ∷ record { element = codes "script"; name = codes "type"; value = codes "text/javascript" }
-    ∷ record { element = codes "script"; name = codes "language"; value = codes "javascript" }
-    ∷ record { element = codes "style"; name = codes "type"; value = codes "text/css" }
-    ∷ []
-
--- this element has this attribute with this value, in any ASCII case
-unfoldable pub is_default : List ℕ → Attribute → Default → Bool
-is_default n a d = bytes_eq n d.element && bytes_eq a.name d.name && bytes_eq (map lower a.value) d.value
-
-abbrev pub is_one_of : List ℕ → Attribute → List Default → Bool
-is_one_of n a [] = false
-is_one_of n a (d ∷ ds) = is_default n a d || is_one_of n a ds
-
-unfoldable pub is_redundant : List ℕ → Attribute → Bool
-is_redundant n a = is_one_of n a defaults
 
 abbrev pub no_redundant : List ℕ → List Attribute → List Attribute
 no_redundant n attributes = without (is_redundant n) attributes

@@ -1,7 +1,8 @@
 -- The rewrites that change single events, as the code names them.
 use Rattle.std.specs.Prelude.{ℕ, Bool, false, List, [], ◌∷◌, Option, if◌then◌else◌}
 use Rattle.hm_base.specs.Walks.{Event, Attribute, Element}
-use Rattle.hm_options.specs.Rewrites.{plain_doctype, with_attributes, without_value, no_boolean_values, is_empty, no_empty, is_redundant, no_redundant}
+use Rattle.hm_elements.specs.Attributes.{is_redundant}
+use Rattle.hm_options.specs.Rewrites.{plain_doctype, with_attributes, without_value, no_boolean_values, is_empty, no_empty, no_redundant}
 use Rattle.hm_options.specs.declared.rules.Rule.{Rule}
 use Rattle.hm_options.specs.declared.rules.Rule.TheVariants.{PlainDoctype, BooleanValues, EmptyAttributes, RedundantAttributes}
 

@@ -1,7 +1,6 @@
 //! Attributes that say nothing.
-ghost use Rattle.std.specs.Prelude.{◌≡◌, ◌++◌, ◌∷◌, ◌+◌, ◌<◌, ◌^◌, length, map, false, IfOk, OnOk};
-ghost use Rattle.std.specs.Str.{str_eq_ignore_ascii_case};
-ghost use Rattle.hm_base.specs.Bytes.{all_pass, lower};
+ghost use Rattle.std.specs.Prelude.{◌≡◌, ◌++◌, ◌∷◌, ◌+◌, ◌<◌, ◌^◌, length, false, IfOk, OnOk};
+ghost use Rattle.hm_base.specs.Bytes.{all_pass};
 ghost use Rattle.hm_base.specs.Bytes as bytes;
 ghost use Rattle.hm_base.specs.Walks.{has_name};
 ghost use Rattle.hm_options.specs.Rewrites as rewrites;
@@ -11,7 +10,7 @@ ghost use Rattle.hm_tree.specs.Views.{attributes_shown};
 
 use crate::rules::Rule;
 use hm_base::{Memory, is_space};
-use hm_elements::{is_boolean, is_one_of, same_name};
+use hm_elements::{is_boolean, is_redundant, says_nothing_blank};
 use hm_tree::{Attrs, AttrsView};
 use std::alloc::Global;
 
@@ -82,7 +81,7 @@ fn kept_value<'t>(rule: Rule, name: &str, value: &'t str) -> &'t str
 fn is_empty(name: &str, value: &str) -> bool
     ensures { result ≡ rewrites.is_empty (record { name = name.now; value = value.now }) }
 {
-    is_one_of(name, &["class", "id", "style"]) && is_blank(value)
+    says_nothing_blank(name) && is_blank(value)
 }
 
 fn is_blank(text: &str) -> bool
@@ -94,33 +93,4 @@ fn is_blank(text: &str) -> bool
         }
     }
     true
-}
-
-// Whether the attribute says what holds without it.
-#[tactic(auto, unfolding(crate::specs::Rewrites::is_redundant, crate::specs::Rewrites::defaults, hm_base::specs::Bytes::lower))]
-fn is_redundant(element: &str, name: &str, value: &str) -> bool
-    ensures { result ≡ rewrites.is_redundant element.now (record { name = name.now; value = value.now }) }
-{
-    is_default(element, name, value, "form", "method", "get")
-        || is_default(element, name, value, "input", "type", "text")
-        || is_default(element, name, value, "area", "shape", "rect")
-        || is_default(element, name, value, "script", "type", "text/javascript")
-        || is_default(element, name, value, "script", "language", "javascript")
-        || is_default(element, name, value, "style", "type", "text/css")
-}
-
-// Whether this is that attribute of that element, with that value in any ASCII case.
-#[tactic(auto, unfolding(crate::specs::Rewrites::is_default), using(crate::proofs::Defaults::same_but_case))]
-fn is_default(element: &str, name: &str, value: &str, of: &str, called: &str, default: &str) -> bool
-    requires { map lower default.now ≡ default.now }
-    ensures { result ≡ rewrites.is_default element.now (record { name = name.now; value = value.now }) (record { element = of.now; name = called.now; value = default.now }) }
-{
-    same_name(element, of) && same_name(name, called) && is_but_for_case(value, default)
-}
-
-// Whether a value is that word but for the case of its ASCII letters.
-fn is_but_for_case(value: &str, word: &str) -> bool
-    ensures { result ≡ str_eq_ignore_ascii_case value.now word.now }
-{
-    value.eq_ignore_ascii_case(word)
 }

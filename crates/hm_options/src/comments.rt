@@ -3,7 +3,6 @@ ghost use Rattle.std.specs.Prelude.{◌≡◌, [], ◌∷◌, ◌++◌, true, No
 ghost use Rattle.hm_base.specs.Walks.{Event, pushes};
 ghost use Rattle.hm_options.specs.Rewrites.{no_comment, uncommented};
 ghost use Rattle.hm_options.specs.Joins.{may_join, IsLast};
-ghost use Rattle.hm_space.specs.Copies.{are_texts_apart};
 ghost use Rattle.hm_tree.specs.Trees.{HasRoom};
 ghost use Rattle.hm_tree.specs.Views.{event_of};
 
@@ -14,9 +13,7 @@ use std::alloc::Global;
 
 // The tree without comments, where the texts that then touch are joined.
 pub(crate) fn without_comments(alloc: Global, tree: &Tree) -> Result<Tree, Memory>
-    requires { are_texts_apart tree.now ≡ true }
-    ensures ok { IfOk result (λ made. made ≡ uncommented tree.now) }
-    ensures apart { IfOk result (λ made. are_texts_apart made ≡ true) }
+    ensures { IfOk result (λ made. made ≡ uncommented tree.now) }
 {
     let mut maker = Tree::maker(alloc);
     let mut last = None;

@@ -3,7 +3,7 @@ ghost use Rattle.std.specs.Prelude.{◌≡◌, ◌≤◌, [], ◌∷◌, ◌++�
 ghost use Rattle.hm_base.specs.Walks.{attributes_size, doctype, start};
 ghost use Rattle.hm_options.specs.Rewrites.{by};
 ghost use Rattle.hm_options.specs.Rules.{event_rule};
-ghost use Rattle.hm_space.specs.Copies.{are_texts_apart, may_follow};
+ghost use Rattle.hm_space.specs.Copies.{may_follow};
 ghost use Rattle.hm_tree.specs.Trees.{HasRoom};
 ghost use Rattle.hm_tree.specs.Views.{event_of, attributes_shown};
 
@@ -24,9 +24,7 @@ pub(crate) enum Rule {
 
 // The tree with each event rewritten.
 pub(crate) fn rewritten(alloc: Global, tree: &Tree, rule: Rule) -> Result<Tree, Memory>
-    requires { are_texts_apart tree.now ≡ true }
-    ensures ok { IfOk result (λ made. made ≡ by (event_rule rule) tree.now) }
-    ensures apart { IfOk result (λ made. are_texts_apart made ≡ true) }
+    ensures { IfOk result (λ made. made ≡ by (event_rule rule) tree.now) }
 {
     let mut maker = Tree::maker(alloc);
     for i in 0..tree.len() {

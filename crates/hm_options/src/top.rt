@@ -4,7 +4,6 @@ ghost use Rattle.hm_elements.specs.Settled.{Settled};
 ghost use Rattle.hm_options.specs.Rewrites as rewrites;
 ghost use Rattle.hm_options.specs.Rewrites.{by, uncommented, where_set};
 ghost use Rattle.hm_options.specs.Rules.{event_rule};
-ghost use Rattle.hm_space.specs.Copies.{are_texts_apart};
 ghost use Rattle.hm_space.specs.Space.{collapsed};
 
 use crate::comments::without_comments;
@@ -16,7 +15,6 @@ use std::alloc::Global;
 
 /// The tree that the options ask for. Where nothing is asked for it is handed back as it is.
 pub fn rewrite(alloc: Global, tree: Tree, options: &TreeOptions) -> Result<Tree, Memory>
-    requires apart { are_texts_apart tree ≡ true }
     ensures ok { IfOk result (λ made. made ≡ rewrites.rewrite options.now tree) }
     ensures settled { Settled tree → IfOk result (λ made. Settled made) }
 {
@@ -30,9 +28,7 @@ pub fn rewrite(alloc: Global, tree: Tree, options: &TreeOptions) -> Result<Tree,
 }
 
 fn by_rule(alloc: Global, tree: Tree, set: bool, rule: Rule) -> Result<Tree, Memory>
-    requires apart { are_texts_apart tree ≡ true }
-    ensures ok { IfOk result (λ made. made ≡ where_set set (by (event_rule rule)) tree) }
-    ensures apart { IfOk result (λ made. are_texts_apart made ≡ true) }
+    ensures { IfOk result (λ made. made ≡ where_set set (by (event_rule rule)) tree) }
 {
     if set {
         rewritten(alloc, &tree, rule)
@@ -42,9 +38,7 @@ fn by_rule(alloc: Global, tree: Tree, set: bool, rule: Rule) -> Result<Tree, Mem
 }
 
 fn by_comments(alloc: Global, tree: Tree, set: bool) -> Result<Tree, Memory>
-    requires apart { are_texts_apart tree ≡ true }
-    ensures ok { IfOk result (λ made. made ≡ where_set set uncommented tree) }
-    ensures apart { IfOk result (λ made. are_texts_apart made ≡ true) }
+    ensures { IfOk result (λ made. made ≡ where_set set uncommented tree) }
 {
     if set {
         without_comments(alloc, &tree)
@@ -54,7 +48,6 @@ fn by_comments(alloc: Global, tree: Tree, set: bool) -> Result<Tree, Memory>
 }
 
 fn by_space(alloc: Global, tree: Tree, set: bool, conservative: bool) -> Result<Tree, Memory>
-    requires apart { are_texts_apart tree ≡ true }
     ensures { IfOk result (λ made. made ≡ where_set set (collapsed conservative) tree) }
 {
     if set {

@@ -2,8 +2,8 @@
 use Rattle.std.proofs.Common.{◌≡◌, ℕ, ◌<◌, ◌≤◌, Bool, true, false, cond, ◌&&◌, ◌||◌, ◌==◌, List, [], ◌∷◌, ◌++◌, length, Option, Some, None, refl, sym, ap, ◌∙◌, subst, append_assoc, append-nil, inl, inr, ◌⊎◌, arith, bytes_eq, is_some}
 use Rattle.std.proofs.lemmas.Bool.{cases_lt}
 use Rattle.std.proofs.lemmas.Slice.Eq.{bytes_eq-Decides}
-use Rattle.hm_base.specs.Bytes.{is_letter, is_alnum, is_null}
-use Rattle.hm_refs.specs.Names.{Entry, points_of, is_name, begins, is_front, Found, found_by, or_else, found_here, found, found_longer, longest, is_tail, is_good}
+use Rattle.hm_base.specs.Bytes.{is_letter, is_alnum, is_digit_of, is_null}
+use Rattle.hm_refs.specs.Names.{Entry, points_of, is_name, begins, is_front, Found, found_by, or_else, found_here, found, found_longer, longest, is_tail, is_good, last_is}
 use Rattle.hm_refs.specs.Tables.{IsIn, first, later, IsTable}
 use Rattle.hm_refs.specs.Laws.{IsLongest}
 use Rattle.hm_refs.proofs.Bools.{and_left, and_right, no_second, eq_of}
@@ -275,3 +275,46 @@ no_empty_name t k = by_points (points_of t []) refl
     by_points : (o : Option (List ℕ)) → points_of t [] ≡ o → is_some o ≡ false
     by_points None e = refl
     by_points (Some ps) e = absurd (let g = good_of t k [] ps e in cc)
+
+-- ---- behind a ';'
+
+not_longer : (n : List ℕ) (c : ℕ) → begins (n ++ c ∷ []) n ≡ false
+not_longer [] c = refl
+not_longer (x ∷ n) c = grind (arith, not_longer n c)
+
+semicolon_no : is_alnum 59 ≡ false
+unfolding is_alnum is_letter is_digit_of
+semicolon_no = refl
+
+-- nothing goes on behind a ';'
+pub semicolon_last : (t : List Entry) → IsTable t → (q : List ℕ) (c : ℕ) → is_null q ≡ false → is_front t ((q ++ 59 ∷ []) ++ c ∷ []) ≡ false
+semicolon_last t k q c e = by_test (is_front t ((q ++ 59 ∷ []) ++ c ∷ [])) refl
+  where
+    by_next : (n : List ℕ) → begins ((q ++ 59 ∷ []) ++ c ∷ []) n ≡ true → Next q n 59 → ⊥
+    by_next n b (inl a) = let s = semicolon_no in cc
+    by_next n b (inr (i, m)) = let s = not_longer n c in let b' = subst (λ x. begins (x ++ c ∷ []) n ≡ true) (sym m) b in cc
+
+    by_test : (b : Bool) → b ≡ is_front t ((q ++ 59 ∷ []) ++ c ∷ []) → b ≡ false
+    by_test false h = refl
+    by_test true h = let b = front_name t ((q ++ 59 ∷ []) ++ c ∷ []) (sym h) in
+        absurd (by_next b.entry.name b.begins_so (good_front q b.entry.name 59 e (begins_shorter (q ++ 59 ∷ []) (c ∷ []) b.entry.name b.begins_so) (good_entry t k b.entry b.among)))
+
+-- what is no name itself begins only longer ones
+pub found_not_name : (t : List Entry) (q s : List ℕ) → is_name t q ≡ false → found t q s ≡ found_longer t q s
+found_not_name t q [] h = here_none t q [] h
+found_not_name t q (c ∷ s) h = rw (here_none t q (c ∷ s) h) (or_else_none (found t (q ++ c ∷ []) s))
+
+-- behind a name that ends in ';' nothing longer is found
+pub semicolon_longer : (t : List Entry) → IsTable t → (q s : List ℕ) → is_null q ≡ false → found_longer t (q ++ 59 ∷ []) s ≡ None
+semicolon_longer t k q [] h = refl
+semicolon_longer t k q (c ∷ s) h = found_none t ((q ++ 59 ∷ []) ++ c ∷ []) s (semicolon_last t k q c h)
+
+-- a name that ends in ';' is found as it stands
+pub semicolon_found : (t : List Entry) → IsTable t → (q s : List ℕ) → is_null q ≡ false → is_name t (q ++ 59 ∷ []) ≡ true → IsFound (q ++ 59 ∷ []) s (found t (q ++ 59 ∷ []) s)
+semicolon_found t k q s h n = let f = here_some t (q ++ 59 ∷ []) s n in
+    record { points = f.points; is = rw (found_over t (q ++ 59 ∷ []) s, semicolon_longer t k q s h) f.is }
+
+pub last_append : (q : List ℕ) (c : ℕ) → last_is 59 (q ++ c ∷ []) ≡ (59 == c)
+last_append [] c = refl
+last_append (x ∷ []) c = refl
+last_append (x ∷ y ∷ q) c = last_append (y ∷ q) c

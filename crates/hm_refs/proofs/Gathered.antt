@@ -8,6 +8,7 @@ use Rattle.std.specs.Cmp.Lexicographic.{slice_cmp}
 use Rattle.std.specs.List.{AllByRecursion, list_all}
 use Rattle.std.specs.List.Sorted.{IsStrictlySortedBy}
 use Rattle.hm_base.specs.Bytes.{head_is}
+use Rattle.hm_refs.specs.declared.limits.TheConstants.{ALIKE_LIMIT, LENGTH_LIMIT, NAMES_LIMIT, OPEN_LIMIT}
 use Rattle.hm_refs.specs.Names.{Entry, points_of, is_closed, is_good, is_good_name}
 use Rattle.hm_refs.specs.Tables.{IsIn, first, later, is_for, is_open_for, are_points, names_in, entry_at, IsTable, IsGathered}
 use Rattle.hm_refs.specs.Json.{are_same, is_lone, first_lone, is_crowded, if_crowded, lesser, least_crowded, unless, checked}
@@ -68,14 +69,15 @@ good_short (a ∷ b ∷ []) h = absurd (cc)
 good_short (a ∷ b ∷ c ∷ s) h = record {
   begins = rw (eq_of a 38 (and_left (a == 38) _ (and_left (is_good (a ∷ b ∷ c ∷ s)) _ h))) refl;
   long = omega arith;
-  short = le_of (length (a ∷ b ∷ c ∷ s)) 64 (and_right (is_good (a ∷ b ∷ c ∷ s)) _ h);
+  short = le_of (length (a ∷ b ∷ c ∷ s)) LENGTH_LIMIT (and_right (is_good (a ∷ b ∷ c ∷ s)) _ h);
 }
 
-pub gathered_names : (t : List Entry) → IsGathered t → length t ≤ 4096 → AreNames t
+pub gathered_names : (t : List Entry) → IsGathered t → length t ≤ NAMES_LIMIT → AreNames t
 gathered_names t g l = record {
   apart = sorted_apart (names_in t) g.ascending;
   short = λ i k. good_short (entry_at t i).name (passes (λ (e : Entry). is_good_name e.name) (entry_at t i) t g.good (at_in t i k));
   few = l;
+  ascending = g.ascending;
 }
 
 -- ---- a table
@@ -146,19 +148,19 @@ counted p (e ∷ t) l = by_test (p e) refl (counted p t) (omega (arith, count_co
     by_test true h more k = record { entry = e; among = first t; passes_so = h }
     by_test false h more k = counted_later p e t (more (omega arith))
 
-few_points : (t : List Entry) → least_crowded t t ≡ None → (c : ℕ) → (count_by (is_for c) t ≤ 64) × (count_by (is_open_for c) t ≤ 4)
+few_points : (t : List Entry) → least_crowded t t ≡ None → (c : ℕ) → (count_by (is_for c) t ≤ ALIKE_LIMIT) × (count_by (is_open_for c) t ≤ OPEN_LIMIT)
 few_points t h c = by_test (is_crowded t c) refl
   where
     no_first : (e : Entry) → IsIn e t → is_for c e ≡ true → is_crowded t c ≡ true → ⊥
     no_first e i f k = let n = point_no t c e.points f (crowded_no t e t h i) in cc
 
-    by_test : (b : Bool) → is_crowded t c ≡ b → (count_by (is_for c) t ≤ 64) × (count_by (is_open_for c) t ≤ 4)
+    by_test : (b : Bool) → is_crowded t c ≡ b → (count_by (is_for c) t ≤ ALIKE_LIMIT) × (count_by (is_open_for c) t ≤ OPEN_LIMIT)
     by_test false k = (bound_all (count_by (is_for c) t) (count_by (is_open_for c) t) k, bound_open (count_by (is_for c) t) (count_by (is_open_for c) t) k)
       where
-        bound_all : (m n : ℕ) → (nat_lt 64 m || nat_lt 4 n) ≡ false → m ≤ 64
+        bound_all : (m n : ℕ) → (nat_lt ALIKE_LIMIT m || nat_lt OPEN_LIMIT n) ≡ false → m ≤ ALIKE_LIMIT
         bound_all m n e = grind arith
 
-        bound_open : (m n : ℕ) → (nat_lt 64 m || nat_lt 4 n) ≡ false → n ≤ 4
+        bound_open : (m n : ℕ) → (nat_lt ALIKE_LIMIT m || nat_lt OPEN_LIMIT n) ≡ false → n ≤ OPEN_LIMIT
         bound_open m n e = grind arith
     by_test true k = absurd (by_some (cases_lt 0 (count_by (is_for c) t)) (cases_lt 0 (count_by (is_open_for c) t)))
       where
@@ -167,11 +169,11 @@ few_points t h c = by_test (is_crowded t c) refl
         by_some (inr l) (inl m) = let s = counted (is_open_for c) t m in no_first s.entry s.among (and_left (is_for c s.entry) _ s.passes_so) k
         by_some (inr l) (inr m) = by_zero (count_by (is_for c) t) (count_by (is_open_for c) t) l m k
           where
-            by_zero : (a b : ℕ) → a ≤ 0 → b ≤ 0 → (nat_lt 64 a || nat_lt 4 b) ≡ true → ⊥
+            by_zero : (a b : ℕ) → a ≤ 0 → b ≤ 0 → (nat_lt ALIKE_LIMIT a || nat_lt OPEN_LIMIT b) ≡ true → ⊥
             by_zero a b i j e = grind arith
 
 -- names that pass all tests are a table
-pub table_of : (t : List Entry) → IsGathered t → length t ≤ 4096 → least_crowded t t ≡ None → first_lone t t ≡ None → IsTable t
+pub table_of : (t : List Entry) → IsGathered t → length t ≤ NAMES_LIMIT → least_crowded t t ≡ None → first_lone t t ≡ None → IsTable t
 table_of t g l c h = record {
   ascending = g.ascending;
   own = λ e i. gathered_own t g e i;
@@ -184,23 +186,23 @@ table_of t g l c h = record {
 
 -- and those are the ones that the checks leave
 pub record Passed (t u : List Entry) : Type 0 where
-  pub few : length t ≤ 4096
+  pub few : length t ≤ NAMES_LIMIT
   pub uncrowded : least_crowded t t ≡ None
   pub paired : first_lone t t ≡ None
   pub same : t ≡ u
 
 pub checked_passed : (t u : List Entry) → checked t ≡ Ok u → Passed t u
-checked_passed t u h = by_few (nat_lt 4096 (length t)) refl h
+checked_passed t u h = by_few (nat_lt NAMES_LIMIT (length t)) refl h
   where
-    by_lone : (o : Option (List ℕ)) → first_lone t t ≡ o → length t ≤ 4096 → least_crowded t t ≡ None → unless o Lone (Ok t) ≡ Ok u → Passed t u
+    by_lone : (o : Option (List ℕ)) → first_lone t t ≡ o → length t ≤ NAMES_LIMIT → least_crowded t t ≡ None → unless o Lone (Ok t) ≡ Ok u → Passed t u
     by_lone None e l c k = record { few = l; uncrowded = c; paired = e; same = cc }
     by_lone (Some n) e l c k = absurd (cc)
 
-    by_crowded : (o : Option ℕ) → least_crowded t t ≡ o → length t ≤ 4096 → unless o TooManyFor (unless (first_lone t t) Lone (Ok t)) ≡ Ok u → Passed t u
+    by_crowded : (o : Option ℕ) → least_crowded t t ≡ o → length t ≤ NAMES_LIMIT → unless o TooManyFor (unless (first_lone t t) Lone (Ok t)) ≡ Ok u → Passed t u
     by_crowded None e l k = by_lone (first_lone t t) refl l e k
     by_crowded (Some n) e l k = absurd (cc)
 
-    by_few : (b : Bool) → nat_lt 4096 (length t) ≡ b → cond b (Err TooMany) (unless (least_crowded t t) TooManyFor (unless (first_lone t t) Lone (Ok t))) ≡ Ok u → Passed t u
+    by_few : (b : Bool) → nat_lt NAMES_LIMIT (length t) ≡ b → cond b (Err TooMany) (unless (least_crowded t t) TooManyFor (unless (first_lone t t) Lone (Ok t))) ≡ Ok u → Passed t u
     by_few true e k = absurd (cc)
     by_few false e k = by_crowded (least_crowded t t) refl (grind arith) k
 
@@ -219,3 +221,7 @@ no_table = record {
   few = omega arith;
   few_for = λ c. (omega arith, omega arith);
 }
+
+pub no_names : AreNames []
+unfolding IsStrictlySortedBy
+no_names = record { apart = λ n l. absurd (omega arith); short = λ i l. absurd (omega arith); few = omega arith; ascending = tt }

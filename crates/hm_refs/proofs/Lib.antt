@@ -1,5 +1,6 @@
 pub mod Bools
 pub mod FirstsLaws
+pub mod FlagLaws
 pub mod Found
 pub mod Gathered
 pub mod Growing
@@ -10,6 +11,8 @@ pub mod NumberLaws
 pub mod Places
 pub mod ReadingLaws
 pub mod Seeking
+pub mod Shortest
+pub mod Splits
 pub mod Webs
 pub mod Whole
 pub mod Digits

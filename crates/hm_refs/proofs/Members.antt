@@ -1,9 +1,7 @@
 -- The members of an object that was read stand in the byte order of their keys, and those that pass are names of a table.
 use Rattle.std.proofs.Common.{◌≡◌, ℕ, Bool, true, false, cond, List, [], ◌∷◌, Option, Some, None, option_map, option_and_then, is_some, Ok, Err, Ordering, Less, Equal, Greater, refl, sym, ap, ◌∙◌, subst, nat_lt, length, codes}
 use Rattle.std.proofs.lemmas.Cmp.{nat_list_cmp_total}
-use Rattle.std.proofs.lemmas.Map.Text.{is_eq-slice_cmp}
-use Rattle.std.proofs.lemmas.Slice.Eq.{bytes_eq-Decides}
-use Rattle.std.specs.Ordering.{nat_cmp, is_eq, match_ordering, ordering_reverse}
+use Rattle.std.specs.Ordering.{nat_cmp, match_ordering, ordering_reverse}
 use Rattle.std.specs.Cmp.Lexicographic.{slice_cmp}
 use Rattle.std.specs.List.{AllByRecursion, list_all}
 use Rattle.std.specs.List.Sorted.{IsStrictlySortedBy}
@@ -13,6 +11,7 @@ use Rattle.serde_json.specs.Data.{Num, Data, null, boolean, number, string, arra
 use Rattle.json.specs.Lex.{tokens}
 use Rattle.serde_json.specs.Read.{number_of, of_json, of_items, of_members, max_depth, read}
 use Rattle.serde_json.specs.Find.{as_object, as_array, as_number, as_u64, get}
+use Rattle.hm_base.specs.declared.limits.TheConstants.{TABLE_LIMIT}
 use Rattle.hm_refs.specs.Names.{Entry, is_good_name}
 use Rattle.hm_refs.specs.Tables.{is_point, are_points, names_in, IsTable, IsGathered}
 use Rattle.hm_refs.specs.Json as refs
@@ -199,7 +198,7 @@ members_table ms t s h = by_name (first_bad_name ms) refl h
 
 pub names_table : (bytes : List ℕ) (t : List Entry) → names bytes ≡ Ok t → IsTable t
 unfolding names
-names_table bytes t h = by_length (nat_lt 1048576 (length bytes)) h
+names_table bytes t h = by_length (nat_lt TABLE_LIMIT (length bytes)) h
   where
     by_object : (d : Data) (o : Option Members) → refs.json bytes ≡ Some d → as_object d ≡ o → names_of_object o ≡ Ok t → IsTable t
     by_object d None e f k = absurd (cc)

@@ -8,7 +8,7 @@ use Rattle.hm_refs.specs.Laws.{IsBest}
 use Rattle.hm_refs.proofs.Bools.{and_left, and_right, eq_of, le_of}
 
 -- a test that each pair of the table passes, at a pair that is found
-back_passes : (test : ℕ × ℕ → Bool) (c n : ℕ) (ps : List (ℕ × ℕ)) → list_all test ps ≡ true → look_back c ps ≡ Some n → test (n, c) ≡ true
+pub back_passes : (test : ℕ × ℕ → Bool) (c n : ℕ) (ps : List (ℕ × ℕ)) → list_all test ps ≡ true → look_back c ps ≡ Some n → test (n, c) ≡ true
 back_passes test c n [] h e = absurd (cc)
 back_passes test c n ((a, b) ∷ ps) h e = by_test (b == c) refl e (back_passes test c n ps (and_right (test (a, b)) (list_all test ps) h))
   where
@@ -28,7 +28,7 @@ up_passes test n c ((a, b) ∷ ps) h e = by_test (a == n) refl e (up_passes test
 abbrev pub goes_back : ℕ × ℕ → Bool
 goes_back p = (point_of p.0 == p.1) && (nat_le p.0 255 && nat_le p.0 p.1)
 
-all_go_back : list_all goes_back replaced ≡ true
+pub all_go_back : list_all goes_back replaced ≡ true
 unfolding point_of
 all_go_back = refl
 
@@ -95,7 +95,7 @@ pub record Least (m c : ℕ) : Type 0 where
   pub le : best ≤ m
   pub high : 255 < best → best ≡ c
 
-same_eq : (c : ℕ) → (c == c) ≡ true
+pub same_eq : (c : ℕ) → (c == c) ≡ true
 same_eq c = grind arith
 
 pub best_least : (m c : ℕ) → point_of m ≡ c → Least m c

@@ -1,5 +1,5 @@
 -- What was read of a table, beside the definitions.
-use Rattle.std.proofs.Common.{◌≡◌, ℕ, ◌<◌, ◌≤◌, nat_lt, length, arith, option_map, Result, Err, Bool, true, false, cond, List, [], ◌∷◌, Option, Some, None, IsUtf8, refl, sym, ap, ◌∙◌}
+use Rattle.std.proofs.Common.{◌≡◌, ℕ, ◌<◌, ◌≤◌, nat_lt, length, arith, Result, Err, Bool, true, false, cond, List, [], ◌∷◌, Option, Some, None, IsUtf8, refl, sym, ap, ◌∙◌}
 use Rattle.std.proofs.lemmas.Str.{IsUtf8-from_is_utf8, is_utf8-from_IsUtf8}
 use Rattle.std.specs.Str.{is_utf8}
 use Rattle.serde_json.specs.Data.{Data, Members}
@@ -7,6 +7,7 @@ use Rattle.serde_json.specs.Read.{read}
 use Rattle.serde_json.specs.Find.{as_object}
 use Rattle.serde_json.specs.View.{items_view}
 use Rattle.serde_json.specs.declared.value.Value.{Value}
+use Rattle.hm_base.specs.declared.limits.TheConstants.{TABLE_LIMIT}
 use Rattle.hm_refs.specs.Names.{Entry}
 use Rattle.hm_refs.specs.Json.{json, points_in, names_of_members, names_of_object, names_of_data, names}
 use Rattle.hm_refs.specs.declared.fault.TableFault.{TableFault}
@@ -34,27 +35,27 @@ many_points (a ∷ b ∷ c ∷ vs) l = refl
 
 -- ---- the faults of bytes
 
-pub too_long : (bytes : List ℕ) → 1048576 < length bytes → names bytes ≡ Err TooLong
+pub too_long : (bytes : List ℕ) → TABLE_LIMIT < length bytes → names bytes ≡ Err TooLong
 unfolding names
-too_long bytes l = by_test (nat_lt 1048576 (length bytes)) (grind arith)
+too_long bytes l = by_test (nat_lt TABLE_LIMIT (length bytes)) (grind arith)
   where
     by_test : (b : Bool) → b ≡ true → cond b (Err TooLong) (names_of_data (json bytes)) ≡ Err TooLong
     by_test true e = refl
     by_test false e = absurd (cc)
 
-pub names_by_json : (bytes : List ℕ) (o : Option Data) (r : Result (List Entry) TableFault) → length bytes ≤ 1048576 → json bytes ≡ o → names_of_data o ≡ r → names bytes ≡ r
+pub names_by_json : (bytes : List ℕ) (o : Option Data) (r : Result (List Entry) TableFault) → length bytes ≤ TABLE_LIMIT → json bytes ≡ o → names_of_data o ≡ r → names bytes ≡ r
 unfolding names
-names_by_json bytes o r l e h = by_test (nat_lt 1048576 (length bytes)) (grind arith)
+names_by_json bytes o r l e h = by_test (nat_lt TABLE_LIMIT (length bytes)) (grind arith)
   where
     by_test : (b : Bool) → b ≡ false → cond b (Err TooLong) (names_of_data (json bytes)) ≡ r
     by_test true i = absurd (cc)
     by_test false i = ap names_of_data e ∙ h
 
-pub names_by_members : (bytes : List ℕ) (d : Data) (ms : Members) (r : Result (List Entry) TableFault) → length bytes ≤ 1048576 → json bytes ≡ Some d → Some ms ≡ as_object d → names_of_members ms ≡ r → names bytes ≡ r
+pub names_by_members : (bytes : List ℕ) (d : Data) (ms : Members) (r : Result (List Entry) TableFault) → length bytes ≤ TABLE_LIMIT → json bytes ≡ Some d → Some ms ≡ as_object d → names_of_members ms ≡ r → names bytes ≡ r
 names_by_members bytes d ms r l e o h = names_by_json bytes (Some d) r l e (ap names_of_object (sym o) ∙ h)
 
-pub no_object : (bytes : List ℕ) (d : Data) → length bytes ≤ 1048576 → json bytes ≡ Some d → None ≡ as_object d → names bytes ≡ Err NotObject
+pub no_object : (bytes : List ℕ) (d : Data) → length bytes ≤ TABLE_LIMIT → json bytes ≡ Some d → None ≡ as_object d → names bytes ≡ Err NotObject
 no_object bytes d l e o = names_by_json bytes (Some d) (Err NotObject) l e (ap names_of_object (sym o))
 
-pub no_json : (bytes : List ℕ) (f : TableFault) → length bytes ≤ 1048576 → f ≡ NotJson → json bytes ≡ None → names bytes ≡ Err f
+pub no_json : (bytes : List ℕ) (f : TableFault) → length bytes ≤ TABLE_LIMIT → f ≡ NotJson → json bytes ≡ None → names bytes ≡ Err f
 no_json bytes f l i e = names_by_json bytes None (Err f) l e (ap Err (sym i))

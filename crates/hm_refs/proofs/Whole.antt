@@ -1,16 +1,15 @@
 -- What a whole trie tells: children, names, nodes.
-use Rattle.std.proofs.Common.{◌≡◌, ℕ, zero, suc, ◌+◌, ◌<◌, ◌⊎◌, inl, inr, Bool, true, false, cond, ◌==◌, List, [], ◌∷◌, ◌++◌, length, get_or, take, Option, Some, None, option_map, IfSome, refl, sym, ap, ◌∙◌, subst, arith, bytes_eq, is_some, append_assoc, append-nil}
-use Rattle.std.proofs.lemmas.List.{take_all, get_or_read, get_or-map, length-map, length_push}
-use Rattle.std.specs.Ordering.{nat_cmp}
-use Rattle.std.specs.BTreeMap.{get}
+use Rattle.std.proofs.Common.{◌≡◌, ℕ, zero, suc, ◌+◌, ◌<◌, ◌⊎◌, inl, inr, Bool, true, false, cond, List, [], ◌∷◌, ◌++◌, length, get_or, Option, Some, None, option_map, IfSome, refl, sym, ap, ◌∙◌, subst, arith, bytes_eq, is_some, append_assoc, append-nil}
+use Rattle.std.proofs.lemmas.List.{get_or_read, get_or-map, length-map, length_push, same_from_push}
+use Rattle.std.specs.Option.{MatchOption}
 use Rattle.hm_base.specs.Bytes.{is_null}
 use Rattle.hm_refs.specs.Names.{Entry, begins, is_front, child_of, points_of, is_name}
 use Rattle.hm_refs.specs.Tables.{names_in, no_entry, entry_at, TableView, front_at, IsNode, NodeAt, IsTrie}
-use Rattle.hm_refs.specs.Nodes.{front_in, fronts_of, place, AreApart, IsWeb, IsWhole}
+use Rattle.hm_refs.specs.Nodes.{front_in, fronts_of, place, IsChildBy, HasNoChildBy, IsFound, AreApart, IsWeb, IsWhole}
 use Rattle.hm_refs.specs.declared.nodes.TrieNode.{TrieNode}
-use Rattle.hm_refs.proofs.Bools.{and_left, and_right, eq_of}
 use Rattle.hm_refs.proofs.Places.{place_stands, apart_same}
-use Rattle.hm_refs.proofs.Webs.{front_at_place, length_fronts}
+use Rattle.hm_refs.proofs.Splits.{begins_split}
+use Rattle.hm_refs.proofs.Webs.{front_at_place, length_fronts, no_node, own_element}
 
 -- ---- fronts of names by their numbers
 
@@ -30,19 +29,6 @@ front_of (e ∷ t) q h = by_test (begins q e.name) refl (front_of t q) h
     by_test true i more k = record { number = 0; inside = omega arith; begins_so = i }
     by_test false i more k = front_later e t q (more k)
 
--- what begins so goes on
-pub record Split (q n : List ℕ) : Type 0 where
-  pub more : List ℕ
-  pub whole : n ≡ q ++ more
-
-split_more : (c d : ℕ) (q n : List ℕ) → c ≡ d → Split q n → Split (c ∷ q) (d ∷ n)
-split_more c d q n e s = record { more = s.more; whole = rw (e, s.whole) refl }
-
-pub begins_split : (q n : List ℕ) → begins q n ≡ true → Split q n
-begins_split [] n h = record { more = n; whole = refl }
-begins_split (c ∷ q) [] h = absurd (cc)
-begins_split (c ∷ q) (d ∷ n) h = split_more c d q n (eq_of c d (and_left (c == d) (begins q n) h)) (begins_split q n (and_right (c == d) (begins q n) h))
-
 null_no : (q : List ℕ) (c : ℕ) → is_null (q ++ c ∷ []) ≡ false
 null_no [] c = refl
 null_no (x ∷ q) c = refl
@@ -52,10 +38,10 @@ too_short [] h e = cc
 too_short (x ∷ q) h e = omega arith
 
 -- a front of a node's bytes is a node
-closed_front : (t : List Entry) (k : ℕ) (nodes : List TrieNode) → IsWeb t k nodes → (q m : List ℕ) → is_null q ≡ false → is_some (place (q ++ m) (fronts_of t nodes)) ≡ true → is_some (place q (fronts_of t nodes)) ≡ true
-closed_front t k nodes w q [] e h = subst (λ n. is_some (place n (fronts_of t nodes)) ≡ true) (append-nil q) h
-closed_front t k nodes w q (c ∷ m) e h =
-    w.closed q c e (closed_front t k nodes w (q ++ c ∷ []) m (null_no q c) (subst (λ n. is_some (place n (fronts_of t nodes)) ≡ true) (sym (append_assoc q (c ∷ []) m)) h))
+closed_front : (t : List Entry) (nodes : List TrieNode) → IsWeb t nodes → (q m : List ℕ) → is_null q ≡ false → is_some (place (q ++ m) (fronts_of t nodes)) ≡ true → is_some (place q (fronts_of t nodes)) ≡ true
+closed_front t nodes w q [] e h = subst (λ n. is_some (place n (fronts_of t nodes)) ≡ true) (append-nil q) h
+closed_front t nodes w q (c ∷ m) e h =
+    w.closed q c e (closed_front t nodes w (q ++ c ∷ []) m (null_no q c) (subst (λ n. is_some (place n (fronts_of t nodes)) ≡ true) (sym (append_assoc q (c ∷ []) m)) h))
 
 some_fronts : (t : List Entry) (nodes : List TrieNode) (n : ℕ) → n < length (fronts_of t nodes) → is_null (get_or (fronts_of t nodes) n []) ≡ false
 unfolding front_in
@@ -63,22 +49,16 @@ some_fronts t [] n l = absurd (omega arith)
 some_fronts t (x ∷ nodes) zero l = refl
 some_fronts t (x ∷ nodes) (suc n) l = some_fronts t nodes n (omega arith)
 
-led_fronts : (t : List Entry) (k : ℕ) (all nodes : List TrieNode) (n : ℕ) → n < length nodes → ((x : TrieNode) → get_or nodes n x ≡ x → (front_in t x ≡ 38 ∷ []) ⊎ (is_front (take k t) (front_in t x) ≡ true))
-    → (get_or (fronts_of t nodes) n [] ≡ 38 ∷ []) ⊎ (is_front (take k t) (get_or (fronts_of t nodes) n []) ≡ true)
-led_fronts t k all [] n l h = absurd (omega arith)
-led_fronts t k all (x ∷ nodes) zero l h = h x refl
-led_fronts t k all (x ∷ nodes) (suc n) l h = led_fronts t k all nodes n (omega arith) h
-
 module _ (t : List Entry) (nodes : List TrieNode) (places : List ℕ) (w : IsWhole t nodes places) where
   -- each front of a name has a node
   front_placed : (q : List ℕ) → is_null q ≡ false → is_front t q ≡ true → is_some (place q (fronts_of t nodes)) ≡ true
   front_placed q e h =
       let f = front_of t q h in
       let s = begins_split q (entry_at t f.number).name f.begins_so in
-      closed_front t (length t) nodes w.put.grown.web q s.more e (subst (λ n. is_some (place n (fronts_of t nodes)) ≡ true) s.whole (ap is_some (w.put.placed f.number f.inside)))
+      closed_front t nodes w.web q s.more e (subst (λ n. is_some (place n (fronts_of t nodes)) ≡ true) s.whole (ap is_some (w.placed f.number f.inside)))
 
   node_is : (n : ℕ) → n < length (fronts_of t nodes) → IsNode (record { entries = t; fronts = fronts_of t nodes }) n
-  node_is n l = record { inside = l; only = λ m k e. apart_same (fronts_of t nodes) w.put.grown.web.apart m n k l e }
+  node_is n l = record { inside = l; only = λ m k e. apart_same (fronts_of t nodes) w.web.apart m n k l e }
 
   node_at : (q : List ℕ) → is_some (place q (fronts_of t nodes)) ≡ true → NodeAt (record { entries = t; fronts = fronts_of t nodes }) q
   node_at q h = by_place (place q (fronts_of t nodes)) refl h
@@ -91,16 +71,40 @@ module _ (t : List Entry) (nodes : List TrieNode) (places : List ℕ) (w : IsWho
   front_led : (n : ℕ) → n < length (fronts_of t nodes) → (get_or (fronts_of t nodes) n [] ≡ 38 ∷ []) ⊎ (is_front t (get_or (fronts_of t nodes) n []) ≡ true)
   front_led n l =
       let k : n < length nodes = omega (arith, length_fronts t nodes) in
-      let h = led_fronts t (length t) nodes nodes n k (λ x e. w.put.grown.web.led n x k e) in
-      subst (λ u. (get_or (fronts_of t nodes) n [] ≡ 38 ∷ []) ⊎ (is_front u (get_or (fronts_of t nodes) n []) ≡ true)) (take_all (length t) t (omega arith)) h
+      let e = own_element nodes n no_node k in
+      subst (λ q. (q ≡ 38 ∷ []) ⊎ (is_front t q ≡ true)) (sym (front_at_place t nodes n (get_or nodes n no_node) k e)) (w.web.led n (get_or nodes n no_node) k e)
 
-  -- what the map of a node gives for a byte
-  module _ (n byte : ℕ) (x : TrieNode) (l : n < length nodes) (is : get_or nodes n x ≡ x) (o : Option ℕ) (found : o ≡ get nat_cmp x.children byte) where
+  -- the node of one byte more
+  child_place : (n byte : ℕ) (x : TrieNode) → n < length nodes → get_or nodes n x ≡ x → (o : Option ℕ) → MatchOption o (HasNoChildBy nodes x byte) (IsChildBy nodes x byte) → o ≡ place (front_in t x ++ byte ∷ []) (fronts_of t nodes)
+  child_place n byte x l e (Some m) h =
+      let kin = w.web.kin n x l e in
+      let inside : m < length nodes = omega (arith, h.among.1, kin.within) in
+      let i = own_element nodes m x inside in
+      let f : get_or (fronts_of t nodes) m [] ≡ front_in t x ++ byte ∷ [] = front_at_place t nodes m (get_or nodes m x) inside i ∙ kin.down m (get_or nodes m x) h.among i ∙ ap (λ c. front_in t x ++ c ∷ []) (h.by (get_or nodes m x) i) in
+      sym (subst (λ q. place q (fronts_of t nodes) ≡ Some m) f (w.web.apart m (omega (arith, inside, length_fronts t nodes))))
+  child_place n byte x l e None h = by_place (place (front_in t x ++ byte ∷ []) (fronts_of t nodes)) refl
+    where
+      by_place : (r : Option ℕ) → place (front_in t x ++ byte ∷ []) (fronts_of t nodes) ≡ r → None ≡ r
+      by_place None f = refl
+      by_place (Some m) f =
+          let s = place_stands (front_in t x ++ byte ∷ []) (fronts_of t nodes) m f in
+          let inside : m < length nodes = omega (arith, s.inside, length_fronts t nodes) in
+          let i = own_element nodes m x inside in
+          let kin = w.web.kin n x l e in
+          let g : front_in t (get_or nodes m x) ≡ front_in t x ++ byte ∷ [] = sym (front_at_place t nodes m (get_or nodes m x) inside i) ∙ s.is in
+          let a = kin.all m (get_or nodes m x) byte inside i g in
+          let d = kin.down m (get_or nodes m x) a i in
+          absurd (h m (get_or nodes m x) a i ((same_from_push (front_in t x) (front_in t x) (get_or nodes m x).byte byte (sym d ∙ g)).1))
+
+  -- what is found for a byte
+  module _ (n byte : ℕ) (l : n < length nodes) (o : Option ℕ) (found : IsFound nodes n byte o) where
     abbrev view : TableView
     view = record { entries = t; fronts = fronts_of t nodes }
 
     found_place : o ≡ place (front_at view n ++ byte ∷ []) (fronts_of t nodes)
-    found_place = found ∙ w.put.grown.web.linked n byte x l is ∙ ap (λ q. place (q ++ byte ∷ []) (fronts_of t nodes)) (sym (front_at_place t nodes n x l is))
+    found_place =
+        let e = own_element nodes n no_node l in
+        child_place n byte (get_or nodes n no_node) l e o (found (get_or nodes n no_node) e) ∙ ap (λ q. place (q ++ byte ∷ []) (fronts_of t nodes)) (sym (front_at_place t nodes n (get_or nodes n no_node) l e))
 
     child_leads : option_map (front_at view) o ≡ child_of t (front_at view n) byte
     unfolding child_of
@@ -175,38 +179,38 @@ module _ (t : List Entry) (nodes : List TrieNode) (places : List ℕ) (w : IsWho
   is_trie = record {
     nodes = λ n l. node_is t nodes places w n l;
     some = λ n l. some_fronts t nodes n l;
-    root = (0, omega (arith, length_fronts t nodes, w.put.grown.web.some), w.put.grown.web.root);
+    root = (0, omega (arith, length_fronts t nodes, w.web.some), w.web.root);
     all = λ q e h. node_at t nodes places w q (front_placed t nodes places w q e h);
   }
 
-  pub node_leads : (n byte : ℕ) (x : TrieNode) (o : Option ℕ) → n < length nodes → x ≡ get_or nodes n x → o ≡ get nat_cmp x.children byte → option_map (front_at seen) o ≡ child_of t (front_at seen n) byte
-  node_leads n byte x o l e f = child_leads t nodes places w n byte x l (sym e) o f
+  pub node_leads : (n byte : ℕ) (o : Option ℕ) → n < length nodes → IsFound nodes n byte o → option_map (front_at seen) o ≡ child_of t (front_at seen n) byte
+  node_leads n byte o l f = child_leads t nodes places w n byte l o f
 
-  pub node_child : (n byte : ℕ) (x : TrieNode) (o : Option ℕ) → n < length nodes → x ≡ get_or nodes n x → o ≡ get nat_cmp x.children byte → IfSome o (IsNode seen)
-  node_child n byte x None l e f = tt
-  node_child n byte x (Some m) l e f =
-      let p = found_place t nodes places w n byte x l (sym e) (Some m) f in
+  pub node_child : (n byte : ℕ) (o : Option ℕ) → n < length nodes → IsFound nodes n byte o → IfSome o (IsNode seen)
+  node_child n byte None l f = tt
+  node_child n byte (Some m) l f =
+      let p = found_place t nodes places w n byte l (Some m) f in
       let s = place_stands (front_at seen n ++ byte ∷ []) (fronts_of t nodes) m (sym p) in
       node_is t nodes places w m s.inside
 
   pub place_node : (i : ℕ) → i < length t → IsNode seen (get_or places i 0)
-  place_node i l = let s = place_stands (entry_at t i).name (fronts_of t nodes) (get_or places i 0) (w.put.placed i l) in node_is t nodes places w (get_or places i 0) s.inside
+  place_node i l = let s = place_stands (entry_at t i).name (fronts_of t nodes) (get_or places i 0) (w.placed i l) in node_is t nodes places w (get_or places i 0) s.inside
 
   pub place_front : (i : ℕ) → i < length t → front_at seen (get_or places i 0) ≡ (entry_at t i).name
-  place_front i l = let s = place_stands (entry_at t i).name (fronts_of t nodes) (get_or places i 0) (w.put.placed i l) in s.is
+  place_front i l = let s = place_stands (entry_at t i).name (fronts_of t nodes) (get_or places i 0) (w.placed i l) in s.is
 
 -- ---- the same of a table that is seen so
 
-pub leads_of : (t : List Entry) (nodes : List TrieNode) (places : List ℕ) (v : TableView) (n index byte : ℕ) (x : TrieNode) (o : Option ℕ) → IsWhole t nodes places → record { entries = t; fronts = fronts_of t nodes } ≡ v → n < length v.fronts → index ≡ n
-    → x ≡ get_or nodes index x → o ≡ get nat_cmp x.children byte → (option_map (front_at v) o ≡ child_of v.entries (front_at v n) byte) × IfSome o (IsNode v)
-leads_of t nodes places v n index byte x o w is l i e f =
+pub leads_of : (t : List Entry) (nodes : List TrieNode) (places : List ℕ) (v : TableView) (n index byte : ℕ) (o : Option ℕ) → IsWhole t nodes places → record { entries = t; fronts = fronts_of t nodes } ≡ v → n < length v.fronts → index ≡ n
+    → IsFound nodes index byte o → (option_map (front_at v) o ≡ child_of v.entries (front_at v n) byte) × IfSome o (IsNode v)
+leads_of t nodes places v n index byte o w is l i f =
     let k : n < length nodes = omega (arith, ap (λ (u : TableView). length u.fronts) is, length_fronts t nodes) in
-    let g : x ≡ get_or nodes n x = subst (λ m. x ≡ get_or nodes m x) i e in
-    subst (λ (u : TableView). (option_map (front_at u) o ≡ child_of u.entries (front_at u n) byte) × IfSome o (IsNode u)) is (node_leads t nodes places w n byte x o k g f, node_child t nodes places w n byte x o k g f)
+    let g : IsFound nodes n byte o = subst (λ m. IsFound nodes m byte o) i f in
+    subst (λ (u : TableView). (option_map (front_at u) o ≡ child_of u.entries (front_at u n) byte) × IfSome o (IsNode u)) is (node_leads t nodes places w n byte o k g, node_child t nodes places w n byte o k g)
 
 pub place_of : (t : List Entry) (nodes : List TrieNode) (places : List ℕ) (v : TableView) (i index node : ℕ) → IsWhole t nodes places → record { entries = t; fronts = fronts_of t nodes } ≡ v → i < length v.entries → index ≡ i
     → node ≡ get_or places index node → (front_at v node ≡ (entry_at v.entries i).name) × IsNode v node
 place_of t nodes places v i index node w is l e f =
     let k : i < length t = omega (arith, ap (λ (u : TableView). length u.entries) is) in
-    let g : node ≡ get_or places i 0 = get_or_read places i node (omega (arith, w.put.as_long)) (subst (λ m. node ≡ get_or places m node) e f) 0 in
+    let g : node ≡ get_or places i 0 = get_or_read places i node (omega (arith, w.as_long)) (subst (λ m. node ≡ get_or places m node) e f) 0 in
     subst (λ (u : TableView). (front_at u node ≡ (entry_at u.entries i).name) × IsNode u node) is (rw g (place_front t nodes places w i k, place_node t nodes places w i k))

@@ -1,9 +1,10 @@
 -- The definitions on examples.
-use Rattle.std.specs.Prelude.{◌≡◌, true, false, List, [], ◌∷◌, Some, None, codes, refl}
+use Rattle.std.specs.Prelude.{◌≡◌, ℕ, true, false, List, [], ◌∷◌, Some, None, codes, refl}
 use Rattle.hm_base.specs.Bytes.{is_digit_of, is_letter, is_alnum}
 use Rattle.hm_refs.specs.Names.{Entry, longest, found_here}
 use Rattle.hm_refs.specs.Numbers.{point_of, best_number}
 use Rattle.hm_refs.specs.References.{reference, value_of, is_blocked}
+use Rattle.hm_refs.specs.Plain.{is_plain_byte, allows, is_plain}
 
 abbrev pub seven : List Entry
 seven =
@@ -75,3 +76,34 @@ best_of_euro = refl
 pub none_for_control : best_number 0x80 ≡ None
 unfolding best_number point_of
 none_for_control = refl
+
+abbrev pub one_name : List ℕ → List ℕ → List Entry
+one_name n ps = record { name = n; points = ps } ∷ []
+
+pub plain_letter : is_plain seven 97 ≡ true
+unfolding is_plain_byte allows
+plain_letter = refl
+
+pub space_needs_care : is_plain [] 32 ≡ false
+unfolding is_plain_byte
+space_needs_care = refl
+
+pub equals_needs_care : is_plain [] 61 ≡ false
+unfolding is_plain_byte
+equals_needs_care = refl
+
+pub short_name : is_plain (one_name (codes "&aa") (97 ∷ [])) 97 ≡ false
+unfolding is_plain_byte allows
+short_name = refl
+
+pub long_name : is_plain (one_name (codes "&aa;") (97 ∷ [])) 97 ≡ true
+unfolding is_plain_byte allows
+long_name = refl
+
+pub pair_name : is_plain (one_name (codes "&fjlig;") (102 ∷ 106 ∷ [])) 102 ≡ false
+unfolding is_plain_byte allows
+pair_name = refl
+
+pub second_of_pair : is_plain (one_name (codes "&fjlig;") (102 ∷ 106 ∷ [])) 106 ≡ true
+unfolding is_plain_byte allows
+second_of_pair = refl

@@ -4,6 +4,7 @@ use Rattle.std.specs.Ordering.{nat_cmp}
 use Rattle.std.specs.Option.{option_map_or}
 use Rattle.std.specs.BTreeMap.{BTreeMap, get}
 use Rattle.std.specs.declared.alloc.Global.{Global}
+use Rattle.hm_refs.specs.declared.limits.TheConstants.{ALIKE_LIMIT, OPEN_LIMIT}
 use Rattle.hm_refs.specs.Names.{Entry, is_closed}
 use Rattle.hm_refs.specs.Tables.{places_for, entry_at}
 
@@ -15,6 +16,6 @@ IsIndex t m = (c : ℕ) → option_map_or (λ (v : Vec ℕ Global). v.items) (ge
 abbrev pub is_open_at : List Entry → ℕ → Bool
 is_open_at t id = not (is_closed (entry_at t id).name)
 
--- these are more than 64 names, or more than 4 without ';'
+-- these are more names than may be alike, or more without ';'
 abbrev pub are_many : List Entry → List ℕ → Bool
-are_many t ids = nat_lt 64 (length ids) || nat_lt 4 (count_by (is_open_at t) ids)
+are_many t ids = nat_lt ALIKE_LIMIT (length ids) || nat_lt OPEN_LIMIT (count_by (is_open_at t) ids)

@@ -4,6 +4,8 @@ use Rattle.std.specs.Str.{is_utf8}
 use Rattle.serde_json.specs.Data.{Data, Items, no_items, item, Members, no_members, member}
 use Rattle.serde_json.specs.Read.{read}
 use Rattle.serde_json.specs.Find.{get, as_number, as_u64, as_array, as_object}
+use Rattle.hm_base.specs.declared.limits.TheConstants.{TABLE_LIMIT}
+use Rattle.hm_refs.specs.declared.limits.TheConstants.{ALIKE_LIMIT, NAMES_LIMIT, OPEN_LIMIT}
 use Rattle.hm_refs.specs.Names.{Entry, points_of, is_closed, is_good_name}
 use Rattle.hm_refs.specs.Tables.{is_point, is_for, is_open_for}
 use Rattle.hm_refs.specs.declared.fault.TableFault.{TableFault}
@@ -50,9 +52,9 @@ abbrev pub first_bad_points : Members → Option (List ℕ)
 first_bad_points no_members = None
 first_bad_points (member k d ms) = if is_some (codepoints d) then first_bad_points ms else Some k
 
--- more than 64 names have the first code point c, or more than 4 of those without ';'
+-- more names have the first code point c than may, or more of those without ';'
 abbrev pub is_crowded : List Entry → ℕ → Bool
-is_crowded t c = nat_lt 64 (count_by (is_for c) t) || nat_lt 4 (count_by (is_open_for c) t)
+is_crowded t c = nat_lt ALIKE_LIMIT (count_by (is_for c) t) || nat_lt OPEN_LIMIT (count_by (is_open_for c) t)
 
 abbrev pub lesser : Option ℕ → Option ℕ → Option ℕ
 lesser None b = b
@@ -88,7 +90,7 @@ unless None fault r = r
 unless (Some a) fault r = Err (fault a)
 
 abbrev pub checked : List Entry → Result (List Entry) TableFault
-checked t = if nat_lt 4096 (length t) then Err TooMany else unless (least_crowded t t) TooManyFor (unless (first_lone t t) Lone (Ok t))
+checked t = if nat_lt NAMES_LIMIT (length t) then Err TooMany else unless (least_crowded t t) TooManyFor (unless (first_lone t t) Lone (Ok t))
 
 abbrev pub names_of_members : Members → Result (List Entry) TableFault
 names_of_members ms = unless (first_bad_name ms) BadName (unless (first_bad_points ms) BadPoints (checked (entries_in ms)))
@@ -103,7 +105,7 @@ names_of_data (Some d) = names_of_object (as_object d)
 
 -- the names in byte order that the bytes of a table give, or the first of its faults
 unfoldable pub names : List ℕ → Result (List Entry) TableFault
-names bytes = if nat_lt 1048576 (length bytes) then Err TooLong else names_of_data (json bytes)
+names bytes = if nat_lt TABLE_LIMIT (length bytes) then Err TooLong else names_of_data (json bytes)
 
 -- ---- the keys of an object
 

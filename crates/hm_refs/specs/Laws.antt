@@ -1,12 +1,15 @@
--- The plain reading of the longest name and of the best number, and what a table's bytes give.
-use Rattle.std.specs.Prelude.{◌≡◌, ℕ, ◌≤◌, true, false, List, ◌++◌, length, Some, None, Ok}
+-- The plain reading of the longest name and of the best number, the lengths of references, and what a table's bytes give.
+use Rattle.std.specs.Prelude.{◌≡◌, ℕ, ◌+◌, ◌≤◌, Bool, true, false, ◌&&◌, nat_le, List, [], ◌∷◌, ◌++◌, length, Some, None, Ok, if◌then◌else◌, codes}
+use Rattle.std.specs.Fmt.{decimal, digits}
 use Rattle.std.specs.Ordering.{nat_cmp}
 use Rattle.std.specs.Cmp.Lexicographic.{slice_cmp}
 use Rattle.std.specs.List.Sorted.{IsStrictlySortedBy}
 use Rattle.serde_json.specs.Data.{Data, Members}
 use Rattle.serde_json.specs.Find.{as_object}
+use Rattle.hm_base.specs.Bytes.{all_pass, is_digit_of, is_null}
 use Rattle.hm_refs.specs.Names.{Entry, points_of, is_name, Found, longest}
 use Rattle.hm_refs.specs.Numbers.{point_of, best_number}
+use Rattle.hm_refs.specs.References.{value_of}
 use Rattle.hm_refs.specs.Tables.{IsTable}
 use Rattle.hm_refs.specs.Json.{json, keys_in, names}
 
@@ -34,6 +37,50 @@ BestIsLeast = (c n : ℕ) → best_number c ≡ Some n → IsBest c n
 -- where there is none, no number gives c
 abbrev pub NoneIsBest : Type 0
 NoneIsBest = (c : ℕ) → best_number c ≡ None → (m : ℕ) → ¬ (point_of m ≡ c)
+
+-- ---- lengths of references by number
+
+-- digits of a base that write a number with the code point c; zeros may lead, and letters are of either case
+pub record Gives (base : ℕ) (ds : List ℕ) (c : ℕ) : Type 0 where
+  pub some : is_null ds ≡ false
+  pub digits : all_pass (is_digit_of base) ds ≡ true
+  pub value : point_of (value_of base ds) ≡ c
+
+abbrev pub end_of : Bool → List ℕ
+end_of closed = if closed then 59 ∷ [] else []
+
+-- a reference by decimal digits, with or without its ';'
+abbrev pub decimal_reference : List ℕ → Bool → List ℕ
+decimal_reference ds closed = codes "&#" ++ ds ++ end_of closed
+
+-- a reference by hexadecimal digits behind an 'x' or 'X', likewise
+abbrev pub hexadecimal_reference : ℕ → List ℕ → Bool → List ℕ
+hexadecimal_reference x ds closed = codes "&#" ++ x ∷ ds ++ end_of closed
+
+-- five hexadecimal digits are two fewer than the decimal ones
+abbrev pub is_shorter_in_hexadecimal : ℕ → Bool
+is_shorter_in_hexadecimal c = nat_le 1000000 c && nat_le c 1048575
+
+-- the decimal digits of n give c, and but for a few code points no reference by number is shorter
+pub record IsShortest (c n : ℕ) : Type 0 where
+  pub gives : Gives 10 (decimal n) c
+  pub decimals : (ds : List ℕ) (closed : Bool) → Gives 10 ds c → length (decimal_reference (decimal n) closed) ≤ length (decimal_reference ds closed)
+  pub hexadecimals : is_shorter_in_hexadecimal c ≡ false → (x : ℕ) (ds : List ℕ) (closed : Bool) → Gives 16 ds c → length (decimal_reference (decimal n) closed) ≤ length (hexadecimal_reference x ds closed)
+
+abbrev pub BestIsShortest : Type 0
+BestIsShortest = (c n : ℕ) → best_number c ≡ Some n → IsShortest c n
+
+-- for those the hexadecimal digits of c give it, are shorter by one byte, and no others are shorter
+pub record IsShorter (c : ℕ) : Type 0 where
+  pub best : best_number c ≡ Some c
+  pub gives : Gives 16 (digits 16 false c) c
+  pub by_one : (x : ℕ) (closed : Bool) → length (hexadecimal_reference x (digits 16 false c) closed) + 1 ≡ length (decimal_reference (decimal c) closed)
+  pub shortest : (x : ℕ) (ds : List ℕ) (closed : Bool) → Gives 16 ds c → length (hexadecimal_reference x (digits 16 false c) closed) ≤ length (hexadecimal_reference x ds closed)
+
+abbrev pub HexadecimalIsShorter : Type 0
+HexadecimalIsShorter = (c : ℕ) → is_shorter_in_hexadecimal c ≡ true → IsShorter c
+
+-- ---- what a table's bytes give
 
 -- the keys of a JSON object ascend in byte order, so that the first with a fault is the least
 abbrev pub KeysAscend : Type 0

@@ -2,11 +2,13 @@ pub mod Names
 pub mod Numbers
 pub mod References
 pub mod Tables
+pub mod Plain
 pub mod Json
 pub mod Faults
 pub mod Examples
 pub mod JsonExamples
 pub mod Nodes
 pub mod Firsts
+pub mod Flags
 pub mod Laws
 pub mod Reads

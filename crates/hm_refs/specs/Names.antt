@@ -1,6 +1,7 @@
 -- The names of a table, and the longest of them that a text begins with. A name is the list of its bytes, the '&' included.
 use Rattle.std.specs.Prelude.{ℕ, Bool, true, false, ◌&&◌, ◌||◌, ◌==◌, nat_le, List, [], ◌∷◌, ◌++◌, length, Option, Some, None, if◌then◌else◌, is_some, bytes_eq}
 use Rattle.hm_base.specs.Bytes.{is_letter, is_alnum, is_null}
+use Rattle.hm_refs.specs.declared.limits.TheConstants.{LENGTH_LIMIT}
 
 -- a name, and the one or two code points that it stands for
 pub record Entry : Type 0 where
@@ -84,6 +85,6 @@ is_good (a ∷ []) = false
 is_good (a ∷ b ∷ []) = false
 is_good (a ∷ b ∷ c ∷ s) = a == 38 && (is_letter b && (is_alnum c && is_tail s))
 
--- and it has at most 64 bytes
+-- and it is no longer than a name may be
 abbrev pub is_good_name : List ℕ → Bool
-is_good_name n = is_good n && nat_le (length n) 64
+is_good_name n = is_good n && nat_le (length n) LENGTH_LIMIT

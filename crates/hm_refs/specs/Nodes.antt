@@ -1,8 +1,10 @@
 -- The nodes of a trie, as the code keeps them.
-use Rattle.std.specs.Prelude.{◌≡◌, ℕ, suc, ◌+◌, ◌*◌, ◌<◌, ◌≤◌, ◌⊎◌, true, false, cond, nat_eq, is_some, List, [], ◌∷◌, ◌++◌, map, take, drop, length, Option, Some, None, option_map, IfSome, if◌then◌else◌, slice_index_or, slice_set, bytes_eq, string_bytes}
+use Rattle.std.specs.Prelude.{◌≡◌, ℕ, suc, ◌+◌, ◌*◌, ◌<◌, ◌≤◌, ◌⊎◌, ◌==◌, true, false, is_some, List, [], ◌∷◌, ◌++◌, map, take, drop, length, Option, Some, None, option_map, IfSome, MatchOption, if◌then◌else◌, slice_index_or, slice_set, bytes_eq, string_bytes}
 use Rattle.std.specs.Ordering.{nat_cmp}
-use Rattle.std.specs.BTreeMap.{BTreeMap, get}
+use Rattle.std.specs.Cmp.Lexicographic.{slice_cmp}
+use Rattle.std.specs.List.Sorted.{IsStrictlySortedBy}
 use Rattle.hm_base.specs.Bytes.{is_null}
+use Rattle.hm_refs.specs.declared.limits.TheConstants.{LENGTH_LIMIT, NAMES_LIMIT}
 use Rattle.hm_refs.specs.Names.{Entry, is_front, or_else, found_longer, longest}
 use Rattle.hm_refs.specs.Tables.{names_in, entry_at, points_list, found_at, TableView, front_at}
 use Rattle.hm_refs.specs.declared.nodes.Name.{Name}
@@ -26,24 +28,47 @@ abbrev pub place : List ℕ → List (List ℕ) → Option ℕ
 place q [] = None
 place q (f ∷ fs) = if bytes_eq f q then Some 0 else option_map suc (place q fs)
 
+-- ---- children: the nodes from `first` on, `count` of them
+
+-- m is among the children of x
+abbrev pub IsAmong : TrieNode → ℕ → Type 0
+IsAmong x m = (x.first ≤ m) × (m < x.first + x.count)
+
+-- a child that this byte leads to
+pub record IsChildBy (nodes : List TrieNode) (x : TrieNode) (byte m : ℕ) : Type 0 where
+  pub among : IsAmong x m
+  pub by : (y : TrieNode) → slice_index_or nodes m y ≡ y → y.byte ≡ byte
+
+-- no child is one
+abbrev pub HasNoChildBy : List TrieNode → TrieNode → ℕ → Type 0
+HasNoChildBy nodes x byte = (m : ℕ) (y : TrieNode) → IsAmong x m → slice_index_or nodes m y ≡ y → y.byte ≡ byte → ⊥
+
+-- the children of each node are there
+abbrev pub AreWithin : List TrieNode → Type 0
+AreWithin nodes = (n : ℕ) (x : TrieNode) → n < length nodes → slice_index_or nodes n x ≡ x → x.first + x.count ≤ length nodes
+
+-- the child of the node at this place by a byte, or none
+abbrev pub IsFound : List TrieNode → ℕ → ℕ → Option ℕ → Type 0
+IsFound nodes at byte o = (x : TrieNode) → slice_index_or nodes at x ≡ x → MatchOption o (HasNoChildBy nodes x byte) (IsChildBy nodes x byte)
+
+-- x with one child more, the last
+abbrev pub adopted : TrieNode → ℕ → TrieNode
+adopted x child = record x { first = if x.count == 0 then child else x.first; count = x.count + 1 }
+
 -- the child was there
 pub record Finds (old new : List TrieNode) (at byte child : ℕ) : Type 0 where
   pub node : TrieNode
   pub is : slice_index_or old at node ≡ node
-  pub known : get nat_cmp node.children byte ≡ Some child
+  pub known : IsChildBy old node byte child
   pub same : new ≡ old
 
--- the child is a new last node
+-- the child was made behind all others
 pub record Makes (old new : List TrieNode) (at byte name depth child : ℕ) : Type 0 where
   pub node : TrieNode
   pub is : slice_index_or old at node ≡ node
-  pub unknown : get nat_cmp node.children byte ≡ None
+  pub unknown : HasNoChildBy old node byte
   pub last : child ≡ length old
-  pub children : BTreeMap ℕ ℕ
-  pub linked : (c : ℕ) → get nat_cmp children c ≡ cond (nat_eq byte c) (Some child) (get nat_cmp node.children c)
-  pub none : BTreeMap ℕ ℕ
-  pub empty : (c : ℕ) → get nat_cmp none c ≡ None
-  pub nodes : new ≡ slice_set (old ++ record { name = name; depth = depth; ends = None; children = none } ∷ []) at (record node { children = children })
+  pub nodes : new ≡ slice_set (old ++ record { name = name; depth = depth; ends = None; byte = byte; first = 0; count = 0 } ∷ []) at (adopted node child)
 
 abbrev pub Steps : List TrieNode → List TrieNode → ℕ → ℕ → ℕ → ℕ → ℕ → Type 0
 Steps old new at byte name depth child = Finds old new at byte child ⊎ Makes old new at byte name depth child
@@ -52,67 +77,88 @@ Steps old new at byte name depth child = Finds old new at byte child ⊎ Makes o
 abbrev pub AreApart : List (List ℕ) → Type 0
 AreApart fs = (n : ℕ) → n < length fs → place (slice_index_or fs n []) fs ≡ Some n
 
--- The nodes are apart, each is the root or a front of the first k names, with all fronts of its own from '&' on, and its map leads to its children.
-pub record IsWeb (t : List Entry) (k : ℕ) (nodes : List TrieNode) : Type 0 where
+-- the children of x are the nodes that its bytes and one more lead to
+pub record IsKin (t : List Entry) (nodes : List TrieNode) (x : TrieNode) : Type 0 where
+  pub within : x.first + x.count ≤ length nodes
+  pub down : (m : ℕ) (y : TrieNode) → IsAmong x m → slice_index_or nodes m y ≡ y → front_in t y ≡ front_in t x ++ y.byte ∷ []
+  pub all : (m : ℕ) (y : TrieNode) (c : ℕ) → m < length nodes → slice_index_or nodes m y ≡ y → front_in t y ≡ front_in t x ++ c ∷ [] → IsAmong x m
+
+-- The nodes are apart, each is the root or a front of a name, with all fronts of its own from '&' on, and has its children side by side.
+pub record IsWeb (t : List Entry) (nodes : List TrieNode) : Type 0 where
   pub some : 0 < length nodes
   pub root : slice_index_or (fronts_of t nodes) 0 [] ≡ 38 ∷ []
   pub apart : AreApart (fronts_of t nodes)
-  pub linked : (n c : ℕ) (x : TrieNode) → n < length nodes → slice_index_or nodes n x ≡ x → get nat_cmp x.children c ≡ place (front_in t x ++ c ∷ []) (fronts_of t nodes)
+  pub kin : (n : ℕ) (x : TrieNode) → n < length nodes → slice_index_or nodes n x ≡ x → IsKin t nodes x
   pub closed : (q : List ℕ) (c : ℕ) → is_null q ≡ false → is_some (place (q ++ c ∷ []) (fronts_of t nodes)) ≡ true → is_some (place q (fronts_of t nodes)) ≡ true
-  pub led : (n : ℕ) (x : TrieNode) → n < length nodes → slice_index_or nodes n x ≡ x → (front_in t x ≡ 38 ∷ []) ⊎ (is_front (take k t) (front_in t x) ≡ true)
+  pub led : (n : ℕ) (x : TrieNode) → n < length nodes → slice_index_or nodes n x ≡ x → (front_in t x ≡ 38 ∷ []) ⊎ (is_front t (front_in t x) ≡ true)
 
--- each node tells which of the first k names ends there, and each of them ends somewhere
-pub record HasNames (t : List Entry) (k : ℕ) (nodes : List TrieNode) : Type 0 where
-  pub ended : (n : ℕ) (x : TrieNode) → n < length nodes → slice_index_or nodes n x ≡ x → x.ends ≡ place (front_in t x) (names_in (take k t))
-  pub named : (i : ℕ) → i < k → is_some (place (entry_at t i).name (fronts_of t nodes)) ≡ true
+-- each node tells which of the first k names ends there
+abbrev pub HasEnds : List Entry → ℕ → List TrieNode → Type 0
+HasEnds t k nodes = (n : ℕ) (x : TrieNode) → n < length nodes → slice_index_or nodes n x ≡ x → x.ends ≡ place (front_in t x) (names_in (take k t))
 
--- the trie of the first k names
-pub record IsGrown (t : List Entry) (k : ℕ) (nodes : List TrieNode) : Type 0 where
-  pub web : IsWeb t k nodes
-  pub names : HasNames t k nodes
-  pub few : length nodes ≤ 1 + 64 * k
-
--- each list that had a place has it still
-abbrev pub KeepsPlaces : List (List ℕ) → List (List ℕ) → Type 0
-KeepsPlaces old new = (q : List ℕ) (n : ℕ) → place q old ≡ Some n → place q new ≡ Some n
-
--- The trie of the first k names while the name k is put in, with `at` the node that its `&` and j bytes more lead to.
-pub record IsWalked (t : List Entry) (k j at : ℕ) (old nodes : List TrieNode) : Type 0 where
-  pub web : IsWeb t (suc k) nodes
-  pub names : HasNames t k nodes
-  pub few : length nodes ≤ 1 + 64 * k + j
-  pub inside : at < length nodes
-  pub front : slice_index_or (fronts_of t nodes) at [] ≡ 38 ∷ take j (drop 1 (entry_at t k).name)
-  pub keeps : KeepsPlaces (fronts_of t old) (fronts_of t nodes)
-
--- '&' stands first, and there are three to 64 bytes
+-- '&' stands first, and there are at least three bytes, and no more than may
 pub record IsShort (name : List ℕ) : Type 0 where
   pub begins : name ≡ 38 ∷ drop 1 name
   pub long : 3 ≤ length name
-  pub short : length name ≤ 64
+  pub short : length name ≤ LENGTH_LIMIT
 
 -- what the names have to be for a trie
 pub record AreNames (t : List Entry) : Type 0 where
   pub apart : AreApart (names_in t)
   pub short : (i : ℕ) → i < length t → IsShort (entry_at t i).name
-  pub few : length t ≤ 4096
+  pub few : length t ≤ NAMES_LIMIT
+  pub ascending : IsStrictlySortedBy (slice_cmp nat_cmp) (names_in t)
 
--- the trie of the first k names has grown by the name k, whose node is `at`
-pub record Adds (t : List Entry) (k at : ℕ) (old new : List TrieNode) : Type 0 where
-  pub grown : IsGrown t (suc k) new
-  pub keeps : KeepsPlaces (fronts_of t old) (fronts_of t new)
-  pub placed : place (entry_at t k).name (fronts_of t new) ≡ Some at
+-- ---- a trie that grows byte by byte of all names
 
--- the trie of the first k names, and the node of each
+-- what stands behind the first byte of the name i
+abbrev pub tail_at : List Entry → ℕ → List ℕ
+tail_at t i = drop 1 (entry_at t i).name
+
+-- '&' and d bytes more of the name i
+abbrev pub front_to : List Entry → ℕ → ℕ → List ℕ
+front_to t i d = 38 ∷ take d (tail_at t i)
+
+-- the node where the name i stands
+abbrev pub place_at : List ℕ → ℕ → ℕ
+place_at places i = slice_index_or places i 0
+
+-- a name before the name j has the same d bytes behind '&' as the name i
+abbrev pub IsMet : List Entry → ℕ → ℕ → ℕ → Type 0
+IsMet t d j i = (h : ℕ) × (h < j) × (front_to t h d ≡ front_to t i d)
+
+-- a node may still have a child more: it has none, or its last is the last of all
+abbrev pub MayGrow : List Entry → ℕ → ℕ → ℕ → List TrieNode → TrieNode → Type 0
+MayGrow t d j i nodes x = (x.count ≡ 0) ⊎ ((x.first + x.count ≡ length nodes) × IsMet t d j i)
+
+-- The trie of all fronts with d bytes behind '&', and with d + 1 of the first j names; for each name the node where it stands.
+pub record IsSpread (t : List Entry) (d j : ℕ) (nodes : List TrieNode) (places : List ℕ) : Type 0 where
+  pub names : AreNames t
+  pub web : IsWeb t nodes
+  pub few : length nodes ≤ 1 + NAMES_LIMIT * d + j
+  pub as_long : length places ≡ length t
+  pub ahead : (i : ℕ) → i < j → i < length t → place (front_to t i (d + 1)) (fronts_of t nodes) ≡ Some (place_at places i)
+  pub still : (i : ℕ) → j ≤ i → i < length t → place (front_to t i d) (fronts_of t nodes) ≡ Some (place_at places i)
+  pub may_grow : (i : ℕ) (x : TrieNode) → j ≤ i → i < length t → d < length (tail_at t i) → slice_index_or nodes (place_at places i) x ≡ x → MayGrow t d j i nodes x
+  pub fresh : (n : ℕ) (x : TrieNode) → n < length nodes → slice_index_or nodes n x ≡ x → d + 1 < length (front_in t x) → x.count ≡ 0
+  pub endless : (n : ℕ) (x : TrieNode) → n < length nodes → slice_index_or nodes n x ≡ x → x.ends ≡ None
+
+-- the node of each name
+abbrev pub ArePlaces : List Entry → List TrieNode → List ℕ → Type 0
+ArePlaces t nodes places = (i : ℕ) → i < length t → place (entry_at t i).name (fronts_of t nodes) ≡ Some (place_at places i)
+
+-- the trie of all names and the node of each, in which the first k names end
 pub record IsPut (t : List Entry) (k : ℕ) (nodes : List TrieNode) (places : List ℕ) : Type 0 where
-  pub grown : IsGrown t k nodes
-  pub as_long : length places ≡ k
-  pub placed : (i : ℕ) → i < k → place (entry_at t i).name (fronts_of t nodes) ≡ Some (slice_index_or places i 0)
+  pub names : AreNames t
+  pub web : IsWeb t nodes
+  pub few : length nodes < 4294967296
+  pub as_long : length places ≡ length t
+  pub placed : ArePlaces t nodes places
+  pub ended : HasEnds t k nodes
 
 -- the trie of all names, and the node of each
-pub record IsWhole (t : List Entry) (nodes : List TrieNode) (places : List ℕ) : Type 0 where
-  pub names : AreNames t
-  pub put : IsPut t (length t) nodes places
+abbrev pub IsWhole : List Entry → List TrieNode → List ℕ → Type 0
+IsWhole t nodes places = IsPut t (length t) nodes places
 
 -- With i bytes behind the '&' read, at a node: the longest name is a longer one than these bytes, or the best so far.
 pub record IsSought (v : TableView) (text rest : List ℕ) (i node : ℕ) (best : Option ℕ) : Type 0 where

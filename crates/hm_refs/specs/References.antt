@@ -1,5 +1,5 @@
 -- Character references (HTML Standard, 13.2.5.72 to 13.2.5.80).
-use Rattle.std.specs.Prelude.{ℕ, ◌+◌, Bool, not, ◌&&◌, ◌||◌, ◌==◌, List, [], ◌∷◌, length, Option, Some, None, if◌then◌else◌, bytes_eq, codes}
+use Rattle.std.specs.Prelude.{ℕ, ◌+◌, Bool, not, ◌&&◌, ◌||◌, ◌==◌, List, [], ◌∷◌, length, Option, Some, None, if◌then◌else◌, codes}
 use Rattle.std.specs.Str.Parse.{digits_value}
 use Rattle.hm_base.specs.Bytes.{front, behind, strip, head_is, is_digit, is_hex, is_alnum}
 use Rattle.hm_refs.specs.Names.{Entry, Found, is_closed, longest}

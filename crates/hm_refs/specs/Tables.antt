@@ -6,6 +6,7 @@ use Rattle.std.specs.List.{list_all}
 use Rattle.std.specs.List.Sorted.{IsStrictlySortedBy}
 use Rattle.hm_base.specs.Bytes.{head_is, is_null}
 use Rattle.hm_base.specs.declared.plain.Points.{Points}
+use Rattle.hm_refs.specs.declared.limits.TheConstants.{ALIKE_LIMIT, NAMES_LIMIT, OPEN_LIMIT}
 use Rattle.hm_refs.specs.Names.{Entry, points_of, is_front, is_closed, is_good_name, Found}
 
 pub data IsIn {A : Type 0} (x : A) : List A → Type 0 where
@@ -53,8 +54,8 @@ pub record IsTable (t : List Entry) : Type 0 where
   pub good : (e : Entry) → IsIn e t → is_good_name e.name ≡ true
   pub pointed : (e : Entry) → IsIn e t → are_points e.points ≡ true
   pub paired : (e : Entry) → IsIn e t → is_closed e.name ≡ false → points_of t (e.name ++ 59 ∷ []) ≡ Some e.points
-  pub few : length t ≤ 4096
-  pub few_for : (c : ℕ) → (count_by (is_for c) t ≤ 64) × (count_by (is_open_for c) t ≤ 4)
+  pub few : length t ≤ NAMES_LIMIT
+  pub few_for : (c : ℕ) → (count_by (is_for c) t ≤ ALIKE_LIMIT) × (count_by (is_open_for c) t ≤ OPEN_LIMIT)
 
 -- ---- with its trie
 

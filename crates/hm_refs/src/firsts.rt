@@ -1,11 +1,13 @@
 //! Names by their first code points.
 ghost use Rattle.std.specs.Prelude.{◌≡◌, ℕ, ◌<◌, ◌≤◌, List, [], ◌∷◌, All, length, IfOk, count_by};
+ghost use Rattle.hm_refs.specs.declared.limits.TheConstants.{NAMES_LIMIT};
 ghost use Rattle.hm_refs.specs.Names.{is_closed};
 ghost use Rattle.hm_refs.specs.Json.{if_crowded, least_crowded, lesser};
 ghost use Rattle.hm_refs.specs.Nodes.{entries_of};
 ghost use Rattle.hm_refs.specs.Firsts.{IsIndex, are_many, is_open_at};
 
 use crate::ids::NameId;
+use crate::limits::{ALIKE_LIMIT, OPEN_LIMIT};
 use crate::nodes::Name;
 use hm_base::Memory;
 use std::alloc::Global;
@@ -16,7 +18,7 @@ pub(crate) fn firsts_of(
     alloc: Global,
     names: &[Name],
 ) -> Result<BTreeMap<char, Vec<NameId>>, Memory>
-    requires { length names.now ≤ 4096 }
+    requires { length names.now ≤ NAMES_LIMIT }
     ensures { IfOk result (IsIndex (entries_of names.now)) }
 {
     let mut firsts = BTreeMap::new(alloc);
@@ -27,7 +29,7 @@ pub(crate) fn firsts_of(
     Ok(firsts)
 }
 
-/// The least first code point with more than 64 names, or more than 4 without `;`.
+/// The least first code point with too many names, or too many without `;`.
 pub(crate) fn least_crowded(names: &[Name], firsts: &BTreeMap<char, Vec<NameId>>) -> Option<char>
     requires { IsIndex (entries_of names.now) firsts.now }
     ensures { result ≡ least_crowded (entries_of names.now) (entries_of names.now) }
@@ -60,15 +62,15 @@ fn if_crowded(names: &[Name], firsts: &BTreeMap<char, Vec<NameId>>, point: char)
     }
 }
 
-/// Whether these are more than 64 names, or more than 4 without `;`.
+/// Whether these are more names than may have one first code point, or more without `;`.
 fn are_many(names: &[Name], ids: &[NameId]) -> bool
     requires { All (λ id. id < length names.now) ids.now }
     ensures { result ≡ are_many (entries_of names.now) ids.now }
 {
-    if ids.len() > 64 {
+    if ids.len() > ALIKE_LIMIT {
         return true;
     }
-    open_names(names, ids) > 4
+    open_names(names, ids) > OPEN_LIMIT
 }
 
 /// How many of these names have no `;`.

@@ -1,5 +1,5 @@
 //! Laws over the definitions. The functions do nothing.
-ghost use Rattle.hm_refs.specs.Laws.{BestIsLeast, KeysAscend, LongestIsLongest, NamesAreTable, NoneIsBest, NoneIsLongest};
+ghost use Rattle.hm_refs.specs.Laws.{BestIsLeast, BestIsShortest, HexadecimalIsShorter, KeysAscend, LongestIsLongest, NamesAreTable, NoneIsBest, NoneIsLongest};
 
 pub use crate::table::every_table;
 
@@ -21,6 +21,17 @@ pub fn best_is_least()
 /// Where a code point has no best number, no number gives it.
 pub fn none_is_best()
     ensures { NoneIsBest }
+{}
+
+/// No decimal reference is shorter than the one with the best number, and no hexadecimal one, but for the code points
+/// from 1,000,000 to 1,048,575.
+pub fn best_is_shortest()
+    ensures { BestIsShortest }
+{}
+
+/// For the code points from 1,000,000 to 1,048,575 `x` and five hexadecimal digits are one byte shorter than seven decimal ones.
+pub fn hexadecimal_is_shorter()
+    ensures { HexadecimalIsShorter }
 {}
 
 /// The keys of a JSON object stand in byte order.

@@ -5,8 +5,10 @@ mod fault;
 mod firsts;
 mod ids;
 pub mod laws;
+mod limits;
 mod nodes;
 mod numbers;
+mod plain;
 mod reading;
 mod scan;
 mod table;
@@ -16,6 +18,7 @@ mod trie;
 
 pub use fault::TableFault;
 pub use ids::{NameId, Node};
+pub use limits::{ALIKE_LIMIT, LENGTH_LIMIT, NAMES_LIMIT, OPEN_LIMIT};
 pub use numbers::{best_number, number_value};
 pub use scan::{Reference, read_reference};
 pub use table::Table;

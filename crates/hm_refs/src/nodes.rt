@@ -1,11 +1,12 @@
-//! The names of a table in a trie: a vector of nodes, each with an ordered map from a byte to a node.
-ghost use Rattle.std.specs.Prelude.{◌≡◌, ℕ, ◌<◌, List, [], length, drop, IfOk};
-ghost use Rattle.hm_refs.specs.Nodes.{Adds, AreNames, IsGrown, IsWhole, Steps, entries_of};
+//! The names of a table in a trie: a vector of nodes, in which the children of each stand side by side.
+ghost use Rattle.std.specs.Prelude.{◌≡◌, ◌<◌, ◌≤◌, [], ◌+◌, drop, length, OnOk, IfOk};
+ghost use Rattle.hm_refs.specs.declared.limits.TheConstants.{LENGTH_LIMIT};
+ghost use Rattle.hm_refs.specs.Nodes.{AreNames, AreWithin, IsFound, IsPut, IsSpread, IsWhole, Steps, adopted, entries_of};
 
 use crate::ids::{NameId, Node};
+use crate::limits::LENGTH_LIMIT;
 use hm_base::{Memory, Points};
 use std::alloc::Global;
-use std::collections::BTreeMap;
 
 /// A name with the code points that it stands for.
 #[derive(Drop)]
@@ -21,12 +22,46 @@ pub(crate) struct TrieNode {
     pub(crate) depth: u32,
     /// The name that ends here.
     pub(crate) ends: Option<NameId>,
-    pub(crate) children: BTreeMap<u8, Node>,
+    /// The last of the bytes that lead here.
+    pub(crate) byte: u8,
+    /// Where its children begin, which stand in the byte order of the names.
+    pub(crate) first: u32,
+    /// How many they are.
+    pub(crate) count: u32,
+}
+
+impl TrieNode {
+    /// Takes one child more, behind those that it has.
+    fn adopt(&mut self, child: u32)
+        requires { self.old.count < 4294967295 }
+        ensures { self.new ≡ adopted self.old child }
+    {
+        if self.count == 0 {
+            self.first = child;
+        }
+        self.count += 1;
+    }
+}
+
+/// The child of the node at `at` that `byte` leads to.
+pub(crate) fn find_child(nodes: &[TrieNode], at: usize, byte: u8) -> Option<Node>
+    requires inside { at < length nodes.now }
+    requires few { length nodes.now < 4294967296 }
+    requires within { AreWithin nodes.now }
+    ensures { IsFound nodes.now at byte result }
+{
+    let first = nodes[at].first;
+    let end = first + nodes[at].count;
+    for number in first..end {
+        if nodes[number as usize].byte == byte {
+            return Some(Node::new(number));
+        }
+    }
+    None
 }
 
 /// The child of `at` by `byte`, which is made, if it isn't there, for `depth` bytes of the name `name`.
 fn step(
-    alloc: Global,
     nodes: &mut Vec<TrieNode>,
     at: usize,
     byte: u8,
@@ -35,20 +70,23 @@ fn step(
 ) -> Result<Node, Memory>
     requires inside { at < length nodes.old.items }
     requires few { length nodes.old.items < 4294967295 }
+    requires within { AreWithin nodes.old.items }
     ensures { IfOk result (λ child. Steps nodes.old.items nodes.new.items at byte name depth child) }
 {
-    if let Some(child) = nodes[at].children.get(&byte) {
-        return Ok(*child);
+    if let Some(child) = find_child(nodes, at, byte) {
+        return Ok(child);
     }
-    let child = Node::new(nodes.len() as u32);
+    let child = nodes.len() as u32;
     nodes.push(TrieNode {
         name,
         depth,
         ends: None,
-        children: BTreeMap::new(alloc),
+        byte,
+        first: 0,
+        count: 0,
     })?;
-    nodes[at].children.insert(byte, child)?;
-    Ok(child)
+    nodes[at].adopt(child);
+    Ok(Node::new(child))
 }
 
 pub(crate) fn behind_first(text: &[u8]) -> &[u8]
@@ -58,26 +96,43 @@ pub(crate) fn behind_first(text: &[u8]) -> &[u8]
     &text[1..]
 }
 
-/// Puts the name with this number into the trie of those before it.
-fn add_name(
-    alloc: Global,
+/// Moves each name that has more than `depth` bytes behind its `&` on to the node of one byte more.
+///
+/// The names are in byte order, so those that stand at one node come one after another, and so do its children.
+fn grow_deeper(
     names: &[Name],
-    number: u32,
+    depth: u32,
     nodes: &mut Vec<TrieNode>,
-) -> Result<Node, Memory>
-    requires inside { number < length names.now }
-    requires names { AreNames (entries_of names.now) }
-    requires grown { IsGrown (entries_of names.now) number nodes.old.items }
-    ensures { IfOk result
-        (λ node. Adds (entries_of names.now) number node nodes.old.items nodes.new.items) }
+    places: &mut [Node],
+) -> Result<(), Memory>
+    requires low { depth < LENGTH_LIMIT }
+    requires spread { IsSpread (entries_of names.now) depth 0 nodes.old.items places.old }
+    ensures { OnOk result (IsSpread (entries_of names.now) (depth + 1) 0 nodes.new.items places.new) }
 {
-    let rest = behind_first(names[number as usize].text.as_bytes());
-    let mut at = Node::new(0);
-    for (depth, byte) in rest.iter().enumerate() {
-        at = step(alloc, nodes, at.index(), *byte, number, depth as u32 + 1)?;
+    for number in 0..names.len() {
+        let tail = behind_first(names[number].text.as_bytes());
+        if (depth as usize) < tail.len() {
+            let byte = tail[depth as usize];
+            places[number] = step(
+                nodes,
+                places[number].index(),
+                byte,
+                number as u32,
+                depth + 1,
+            )?;
+        }
     }
-    nodes[at.index()].ends = Some(NameId::new(number));
-    Ok(at)
+    Ok(())
+}
+
+/// Tells each node which name ends there.
+fn mark_ends(names: &[Name], nodes: &mut [TrieNode], places: &[Node])
+    requires { IsPut (entries_of names.now) 0 nodes.old places.now }
+    ensures { IsWhole (entries_of names.now) nodes.new places.now }
+{
+    for (number, place) in places.iter().enumerate() {
+        nodes[place.index()].ends = Some(NameId::new(number as u32));
+    }
 }
 
 /// Makes the nodes of the names, and tells the node of each.
@@ -95,11 +150,14 @@ pub(crate) fn grow(
         name: 0,
         depth: 0,
         ends: None,
-        children: BTreeMap::new(alloc),
+        byte: b'&',
+        first: 0,
+        count: 0,
     })?;
-    let mut places = Vec::new(alloc);
-    for number in 0..names.len() as u32 {
-        places.push(add_name(alloc, names, number, nodes)?)?;
+    let mut places = vec![in alloc; Node::new(0); names.len()]?;
+    for depth in 0..LENGTH_LIMIT as u32 {
+        grow_deeper(names, depth, nodes, &mut places)?;
     }
+    mark_ends(names, nodes, &places);
     Ok(places)
 }

@@ -13,13 +13,12 @@ ghost use Rattle.hm_refs.specs.Json.{codepoints, entries_in, first_bad_name, fir
 ghost use Rattle.hm_refs.specs.Nodes.{entries_of};
 
 use crate::fault::TableFault;
+use crate::limits::LENGTH_LIMIT;
 use crate::nodes::Name;
 use crate::table::{Table, word_of};
-use hm_base::Points;
+use hm_base::{Points, TABLE_LIMIT};
 use serde_json::{Map, Value};
 use std::alloc::Global;
-
-const MAX_BYTES: usize = 1_048_576;
 
 impl Table {
     /// Reads a table in the form of the standard's `entities.json`: an object whose keys are the names, each with an
@@ -29,7 +28,7 @@ impl Table {
         ensures fault { IfErr result
             (λ fault. fault ≢ TableFault.Memory → names bytes.now ≡ Err fault) }
     {
-        if bytes.len() > MAX_BYTES {
+        if bytes.len() > TABLE_LIMIT as usize {
             return Err(TableFault::TooLong);
         }
         let value = parse(alloc, bytes)?;
@@ -179,7 +178,7 @@ fn is_good_name(name: &[u8]) -> bool
 {
     match name {
         [b'&', first, second, rest @ ..] => {
-            is_letter(*first) && is_alnum(*second) && is_tail(rest) && name.len() <= 64
+            is_letter(*first) && is_alnum(*second) && is_tail(rest) && name.len() <= LENGTH_LIMIT
         }
         _ => false,
     }

@@ -4,11 +4,14 @@ ghost use Rattle.hm_refs.specs.Names.{child_of, is_name, longest};
 ghost use Rattle.hm_refs.specs.Tables.{IsGathered, IsNode, IsTable, IsTrie, entry_at, found_at, front_at, places_for, points_list};
 ghost use Rattle.hm_refs.specs.Json.{checked};
 ghost use Rattle.hm_refs.specs.Nodes.{entries_of};
+ghost use Rattle.hm_refs.specs.Plain.{is_plain};
 
 use crate::fault::TableFault;
 use crate::firsts::{firsts_of, least_crowded};
 use crate::ids::{NameId, Node};
+use crate::limits::NAMES_LIMIT;
 use crate::nodes::Name;
+use crate::plain::plain_flags;
 use crate::trie::Trie;
 use hm_base::{Memory, Points, Word};
 use std::alloc::{AllocError, Global};
@@ -22,6 +25,8 @@ use std::marker::Model;
 pub struct Table {
     trie: Trie,
     firsts: BTreeMap<char, Vec<NameId>>,
+    /// For each ASCII character whether it is plain.
+    plain: [bool; 128],
 }
 
 impl Model for Table {
@@ -31,10 +36,11 @@ impl Model for Table {
 
     ghost use Rattle.hm_refs.specs.Tables.{IsTable};
     ghost use Rattle.hm_refs.specs.Firsts.{IsIndex};
+    ghost use Rattle.hm_refs.specs.Flags.{IsFlagged};
 
     ghost view = { λ t. t.trie };
 
-    ghost invariant = { λ t. IsTable t.trie.entries × IsIndex t.trie.entries t.firsts };
+    ghost invariant = { λ t. IsTable t.trie.entries × IsIndex t.trie.entries t.firsts × IsFlagged t.trie.entries t.plain };
 }
 
 impl Table {
@@ -46,6 +52,7 @@ impl Table {
         Ok(Table {
             trie,
             firsts: BTreeMap::new(alloc),
+            plain: plain_flags(&[]),
         })
     }
 
@@ -56,7 +63,7 @@ impl Table {
         ensures fault { IfErr result
             (λ fault. fault ≢ TableFault.Memory → checked (entries_of names.items) ≡ Err fault) }
     {
-        if names.len() > 4096 {
+        if names.len() > NAMES_LIMIT {
             return Err(TableFault::TooMany);
         }
         let firsts = firsts_of(alloc, &names)?;
@@ -65,12 +72,17 @@ impl Table {
                 point: point as u32,
             });
         }
+        let plain = plain_flags(&names);
         let trie = Trie::new(alloc, names)?;
         if let Some(id) = trie.first_lone() {
             let key = word_of(alloc, trie.text(id))?;
             return Err(TableFault::Lone { key });
         }
-        Ok(Table { trie, firsts })
+        Ok(Table {
+            trie,
+            firsts,
+            plain,
+        })
     }
 
     /// The longest name that the text begins with; None where it begins with none.
@@ -105,6 +117,17 @@ impl Table {
         match self.firsts.get(&first) {
             Some(ids) => ids.as_slice(),
             None => &[],
+        }
+    }
+
+    /// Whether the character is plain: a letter, a digit, or a mark that is neither a quote nor `&`, `<`, `=`, `>` or a
+    /// grave accent, and each name whose first code point it is gives no second one and has at least four bytes.
+    pub fn is_plain(&self, c: char) -> bool
+        ensures { result ≡ is_plain self.now.entries c }
+    {
+        match self.plain.get(c as usize) {
+            Some(flag) => *flag,
+            None => false,
         }
     }
 

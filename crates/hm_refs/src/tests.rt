@@ -147,6 +147,35 @@ fn walks_down_names(rt: HostRuntime) -> Result<(), Fail> {
     Ok(())
 }
 
+/// The characters of the text that are plain.
+fn plain_in(alloc: Global, table: &Table, text: &str) -> Result<String, AllocError> {
+    let mut plain = String::new(alloc);
+    for c in text.chars() {
+        if table.is_plain(c) {
+            plain.push(c)?;
+        }
+    }
+    Ok(plain)
+}
+
+#[test]
+fn tells_plain_characters(rt: HostRuntime) -> Result<(), Fail> {
+    let text = "Az09 !\"#$%&'()*+,-./:;<=>?@[\\]^_`{|}~\u{7F}\u{80}\u{E9}\n";
+    let plain = "Az09!#$%()*+,-./:;?@[\\]^_{|}~";
+    let empty = Table::empty(rt.alloc())?;
+    assert_eq!(rt; plain_in(rt.alloc(), &empty, text)?.as_str(), plain);
+    for (names, wanted) in [
+        ("aa=97 aa;=97 bb;=98 fjlig;=102,106", "bjxyz!"),
+        ("aA;=97 excl;=33 xy;=102,97", "abjxyz!"),
+        ("half;=189", "abfjxyz!"),
+    ] {
+        let table = table_of(rt.alloc(), names)?;
+        let found = plain_in(rt.alloc(), &table, "abfjxyz!")?;
+        assert_eq!(rt; found.as_str(), wanted, "with {names}");
+    }
+    Ok(())
+}
+
 /// The table of these names.
 fn table_of(alloc: Global, names: &str) -> Result<Table, Fail> {
     let mut text = String::from_str(alloc, "{\"&end;\":{\"codepoints\":[1]}")?;

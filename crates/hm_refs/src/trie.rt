@@ -7,7 +7,7 @@ ghost use Rattle.hm_refs.specs.Nodes.{AreNames, entries_of, place};
 
 use crate::firsts::is_closed;
 use crate::ids::{NameId, Node};
-use crate::nodes::{Name, TrieNode, behind_first, grow};
+use crate::nodes::{Name, TrieNode, behind_first, find_child, grow};
 use hm_base::{Memory, Points};
 use std::alloc::Global;
 use std::marker::Model;
@@ -62,7 +62,7 @@ impl Trie {
             ≡ child_of self.now.entries (front_at self.now node) byte }
         ensures node { IfSome result (IsNode self.now) }
     {
-        self.nodes[node.index()].children.get(&byte).copied()
+        find_child(&self.nodes, node.index(), byte)
     }
 
     pub(crate) fn name_at(&self, node: Node) -> Option<NameId>

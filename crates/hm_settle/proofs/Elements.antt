@@ -3,6 +3,7 @@ use Rattle.std.proofs.Common.{◌≡◌, ℕ, zero, suc, ◌+◌, ◌-◌, ◌<�
 use Rattle.std.proofs.lemmas.List.{take_more, take_all, take-take, take-append-le, length-take-le, length_push}
 use Rattle.std.proofs.lemmas.Bool.{cases_eq}
 use Rattle.hm_base.specs.Walks.{Element}
+use Rattle.hm_base.specs.declared.limits.TheConstants.{DEPTH_LIMIT}
 use Rattle.hm_elements.specs.Names.{body}
 use Rattle.hm_elements.specs.Kinds.{kind}
 use Rattle.hm_elements.specs.Paths.{current, is_in_text}
@@ -74,7 +75,7 @@ IsPath-take os n path least most =
       most = omega (arith, path.most);
     }
 
-pub IsPath-push : (os : List OpenElement) (o : OpenElement) → IsPath os → length os < 512 → AreMarked [] (os ++ o ∷ []) → IsPath (os ++ o ∷ [])
+pub IsPath-push : (os : List OpenElement) (o : OpenElement) → IsPath os → length os < DEPTH_LIMIT → AreMarked [] (os ++ o ∷ []) → IsPath (os ++ o ∷ [])
 IsPath-push os o path room marked =
     record {
       marked = marked;

@@ -11,9 +11,10 @@ use Rattle.std.proofs.lemmas.List.{append-nil, reverse-append, take-map}
 use Rattle.std.proofs.lemmas.Option.{slice_get-map, slice_get_read}
 use Rattle.std.proofs.lemmas.Str.{is_utf8-from_IsUtf8, IsUtf8-string_bytes}
 use Rattle.hm_base.specs.Walks.{Element}
+use Rattle.hm_base.specs.declared.limits.TheConstants.{DEPTH_LIMIT}
 use Rattle.hm_elements.specs.Names.{html, body}
 use Rattle.hm_elements.specs.Paths.{html_element}
-use Rattle.hm_settle.specs.Elements.{name_of, element_of, onto, path_of, AreMarked, IsPath, IsKept, are_names_utf8}
+use Rattle.hm_settle.specs.Elements.{name_of, element_of, onto, path_of, AreMarked, IsPath, IsRoomy, are_names_utf8}
 use Rattle.hm_settle.specs.Plans.{IsPushed}
 use Rattle.hm_settle.specs.declared.element.Name.{Name}
 use Rattle.hm_settle.specs.declared.element.Name.TheVariants.{Html, Body, Tbody, Tr, Colgroup, Given}
@@ -23,16 +24,16 @@ use Rattle.hm_settle.proofs.Elements.{path_of-push, length-path_of, IsPath-push,
 pub path_of-pushed : (old new : List OpenElement) (e : Element) → IsPushed old e new → path_of new ≡ e ∷ path_of old
 path_of-pushed old new e p = ap path_of p.items ∙ path_of-push old p.last ∙ ap (λ x. x ∷ path_of old) p.element_is
 
-pub IsPath-pushed : (old new : List OpenElement) (e : Element) → IsPath old → length old < 512 → IsPushed old e new → IsPath new
+pub IsPath-pushed : (old new : List OpenElement) (e : Element) → IsPath old → length old < DEPTH_LIMIT → IsPushed old e new → IsPath new
 IsPath-pushed old new e path room p =
     let marked : AreMarked [] (old ++ p.last ∷ []) = rw p.items at p.marked in rw p.items (IsPath-push old p.last path room marked)
 
-pub IsKept-pushed : (old new : Vec OpenElement Global) (e : Element) → IsKept old → length old.items < 512 → IsPushed old.items e new.items → vec_capacity old ≤ vec_capacity new → IsKept new
-IsKept-pushed old new e kept room p grown =
+pub IsRoomy-pushed : (old new : Vec OpenElement Global) (e : Element) → IsRoomy old → length old.items < DEPTH_LIMIT → IsPushed old.items e new.items → vec_capacity old ≤ vec_capacity new → IsRoomy new
+IsRoomy-pushed old new e kept room p grown =
     record { path = IsPath-pushed old.items new.items e kept.path room p; room = omega (arith, kept.room) }
 
-pub IsKept-truncated : (old new : Vec OpenElement Global) (n : ℕ) → IsKept old → 2 ≤ n → n ≤ length old.items → new.items ≡ take n old.items → vec_capacity new ≡ vec_capacity old → IsKept new
-IsKept-truncated old new n kept least most e same =
+pub IsRoomy-truncated : (old new : Vec OpenElement Global) (n : ℕ) → IsRoomy old → 2 ≤ n → n ≤ length old.items → new.items ≡ take n old.items → vec_capacity new ≡ vec_capacity old → IsRoomy new
+IsRoomy-truncated old new n kept least most e same =
     record { path = rw e (IsPath-take old.items n kept.path least most); room = omega (arith, kept.room) }
 
 reversed : (path : List Element) (os : List OpenElement) → reverse (onto path os) ≡ reverse path ++ map element_of os

@@ -6,6 +6,7 @@ use Rattle.std.specs.Vec.{vec_capacity}
 use Rattle.std.specs.declared.vec.Vec.{Vec}
 use Rattle.std.specs.declared.alloc.Global.{Global}
 use Rattle.hm_base.specs.Walks.{Element}
+use Rattle.hm_base.specs.declared.limits.TheConstants.{DEPTH_LIMIT}
 use Rattle.hm_elements.specs.Names.{html, body, tbody, tr, colgroup}
 use Rattle.hm_elements.specs.Kinds.{kind}
 use Rattle.hm_elements.specs.Paths.{html_element, current, is_in_text, is_open, is_heading_open, is_p_open}
@@ -64,13 +65,13 @@ pub record IsPath (os : List OpenElement) : Type 0 where
   pub marked : AreMarked [] os
   pub begins : path_of (take 2 os) ≡ in_body
   pub least : 2 ≤ length os
-  pub most : length os ≤ 512
+  pub most : length os ≤ DEPTH_LIMIT
 
 -- the names are UTF-8
 abbrev pub are_names_utf8 : List Element → Bool
 are_names_utf8 path = list_all (λ e. is_utf8 e.name) path
 
 -- the open elements of a page in its body, with room for as many as may be open
-pub record IsKept (elements : Vec OpenElement Global) : Type 0 where
+pub record IsRoomy (elements : Vec OpenElement Global) : Type 0 where
   pub path : IsPath elements.items
-  pub room : 512 ≤ vec_capacity elements
+  pub room : DEPTH_LIMIT ≤ vec_capacity elements

@@ -1,6 +1,7 @@
 -- What is settled of a tag before the open elements change.
 use Rattle.std.specs.Prelude.{◌≡◌, ℕ, ◌+◌, ◌<◌, ◌≤◌, Bool, not, ◌&&◌, ◌||◌, List, [], ◌∷◌, ◌++◌, length, take, Option, Some, None, Result, Ok, Err, bytes_eq}
 use Rattle.hm_base.specs.Walks.{Element}
+use Rattle.hm_base.specs.declared.limits.TheConstants.{DEPTH_LIMIT}
 use Rattle.hm_base.specs.declared.rules.Rule.{Rule}
 use Rattle.hm_elements.specs.declared.kind.Kind.{Kind}
 use Rattle.hm_elements.specs.Kinds.{kind}
@@ -30,7 +31,7 @@ pub record IsPlan (os : List OpenElement) (n : List ℕ) (plan : Plan) : Type 0 
   pub does_move : start_moves n (path_of os) ≡ moves closed (elements_of plan.made) (element n (opens_as_svg n (path_of os)) ∷ (elements_of plan.made ++ path_of (take plan.left os)))
   pub closes : length closed + plan.left ≡ length os
   pub least : 2 ≤ plan.left
-  pub room : plan.left + length (elements_of plan.made) < 512
+  pub room : plan.left + length (elements_of plan.made) < DEPTH_LIMIT
   pub void : plan.is_void ≡ not (opens_as_svg n (path_of os)) && is_void n
 
 -- so many elements stay where those are closed that an end tag implies

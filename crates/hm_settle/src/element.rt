@@ -1,7 +1,6 @@
 //! An open element, with what is open at it.
 ghost use Rattle.std.specs.Prelude.{◌≡◌, List, [], ◌∷◌, true, not, ◌&&◌, ◌||◌, IfOk, bytes_eq};
 ghost use Rattle.hm_base.specs.Walks.{Element};
-ghost use Rattle.hm_elements.specs.Kinds.{IsNamed};
 ghost use Rattle.hm_elements.specs.Names.{p};
 ghost use Rattle.hm_elements.specs.Paths as paths;
 ghost use Rattle.hm_elements.specs.Tables as tables;
@@ -81,17 +80,17 @@ impl Marks {
     /// The marks at an element that opens where these are.
     #[tactic(auto, unfolding(hm_elements::specs::Tables::is_unnested, hm_elements::specs::Tables::unnested_names, hm_elements::specs::Names::is_among))]
     pub(crate) fn at(self, name: Named<'_>, foreign: bool) -> Marks
-        requires { IsNamed name }
         ensures { (path : List Element) → self ≡ marks_of path → result ≡ marks_of (record { name = name.entry.name.now; foreign = foreign } ∷ path) }
     {
+        let kind = name.kind();
         Marks {
             paragraph: is_paragraph_open(name, foreign, self.paragraph),
-            heading: name.kind.heading || self.heading,
+            heading: kind.heading || self.heading,
             a: is_open(name, "a", self.a),
             button: is_open(name, "button", self.button),
             form: is_open(name, "form", self.form),
             nobr: is_open(name, "nobr", self.nobr),
-            kind: name.kind,
+            kind,
             text: holds_text(name, foreign),
         }
     }
@@ -99,21 +98,20 @@ impl Marks {
     /// Whether a start tag of this name would close a paragraph that isn't the innermost element.
     #[tactic(auto, unfolding(hm_elements::specs::Paths::is_block_in_p))]
     pub(crate) fn is_block_in_p(self, name: Named<'_>) -> bool
-        requires { IsNamed name }
         ensures { (path : List Element) → self ≡ marks_of path → result ≡ paths.is_block_in_p name.entry.name.now path }
     {
-        self.paragraph && name.kind.closes_p
+        self.paragraph && name.kind().closes_p
     }
 
     /// Whether an element of this name would stand in one of its own name that it may not stand in, or a heading in a heading.
     pub(crate) fn is_nested(self, name: Named<'_>) -> bool
-        requires { IsNamed name }
         ensures { (path : List Element) → self ≡ marks_of path → result ≡ paths.is_nested name.entry.name.now path }
     {
-        if name.kind.unnested {
-            self.is_unnested_open(name.name)
+        let kind = name.kind();
+        if kind.unnested {
+            self.is_unnested_open(name.name())
         } else {
-            self.heading && name.kind.heading
+            self.heading && kind.heading
         }
     }
 
@@ -133,40 +131,36 @@ impl Marks {
 
 /// Whether a `p` with no boundary above it is open at an element that opens where one is or isn't.
 fn is_paragraph_open(name: Named<'_>, foreign: bool, outside: bool) -> bool
-    requires { IsNamed name }
     ensures { result ≡ (bytes_eq name.entry.name.now p || (not (tables.is_boundary name.entry.name.now foreign) && outside)) }
 {
-    same_name(name.name, "p") || (outside && !bounds(name, foreign))
+    same_name(name.name(), "p") || (outside && !bounds(name, foreign))
 }
 
 /// Whether a paragraph is never closed through an open element of this name, of HTML or of SVG.
 fn bounds(name: Named<'_>, foreign: bool) -> bool
-    requires { IsNamed name }
     ensures { result ≡ tables.is_boundary name.entry.name.now foreign }
 {
     if foreign {
-        is_boundary(name.name, true)
+        is_boundary(name.name(), true)
     } else {
-        name.kind.boundary
+        name.kind().boundary
     }
 }
 
 /// Whether an element named `one`, which may not stand in one of its own name, is open at an element that opens where it is or isn't.
 fn is_open(name: Named<'_>, one: &str, outside: bool) -> bool
-    requires named { IsNamed name }
     requires one { tables.is_unnested one.now ≡ true }
     ensures { result ≡ (bytes_eq name.entry.name.now one.now || outside) }
 {
-    outside || (name.kind.unnested && same_name(name.name, one))
+    outside || (name.kind().unnested && same_name(name.name(), one))
 }
 
 /// Whether the element is one of HTML that holds one text and nothing else.
 #[tactic(auto, using(hm_elements::proofs::ClassFacts::text_by_class))]
 fn holds_text(name: Named<'_>, foreign: bool) -> bool
-    requires { IsNamed name }
     ensures { result ≡ (not foreign && tables.holds_text name.entry.name.now) }
 {
-    !foreign && name.kind.class.holds_one_text()
+    !foreign && name.kind().class.holds_one_text()
 }
 
 /// An open element.
@@ -181,12 +175,8 @@ impl OpenElement {
     /// The name with its kind, which the marks keep.
     pub(crate) fn named(&self) -> Named<'_>
         requires { KeepsKind self.now }
-        ensures named { IsNamed result }
-        ensures name { result.name.now ≡ name_of self.now.name }
+        ensures { result.name.now ≡ name_of self.now.name }
     {
-        Named {
-            name: self.name.as_str(),
-            kind: self.marks.kind,
-        }
+        Named::known(self.name.as_str(), self.marks.kind)
     }
 }

@@ -1,14 +1,13 @@
 //! What a tag does, or why it is refused.
 ghost use Rattle.std.specs.Prelude.{◌≡◌, length, map};
-ghost use Rattle.hm_elements.specs.Names.{is_among, table, words};
+ghost use Rattle.hm_elements.specs.Names.{table};
 ghost use Rattle.hm_elements.specs.Nesting.{made_under};
 ghost use Rattle.hm_elements.specs.Paths.{html_element};
-ghost use Rattle.hm_elements.specs.Tables as tables;
 ghost use Rattle.hm_settle.specs.Answers.{elements_of};
 ghost use Rattle.hm_settle.specs.declared.moves.SettleFault.TheVariants as faults;
 
 use hm_base::{Memory, Rule};
-use hm_elements::{is_one_of, same_name};
+use hm_elements::{is_cell, is_section, same_name};
 use std::alloc::AllocError;
 
 /// The elements that a start tag makes before its own opens (HTML Standard, 13.2.6.4.9, 13.2.6.4.13).
@@ -66,20 +65,6 @@ impl Made {
             Made::SectionAndRow => 2,
         }
     }
-}
-
-#[tactic(auto, unfolding(hm_elements::specs::Tables::is_section, hm_elements::specs::Tables::sections, hm_elements::specs::Names::is_among))]
-fn is_section(name: &str) -> bool
-    ensures { result ≡ tables.is_section name.now }
-{
-    is_one_of(name, &["thead", "tbody", "tfoot"])
-}
-
-#[tactic(auto, unfolding(hm_elements::specs::Names::is_among))]
-fn is_cell(name: &str) -> bool
-    ensures { result ≡ is_among name.now (words "td th") }
-{
-    is_one_of(name, &["td", "th"])
 }
 
 /// What a tag does to the open elements: how many close, and which are made then.

@@ -1,12 +1,13 @@
 //! The open elements of a page in its body.
 ghost use Rattle.std.specs.Prelude.{◌≡◌, ◌≢◌, ◌↔◌, ◌||◌, ◌+◌, ◌<◌, ◌≤◌, [], ◌∷◌, ◌++◌, length, map, reverse, take, slice_get, vec_len, vec_capacity, true, Some, Err, IfOk, OnErr, bytes_eq, if◌then◌else◌, Bool};
+ghost use Rattle.hm_base.specs.declared.limits.TheConstants.{DEPTH_LIMIT};
 ghost use Rattle.hm_base.specs.declared.rules.Rule.{Rule};
 ghost use Rattle.hm_elements.specs.Kinds as kinds;
 ghost use Rattle.hm_elements.specs.Names.{body, html, svg};
 ghost use Rattle.hm_elements.specs.Paths as paths;
 ghost use Rattle.hm_elements.specs.Paths.{html_element};
 ghost use Rattle.hm_settle.specs.Answers.{IsMoved, IsStarted, elements_of};
-ghost use Rattle.hm_settle.specs.Elements.{AreMarked, IsKept, are_names_utf8, name_of, path_of};
+ghost use Rattle.hm_settle.specs.Elements.{AreMarked, IsRoomy, are_names_utf8, name_of, path_of};
 ghost use Rattle.hm_settle.specs.Moves.{element, refuses, start_moves, end_moves};
 ghost use Rattle.hm_settle.specs.Plans.{IsKindOf, IsPushed, opened_by};
 
@@ -30,11 +31,11 @@ impl Model for Path {
 
     ghost Value = { List Element };
 
-    ghost use Rattle.hm_settle.specs.Elements.{IsKept, path_of};
+    ghost use Rattle.hm_settle.specs.Elements.{IsRoomy, path_of};
 
     ghost view = { λ p. path_of p.elements.items };
 
-    ghost invariant = { λ p. IsKept p.elements };
+    ghost invariant = { λ p. IsRoomy p.elements };
 }
 
 impl Path {
@@ -48,10 +49,10 @@ impl Path {
         Ok(Path { elements })
     }
 
-    /// How many elements are open, at most 512. The outermost are `html` and `body`, and the names are UTF-8.
+    /// How many elements are open, at most [`hm_base::DEPTH_LIMIT`]. The outermost are `html` and `body`, and the names are UTF-8.
     pub fn len(&self) -> u32
         ensures len { result ≡ length self.now }
-        ensures most { result ≤ 512 }
+        ensures most { result ≤ DEPTH_LIMIT }
         ensures begins { take 2 (reverse self.now) ≡ html_element html ∷ html_element body ∷ [] }
         ensures utf8 { are_names_utf8 self.now ≡ true }
     {
@@ -110,7 +111,7 @@ impl Path {
         let plan = plan_start(&self.elements, tag)?;
         let closes = (self.elements.len() - plan.left) as u32;
         let opened = kept_name(*self.elements.allocator(), name, plan.is_void)?;
-        carry_out(&mut self.elements, plan, opened, tag.kind, foreign);
+        carry_out(&mut self.elements, plan, opened, tag.kind(), foreign);
         Ok(Moves {
             closes,
             made: plan.made,
@@ -157,12 +158,12 @@ fn carry_out(
     kind: Kind,
     foreign: bool,
 )
-    requires kept { IsKept elements.old }
+    requires kept { IsRoomy elements.old }
     requires least { 2 ≤ plan.left }
     requires most { plan.left ≤ length elements.old.items }
-    requires room { plan.left + length (elements_of plan.made) < 512 }
+    requires room { plan.left + length (elements_of plan.made) < DEPTH_LIMIT }
     requires kind { IsKindOf opened kind }
-    ensures kept { IsKept elements.new }
+    ensures kept { IsRoomy elements.new }
     ensures path { path_of elements.new.items ≡ opened_by opened foreign ++ (elements_of plan.made ++ path_of (take plan.left elements.old.items)) }
 {
     elements.truncate(plan.left);
@@ -174,9 +175,9 @@ fn carry_out(
 
 /// Opens the elements that are made.
 fn make(elements: &mut Vec<OpenElement>, made: Made)
-    requires kept { IsKept elements.old }
-    requires room { length elements.old.items + length (elements_of made) < 512 }
-    ensures kept { IsKept elements.new }
+    requires kept { IsRoomy elements.old }
+    requires room { length elements.old.items + length (elements_of made) < DEPTH_LIMIT }
+    ensures kept { IsRoomy elements.new }
     ensures path { path_of elements.new.items ≡ elements_of made ++ path_of elements.old.items }
 {
     match made {
@@ -210,10 +211,7 @@ fn push(elements: &mut Vec<OpenElement>, name: Name, kind: Kind, foreign: bool)
     ensures pushed { IsPushed elements.old.items (element (name_of name) foreign) elements.new.items }
     ensures capacity { vec_capacity elements.old ≤ vec_capacity elements.new }
 {
-    let named = Named {
-        name: name.as_str(),
-        kind,
-    };
+    let named = Named::known(name.as_str(), kind);
     let marks = marks(elements).at(named, foreign);
     let element = OpenElement {
         name,

@@ -1,7 +1,7 @@
 //! What a tag does to open elements, or why it is refused, before anything changes.
 ghost use Rattle.std.specs.Prelude.{◌≡◌, ◌≢◌, ◌+◌, ◌<◌, ◌≤◌, List, [], ◌++◌, length, take, IfOk, IfErr, Bool, true, false};
 ghost use Rattle.hm_base.specs.Walks.{Element};
-ghost use Rattle.hm_elements.specs.Kinds.{IsNamed};
+ghost use Rattle.hm_base.specs.declared.limits.TheConstants.{DEPTH_LIMIT};
 ghost use Rattle.hm_elements.specs.Names.{body};
 ghost use Rattle.hm_elements.specs.Paths as paths;
 ghost use Rattle.hm_elements.specs.Paths.{behind, yields_to, falls_to, stands_on};
@@ -12,11 +12,11 @@ ghost use Rattle.hm_settle.specs.Plans.{IsPlan, IsReached, IsEnd, opened};
 
 use crate::Made;
 use crate::element::{Marks, OpenElement};
-use hm_base::Rule;
+use hm_base::{DEPTH_LIMIT, Rule};
 use hm_elements::{Class, Named, ends_with, is_boundary, may_stand, same_name, svg_name, yields};
 
 /// How many elements may be open.
-pub(crate) const DEEPEST: usize = 512;
+pub(crate) const DEEPEST: usize = DEPTH_LIMIT as usize;
 
 /// What a start tag does.
 #[derive(Clone, Copy, Debug)]
@@ -41,14 +41,13 @@ pub(crate) fn marks(elements: &[OpenElement]) -> Marks
 
 /// What a start tag of this name does.
 pub(crate) fn plan_start(elements: &[OpenElement], tag: Named<'_>) -> Result<Plan, Rule>
-    requires path { IsPath elements.now }
-    requires tag { IsNamed tag }
+    requires { IsPath elements.now }
     ensures ok { IfOk result (λ plan. IsPlan elements.now tag.entry.name.now plan) }
     ensures rule { IfErr result (λ rule. start_moves tag.entry.name.now (path_of elements.now) ≡ refuses rule) }
 {
     let innermost = &elements[elements.len() - 1];
     if innermost.foreign {
-        plan_in_svg(elements, innermost.name.as_str(), tag.name)
+        plan_in_svg(elements, innermost.name.as_str(), tag.name())
     } else {
         plan_in_html(elements, tag)
     }
@@ -81,12 +80,11 @@ fn plan_in_svg(elements: &[OpenElement], current: &str, name: &str) -> Result<Pl
 /// What a start tag does in an element of HTML.
 fn plan_in_html(elements: &[OpenElement], tag: Named<'_>) -> Result<Plan, Rule>
     requires path { IsPath elements.now }
-    requires tag { IsNamed tag }
     requires html { paths.is_in_svg (path_of elements.now) ≡ false }
     ensures ok { IfOk result (λ plan. IsPlan elements.now tag.entry.name.now plan) }
     ensures rule { IfErr result (λ rule. start_moves tag.entry.name.now (path_of elements.now) ≡ refuses rule) }
 {
-    let class = tag.kind.class;
+    let class = tag.kind().class;
     match class {
         Class::Refused => return Err(Rule::RefusedName),
         Class::Root => return Err(Rule::SecondRoot),
@@ -104,8 +102,7 @@ fn plan_in_html(elements: &[OpenElement], tag: Named<'_>) -> Result<Plan, Rule>
 
 /// How many elements stay where those are closed that yield to the start tag.
 fn left_by_start(elements: &[OpenElement], tag: Named<'_>) -> usize
-    requires path { IsPath elements.now }
-    requires tag { IsNamed tag }
+    requires { IsPath elements.now }
     ensures least { 2 ≤ result }
     ensures most { result ≤ length elements.now }
     ensures left { path_of (take result elements.now) ≡ behind (yields_to tag.entry.name.now) (path_of elements.now) }
@@ -119,10 +116,9 @@ fn left_by_start(elements: &[OpenElement], tag: Named<'_>) -> usize
 
 /// What is made where the start tag's element opens on these, or why it doesn't.
 fn made_before(elements: &[OpenElement], tag: Named<'_>) -> Result<Made, Rule>
-    requires path { IsPath elements.now }
-    requires tag { IsNamed tag }
+    requires { IsPath elements.now }
     ensures opens { (closed : List Element) → start_on tag.entry.name.now closed (path_of elements.now) ≡ opened tag.entry.name.now closed (path_of elements.now) result }
-    ensures room { IfOk result (λ made. length elements.now + length (elements_of made) < 512) }
+    ensures room { IfOk result (λ made. length elements.now + length (elements_of made) < DEPTH_LIMIT) }
 {
     let marks = marks(elements);
     if marks.is_block_in_p(tag) {
@@ -131,7 +127,7 @@ fn made_before(elements: &[OpenElement], tag: Named<'_>) -> Result<Made, Rule>
     if marks.is_nested(tag) {
         return Err(Rule::Nested);
     }
-    let made = Made::under(elements[elements.len() - 1].name.as_str(), tag.name);
+    let made = Made::under(elements[elements.len() - 1].name.as_str(), tag.name());
     let depth = elements.len() + made.count();
     if depth > DEEPEST {
         return Err(Rule::TooDeep);
@@ -147,8 +143,7 @@ fn made_before(elements: &[OpenElement], tag: Named<'_>) -> Result<Made, Rule>
 
 /// Whether the element may stand on these where those are made.
 fn stands(elements: &[OpenElement], made: Made, tag: Named<'_>) -> bool
-    requires path { IsPath elements.now }
-    requires tag { IsNamed tag }
+    requires { IsPath elements.now }
     ensures { result ≡ stands_on tag.entry.name.now (elements_of made ++ path_of elements.now) }
 {
     let current = elements[elements.len() - 1].named();
@@ -158,10 +153,10 @@ fn stands(elements: &[OpenElement], made: Made, tag: Named<'_>) -> bool
             current,
             Some(elements[elements.len() - 2].name.as_str()),
         ),
-        Made::Section => may_stand(tag, Named::of("tbody"), Some(current.name)),
+        Made::Section => may_stand(tag, Named::of("tbody"), Some(current.name())),
         Made::SectionAndRow => may_stand(tag, Named::of("tr"), Some("tbody")),
-        Made::Row => may_stand(tag, Named::of("tr"), Some(current.name)),
-        Made::Colgroup => may_stand(tag, Named::of("colgroup"), Some(current.name)),
+        Made::Row => may_stand(tag, Named::of("tr"), Some(current.name())),
+        Made::Colgroup => may_stand(tag, Named::of("colgroup"), Some(current.name())),
     }
 }
 
@@ -211,10 +206,9 @@ fn left_by_implied_ends(elements: &[OpenElement], name: &str) -> usize
 
 /// Whether the open element `current` closes with an end tag of another name.
 fn falls(current: Named<'_>, ending: &str) -> bool
-    requires { IsNamed current }
     ensures { (foreign : Bool) → result ≡ falls_to ending.now (record { name = current.entry.name.now; foreign = foreign }) }
 {
-    !same_name(current.name, ending) && ends_with(current, ending)
+    !same_name(current.name(), ending) && ends_with(current, ending)
 }
 
 /// Whether an element of this name is open. Only a page that is refused asks.

@@ -3,10 +3,10 @@ use Rattle.std.proofs.Common.{◌≡◌, ℕ, zero, suc, ◌+◌, Bool, true, fa
 use Rattle.std.proofs.lemmas.Bool.{and_parts}
 use Rattle.hm_base.specs.Bytes.{is_null}
 use Rattle.hm_base.specs.Walks.{Event, doctype, start, text, comment, end, path_after, ends_match, begins_text}
-use Rattle.hm_space.specs.Copies.{event_before, is_apart, are_texts_apart, may_follow}
+use Rattle.hm_space.specs.Copies.{event_before, may_follow}
 use Rattle.hm_space.proofs.Rewriting.{Rewrite, IsCopied, ends_match-at, event_before-next}
 use Rattle.hm_tree.specs.Rows.{is_text, ends_in_text}
-use Rattle.hm_tree.specs.Trees.{IsWalk}
+use Rattle.hm_tree.specs.Trees.{IsWalk, is_apart, are_texts_apart}
 
 abbrev pub is_some_text : Option Event → Bool
 is_some_text None = false
@@ -51,7 +51,7 @@ ends_otherwise : (b c : Bool) → (b ≡ true → c ≡ true) → c ≡ false �
 ends_otherwise true c h off = let on = h refl in absurd (cc)
 ends_otherwise false c h off = refl
 
-module _ (f : Rewrite) (w : List Event) (i : ℕ) (v : List Event) (walk : IsWalk w) (apart : are_texts_apart w ≡ true) (copied : IsCopied f w i v) (alike : EndsAlike w i v) where
+module _ (f : Rewrite) (w : List Event) (i : ℕ) (v : List Event) (walk : IsWalk w) (copied : IsCopied f w i v) (alike : EndsAlike w i v) where
   ended : (e : Event) → slice_get w i ≡ Some e → ends_match (path_after [] v) (e ∷ []) ≡ true
   ended e at = rw (copied.path) (ends_match-at [] w i e walk.matched at)
 
@@ -59,7 +59,7 @@ module _ (f : Rewrite) (w : List Event) (i : ℕ) (v : List Event) (walk : IsWal
   pub may_follow-next : (e : Event) → slice_get w i ≡ Some e → may_follow v e ≡ true
   may_follow-next (doctype legacy) at = ended (doctype legacy) at
   may_follow-next (start n foreign attributes) at = ended (start n foreign attributes) at
-  may_follow-next (text s raw) at = rw (text_there w i s raw apart at, ends_otherwise (ends_in_text v) (is_some_text (event_before w i)) alike (no_text_before w i s raw apart at)) refl
+  may_follow-next (text s raw) at = rw (text_there w i s raw walk.apart at, ends_otherwise (ends_in_text v) (is_some_text (event_before w i)) alike (no_text_before w i s raw walk.apart at)) refl
   may_follow-next (comment s) at = ended (comment s) at
   may_follow-next (end n foreign) at = ended (end n foreign) at
 

@@ -1,4 +1,4 @@
--- A settled walk stays settled where its whitespace is collapsed, and its texts stand apart.
+-- A settled walk stays settled where its whitespace is collapsed.
 use Rattle.std.proofs.Common.{◌≡◌, ℕ, Bool, true, false, ◌&&◌, ◌⊎◌, inl, inr, List, [], ◌∷◌, ◌++◌, Option, Some, None, if◌then◌else◌, refl}
 use Rattle.std.proofs.lemmas.Str.{IsUtf8-from_is_utf8, is_utf8-from_IsUtf8}
 use Rattle.hm_base.specs.Bytes.{is_null}
@@ -7,24 +7,11 @@ use Rattle.hm_base.specs.Walks.{Event, doctype, start, text, comment, end, Eleme
 use Rattle.hm_elements.specs.Paths.{outer}
 use Rattle.hm_elements.specs.Settled.{Settled}
 use Rattle.hm_elements.specs.Places.{TextAllowed, html_path}
-use Rattle.hm_space.specs.Copies.{are_texts_apart}
 use Rattle.hm_space.specs.Rewritten.{first_event, rewritten}
 use Rattle.hm_space.specs.Space.{spaced, is_kept, hides_space, is_edge, without_leading, without_trailing, is_one_space, text_of, trimmed, collapsed_text, collapsed_event, collapsed}
 use Rattle.hm_space.proofs.Becoming.{Fine, Becomes, element_of, settled_is_fine, settled_stays}
 use Rattle.hm_space.proofs.Better.{Better, better_self, better_twice, spaced_better, leading_better, trailing_better}
 use Rattle.hm_space.proofs.Trims.{spaced_some}
-
-fine_apart : (path : List Element) (w : List Event) → Fine path w → are_texts_apart w ≡ true
-fine_apart path [] h = refl
-fine_apart path (doctype legacy ∷ w) h = fine_apart path w h
-fine_apart path (start n foreign attributes ∷ w) h = fine_apart (element_of n foreign ∷ path) w h.1
-fine_apart path (text s raw ∷ w) h = rw (h.0.not_empty, h.0.alone) (fine_apart path w h.2)
-fine_apart path (comment s ∷ w) h = fine_apart path w h.1
-fine_apart path (end n foreign ∷ w) h = fine_apart (outer path) w h
-
--- the texts of a settled walk stand apart
-pub settled_apart : (w : List Event) → Settled w → are_texts_apart w ≡ true
-settled_apart w h = fine_apart [] w (settled_is_fine w h)
 
 -- where the text s may stand, the text t may
 pub text_better : (path : List Element) (s t : List ℕ) (w v : List Event) → TextAllowed path s false w → Better s t → is_null t ≡ false → begins_text v ≡ false → TextAllowed path t false v

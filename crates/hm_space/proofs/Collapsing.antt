@@ -1,7 +1,7 @@
 -- Whitespace collapsed event by event.
 use Rattle.std.proofs.Common.{◌≡◌, ℕ, suc, ◌+◌, ◌^◌, ◌<◌, ◌≤◌, Bool, true, false, ◌&&◌, List, [], ◌∷◌, ◌++◌, length, slice_get, take, Option, Some, if◌then◌else◌, sym, ap, ◌∙◌, refl, arith}
 use Rattle.hm_base.specs.Walks.{Event, doctype, start, text, comment, end, Element, path_behind, path_after, ends_match}
-use Rattle.hm_space.specs.Copies.{event_before, are_texts_apart, may_follow}
+use Rattle.hm_space.specs.Copies.{event_before, may_follow}
 use Rattle.hm_space.specs.Marks.{IsBefore, kept_count}
 use Rattle.hm_space.specs.Space.{spaced, keeps_space, is_kept, hides_space, is_edge, without_leading, without_trailing, is_one_space, text_of, trimmed, collapsed_event, collapsed}
 use Rattle.hm_space.specs.declared.walk.Before.{Before}
@@ -76,8 +76,8 @@ module _ (conservative : Bool) (w : List Event) where
     pub has_room : HasRoom (v ++ e ∷ [])
     has_room = HasRoom-next (collapsed_event conservative) w i v e at h.copied walk
 
-    pub follows : are_texts_apart w ≡ true → may_follow v e ≡ true
-    follows apart = may_follow-next (collapsed_event conservative) w i v walk apart h.copied h.alike e at
+    pub follows : may_follow v e ≡ true
+    follows = may_follow-next (collapsed_event conservative) w i v walk h.copied h.alike e at
 
     pub few_kept : before.kept + 1 < 2 ^ 32
     few_kept = omega (arith, h.known.kept, kept_within (path_after [] (take i w)), (HasRoom-take w i walk).events)

@@ -6,7 +6,8 @@ use Rattle.hm_base.specs.Walks.{Event, start, Attribute, Element, path_after}
 use Rattle.hm_elements.specs.Names.{is_among, noscript, head}
 use Rattle.hm_elements.specs.Nesting.{is_name}
 use Rattle.hm_elements.specs.Paths.{current_name}
-use Rattle.hm_space.specs.Space.{hides_space, space_parents}
+use Rattle.hm_elements.specs.Tables.{space_parents}
+use Rattle.hm_space.specs.Space.{hides_space}
 use Rattle.hm_tree.specs.Trees.{IsStartAt, open_after, parent_of}
 use Rattle.hm_tree.proofs.ListLemmas.{slice_get-append}
 use Rattle.hm_tree.proofs.OpenLemmas.{AreOpen, all_open}

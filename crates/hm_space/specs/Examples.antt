@@ -3,8 +3,8 @@ use Rattle.std.specs.Prelude.{◌≡◌, ℕ, true, false, List, [], ◌∷◌, 
 use Rattle.hm_base.specs.Bytes.{is_space}
 use Rattle.hm_base.specs.Walks.{Event, start, text, end}
 use Rattle.hm_elements.specs.Names.{is_among}
-use Rattle.hm_elements.specs.Tables.{is_block, block_names, blocks, headings}
-use Rattle.hm_space.specs.Space.{collapsed, keeps_space, hides_space, space_parents}
+use Rattle.hm_elements.specs.Tables.{space_parents, is_block, block_names, blocks, headings}
+use Rattle.hm_space.specs.Space.{collapsed, keeps_space, hides_space}
 
 abbrev tag : List ℕ → Event
 tag n = start n false []

@@ -1,14 +1,9 @@
 -- Laws of settled walks whose whitespace is collapsed.
-use Rattle.std.specs.Prelude.{◌≡◌, Bool, true, List}
+use Rattle.std.specs.Prelude.{Bool, List}
 use Rattle.hm_base.specs.Walks.{Event}
 use Rattle.hm_elements.specs.Settled.{Settled}
-use Rattle.hm_space.specs.Copies.{are_texts_apart}
 use Rattle.hm_space.specs.Space.{collapsed}
 
 -- A settled walk stays settled where its whitespace is collapsed.
 abbrev pub CollapsedIsSettled : Type 0
 CollapsedIsSettled = (conservative : Bool) (w : List Event) → Settled w → Settled (collapsed conservative w)
-
--- The texts of a settled walk aren't empty and don't touch.
-abbrev pub SettledTextsAreApart : Type 0
-SettledTextsAreApart = (w : List Event) → Settled w → are_texts_apart w ≡ true

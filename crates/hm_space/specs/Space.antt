@@ -2,10 +2,10 @@
 use Rattle.std.specs.Prelude.{ℕ, Bool, true, false, not, ◌&&◌, ◌||◌, ◌==◌, List, [], ◌∷◌, Option, Some, None, if◌then◌else◌, codes, bytes_eq}
 use Rattle.hm_base.specs.Bytes.{is_space}
 use Rattle.hm_base.specs.Walks.{Event, doctype, start, text, comment, end, Element}
-use Rattle.hm_elements.specs.Names.{words, is_among, head, noscript}
+use Rattle.hm_elements.specs.Names.{is_among, head, noscript}
 use Rattle.hm_elements.specs.Nesting.{is_name}
 use Rattle.hm_elements.specs.Paths.{current_name}
-use Rattle.hm_elements.specs.Tables.{is_block}
+use Rattle.hm_elements.specs.Tables.{is_block, preformatted, space_parents}
 use Rattle.hm_space.specs.Rewritten.{rewritten}
 
 -- each longest run of whitespace as one SPACE; after tells that whitespace stands directly before
@@ -17,14 +17,11 @@ spaced after (c ∷ s) =
 
 -- elements in which whitespace is seen as it is
 unfoldable pub keeps_space : Element → Bool
-keeps_space e = if e.foreign then bytes_eq e.name (codes "svg") else is_among e.name (words "pre textarea")
+keeps_space e = if e.foreign then bytes_eq e.name (codes "svg") else is_among e.name preformatted
 
 abbrev pub is_kept : List Element → Bool
 is_kept [] = false
 is_kept (e ∷ path) = keeps_space e || is_kept path
-
-unfoldable pub space_parents : List (List ℕ)
-space_parents = words "html head table colgroup thead tbody tfoot tr select optgroup datalist ul ol menu dir dl"
 
 -- directly in these elements whitespace alone isn't seen
 unfoldable pub hides_space : List Element → Bool

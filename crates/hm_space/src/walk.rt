@@ -7,7 +7,7 @@ ghost use Rattle.hm_elements.specs.Nesting.{is_name};
 ghost use Rattle.hm_elements.specs.Names.{head};
 ghost use Rattle.hm_elements.specs.Paths.{current_name};
 ghost use Rattle.hm_elements.specs.Settled.{Settled};
-ghost use Rattle.hm_space.specs.Copies.{are_texts_apart, event_before, may_follow};
+ghost use Rattle.hm_space.specs.Copies.{event_before, may_follow};
 ghost use Rattle.hm_space.specs.Marks.{IsBefore, kept_count};
 ghost use Rattle.hm_space.specs.Space as space;
 ghost use Rattle.hm_space.specs.Space.{collapsed, collapsed_event, collapsed_text, trimmed};
@@ -16,10 +16,10 @@ ghost use Rattle.hm_tree.specs.Trees.{HasRoom};
 ghost use Rattle.hm_tree.specs.Views.{event_of};
 
 use crate::copy::put;
-use crate::names::{is_space_parent, keeps_space};
+use crate::names::keeps_space;
 use crate::spaces::{push_spaced, without_leading, without_trailing};
 use hm_base::Memory;
-use hm_elements::{is_block, same_name};
+use hm_elements::{is_block, is_space_parent, same_name};
 use hm_tree::{EventView, Maker, Tree};
 use std::alloc::Global;
 
@@ -35,7 +35,6 @@ struct Before {
 /// run of whitespace becomes one space. Unless this is to be done conservatively, a text that is one space is left out
 /// directly in elements that don't show it, as `ul` and `table`, and any other text loses a space at the edge of a block.
 pub fn collapse(alloc: Global, tree: &Tree, conservative: bool) -> Result<Tree, Memory>
-    requires apart { are_texts_apart tree.now ≡ true }
     ensures ok { IfOk result (λ made. made ≡ collapsed conservative tree.now) }
     ensures settled { Settled tree.now → IfOk result (λ made. Settled made) }
 {

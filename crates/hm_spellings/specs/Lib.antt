@@ -2,3 +2,5 @@ pub mod Characters
 pub mod Tags
 pub mod Omission
 pub mod Spellings
+pub mod PageExamples
+pub mod Examples

@@ -1,13 +1,14 @@
 //! The trusted edge: files of the system, and a writer. They tell no content.
-ghost use Rattle.std.specs.Prelude.{◌≡◌, List, [], Bool, true, None, IsTrue, IfOk, OnOk, is_ok, is_some};
+ghost use Rattle.std.specs.Prelude.{◌≡◌, ◌≢◌, List, [], Bool, true, None, IsTrue, IfOk, IfErr, OnOk, is_ok, is_some};
 ghost use Rattle.std.specs.Io.{ReadsAtMost};
 ghost use Rattle.std.specs.Io.KnownBytes.{Appends, ReadConsumes};
+ghost use Rattle.std.specs.IoError.{error_kind};
 ghost use Rattle.hm_store.specs.Causes.{counted, HasCause};
 ghost use Rattle.hm_store.specs.Edge.{ForBoth, no_open_files};
 
 use crate::faults::count_failure;
 use crate::{Failed, Sink, Store};
-use std::io::{Read, Write};
+use std::io::{ErrorKind, Read, Write};
 use std::marker::Model;
 use std::rt::Files;
 use std::{fs, io};
@@ -45,6 +46,25 @@ impl<'r, R: Files> FileStore<'r, R> {
             faults: 0,
         }
     }
+}
+
+/// Reads once, and again where a signal interrupts it.
+fn read_retrying<F: Read>(reader: &mut F, into: &mut [u8]) -> io::Result<usize>
+    ensures bound { ReadsAtMost result into.new }
+    ensures bytes { ReadConsumes (F.remaining reader.old) (F.remaining reader.new) result into.new }
+    ensures retried { IfErr result (λ error. error_kind error ≢ ErrorKind.Interrupted) }
+{
+    for _ in 0..u64::MAX {
+        match reader.read(into) {
+            Ok(count) => return Ok(count),
+            Err(error) => {
+                if error.kind() != ErrorKind::Interrupted {
+                    return Err(error);
+                }
+            }
+        }
+    }
+    Err(io::Error::from(ErrorKind::TimedOut))
 }
 
 impl<'r, R: Files> Store for FileStore<'r, R> {
@@ -91,7 +111,7 @@ impl<'r, R: Files> Store for FileStore<'r, R> {
     {
         match &mut self.reading {
             None => unreachable!(),
-            Some(file) => match file.read(into) {
+            Some(file) => match read_retrying(file, into) {
                 Ok(count) => Ok(count),
                 Err(_) => Err(count_failure(&mut self.faults)),
             },

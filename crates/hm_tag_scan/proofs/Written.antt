@@ -1,15 +1,17 @@
 -- A written tag is read as its name and its attributes.
-use Rattle.std.proofs.Common.{◌≡◌, ℕ, zero, suc, ◌+◌, ◌-◌, ◌≤◌, ◌⊎◌, Bool, true, false, cond, not, ◌&&◌, ◌||◌, ◌==◌, List, [], ◌∷◌, ◌++◌, map, length, drop, Option, Some, None, refl, sym, ap, ap₂, subst, ◌∙◌, append_assoc, append-nil, arith, length-append}
+use Rattle.std.proofs.Common.{◌≡◌, ℕ, ◌-◌, Bool, true, false, not, ◌&&◌, ◌||◌, ◌==◌, List, [], ◌∷◌, ◌++◌, map, length, Option, refl, sym, ap, ap₂, subst, ◌∙◌, append_assoc, arith, length-append}
 use Rattle.std.proofs.lemmas.Bool.{and_parts}
 use Rattle.hm_base.specs.Bytes.{behind, head_is, is_space, lower, all_pass, is_null}
 use Rattle.hm_base.specs.RawText.{is_name_end}
 use Rattle.hm_base.specs.Forms.{is_blank, is_attribute_name}
 use Rattle.hm_base.specs.Walks.{Attribute}
 use Rattle.hm_refs.specs.Names.{Entry}
+use Rattle.hm_markup_forms.specs.Gaps.{is_gap}
+use Rattle.hm_markup_forms.specs.Tags.{Form, bare, unquoted, double, single, parts_attributes, IsAssigned, WritesAttribute, WritesAttributes}
 use Rattle.hm_tag_scan.specs.Values.{read_value}
 use Rattle.hm_tag_scan.specs.Tags.{is_name_byte, is_later_byte, is_unquoted_byte, is_inside, is_quote, is_tag_end, cut_quoted, cut_value, cut_assigned, with_name, named, attribute_at, Tag, with_attribute, tag_from, cut_tag}
 use Rattle.hm_tag_scan.specs.Reading.{is_bad_name, has_bad_name, read_attribute}
-use Rattle.hm_tag_scan.specs.Spellings.{Form, bare, unquoted, double, single, parts_attributes, is_gap, IsAssigned, is_unquoted, IsQuoted, IsUnquoted, WritesValue, WritesAttribute, WritesAttributes, are_attribute_names}
+use Rattle.hm_tag_scan.specs.ReadBack.{is_unquoted, IsQuoted, IsUnquoted, WritesValue, are_attribute_names}
 use Rattle.hm_tag_scan.proofs.Fronts.{front_all, behind_all}
 use Rattle.hm_tag_scan.proofs.Cases.{differs, IsPlain, IsWrittenAttribute, attribute_name_written}
 
@@ -142,7 +144,7 @@ record IsValue (t : List Entry) (value b s : List ℕ) : Type 0 where
   read : read_value t written ≡ value
   stops : head_is is_later_byte (b ++ s) ≡ false
 
-value_read : (t : List Entry) (form : Form) (value b s : List ℕ) → WritesValue t form value b → Stops form s → IsValue t value b s
+value_read : (t : List Entry) (form : Form) (value b s : List ℕ) → WritesValue t form value b s → Stops form s → IsValue t value b s
 value_read t bare value b s w stops = rw (w.0, w.1) (record {
   written = [];
   cut = λ name. rw stops.1.2 (rw stops.1.3 refl);
@@ -169,7 +171,7 @@ value_read t single value b s w stops = record {
 }
 
 -- whitespace where it is needed, and a byte that begins an attribute
-gap_stops : (before : Form) (gap : List ℕ) (c : ℕ) (r : List ℕ) → is_gap (parts_attributes before) gap ≡ true → IsPlain c → Stops before (gap ++ c ∷ r)
+gap_stops : (before : Form) (gap : List ℕ) (c : ℕ) (r : List ℕ) → is_gap (parts_attributes true before) gap ≡ true → IsPlain c → Stops before (gap ++ c ∷ r)
 unfolding is_gap
 gap_stops bare [] c r h plain = absurd (cc)
 gap_stops bare (g ∷ gap) c r h plain =
@@ -185,12 +187,12 @@ gap_stops single gap c r h plain = tt
 regrouped : (b gap name value s : List ℕ) (c : ℕ) (ws : List ℕ) → b ≡ gap ++ (name ++ value) → name ≡ c ∷ ws → b ++ s ≡ gap ++ c ∷ (ws ++ (value ++ s))
 regrouped b gap name value s c ws e f = rw (e, f) (simp append_assoc)
 
-attribute_stops : (t : List Entry) (before form : Form) (a : Attribute) (b s : List ℕ) (w : WritesAttribute t before form a b) → is_attribute_name a.name ≡ true → Stops before (b ++ s)
+attribute_stops : (t : List Entry) (before form : Form) (a : Attribute) (b s : List ℕ) (w : WritesAttribute (WritesValue t) true before form a b s) → is_attribute_name a.name ≡ true → Stops before (b ++ s)
 attribute_stops t before form a b s w good =
     let name : IsWrittenAttribute w.name = attribute_name_written w.name (rw w.lowered good) in
     rw (regrouped b w.gap w.name w.value s name.first name.more w.is name.is) (gap_stops before w.gap name.first (name.more ++ (w.value ++ s)) w.apart name.plain)
 
-pub attributes_stop : (t : List Entry) (before last : Form) (attributes : List Attribute) (b s : List ℕ) → WritesAttributes t before last attributes b → are_attribute_names attributes ≡ true → Stops last s → Stops before (b ++ s)
+pub attributes_stop : (t : List Entry) (before last : Form) (attributes : List Attribute) (b s : List ℕ) → WritesAttributes (WritesValue t) true before last attributes b s → are_attribute_names attributes ≡ true → Stops last s → Stops before (b ++ s)
 attributes_stop t before last [] b s w names stops = rw (w.1, ← w.0) stops
 attributes_stop t before last (a ∷ attributes) b s (form, piece, rest, is, w, ws) names stops =
     let cut : b ++ s ≡ piece ++ (rest ++ s) = rw is (simp append_assoc) in
@@ -203,7 +205,7 @@ record IsOne (t : List Entry) (a : Attribute) (b s : List ℕ) : Type 0 where
   read : read_attribute t raw ≡ a
   good : is_bad_name raw.name ≡ false
 
-one_read : (t : List Entry) (before form : Form) (a : Attribute) (b s : List ℕ) → WritesAttribute t before form a b → is_attribute_name a.name ≡ true → Stops form s → IsOne t a b s
+one_read : (t : List Entry) (before form : Form) (a : Attribute) (b s : List ℕ) → WritesAttribute (WritesValue t) true before form a b s → is_attribute_name a.name ≡ true → Stops form s → IsOne t a b s
 unfolding is_gap
 one_read t before form a b s w good stops =
     let name : IsWrittenAttribute w.name = attribute_name_written w.name (rw w.lowered good) in
@@ -216,7 +218,7 @@ one_read t before form a b s w good stops =
     record {
       raw = raw;
       cut = ap cut_tag cut
-          ∙ tag_gap w.gap (name.first ∷ ((name.more ++ w.value) ++ s)) (and_parts (is_blank w.gap) (not (parts_attributes before && is_null w.gap)) w.apart).0
+          ∙ tag_gap w.gap (name.first ∷ ((name.more ++ w.value) ++ s)) (and_parts (is_blank w.gap) (not (parts_attributes true before && is_null w.gap)) w.apart).0
           ∙ tag_attribute name.first (name.more ++ w.value) s raw name.plain found;
       read = ap₂ (λ n v. record { name = n; value = v }) (ap (map lower) (sym name.is) ∙ w.lowered) value.read;
       good = subst (λ n. is_bad_name n ≡ false) name.is name.good;
@@ -233,7 +235,7 @@ pub record AreRead (t : List Entry) (attributes : List Attribute) (b s : List �
   pub read : map (read_attribute t) raws ≡ attributes
   pub good : has_bad_name raws ≡ false
 
-pub attributes_read : (t : List Entry) (before last : Form) (attributes : List Attribute) (b s : List ℕ) → WritesAttributes t before last attributes b → are_attribute_names attributes ≡ true → Stops last s → AreRead t attributes b s
+pub attributes_read : (t : List Entry) (before last : Form) (attributes : List Attribute) (b s : List ℕ) → WritesAttributes (WritesValue t) true before last attributes b s → are_attribute_names attributes ≡ true → Stops last s → AreRead t attributes b s
 attributes_read t before last [] b s w names stops = record { raws = []; cut = rw w.1 refl; read = refl; good = refl }
 attributes_read t before last (a ∷ attributes) b s (form, piece, rest, is, w, ws) names stops =
     let both = and_parts (is_attribute_name a.name) (are_attribute_names attributes) names in

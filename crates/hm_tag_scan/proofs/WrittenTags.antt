@@ -1,18 +1,20 @@
 -- Written tags are read back.
-use Rattle.std.proofs.Common.{◌≡◌, ℕ, zero, suc, ◌+◌, ◌-◌, ◌≤◌, ◌⊎◌, Bool, true, false, cond, not, ◌&&◌, ◌||◌, ◌==◌, nat_lt, List, [], ◌∷◌, ◌++◌, map, length, drop, Option, Some, None, bytes_eq, codes, refl, sym, ap, ap₂, subst, ◌∙◌, append_assoc, append-nil, arith, length-append}
+use Rattle.std.proofs.Common.{◌≡◌, ℕ, ◌≤◌, Bool, true, false, cond, not, ◌&&◌, ◌==◌, nat_lt, List, [], ◌∷◌, ◌++◌, map, length, Some, None, bytes_eq, refl, sym, ap, ap₂, ◌∙◌, append_assoc, append-nil, arith}
 use Rattle.std.proofs.lemmas.List.{length-map}
 use Rattle.std.proofs.lemmas.Bool.{and_parts}
-use Rattle.std.proofs.lemmas.Bool.Decides.{Decides-eqb}
-use Rattle.hm_base.specs.Bytes.{behind, head_is, is_space, is_letter, lower, all_pass, is_null}
+use Rattle.hm_base.specs.Bytes.{behind, head_is, is_space, is_letter, lower, all_pass}
 use Rattle.hm_base.specs.RawText.{is_name_end}
 use Rattle.hm_base.specs.Forms.{is_blank, is_tag_name}
 use Rattle.hm_base.specs.Walks.{Attribute, has_name, has_distinct_names}
 use Rattle.hm_refs.specs.Names.{Entry}
+use Rattle.hm_markup_forms.specs.Gaps.{is_gap}
+use Rattle.hm_markup_forms.specs.Tags.{Form, bare, unquoted, double, single, parts_slash, tag_end}
 use Rattle.hm_tree.specs.Tokens.{taken, start_tag}
 use Rattle.hm_tag_scan.specs.Tags.{is_name_byte, is_unquoted_byte, is_tag_end, Tag, cut_tag}
 use Rattle.hm_tag_scan.specs.Reading.{attribute_limit, has_bad_name, read_attribute, without_name, without_repeats, tag_fault, start_of, end_of, read_start, read_end, read_tag, begins_tag}
-use Rattle.hm_tag_scan.specs.Spellings.{Form, bare, unquoted, double, single, parts_slash, is_gap, tag_end, IsAttributes}
+use Rattle.hm_tag_scan.specs.ReadBack.{IsAttributes}
 use Rattle.hm_tag_scan.specs.Laws.{WrittenStartsAreRead, WrittenEndsAreRead}
+use Rattle.hm_markup_forms.proofs.Gaps.{gap_blank}
 use Rattle.hm_tag_scan.proofs.Fronts.{front_all, behind_all}
 use Rattle.hm_tag_scan.proofs.Cases.{IsWrittenName, tag_name_written}
 use Rattle.hm_tag_scan.proofs.Written.{space_no_name, space_no_unquoted, tag_gap, Stops, attributes_stop, with_attributes, AreRead, attributes_read}
@@ -39,10 +41,6 @@ unfolding is_gap is_unquoted_byte is_space
 end_ends_value true [] after h = absurd (cc)
 end_ends_value false [] after h = refl
 end_ends_value slash (g ∷ gap) after h = space_no_unquoted g (and_parts (is_space g) (is_blank gap) (and_parts (is_blank (g ∷ gap)) (not ((slash && true) && false)) h).0).0
-
-gap_blank : (needed : Bool) (gap : List ℕ) → is_gap needed gap ≡ true → is_blank gap ≡ true
-unfolding is_gap
-gap_blank needed gap h = (and_parts (is_blank gap) (not (needed && is_null gap)) h).0
 
 -- what stands behind the last attribute
 end_stops : (last : Form) (slash : Bool) (gap after : List ℕ) → is_gap (slash && parts_slash last) gap ≡ true → Stops last (gap ++ (tag_end slash ++ after))

@@ -3,9 +3,10 @@ use Rattle.std.specs.Prelude.{◌≡◌, ℕ, Bool, true, List, ◌++◌}
 use Rattle.hm_base.specs.Forms.{is_tag_name}
 use Rattle.hm_base.specs.Walks.{Attribute}
 use Rattle.hm_refs.specs.Names.{Entry}
+use Rattle.hm_markup_forms.specs.Tags.{WritesStart, WritesEnd}
 use Rattle.hm_tree.specs.Tokens.{taken, start_tag, end_tag, Extends}
 use Rattle.hm_tag_scan.specs.Reading.{read_tag, begins_tag}
-use Rattle.hm_tag_scan.specs.Spellings.{WritesStart, WritesEnd, IsAttributes}
+use Rattle.hm_tag_scan.specs.ReadBack.{WritesValue, IsAttributes}
 
 -- A tag that ends is the same, whatever follows it; so is its fault.
 abbrev pub WhateverFollows : Type 0
@@ -14,7 +15,7 @@ WhateverFollows = (t : List Entry) (s y : List ℕ) → Extends y (read_tag t s)
 -- A written start tag begins a tag, and is read as its name, its attributes and its '/', whatever follows it.
 abbrev pub WrittenStartsAreRead : Type 0
 WrittenStartsAreRead = (t : List Entry) (name : List ℕ) (attributes : List Attribute) (slash : Bool) (b after : List ℕ)
-    → is_tag_name name ≡ true → IsAttributes attributes → WritesStart t name attributes slash b
+    → is_tag_name name ≡ true → IsAttributes attributes → WritesStart (WritesValue t) true name attributes slash b after
     → (begins_tag (b ++ after) ≡ true) × (read_tag t (b ++ after) ≡ taken (start_tag name attributes slash) after)
 
 -- A written end tag begins a tag, and is read as its name, whatever follows it.

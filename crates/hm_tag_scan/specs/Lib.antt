@@ -1,7 +1,7 @@
 pub mod Values
 pub mod Tags
 pub mod Reading
-pub mod Spellings
+pub mod ReadBack
 pub mod Laws
 pub mod Reads
 pub mod Places

@@ -7,15 +7,15 @@ use Rattle.hm_base.specs.Forms.{is_blank}
 use Rattle.hm_base.specs.RawText.{is_name_end, begins_end_tag, raw_end, script_end, unescaped}
 use Rattle.hm_mark_scan.specs.Comments.{read_comment, begins_cdata}
 use Rattle.hm_mark_scan.specs.Doctypes.{begins_doctype, read_doctype}
-use Rattle.hm_mark_scan.specs.Written.{IsWrittenDoctype}
 use Rattle.hm_mark_scan.proofs.Lowered.{lower_cases}
 use Rattle.hm_mark_scan.proofs.RawTextLaws.{place_first, place_same}
 use Rattle.hm_mark_scan.proofs.ScriptLaws.{mark_of_end, first_same}
 use Rattle.hm_mark_scan.proofs.WrittenComments.{comment_is_read}
 use Rattle.hm_mark_scan.proofs.WrittenDoctypes.{doctype_is_read}
+use Rattle.hm_markup_forms.specs.Doctypes.{WritesDoctype}
+use Rattle.hm_markup_forms.specs.Tags.{WritesEnd}
 use Rattle.hm_refs.specs.Names.{Entry}
 use Rattle.hm_tag_scan.specs.Reading.{read_tag, followed_by_letter, begins_tag}
-use Rattle.hm_tag_scan.specs.Spellings.{WritesEnd}
 use Rattle.hm_tag_scan.proofs.WrittenTags.{starts_read, ends_read}
 use Rattle.hm_text_scan.specs.Texts.{begins_markup}
 use Rattle.hm_tree.specs.Tokens.{slice, Scanned, taken}
@@ -187,7 +187,7 @@ record DoctypeWord (b : List ℕ) : Type 0 where
   is : b ≡ word ++ more
   lowered : map lower word ≡ codes "<!doctype"
 
-doctype_word : (legacy : Bool) (b : List ℕ) → IsWrittenDoctype legacy b → DoctypeWord b
+doctype_word : (legacy : Bool) (b : List ℕ) → WritesDoctype false legacy b → DoctypeWord b
 doctype_word false b w = record { word = w.word; more = w.gap ++ (w.name ++ (w.tail ++ codes ">")); is = w.whole; lowered = w.word_is }
 doctype_word true b w = record { word = w.word; more = _; is = w.whole; lowered = w.word_is }
 

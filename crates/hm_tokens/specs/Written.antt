@@ -5,8 +5,9 @@ use Rattle.hm_base.specs.Forms.{is_tag_name, is_comment_text}
 use Rattle.hm_base.specs.RawText.{begins_end_tag, raw_end, script_end}
 use Rattle.hm_base.specs.Walks.{Attribute}
 use Rattle.hm_refs.specs.Names.{Entry}
-use Rattle.hm_mark_scan.specs.Written.{IsWrittenDoctype}
-use Rattle.hm_tag_scan.specs.Spellings.{WritesStart, WritesEnd, IsAttributes}
+use Rattle.hm_markup_forms.specs.Doctypes.{WritesDoctype}
+use Rattle.hm_markup_forms.specs.Tags.{WritesStart, WritesEnd}
+use Rattle.hm_tag_scan.specs.ReadBack.{WritesValue, IsAttributes}
 use Rattle.hm_text_scan.specs.Texts.{begins_markup}
 use Rattle.hm_tree.specs.Tokens.{Seen, doctype, start_tag, end_tag, slice, comment, taken}
 use Rattle.hm_tokens.specs.First.{Mode, rcdata, raw, script, behind_bytes, first}
@@ -22,7 +23,7 @@ IsNextMarkup t mode s token rest = (begins_markup s ≡ true) × IsNext t mode s
 
 abbrev pub StartsAreNext : Type 0
 StartsAreNext = (t : List Entry) (mode : Mode) (name : List ℕ) (attributes : List Attribute) (slash : Bool) (b after : List ℕ)
-    → reads_markup mode ≡ true → is_tag_name name ≡ true → IsAttributes attributes → WritesStart t name attributes slash b → IsNextMarkup t mode (b ++ after) (start_tag name attributes slash) after
+    → reads_markup mode ≡ true → is_tag_name name ≡ true → IsAttributes attributes → WritesStart (WritesValue t) true name attributes slash b after → IsNextMarkup t mode (b ++ after) (start_tag name attributes slash) after
 
 abbrev pub EndsAreNext : Type 0
 EndsAreNext = (t : List Entry) (mode : Mode) (name b after : List ℕ) → reads_markup mode ≡ true → is_tag_name name ≡ true → WritesEnd name b → IsNextMarkup t mode (b ++ after) (end_tag name) after
@@ -42,7 +43,7 @@ abbrev pub CommentsAreNext : Type 0
 CommentsAreNext = (t : List Entry) (mode : Mode) (s after : List ℕ) → reads_markup mode ≡ true → is_comment_text s ≡ true → IsNextMarkup t mode (codes "<!--" ++ (s ++ (codes "-->" ++ after))) (comment s) after
 
 abbrev pub DoctypesAreNext : Type 0
-DoctypesAreNext = (t : List Entry) (mode : Mode) (legacy : Bool) (b after : List ℕ) → reads_markup mode ≡ true → IsWrittenDoctype legacy b → IsNextMarkup t mode (b ++ after) (doctype legacy) after
+DoctypesAreNext = (t : List Entry) (mode : Mode) (legacy : Bool) (b after : List ℕ) → reads_markup mode ≡ true → WritesDoctype false legacy b → IsNextMarkup t mode (b ++ after) (doctype legacy) after
 
 -- Where some end tag of the element ends a raw text that isn't empty, each one does.
 abbrev pub RawTextsAreNext : Type 0

@@ -1,3 +1,4 @@
+pub mod ApartLemmas
 pub mod AttributeLemmas
 pub mod DumpLemmas
 pub mod EndLemmas
@@ -5,6 +6,7 @@ pub mod LastLemmas
 pub mod MakingLemmas
 pub mod ListLemmas
 pub mod OpenLemmas
+pub mod PairLemmas
 pub mod PieceLemmas
 pub mod RoomLemmas
 pub mod ShownLemmas

@@ -1,5 +1,6 @@
 pub mod Attributes
 pub mod Dump
+pub mod Pairs
 pub mod Pieces
 pub mod Rows
 pub mod Tokens

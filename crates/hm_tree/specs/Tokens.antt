@@ -40,6 +40,12 @@ IsInText s (tokens.Slice from to) = IsPiece s from to
 IsInText s (tokens.Comment from to) = IsPiece s from to
 IsInText s token = Unit {0}
 
+-- Where the bytes that the token names begin in its text. Where they end follows, since its bytes are known.
+abbrev pub BeginsAt : ℕ → Token → Type 0
+BeginsAt place (tokens.Slice from to) = from ≡ place
+BeginsAt place (tokens.Comment from to) = from ≡ place
+BeginsAt place token = Unit {0}
+
 -- what is read of the rest of a text: a token and what is behind it, or why there is none
 pub data Scanned : Type 0 where
   taken : Seen → List ℕ → Scanned

@@ -1,7 +1,8 @@
 -- What is true of the walk of a tree, which starts are open in it, and where two walks differ.
-use Rattle.std.specs.Prelude.{◌≡◌, ◌≢◌, ℕ, ◌+◌, ◌^◌, ◌<◌, Bool, true, ◌&&◌, List, [], ◌∷◌, length, take, slice_get, Option, Some}
+use Rattle.std.specs.Prelude.{◌≡◌, ◌≢◌, ℕ, ◌+◌, ◌^◌, ◌<◌, Bool, true, not, ◌&&◌, List, [], ◌∷◌, length, take, slice_get, Option, Some}
 use Rattle.std.specs.Str.{is_utf8}
-use Rattle.hm_base.specs.Walks.{Attribute, Event, doctype, start, text, comment, end, Element, path_after, ends_match, same_flag, has_distinct_names, walk_size}
+use Rattle.hm_base.specs.Bytes.{is_null}
+use Rattle.hm_base.specs.Walks.{Attribute, Event, doctype, start, text, comment, end, Element, path_after, ends_match, same_flag, has_distinct_names, walk_size, begins_text}
 use Rattle.hm_tree.specs.Attributes.{are_texts}
 
 -- names, values, texts and comments are UTF-8, and the names of a start's attributes are distinct
@@ -15,6 +16,16 @@ is_sound (end n foreign) = is_utf8 n
 abbrev pub are_sound : List Event → Bool
 are_sound [] = true
 are_sound (e ∷ w) = is_sound e && are_sound w
+
+-- a text isn't empty and no text follows it
+abbrev pub is_apart : Event → List Event → Bool
+is_apart (text s raw) w = not (is_null s) && not (begins_text w)
+is_apart e w = true
+
+-- no text is empty, and no two texts touch
+abbrev pub are_texts_apart : List Event → Bool
+are_texts_apart [] = true
+are_texts_apart (e ∷ w) = is_apart e w && are_texts_apart w
 
 -- With an end for each open element the walk has fewer than 2 ^ 29 events, and it has fewer than 2 ^ 29 bytes of names, values, texts and comments.
 pub record HasRoom (w : List Event) : Type 0 where
@@ -33,10 +44,11 @@ pub record IsBegun (w : List Event) : Type 0 where
   pub sound : are_sound w ≡ true
   pub room : HasRoom w
 
--- the events of a whole tree: each end ends the innermost open element, and none is open at the end
+-- the events of a whole tree: each end ends the innermost open element, none is open at the end, and texts neither are empty nor touch
 pub record IsWalk (w : List Event) : Type 0 where
   pub matched : ends_match [] w ≡ true
   pub closed : path_after [] w ≡ []
+  pub apart : are_texts_apart w ≡ true
   pub sound : are_sound w ≡ true
   pub events : length w < 2 ^ 29
   pub bytes : walk_size w < 2 ^ 29
@@ -95,6 +107,7 @@ pub record DifferFirstAt (w v : List Event) (i : ℕ) : Type 0 where
 -- what a maker knows of its events beside what its table knows
 pub record IsMaking (w : List Event) (start_above : Option ℕ) (open_elements : ℕ) : Type 0 where
   pub matched : ends_match [] w ≡ true
+  pub apart : are_texts_apart w ≡ true
   pub parent : start_above ≡ innermost w
   pub depth : open_elements ≡ length (path_after [] w)
   pub room : HasRoom w
@@ -103,3 +116,4 @@ pub record IsMaking (w : List Event) (start_above : Option ℕ) (open_elements :
 pub record IsMade (w : List Event) : Type 0 where
   pub matched : ends_match [] w ≡ true
   pub closed : path_after [] w ≡ []
+  pub apart : are_texts_apart w ≡ true

@@ -1,30 +1,39 @@
 //! The attributes of a start tag.
-ghost use Rattle.std.specs.Prelude.{◌≡◌, ◌+◌, ◌^◌, ◌<◌, [], ◌∷◌, ◌++◌, length, slice_get, string_bytes, true, not, Some, Ok, IfOk, OnErr, if◌then◌else◌, ◌↔◌, IsTrue};
+ghost use Rattle.std.specs.Prelude.{◌≡◌, ◌+◌, ◌^◌, ◌<◌, [], ◌∷◌, ◌++◌, length, slice_get, string_bytes, true, false, not, All, Some, Ok, IfOk, OnErr, if◌then◌else◌, ◌↔◌, IsTrue};
 ghost use Rattle.hm_base.specs.Walks.{has_name, has_distinct_names};
 ghost use Rattle.hm_tree.specs.Attributes.{are_texts};
+ghost use Rattle.hm_tree.specs.Pairs.{HasPair, attributes_of};
+ghost use Rattle.hm_tree.specs.Pieces.{texts_of};
 
+use crate::names::{NameIndex, has_among, note};
+use crate::pieces::{Pair, name_in, value_in};
 use hm_base::Memory;
-use indexmap::IndexMap;
 use std::alloc::Global;
 use std::marker::Model;
 
 /// Names and values in order, each name once. Contracts see the list of them.
+///
+/// They stand in one text, names and values one behind the other. Above 16 of them an index has the names, so that a
+/// repeated one is found at once.
 #[derive(Debug, Drop)]
 pub struct Attrs {
-    map: IndexMap<String, String>,
+    text: String,
+    pairs: Vec<Pair>,
+    index: Option<Box<NameIndex>>,
 }
 
 impl Model for Attrs {
-    ghost use Rattle.std.specs.Prelude.{List};
+    ghost use Rattle.std.specs.Prelude.{List, string_bytes};
     ghost use Rattle.hm_base.specs.Walks.{Attribute};
 
     ghost Value = { List Attribute };
 
-    ghost use Rattle.hm_tree.specs.Attributes.{attributes_of, IsAttributeList};
+    ghost use Rattle.std.specs.Prelude.{IfSome};
+    ghost use Rattle.hm_tree.specs.Pairs.{attributes_of, HasNames, IsAttributeList};
 
-    ghost view = { λ a. attributes_of a.map.entries };
+    ghost view = { λ a. attributes_of (string_bytes a.text) a.pairs.items };
 
-    ghost invariant = { λ a. IsAttributeList (attributes_of a.map.entries) };
+    ghost invariant = { λ a. IsAttributeList (string_bytes a.text) a.pairs.items × IfSome a.index (λ x. HasNames x.value (attributes_of (string_bytes a.text) a.pairs.items)) };
 }
 
 impl Attrs {
@@ -33,7 +42,9 @@ impl Attrs {
         ensures { result ≡ [] }
     {
         Attrs {
-            map: IndexMap::new(alloc),
+            text: String::new(alloc),
+            pairs: Vec::new(alloc),
+            index: None,
         }
     }
 
@@ -43,7 +54,7 @@ impl Attrs {
         ensures distinct { has_distinct_names self.now ≡ true }
         ensures texts { are_texts self.now ≡ true }
     {
-        self.map.len() as u32
+        self.pairs.len() as u32
     }
 
     /// The name and the value of attribute `i`.
@@ -51,23 +62,76 @@ impl Attrs {
         requires { i < length self.now }
         ensures { slice_get self.now i ≡ Some (record { name = result.0.now; value = result.1.now }) }
     {
-        let (name, value) = self.map.get_index(i as usize).unwrap();
-        (name.as_str(), value.as_str())
+        let pair = self.pairs[i as usize];
+        (
+            name_in(self.text.as_str(), pair),
+            value_in(self.text.as_str(), pair),
+        )
+    }
+
+    /// All names and values, one behind the other.
+    pub(crate) fn text(&self) -> &str
+        ensures { result.now ≡ texts_of self.now }
+    {
+        self.text.as_str()
+    }
+
+    /// Where names and values stand in that text.
+    pub(crate) fn pairs(&self) -> &[Pair]
+        ensures pieces { All (HasPair (texts_of self.now)) result.now }
+        ensures shown { attributes_of (texts_of self.now) result.now ≡ self.now }
+    {
+        self.pairs.as_slice()
     }
 
     /// Appends an attribute whose name isn't there yet, and says whether it did. Where memory is
     /// refused, nothing changes.
     pub fn add(&mut self, name: String, value: String) -> Result<bool, Memory>
-        requires room { length self.old + 1 < 2 ^ 32 }
+        requires room { has_name (string_bytes name) self.old ≡ false → length self.old + 1 < 2 ^ 32 }
         ensures there { IfOk result (λ added. added ≡ not (has_name (string_bytes name) self.old)) }
         ensures after { IfOk result (λ added. self.new ≡ (if added then self.old ++ record { name = string_bytes name; value = string_bytes value } ∷ [] else self.old)) }
         ensures err { OnErr result (self.new ≡ self.old) }
     {
-        if self.map.contains_key(name.as_str()) {
+        self.put(name.as_str(), value.as_str())
+    }
+
+    /// The same of texts that are copied.
+    pub fn put(&mut self, name: &str, value: &str) -> Result<bool, Memory>
+        requires room { has_name name.now self.old ≡ false → length self.old + 1 < 2 ^ 32 }
+        ensures there { IfOk result (λ added. added ≡ not (has_name name.now self.old)) }
+        ensures after { IfOk result (λ added. self.new ≡ (if added then self.old ++ record { name = name.now; value = value.now } ∷ [] else self.old)) }
+        ensures err { OnErr result (self.new ≡ self.old) }
+    {
+        if self.has(name) {
             return Ok(false);
         }
-        self.map.insert(name, value)?;
+        self.pairs.reserve(1)?;
+        self.text.reserve(name.len() + value.len())?;
+        let alloc = *self.text.allocator();
+        note(
+            alloc,
+            &mut self.index,
+            self.text.as_str(),
+            self.pairs.as_slice(),
+            name,
+        )?;
+        let from = self.text.len();
+        self.text.push_str(name).unwrap();
+        let middle = self.text.len();
+        self.text.push_str(value).unwrap();
+        let to = self.text.len();
+        self.pairs.push(Pair { from, middle, to }).unwrap();
         Ok(true)
+    }
+
+    // Whether an attribute has this name.
+    fn has(&self, name: &str) -> bool
+        ensures { result ≡ has_name name.now self.now }
+    {
+        match &self.index {
+            Some(index) => index.has(name),
+            None => has_among(self.text.as_str(), self.pairs.as_slice(), name),
+        }
     }
 
     /// Whether both have the same attributes in the same order.

@@ -6,6 +6,7 @@ mod attrs_view;
 mod dump;
 mod events;
 mod maker;
+mod names;
 mod pieces;
 mod rows;
 mod tokens;

@@ -68,8 +68,17 @@ impl Maker {
         ensures ok { OnOk result (self.new ≡ self.old ++ start name.now foreign attrs ∷ []) }
         ensures err { OnErr result (self.new ≡ self.old) }
     {
+        self.start_from(name, foreign, &attrs)
+    }
+
+    /// The same with attributes that the caller keeps.
+    pub fn start_from(&mut self, name: &str, foreign: bool, attrs: &Attrs) -> Result<(), Memory>
+        requires { HasRoom (self.old ++ start name.now foreign attrs.now ∷ []) }
+        ensures ok { OnOk result (self.new ≡ self.old ++ start name.now foreign attrs.now ∷ []) }
+        ensures err { OnErr result (self.new ≡ self.old) }
+    {
         let start = self.rows.len();
-        self.rows.push_start(name, foreign, &attrs, self.parent)?;
+        self.rows.push_start(name, foreign, attrs, self.parent)?;
         self.parent = Some(start);
         self.depth += 1;
         Ok(())

@@ -1,5 +1,6 @@
 //! Pieces of the text of a table, and attributes as such pieces.
 ghost use Rattle.std.specs.Prelude.{◌≡◌};
+ghost use Rattle.hm_tree.specs.Pairs.{HasPair, pieces_of};
 ghost use Rattle.hm_tree.specs.Pieces.{IsPiece, bytes_of};
 
 // The bytes of a text from one place up to another.
@@ -16,10 +17,34 @@ pub(crate) struct AttributePieces {
     pub(crate) value: Piece,
 }
 
+// Where an attribute stands in a text: its name from one place up to the second, and its value from there up to the third.
+#[derive(Clone, Copy, Debug)]
+pub(crate) struct Pair {
+    pub(crate) from: usize,
+    pub(crate) middle: usize,
+    pub(crate) to: usize,
+}
+
 // The bytes of a piece.
 pub(crate) fn cut(text: &str, piece: Piece) -> &str
     requires { IsPiece text.now piece }
     ensures { result.now ≡ bytes_of text.now piece }
 {
     &text[piece.from as usize..piece.to as usize]
+}
+
+// The name of an attribute.
+pub(crate) fn name_in(text: &str, pair: Pair) -> &str
+    requires { HasPair text.now pair }
+    ensures { result.now ≡ bytes_of text.now (pieces_of pair).name }
+{
+    &text[pair.from..pair.middle]
+}
+
+// The value of an attribute.
+pub(crate) fn value_in(text: &str, pair: Pair) -> &str
+    requires { HasPair text.now pair }
+    ensures { result.now ≡ bytes_of text.now (pieces_of pair).value }
+{
+    &text[pair.middle..pair.to]
 }

@@ -2,12 +2,13 @@
 ghost use Rattle.std.specs.Prelude.{◌≡◌, ◌+◌, ◌^◌, ◌<◌, ◌≤◌, [], ◌∷◌, ◌++◌, length, slice_get, slice_range, string_bytes, string_len, string_capacity, vec_len, vec_capacity, true, Some, OnOk, OnErr};
 ghost use Rattle.hm_base.specs.Walks as walks;
 ghost use Rattle.hm_base.specs.Walks.{start, doctype, comment, event_size, path_after, walk_size, with_text, attributes_size};
+ghost use Rattle.hm_tree.specs.Pairs.{IsShifted};
 ghost use Rattle.hm_tree.specs.Pieces.{IsAppended};
 ghost use Rattle.hm_tree.specs.Rows.{IsRange, ends_in_text, extended};
 ghost use Rattle.hm_tree.specs.Trees.{IsTold, end_of, innermost, last_agrees, parent_of};
 ghost use Rattle.hm_tree.specs.Views.{event_of};
 
-use crate::pieces::{AttributePieces, Piece, cut};
+use crate::pieces::{AttributePieces, Pair, Piece, cut};
 use crate::{Attrs, AttrsView, EventView};
 use hm_base::Memory;
 use std::alloc::Global;
@@ -308,15 +309,9 @@ fn part_of(attributes: &[AttributePieces], attrs: AttrsRange) -> &[AttributePiec
 
 // The bytes of names and values.
 fn text_len(attrs: &Attrs) -> usize
-    requires { attributes_size attrs.now < 2 ^ 32 }
     ensures { result ≡ attributes_size attrs.now }
 {
-    let mut len = 0;
-    for i in 0..attrs.len() {
-        let (name, value) = attrs.at(i);
-        len += name.len() + value.len();
-    }
-    len
+    attrs.text().len()
 }
 
 // Appends attributes for which there is room, and says where.
@@ -334,14 +329,31 @@ fn append_attributes(
     ensures to { result.to ≡ length attributes.new.items }
 {
     let from = attributes.len() as u32;
-    for i in 0..attrs.len() {
-        let (name, value) = attrs.at(i);
-        let name = append(text, name);
-        let value = append(text, value);
-        attributes.push(AttributePieces { name, value }).unwrap();
+    let start = append(text, attrs.text()).from;
+    for pair in attrs.pairs() {
+        attributes.push(shifted(pair, start)).unwrap();
     }
     let to = attributes.len() as u32;
     AttrsRange { from, to }
+}
+
+// The pieces of an attribute, so many bytes further on.
+fn shifted(pair: &Pair, start: u32) -> AttributePieces
+    requires ordered { (pair.now.from ≤ pair.now.middle) × (pair.now.middle ≤ pair.now.to) }
+    requires places { start + pair.now.to < 2 ^ 32 }
+    ensures { IsShifted start pair.now result }
+{
+    let middle = start + pair.middle as u32;
+    AttributePieces {
+        name: Piece {
+            from: start + pair.from as u32,
+            to: middle,
+        },
+        value: Piece {
+            from: middle,
+            to: start + pair.to as u32,
+        },
+    }
 }
 
 // Appends a text for which there is room.

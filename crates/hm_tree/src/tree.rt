@@ -1,7 +1,7 @@
 //! A tree as its walk.
 ghost use Rattle.std.specs.Prelude.{◌≡◌, ◌<◌, ◌↔◌, [], length, slice_get, take, true, Some, IsTrue, MatchOption};
 ghost use Rattle.hm_base.specs.Walks.{path_after, ends_match};
-ghost use Rattle.hm_tree.specs.Trees.{DifferFirstAt, IsStartAt, IsWalk, parent_of};
+ghost use Rattle.hm_tree.specs.Trees.{DifferFirstAt, IsStartAt, IsWalk, are_texts_apart, parent_of};
 ghost use Rattle.hm_tree.specs.Views.{event_of};
 
 use crate::rows::Rows;
@@ -9,7 +9,8 @@ use crate::{EventView, Maker};
 use std::alloc::Global;
 use std::marker::Model;
 
-/// A tree. Contracts see its walk: the list of its events, in which each end ends the innermost open element.
+/// A tree. Contracts see its walk: the list of its events, in which each end ends the innermost open element, and texts
+/// neither are empty nor touch.
 #[derive(Debug, Drop)]
 pub struct Tree {
     rows: Rows,
@@ -39,12 +40,14 @@ impl Tree {
     pub(crate) fn of(rows: Rows) -> Tree
         requires matched { ends_match [] rows ≡ true }
         requires closed { path_after [] rows ≡ [] }
+        requires apart { are_texts_apart rows ≡ true }
         ensures { result ≡ rows }
     {
         Tree { rows }
     }
 
-    /// How many events there are. The tree is a walk within its limits, whose names and texts are UTF-8.
+    /// How many events there are. The tree is a walk within its limits, whose names and texts are UTF-8 and whose texts
+    /// neither are empty nor touch.
     pub fn len(&self) -> u32
         ensures len { result ≡ length self.now }
         ensures walk { IsWalk self.now }

@@ -3,12 +3,16 @@ use Rattle.std.specs.Prelude.{ℕ, Bool, not, ◌||◌, List, bytes_eq}
 use Rattle.std.specs.List.{list_any, list_all}
 use denote.Ref.{Bor}
 use Rattle.hm_words.specs.declared.words.Asked.{Asked}
-use Rattle.hm_words.specs.declared.words.Asked.TheVariants as asked
+use Rattle.hm_words.specs.declared.words.Command.{Command}
+use Rattle.hm_words.specs.declared.words.Command.TheVariants as commands
 use Rattle.hm_words.specs.Words as words
 
+abbrev pub command_of : Command → words.Command
+command_of (commands.Minify table page out cert) = words.minify table.now page.now out.now cert.now
+command_of (commands.Tree table page) = words.tree table.now page.now
+
 abbrev pub request_of : Asked → words.Asked
-request_of (asked.Minify page out cert) = words.minify page.now out.now cert.now
-request_of (asked.Tree table page options) = words.tree table.now page.now options
+request_of asked = record { command = command_of asked.command; options = asked.options; rules = asked.rules }
 
 -- the word is one of these flags
 abbrev pub is_one_of : List (Bor (List ℕ)) → List ℕ → Bool

@@ -2,13 +2,27 @@
 use Rattle.std.specs.Prelude.{ℕ, Bool, true, false, not, ◌&&◌, ◌||◌, ◌==◌, List, [], ◌∷◌, Option, Some, None, if◌then◌else◌, codes, bytes_eq, nat_le, filter, count_by}
 use Rattle.std.specs.List.{list_any, list_all}
 use Rattle.hm_base.specs.Bytes.{is_null}
+use Rattle.hm_base.specs.declared.plain.SpellRules.{SpellRules}
 use Rattle.hm_base.specs.declared.plain.TreeOptions.{TreeOptions}
 use Rattle.hm_elements.specs.Names.{words}
 
--- a request, with the names of its files
-pub data Asked : Type 0 where
-  minify : List ℕ → List ℕ → List ℕ → Asked  -- PAGE, OUT, CERT
-  tree : List ℕ → List ℕ → TreeOptions → Asked  -- TABLE, PAGE, the rewrites
+-- what is done, with the names of its files
+pub data Command : Type 0 where
+  minify : List ℕ → List ℕ → List ℕ → List ℕ → Command  -- TABLE, PAGE, OUT, CERT
+  tree : List ℕ → List ℕ → Command  -- TABLE, PAGE
+
+-- a request: a command, the rewrites of the tree that it works on, and the spellings that are allowed
+pub record Asked : Type 0 where
+  pub command : Command
+  pub options : TreeOptions
+  pub rules : SpellRules
+
+abbrev pub asks : Command → TreeOptions → SpellRules → Asked
+asks command options rules = record { command = command; options = options; rules = rules }
+
+-- the names of table and page differ, where the table `none` is no name
+abbrev pub are_apart : List ℕ → List ℕ → Bool
+are_apart table page = bytes_eq table (codes "none") || not (bytes_eq table page)
 
 -- ---- minify none PAGE OUT CERT --omit --unquote
 
@@ -28,8 +42,16 @@ are_names page out cert = is_name page && (is_name out && (is_name cert && are_d
 abbrev pub are_fixed : List ℕ → List ℕ → List ℕ → List ℕ → Bool
 are_fixed command table first second = bytes_eq command (codes "minify") && (bytes_eq table (codes "none") && (bytes_eq first (codes "--omit") && bytes_eq second (codes "--unquote")))
 
+abbrev pub no_rewrites : TreeOptions
+no_rewrites = record { doctype = false; comments = false; booleans = false; empty = false; redundant = false; space = false; conservative = false }
+
+-- the rules of the flags `--omit` and `--unquote`
+abbrev pub omit_and_unquote : SpellRules
+omit_and_unquote = record { omit = true; unquote = true; tight = false; ascii = false; frame = false }
+
 abbrev pub asked_minify : List (List ℕ) → Option Asked
-asked_minify (command ∷ table ∷ page ∷ out ∷ cert ∷ first ∷ second ∷ []) = if are_fixed command table first second && are_names page out cert then Some (minify page out cert) else None
+asked_minify (command ∷ table ∷ page ∷ out ∷ cert ∷ first ∷ second ∷ []) =
+    if are_fixed command table first second && are_names page out cert then Some (asks (minify table page out cert) no_rewrites omit_and_unquote) else None
 asked_minify ws = None
 
 -- ---- tree TABLE PAGE, with flags anywhere
@@ -77,16 +99,21 @@ options_of ws = record {
   conservative = has ws (codes "--conservative");
 }
 
--- two names that differ, where `none` is none
-abbrev pub are_apart : List ℕ → List ℕ → Bool
-are_apart table page = bytes_eq table (codes "none") || not (bytes_eq table page)
+-- the rules where no flag of theirs is there
+abbrev pub no_rules : SpellRules
+no_rules = record { omit = false; unquote = false; tight = false; ascii = false; frame = false }
 
 abbrev pub asked_tree : List (List ℕ) → List (List ℕ) → Option Asked
 asked_tree (command ∷ table ∷ page ∷ []) ws =
-    if bytes_eq command (codes "tree") && (not (is_null table) && (not (is_null page) && (are_apart table page && are_tree_flags ws))) then Some (tree table page (options_of ws)) else None
+    if bytes_eq command (codes "tree") && (not (is_null table) && (not (is_null page) && (are_apart table page && are_tree_flags ws))) then Some (asks (tree table page) (options_of ws) no_rules) else None
 asked_tree names ws = None
 
 -- ---- all commands
+
+-- the names of a command's files differ, where the table `none` is no name
+abbrev pub is_apart : Command → Bool
+is_apart (minify table page out cert) = are_apart table page && (are_apart table out && (are_apart table cert && are_distinct page out cert))
+is_apart (tree table page) = are_apart table page
 
 abbrev pub or_else : Option Asked → Option Asked → Option Asked
 or_else None b = b

@@ -3,4 +3,4 @@
 
 mod words;
 
-pub use words::Asked;
+pub use words::{Asked, Command};

@@ -1,10 +1,10 @@
 //! The words of a call.
-ghost use Rattle.std.specs.Prelude.{◌≡◌, ◌≢◌, ◌<◌, ◌∷◌, ℕ, List, IfSome, IfNone, Some, None, length, slice_index_or, []};
+ghost use Rattle.std.specs.Prelude.{◌≡◌, ◌≢◌, ◌<◌, ◌∷◌, ℕ, List, IfSome, IfNone, Some, None, length, slice_index_or, [], true};
 ghost use Rattle.hm_words.specs.Words as spec;
 ghost use Rattle.hm_words.specs.Answers as answers;
-ghost use Rattle.hm_words.specs.Answers.{request_of};
+ghost use Rattle.hm_words.specs.Answers.{command_of, request_of};
 
-use hm_base::{TreeOptions, Word};
+use hm_base::{SpellRules, TreeOptions, Word};
 
 const TREE_FLAGS: [&str; 7] = [
     "--doctype",
@@ -16,22 +16,55 @@ const TREE_FLAGS: [&str; 7] = [
     "--conservative",
 ];
 
-/// A request, with the names of its files.
+/// What is done, with the names of its files.
 #[derive(Clone, Copy, Debug)]
-pub enum Asked<'w> {
-    /// A page is minified, with the table `none`.
+pub enum Command<'w> {
+    /// A page is written shortest, with its certificate.
     Minify {
+        table: &'w str,
         page: &'w str,
         out: &'w str,
         cert: &'w str,
     },
-    /// The tree of a page is shown, after the rewrites that are asked for.
-    Tree {
-        table: &'w str,
-        page: &'w str,
-        options: TreeOptions,
-    },
+    /// The tree of a page is shown.
+    Tree { table: &'w str, page: &'w str },
 }
+
+/// A request: a command, the rewrites of the tree that it works on, and the spellings that are allowed.
+#[derive(Clone, Copy, Debug)]
+pub struct Asked<'w> {
+    pub command: Command<'w>,
+    pub options: TreeOptions,
+    pub rules: SpellRules,
+}
+
+const NO_REWRITES: TreeOptions = TreeOptions {
+    doctype: false,
+    comments: false,
+    booleans: false,
+    empty: false,
+    redundant: false,
+    space: false,
+    conservative: false,
+};
+
+/// The rules of the flags `--omit` and `--unquote`.
+const OMIT_AND_UNQUOTE: SpellRules = SpellRules {
+    omit: true,
+    unquote: true,
+    tight: false,
+    ascii: false,
+    frame: false,
+};
+
+/// The rules where no flag of theirs is there.
+const NO_RULES: SpellRules = SpellRules {
+    omit: false,
+    unquote: false,
+    tight: false,
+    ascii: false,
+    frame: false,
+};
 
 /// The text of a word.
 fn text_at(words: &[Word], at: usize) -> &str
@@ -76,14 +109,16 @@ fn are_fixed(command: &str, table: &str, first: &str, second: &str) -> bool
 /// What the words ask for, if it is that a page is minified.
 fn asked_minify(words: &[Word]) -> Option<Asked<'_>>
     ensures some { IfSome result (λ a. spec.asked_minify words.now ≡ Some (request_of a)) }
+    ensures apart { IfSome result (λ a. spec.is_apart (command_of a.command) ≡ true) }
     ensures none { IfNone result (spec.asked_minify words.now ≡ None) }
 {
     if words.len() != 7 {
         return None;
     }
+    let table = text_at(words, 1);
     if !are_fixed(
         text_at(words, 0),
-        text_at(words, 1),
+        table,
         text_at(words, 5),
         text_at(words, 6),
     ) {
@@ -93,7 +128,16 @@ fn asked_minify(words: &[Word]) -> Option<Asked<'_>>
     let out = text_at(words, 3);
     let cert = text_at(words, 4);
     if are_names(page, out, cert) {
-        Some(Asked::Minify { page, out, cert })
+        Some(Asked {
+            command: Command::Minify {
+                table,
+                page,
+                out,
+                cert,
+            },
+            options: NO_REWRITES,
+            rules: OMIT_AND_UNQUOTE,
+        })
     } else {
         None
     }
@@ -212,6 +256,7 @@ fn are_apart(table: &str, page: &str) -> bool
 /// What the words ask for, if it is that a tree is shown.
 fn asked_tree(words: &[Word]) -> Option<Asked<'_>>
     ensures some { IfSome result (λ a. spec.asked_tree (spec.names_in words.now) words.now ≡ Some (request_of a)) }
+    ensures apart { IfSome result (λ a. spec.is_apart (command_of a.command) ≡ true) }
     ensures none { IfNone result (spec.asked_tree (spec.names_in words.now) words.now ≡ None) }
 {
     let (command, table, page) = three_names(words)?;
@@ -221,10 +266,10 @@ fn asked_tree(words: &[Word]) -> Option<Asked<'_>>
         && are_apart(table, page)
         && are_tree_flags(words)
     {
-        Some(Asked::Tree {
-            table,
-            page,
+        Some(Asked {
+            command: Command::Tree { table, page },
             options: options_of(words),
+            rules: NO_RULES,
         })
     } else {
         None
@@ -236,6 +281,7 @@ impl<'w> Asked<'w> {
     #[tactic(auto, unfolding(crate::specs::Words::asked))]
     pub fn read(words: &'w [Word]) -> Option<Asked<'w>>
         ensures some { IfSome result (λ a. spec.asked words.now ≡ Some (request_of a)) }
+        ensures apart { IfSome result (λ a. spec.is_apart (command_of a.command) ≡ true) }
         ensures none { IfNone result (spec.asked words.now ≡ None) }
     {
         match asked_minify(words) {

@@ -1,6 +1,6 @@
-use super::{FileStore, WriteSink};
+use super::{FileStore, WriteSink, read_retrying};
 use crate::{Failed, Sink, load, write_file};
-use std::io::Write;
+use std::io::{ErrorKind, Read, Write};
 use std::test::Fail;
 use std::{env, fs, io};
 
@@ -49,5 +49,37 @@ fn bytes_go_to_the_writer(rt: HostRuntime) -> Result<(), Fail> {
     let mut full = WriteSink::new(Full);
     assert_eq!(rt; full.put(b""), Ok(()));
     assert_eq!(rt; full.put(b"x"), Err(Failed));
+    Ok(())
+}
+
+/// A reader that a signal interrupts at its first call, and that has failed from its second byte on.
+#[derive(Drop)]
+struct Interrupted {
+    calls: u32,
+}
+
+impl Read for Interrupted {
+    fn read(&mut self, buf: &mut [u8]) -> io::Result<usize> {
+        self.calls = self.calls.saturating_add(1);
+        match self.calls {
+            1 => Err(io::Error::from(ErrorKind::Interrupted)),
+            2 if !buf.is_empty() => {
+                buf[0] = b'x';
+                Ok(1)
+            }
+            _ => Err(io::Error::from(ErrorKind::PermissionDenied)),
+        }
+    }
+}
+
+#[test]
+fn an_interrupted_read_is_tried_again(rt: HostRuntime) -> Result<(), Fail> {
+    let mut reader = Interrupted { calls: 0 };
+    let mut bytes = [0u8; 4];
+    assert_eq!(rt; read_retrying(&mut reader, &mut bytes)?, 1);
+    assert_eq!(rt; bytes[0], b'x');
+    let failed = read_retrying(&mut reader, &mut bytes);
+    assert!(rt; failed.is_err());
+    assert_eq!(rt; reader.calls, 3);
     Ok(())
 }

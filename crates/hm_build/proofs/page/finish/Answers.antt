@@ -1,4 +1,4 @@
-use Rattle.std.proofs.Common.{◌≡◌, ◌+◌, ◌≤◌, ◌∙◌, length, sym, subst}
+use Rattle.std.proofs.Common.{◌+◌, ◌≤◌, length, subst}
 use Rattle.hm_build.specs.Parsing.{span_of}
 use Rattle.hm_build.proofs.Turns.{same_text, short_text}
 use Rattle.hm_build.proofs.Ends.{end_fits, end_built, end_inside}
@@ -9,7 +9,7 @@ finish-requires c =
     end_fits c.args.lexer.now c.args.builder c.text.result.now c.requires.read (same_text c.args.lexer.now c.args.text.now c.text.result.now c.requires.source c.text.ensures.bytes) (short_text _ _ c.text.ensures.within c.text.ensures.short)
 
 pub refusal-requires : goal.refusal-requires
-refusal-requires c = subst (λ n. length c.text.result.now + span_of c.in-Err.fault ≤ n) c.text.ensures.len (end_inside c.args.builder c.in-Err.fault (length c.text.result.now) c.in-Err.ensures.err)
+refusal-requires c = subst (λ n. length c.text.result.now + span_of c.in-Err.fault ≤ n) c.text.ensures.len (end_inside c.args.builder c.in-Err.fault (length c.text.result.now) c.in-Err.ensures)
 
 pub returns-in-Ok-clause-built : goal.returns-in-Ok-clause-built
-returns-in-Ok-clause-built c = end_built c.args.lexer.now c.args.builder c.in-Ok.tree c.requires.read c.in-Ok.ensures.ok
+returns-in-Ok-clause-built c = end_built c.args.lexer.now c.args.builder c.in-Ok.tree c.requires.read c.in-Ok.ensures

@@ -1,4 +1,4 @@
-use Rattle.std.proofs.Common.{◌≡◌, ◌∙◌, sym, ap, subst}
+use Rattle.std.proofs.Common.{◌∙◌, sym, ap, subst}
 use Rattle.hm_lexer.specs.Reading.{Reading}
 use Rattle.hm_builder.specs.Building.{first_building}
 use Rattle.hm_build.specs.Parsing.{IsParsing}

@@ -1,5 +1,5 @@
-use Rattle.hm_refs.specs.Nodes.{IsPut, entries_of}
+use Rattle.hm_refs.specs.Nodes.{IsSpread, entries_of}
 use Rattle.hm_refs.proofs.nodes.grow.Given as goal
 
-abbrev pub invariant-loop-number : goal.invariant-loop-number
-invariant-loop-number l = IsPut (entries_of l.names) l.number l.nodes.items l.places.items
+abbrev pub invariant-loop-depth : goal.invariant-loop-depth
+invariant-loop-depth l = IsSpread (entries_of l.names) l.depth 0 l.nodes.items l.places.items

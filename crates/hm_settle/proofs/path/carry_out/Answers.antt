@@ -2,12 +2,12 @@ use Rattle.std.proofs.Common.{◌∷◌, ap, ◌∙◌, arith}
 use Rattle.hm_settle.specs.Answers.{elements_of}
 use Rattle.hm_settle.specs.Elements.{name_of}
 use Rattle.hm_settle.specs.Moves.{element}
-use Rattle.hm_settle.proofs.Kept.{length-made, path_of-pushed, IsKept-pushed, IsKept-truncated}
+use Rattle.hm_settle.proofs.Kept.{length-made, path_of-pushed, IsRoomy-pushed, IsRoomy-truncated}
 use Rattle.hm_settle.proofs.path.carry_out.Goals as goal
 
 pub make-requires-clause-kept : goal.make-requires-clause-kept
 make-requires-clause-kept c =
-    IsKept-truncated c.args.elements.now c.truncate.new.self c.args.plan.left c.requires.kept c.requires.least c.requires.most c.truncate.ensures.items c.truncate.ensures.capacity
+    IsRoomy-truncated c.args.elements.now c.truncate.new.self c.args.plan.left c.requires.kept c.requires.least c.requires.most c.truncate.ensures.items c.truncate.ensures.capacity
 
 pub push-requires-clause-room : goal.push-requires-clause-room
 push-requires-clause-room c =
@@ -15,7 +15,7 @@ push-requires-clause-room c =
 
 pub returns-in-Some-clause-kept : goal.returns-in-Some-clause-kept
 returns-in-Some-clause-kept c =
-    IsKept-pushed c.make.new.elements c.push.new.elements (element (name_of c.in-Some.name) c.args.foreign) c.make.ensures.kept
+    IsRoomy-pushed c.make.new.elements c.push.new.elements (element (name_of c.in-Some.name) c.args.foreign) c.make.ensures.kept
     (omega (arith, length-made c.truncate.new.self.items c.make.new.elements.items (elements_of c.args.plan.made) c.make.ensures.path, c.truncate.ensures.len)) c.push.ensures.pushed c.push.ensures.capacity
 
 pub returns-in-Some-clause-path : goal.returns-in-Some-clause-path

@@ -8,12 +8,12 @@ use Rattle.hm_settle.proofs.plan.left_by_start.Goals as goal
 
 pub named-requires : goal.named-requires
 named-requires c =
-    known_at c.args.elements.now _ c.index-elements-left.result c.index-elements-left.is c.requires.path.marked (omega (arith, c.loop-left.invariant))
+    known_at c.args.elements.now _ c.index-elements-left.result c.index-elements-left.is c.requires.marked (omega (arith, c.loop-left.invariant))
 
 pub loop-left-preserved : goal.loop-left-preserved
 loop-left-preserved c =
     let passes : yields (name_of c.index-elements-left.result.name) c.args.tag.name.now ≡ true = cc in
-    closes_more (yields_to c.args.tag.name.now) c.args.elements.now c.loop-left.left c.index-elements-left.result c.index-elements-left.is c.requires.path c.loop-left.invariant passes (yields_inside (name_of c.index-elements-left.result.name) c.args.tag.name.now passes)
+    closes_more (yields_to c.args.tag.name.now) c.args.elements.now c.loop-left.left c.index-elements-left.result c.index-elements-left.is c.requires c.loop-left.invariant passes (yields_inside (name_of c.index-elements-left.result.name) c.args.tag.name.now passes)
 
 pub returns-clause-left : goal.returns-clause-left
 returns-clause-left c =

@@ -14,9 +14,9 @@ returns-then-depth-gt-DEEPEST-clause-opens c =
     let o = c.index-elements-elements.result in
     let named : c.as_str.result.now ≡ name_of o.name = cc in
     let made : Makes n (path_of os) c.under-made.result =
-    makes_by os n o c.under-made.result c.requires.path c.index-elements-elements.is
+    makes_by os n o c.under-made.result c.requires c.index-elements-elements.is
     (sym (c.is_block_in_p.ensures (path_of os) c.marks-marks.ensures) ∙ c.if-is_block_in_p.false)
-    (sym (c.is_nested.ensures (path_of os) c.marks-marks.ensures) ∙ c.if-is_nested.false) (rw named at c.under-made.ensures) in
+    (sym (c.is_nested.ensures (path_of os) c.marks-marks.ensures) ∙ c.if-is_nested.false) (rw (named, c.name.ensures) at c.under-made.ensures) in
     λ closed. made_too_deep n closed (path_of os) c.under-made.result made (omega (arith, length-path_of os, c.count.ensures))
 
 pub returns-then-not-stands-clause-opens : goal.returns-then-not-stands-clause-opens
@@ -26,9 +26,9 @@ returns-then-not-stands-clause-opens c =
     let o = c.index-elements-elements.result in
     let named : c.as_str.result.now ≡ name_of o.name = cc in
     let made : Makes n (path_of os) c.under-made.result =
-    makes_by os n o c.under-made.result c.requires.path c.index-elements-elements.is
+    makes_by os n o c.under-made.result c.requires c.index-elements-elements.is
     (sym (c.is_block_in_p.ensures (path_of os) c.marks-marks.ensures) ∙ c.if-is_block_in_p.false)
-    (sym (c.is_nested.ensures (path_of os) c.marks-marks.ensures) ∙ c.if-is_nested.false) (rw named at c.under-made.ensures) in
+    (sym (c.is_nested.ensures (path_of os) c.marks-marks.ensures) ∙ c.if-is_nested.false) (rw (named, c.name.ensures) at c.under-made.ensures) in
     let stands : stands_on n (elements_of c.under-made.result ++ path_of os) ≡ false = cc in
     λ closed. misplaced n closed (path_of os) c.under-made.result made (omega (arith, length-path_of os, c.count.ensures)) stands
 
@@ -39,9 +39,9 @@ returns-then-depth-eq-DEEPEST-clause-opens c =
     let o = c.index-elements-elements.result in
     let named : c.as_str.result.now ≡ name_of o.name = cc in
     let made : Makes n (path_of os) c.under-made.result =
-    makes_by os n o c.under-made.result c.requires.path c.index-elements-elements.is
+    makes_by os n o c.under-made.result c.requires c.index-elements-elements.is
     (sym (c.is_block_in_p.ensures (path_of os) c.marks-marks.ensures) ∙ c.if-is_block_in_p.false)
-    (sym (c.is_nested.ensures (path_of os) c.marks-marks.ensures) ∙ c.if-is_nested.false) (rw named at c.under-made.ensures) in
+    (sym (c.is_nested.ensures (path_of os) c.marks-marks.ensures) ∙ c.if-is_nested.false) (rw (named, c.name.ensures) at c.under-made.ensures) in
     let stands : stands_on n (elements_of c.under-made.result ++ path_of os) ≡ true = cc in
     λ closed. too_deep n closed (path_of os) c.under-made.result made (omega (arith, length-path_of os, c.count.ensures)) stands
 
@@ -52,8 +52,8 @@ returns-clause-opens c =
     let o = c.index-elements-elements.result in
     let named : c.as_str.result.now ≡ name_of o.name = cc in
     let made : Makes n (path_of os) c.under-made.result =
-    makes_by os n o c.under-made.result c.requires.path c.index-elements-elements.is
+    makes_by os n o c.under-made.result c.requires c.index-elements-elements.is
     (sym (c.is_block_in_p.ensures (path_of os) c.marks-marks.ensures) ∙ c.if-is_block_in_p.false)
-    (sym (c.is_nested.ensures (path_of os) c.marks-marks.ensures) ∙ c.if-is_nested.false) (rw named at c.under-made.ensures) in
+    (sym (c.is_nested.ensures (path_of os) c.marks-marks.ensures) ∙ c.if-is_nested.false) (rw (named, c.name.ensures) at c.under-made.ensures) in
     let stands : stands_on n (elements_of c.under-made.result ++ path_of os) ≡ true = cc in
     λ closed. opens_there n closed (path_of os) c.under-made.result made (omega (arith, length-path_of os, c.count.ensures)) stands

@@ -10,7 +10,7 @@ put_collapsed-requires-clause-room c =
 
 pub put_collapsed-requires-clause-follows : goal.put_collapsed-requires-clause-follows
 put_collapsed-requires-clause-follows c =
-    follows c.args.conservative c.args.tree.now c.loop-i.i c.loop-i.maker c.loop-i.before (event_of c.event-event.result) c.event-event.ensures c.len-i-end.ensures.walk c.loop-i.invariant c.requires.apart
+    follows c.args.conservative c.args.tree.now c.loop-i.i c.loop-i.maker c.loop-i.before (event_of c.event-event.result) c.event-event.ensures c.len-i-end.ensures.walk c.loop-i.invariant
 
 pub behind-before-requires : goal.behind-before-requires
 behind-before-requires c =

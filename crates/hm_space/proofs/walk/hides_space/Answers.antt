@@ -4,7 +4,8 @@ use Rattle.hm_elements.specs.Names.{is_among, noscript, head}
 use Rattle.hm_elements.specs.Nesting.{is_name}
 use Rattle.hm_elements.specs.Paths.{current_name}
 use Rattle.hm_tree.specs.Views.{attributes_shown}
-use Rattle.hm_space.specs.Space.{hides_space, space_parents}
+use Rattle.hm_elements.specs.Tables.{space_parents}
+use Rattle.hm_space.specs.Space.{hides_space}
 use Rattle.hm_space.proofs.Parents.{hidden_there, hidden_at_top, hidden_by_name, hidden_in_head, shown, shown_in_svg}
 use Rattle.hm_space.proofs.walk.hides_space.Goals as goal
 

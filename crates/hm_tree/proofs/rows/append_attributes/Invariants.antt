@@ -1,10 +1,9 @@
-use Rattle.std.proofs.Common.{◌+◌, ◌-◌, ◌^◌, ◌<◌, ◌≤◌, take, drop, length, string_bytes, string_len, string_capacity, vec_len, vec_capacity}
-use Rattle.hm_base.specs.Walks.{attributes_size}
-use Rattle.hm_tree.specs.Pieces.{IsAppended}
+use Rattle.std.proofs.Common.{◌+◌, ◌-◌, ◌^◌, ◌<◌, ◌≤◌, length, vec_len, vec_capacity, string_bytes}
+use Rattle.hm_tree.specs.Pieces.{texts_of}
+use Rattle.hm_tree.proofs.PairLemmas.{AreAppended}
 use Rattle.hm_tree.proofs.rows.append_attributes.Given as goal
 
-abbrev pub invariant-loop-i : goal.invariant-loop-i
-invariant-loop-i l =
-    (string_len l.text + attributes_size (drop l.i l.attrs) ≤ string_capacity l.text) × (length (string_bytes l.text) + attributes_size (drop l.i l.attrs) < 2 ^ 32)
-    × (vec_len l.attributes + (length l.attrs - l.i) ≤ vec_capacity l.attributes) × (length l.attributes.items + (length l.attrs - l.i) < 2 ^ 32)
-    × IsAppended (string_bytes l.initial.text) l.initial.attributes.items (take l.i l.attrs) (string_bytes l.text) l.attributes.items
+abbrev pub invariant-loop-pair : goal.invariant-loop-pair
+invariant-loop-pair l =
+    (vec_len l.attributes + (length l.pair-items - l.pair-index) ≤ vec_capacity l.attributes) × (length l.attributes.items + (length l.pair-items - l.pair-index) < 2 ^ 32)
+    × AreAppended (string_bytes l.fn.text) (texts_of l.attrs) l.fn.attributes.items l.attributes.items l.pair-items l.pair-index

@@ -3,10 +3,10 @@ use Rattle.hm_elements.specs.Names.{html}
 use Rattle.hm_builder.proofs.EndTags.{past_body_done, end_past_body}
 use Rattle.hm_builder.proofs.parts.Parts.end_behind_body.Goals as goal
 
-pub returns-then-eq-clause-ok : goal.returns-then-eq-clause-ok
-returns-then-eq-clause-ok c = past_body_done c.args.self.now c.args.name.now c.requires.insertion_mode c.requires.no_text (sym c.eq.ensures ∙ c.if-eq.true) c.requires.kept
+pub returns-then-eq : goal.returns-then-eq
+returns-then-eq c = past_body_done c.args.self.now c.args.name.now c.requires.insertion_mode c.requires.no_text (sym c.eq.ensures ∙ c.if-eq.true) c.requires.kept
 
-pub returns-else-eq-clause-err : goal.returns-else-eq-clause-err
-returns-else-eq-clause-err c =
+pub returns-else-eq : goal.returns-else-eq
+returns-else-eq c =
     let other : bytes_eq c.args.name.now html ≡ false = sym c.eq.ensures ∙ c.if-eq.false in
     rw c.from.ensures (end_past_body c.args.self.now c.args.name.now c.requires.insertion_mode c.requires.no_text ∙ (rw other refl))

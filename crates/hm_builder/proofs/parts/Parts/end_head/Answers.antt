@@ -11,7 +11,4 @@ close_made_head-requires-clause-room c =
 pub returns : goal.returns
 returns c =
     let p = c.args.self.now in
-    record {
-      ok = head_done p.maker p.path p.drops_line_feed p.behind_body p.behind_html p.insertion_mode c.close_made_head.new.maker c.requires.unbegun c.in_default.not-AfterHead c.requires.kept c.in_ok-close_made_head.ensures;
-      err = tt;
-    }
+    head_done p.maker p.path p.drops_line_feed p.behind_body p.behind_html p.insertion_mode c.close_made_head.new.maker c.requires.unbegun c.in_default.not-AfterHead c.requires.kept c.in_ok-close_made_head.ensures

@@ -1,8 +1,8 @@
-use Rattle.std.proofs.Common.{◌≡◌, false, IfErr, OnOk, sym, ap, subst, ◌∙◌}
+use Rattle.std.proofs.Common.{◌≡◌, false, sym, ap, subst, ◌∙◌}
 use Rattle.hm_elements.specs.Paths as paths
 use Rattle.hm_construction.specs.Steps.{Stepped}
-use Rattle.hm_builder.specs.Building.{Fits, IsRefused}
-use Rattle.hm_builder.specs.Inside.{open_path, IsDone}
+use Rattle.hm_builder.specs.Building.{Fits}
+use Rattle.hm_builder.specs.Inside.{open_path, Takes}
 use Rattle.hm_builder.proofs.EndTags.{end_in_text, end_past_html}
 use Rattle.hm_builder.proofs.parts.Parts.end_in_body.Goals as goal
 
@@ -11,18 +11,13 @@ end_inner-requires-clause-room c =
     let p = c.args.self.now in
     subst (λ s. Fits s p.maker) (end_in_text p c.args.name.now c.requires.body (sym c.is_in_text.ensures ∙ c.if-is_in_text.true)) c.requires.room
 
-pub returns-then-is_in_text-clause-ok : goal.returns-then-is_in_text-clause-ok
-returns-then-is_in_text-clause-ok c =
+pub returns-then-is_in_text : goal.returns-then-is_in_text
+returns-then-is_in_text c =
     let p = c.args.self.now in
-    subst (λ (s : Stepped). OnOk c.end_inner.result (IsDone s p c.end_inner.new.self)) (sym (end_in_text p c.args.name.now c.requires.body (sym c.is_in_text.ensures ∙ c.if-is_in_text.true))) c.end_inner.ensures.ok
+    subst (λ (s : Stepped). Takes s c.end_inner.result p c.end_inner.new.self) (sym (end_in_text p c.args.name.now c.requires.body (sym c.is_in_text.ensures ∙ c.if-is_in_text.true))) c.end_inner.ensures
 
-pub returns-then-is_in_text-clause-err : goal.returns-then-is_in_text-clause-err
-returns-then-is_in_text-clause-err c =
-    let p = c.args.self.now in
-    subst (λ (s : Stepped). IfErr c.end_inner.result (IsRefused s)) (sym (end_in_text p c.args.name.now c.requires.body (sym c.is_in_text.ensures ∙ c.if-is_in_text.true))) c.end_inner.ensures.err
-
-pub returns-in-AfterHtml-clause-err : goal.returns-in-AfterHtml-clause-err
-returns-in-AfterHtml-clause-err c =
+pub returns-in-AfterHtml : goal.returns-in-AfterHtml
+returns-in-AfterHtml c =
     let p = c.args.self.now in
     let no_text : paths.is_in_text p.path ≡ false = ap (λ ph. paths.is_in_text (open_path ph p.path)) (sym c.in-AfterHtml.is) ∙ sym c.is_in_text.ensures ∙ c.if-is_in_text.false in
     rw c.from.ensures (end_past_html p c.args.name.now c.in-AfterHtml.is no_text)

@@ -3,7 +3,7 @@ use Rattle.hm_elements.specs.Paths as paths
 use Rattle.hm_construction.specs.Steps.{step_end, stops}
 use Rattle.hm_base.specs.declared.rules.Rule.TheVariants.{StrayEnd, NotCurrent}
 use Rattle.hm_builder.specs.Inside.{state_of, inside_head, under_noscript, is_noscript_around, IsDone}
-use Rattle.hm_builder.specs.declared.insertion.InsertionMode.TheVariants.{InHead}
+use Rattle.hm_builder.specs.declared.insertion.BuilderMode.TheVariants.{InHead}
 use Rattle.hm_builder.proofs.Unbegun.{inside_done, inside_refused, inside_open, at_its_mode, kept_at}
 use Rattle.hm_builder.proofs.parts.Parts.end_inside_head.Goals as goal
 
@@ -13,8 +13,8 @@ end-requires c =
     let ph = InHead c.args.noscript c.args.text in
     inside_open p.maker p.path p.drops_line_feed p.behind_body p.behind_html c.args.noscript c.args.text c.requires.inner (kept_at p ph c.requires.insertion_mode c.requires.kept)
 
-pub returns-then-eq-clause-ok : goal.returns-then-eq-clause-ok
-returns-then-eq-clause-ok c =
+pub returns-then-eq : goal.returns-then-eq
+returns-then-eq c =
     let p = c.args.self.now in
     let n = c.args.name.now in
     let ph = InHead c.args.noscript c.args.text in
@@ -23,8 +23,8 @@ returns-then-eq-clause-ok c =
     (at_its_mode (λ q. IsDone (step_end n (state_of q)) q (record p { maker = c.end.new.self; insertion_mode = InHead (is_noscript_around c.args.noscript c.args.text) None })) p ph c.requires.insertion_mode
     (inside_done p.maker p.path p.drops_line_feed p.behind_body p.behind_html n c.args.noscript c.args.text c.end.new.self c.requires.inner same (kept_at p ph c.requires.insertion_mode c.requires.kept) c.in_ok-end.ensures.ok))
 
-pub returns-then-is_open_in_head-clause-err : goal.returns-then-is_open_in_head-clause-err
-returns-then-is_open_in_head-clause-err c =
+pub returns-then-is_open_in_head : goal.returns-then-is_open_in_head
+returns-then-is_open_in_head c =
     let p = c.args.self.now in
     let n = c.args.name.now in
     let ph = InHead c.args.noscript c.args.text in
@@ -33,8 +33,8 @@ returns-then-is_open_in_head-clause-err c =
     rw c.from.ensures
     (at_its_mode (λ q. step_end n (state_of q) ≡ stops NotCurrent 0) p ph c.requires.insertion_mode (inside_refused p.maker p.path p.drops_line_feed p.behind_body p.behind_html n c.args.noscript c.args.text true c.requires.inner other there))
 
-pub returns-clause-err : goal.returns-clause-err
-returns-clause-err c =
+pub returns : goal.returns
+returns c =
     let p = c.args.self.now in
     let n = c.args.name.now in
     let ph = InHead c.args.noscript c.args.text in

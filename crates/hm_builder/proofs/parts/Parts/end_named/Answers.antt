@@ -1,24 +1,24 @@
-use Rattle.std.proofs.Common.{◌≡◌, Err, refl, ap, sym, subst}
+use Rattle.std.proofs.Common.{Err, refl, ap}
 use Rattle.hm_construction.specs.Steps.{after_end_moves}
 use Rattle.hm_settle.specs.Moves.{end_moves}
 use Rattle.hm_builder.specs.Building.{IsRefused, of_settle}
 use Rattle.hm_builder.specs.Inside.{state_of}
-use Rattle.hm_builder.proofs.EndTags.{ends_done, ends_within, settle_refused, err_from}
+use Rattle.hm_builder.proofs.EndTags.{ends_done, ends_within, settle_refused, takes_fault}
 use Rattle.hm_builder.proofs.parts.Parts.end_named.Goals as goal
 
-pub returns-in_err-moves-clause-err : goal.returns-in_err-moves-clause-err
-returns-in_err-moves-clause-err c =
+pub returns-in_err-moves : goal.returns-in_err-moves
+returns-in_err-moves c =
     let p = c.args.self.now in
     let n = c.args.name.now in
     let fault = c.in_err-moves.field-0.0 in
     let s = after_end_moves (state_of p) (end_moves n p.path) in
     let refused : IsRefused s (of_settle fault) =
     settle_refused fault (end_moves n p.path) (after_end_moves (state_of p)) (λ rule. refl) (λ rule e. (c.in_err-moves.ensures.rule rule).0 (ap Err e)) in
-    err_from c.from_residual.result (λ e. e ≡ of_settle fault) (IsRefused s) c.from_residual.ensures.1 (λ e is. subst (IsRefused s) (sym is) refused)
+    takes_fault c.from_residual.result (of_settle fault) s p _ c.from_residual.ensures.1 refused
 
 pub end_elements-requires : goal.end_elements-requires
 end_elements-requires c = ends_within c.args.self.now c.args.name.now c.in_ok-moves.moves c.end.new.self c.requires.body c.requires.kept c.in_ok-moves.ensures.ok
 
-pub returns-clause-ok : goal.returns-clause-ok
-returns-clause-ok c =
+pub returns : goal.returns
+returns c =
     ends_done c.args.self.now c.args.name.now c.in_ok-moves.moves c.end.new.self c.end_elements.new.maker c.requires.body c.requires.kept c.in_ok-moves.ensures.ok c.in_ok-end_elements.ensures

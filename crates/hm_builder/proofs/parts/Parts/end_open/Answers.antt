@@ -1,9 +1,9 @@
-use Rattle.std.proofs.Common.{◌≡◌, IfErr, OnOk, sym, subst, ◌∙◌}
+use Rattle.std.proofs.Common.{◌≡◌, sym, subst, ◌∙◌}
 use Rattle.hm_elements.specs.Names.{body, head, html}
 use Rattle.hm_elements.proofs.TableTools.{same_bytes}
 use Rattle.hm_construction.specs.Steps.{Stepped}
-use Rattle.hm_builder.specs.Building.{Fits, IsRefused}
-use Rattle.hm_builder.specs.Inside.{IsDone}
+use Rattle.hm_builder.specs.Building.{Fits}
+use Rattle.hm_builder.specs.Inside.{Takes}
 use Rattle.hm_builder.proofs.EndTags.{unlike, end_in_svg, head_in_body, body_in_body, html_in_body, other_in_body}
 use Rattle.hm_builder.proofs.parts.Parts.end_open.Goals as goal
 
@@ -12,50 +12,29 @@ end_inner-requires-clause-room c =
     let p = c.args.self.now in
     subst (λ s. Fits s p.maker) (end_in_svg p c.args.name.now c.requires.insertion_mode c.requires.no_text (sym c.is_in_svg.ensures ∙ c.if-is_in_svg.true)) c.requires.room
 
-pub returns-then-is_in_svg-clause-ok : goal.returns-then-is_in_svg-clause-ok
-returns-then-is_in_svg-clause-ok c =
+pub returns-then-is_in_svg : goal.returns-then-is_in_svg
+returns-then-is_in_svg c =
     let p = c.args.self.now in
-    subst (λ (s : Stepped). OnOk c.end_inner.result (IsDone s p c.end_inner.new.self)) (sym (end_in_svg p c.args.name.now c.requires.insertion_mode c.requires.no_text (sym c.is_in_svg.ensures ∙ c.if-is_in_svg.true))) c.end_inner.ensures.ok
+    subst (λ (s : Stepped). Takes s c.end_inner.result p c.end_inner.new.self) (sym (end_in_svg p c.args.name.now c.requires.insertion_mode c.requires.no_text (sym c.is_in_svg.ensures ∙ c.if-is_in_svg.true))) c.end_inner.ensures
 
-pub returns-then-is_in_svg-clause-err : goal.returns-then-is_in_svg-clause-err
-returns-then-is_in_svg-clause-err c =
-    let p = c.args.self.now in
-    subst (λ (s : Stepped). IfErr c.end_inner.result (IsRefused s)) (sym (end_in_svg p c.args.name.now c.requires.insertion_mode c.requires.no_text (sym c.is_in_svg.ensures ∙ c.if-is_in_svg.true))) c.end_inner.ensures.err
-
-pub returns-then-same_name-clause-ok : goal.returns-then-same_name-clause-ok
-returns-then-same_name-clause-ok c =
+pub returns-then-same_name : goal.returns-then-same_name
+returns-then-same_name c =
     let p = c.args.self.now in
     let n = c.args.name.now in
     let is : n ≡ body = same_bytes n body (sym c.same_name.ensures ∙ c.if-same_name.true) in
     let no_svg = sym c.is_in_svg.ensures ∙ c.if-is_in_svg.false in
-    subst (λ (s : Stepped). OnOk c.leave_body.result (IsDone s p c.leave_body.new.self)) (sym (body_in_body p n c.requires.insertion_mode c.requires.no_text no_svg is)) c.leave_body.ensures.ok
+    subst (λ (s : Stepped). Takes s c.leave_body.result p c.leave_body.new.self) (sym (body_in_body p n c.requires.insertion_mode c.requires.no_text no_svg is)) c.leave_body.ensures
 
-pub returns-then-same_name-clause-err : goal.returns-then-same_name-clause-err
-returns-then-same_name-clause-err c =
-    let p = c.args.self.now in
-    let n = c.args.name.now in
-    let is : n ≡ body = same_bytes n body (sym c.same_name.ensures ∙ c.if-same_name.true) in
-    let no_svg = sym c.is_in_svg.ensures ∙ c.if-is_in_svg.false in
-    subst (λ (s : Stepped). IfErr c.leave_body.result (IsRefused s)) (sym (body_in_body p n c.requires.insertion_mode c.requires.no_text no_svg is)) c.leave_body.ensures.err
-
-pub returns-then-same_name-2-clause-ok : goal.returns-then-same_name-2-clause-ok
-returns-then-same_name-2-clause-ok c =
+pub returns-then-same_name-2 : goal.returns-then-same_name-2
+returns-then-same_name-2 c =
     let p = c.args.self.now in
     let n = c.args.name.now in
     let is : n ≡ html = same_bytes n html (sym c.same_name-2.ensures ∙ c.if-same_name-2.true) in
     let no_svg = sym c.is_in_svg.ensures ∙ c.if-is_in_svg.false in
-    subst (λ (s : Stepped). OnOk c.leave_body-then-same_name-2.result (IsDone s p c.leave_body-then-same_name-2.new.self)) (sym (html_in_body p n c.requires.insertion_mode c.requires.no_text no_svg is)) c.leave_body-then-same_name-2.ensures.ok
+    subst (λ (s : Stepped). Takes s c.leave_body-then-same_name-2.result p c.leave_body-then-same_name-2.new.self) (sym (html_in_body p n c.requires.insertion_mode c.requires.no_text no_svg is)) c.leave_body-then-same_name-2.ensures
 
-pub returns-then-same_name-2-clause-err : goal.returns-then-same_name-2-clause-err
-returns-then-same_name-2-clause-err c =
-    let p = c.args.self.now in
-    let n = c.args.name.now in
-    let is : n ≡ html = same_bytes n html (sym c.same_name-2.ensures ∙ c.if-same_name-2.true) in
-    let no_svg = sym c.is_in_svg.ensures ∙ c.if-is_in_svg.false in
-    subst (λ (s : Stepped). IfErr c.leave_body-then-same_name-2.result (IsRefused s)) (sym (html_in_body p n c.requires.insertion_mode c.requires.no_text no_svg is)) c.leave_body-then-same_name-2.ensures.err
-
-pub returns-then-same_name-3-clause-err : goal.returns-then-same_name-3-clause-err
-returns-then-same_name-3-clause-err c =
+pub returns-then-same_name-3 : goal.returns-then-same_name-3
+returns-then-same_name-3 c =
     let n = c.args.name.now in
     let is : n ≡ head = same_bytes n head (sym c.same_name-3.ensures ∙ c.if-same_name-3.true) in
     let no_svg = sym c.is_in_svg.ensures ∙ c.if-is_in_svg.false in
@@ -67,18 +46,10 @@ end_named-requires-clause-not_body c = unlike c.args.name.now body (sym c.same_n
 pub end_named-requires-clause-not_html : goal.end_named-requires-clause-not_html
 end_named-requires-clause-not_html c = unlike c.args.name.now html (sym c.same_name-2.ensures ∙ c.if-same_name-2.false)
 
-pub returns-clause-ok : goal.returns-clause-ok
-returns-clause-ok c =
+pub returns : goal.returns
+returns c =
     let p = c.args.self.now in
     let n = c.args.name.now in
     let no_svg = sym c.is_in_svg.ensures ∙ c.if-is_in_svg.false in
-    subst (λ (s : Stepped). OnOk c.end_named.result (IsDone s p c.end_named.new.self))
-    (sym (other_in_body p n c.requires.insertion_mode c.requires.no_text no_svg (sym c.same_name-3.ensures ∙ c.if-same_name-3.false) (sym c.same_name.ensures ∙ c.if-same_name.false) (sym c.same_name-2.ensures ∙ c.if-same_name-2.false))) c.end_named.ensures.ok
-
-pub returns-clause-err : goal.returns-clause-err
-returns-clause-err c =
-    let p = c.args.self.now in
-    let n = c.args.name.now in
-    let no_svg = sym c.is_in_svg.ensures ∙ c.if-is_in_svg.false in
-    subst (λ (s : Stepped). IfErr c.end_named.result (IsRefused s))
-    (sym (other_in_body p n c.requires.insertion_mode c.requires.no_text no_svg (sym c.same_name-3.ensures ∙ c.if-same_name-3.false) (sym c.same_name.ensures ∙ c.if-same_name.false) (sym c.same_name-2.ensures ∙ c.if-same_name-2.false))) c.end_named.ensures.err
+    subst (λ (s : Stepped). Takes s c.end_named.result p c.end_named.new.self)
+    (sym (other_in_body p n c.requires.insertion_mode c.requires.no_text no_svg (sym c.same_name-3.ensures ∙ c.if-same_name-3.false) (sym c.same_name.ensures ∙ c.if-same_name.false) (sym c.same_name-2.ensures ∙ c.if-same_name-2.false))) c.end_named.ensures

@@ -2,13 +2,13 @@ use Rattle.std.proofs.Common.{[], sym, subst, ◌∙◌}
 use Rattle.hm_builder.proofs.Over.{over_text, over, Over, finishes}
 use Rattle.hm_builder.proofs.parts.Parts.finish.Goals as goal
 
-pub returns-then-is_in_text-clause-err : goal.returns-then-is_in_text-clause-err
-returns-then-is_in_text-clause-err c =
+pub returns-then-is_in_text : goal.returns-then-is_in_text
+returns-then-is_in_text c =
     let p = c.args.self in
     rw c.from.ensures (over_text p.maker p.path p.drops_line_feed p.behind_body p.behind_html p.insertion_mode (sym c.is_in_text.ensures ∙ c.if-is_in_text.true))
 
-pub returns-in-Some-clause-err : goal.returns-in-Some-clause-err
-returns-in-Some-clause-err c =
+pub returns-in-Some : goal.returns-in-Some
+returns-in-Some c =
     let p = c.args.self in
     let no_text = sym c.is_in_text.ensures ∙ c.if-is_in_text.false in
     rw c.from-in-Some.ensures
@@ -45,8 +45,8 @@ finish-requires c =
     let is = rw (c.in_ok-make_missing.ensures, c.as_slice.ensures.value, c.as_slice-2.ensures.value) at c.in_ok-close_all.ensures in
     rw is (finishes p [] no_text c.in_default.ensures c.requires.kept c.len-depth.ensures.begins c.requires.room).closes
 
-pub returns-clause-ok : goal.returns-clause-ok
-returns-clause-ok c =
+pub returns : goal.returns
+returns c =
     let p = c.args.self in
     let no_text = sym c.is_in_text.ensures ∙ c.if-is_in_text.false in
     let is = rw (c.in_ok-make_missing.ensures, c.as_slice.ensures.value, c.as_slice-2.ensures.value) at c.in_ok-close_all.ensures in

@@ -15,8 +15,8 @@ close_made_head-requires-clause-room c =
     (subst HasRoom (sym (append_assoc p.maker (head_ended p.insertion_mode) (start body false c.args.attrs ∷ [])))
     (fits_by _ (head_ended p.insertion_mode ++ start body false c.args.attrs ∷ []) _ p.maker (body_went p.maker p.path p.drops_line_feed p.behind_body p.behind_html c.args.attrs p.insertion_mode c.requires.unbegun) c.requires.room))
 
-pub returns-clause-ok : goal.returns-clause-ok
-returns-clause-ok c =
+pub returns : goal.returns
+returns c =
     let p = c.args.self.now in
     body_done p.maker p.path p.drops_line_feed p.behind_body p.behind_html c.args.attrs p.insertion_mode c.start.new.self c.requires.unbegun c.requires.kept
     (c.in_ok-start.ensures.ok ∙ ap (λ w. w ++ start body false c.args.attrs ∷ []) c.in_ok-close_made_head.ensures)

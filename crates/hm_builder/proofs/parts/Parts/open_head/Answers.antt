@@ -7,8 +7,8 @@ use Rattle.hm_builder.proofs.parts.Parts.open_head.Goals as goal
 pub make_only_html-requires : goal.make_only_html-requires
 make_only_html-requires c = html_room c.args.self.now c.args.attrs c.in-BeforeHtml.is c.requires.room
 
-pub returns-in_ok-start-in-BeforeHtml-clause-ok : goal.returns-in_ok-start-in-BeforeHtml-clause-ok
-returns-in_ok-start-in-BeforeHtml-clause-ok c =
+pub returns-in_ok-start-in-BeforeHtml : goal.returns-in_ok-start-in-BeforeHtml
+returns-in_ok-start-in-BeforeHtml c =
     let p = c.args.self.now in
     let is = c.in_ok-start-in-BeforeHtml.ensures.ok ∙ ap (λ w. w ++ start head false c.args.attrs ∷ []) c.in_ok-make_only_html-in-BeforeHtml.ensures in
     ⊎_elim (λ e. head_done_first p c.args.attrs c.start.new.self c.requires.kept e is) (λ e. head_done_next p c.args.attrs c.start.new.self c.requires.kept e is) c.in-BeforeHtml.is

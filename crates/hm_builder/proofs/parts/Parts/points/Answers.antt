@@ -19,16 +19,16 @@ text-requires-clause-room c =
     let is = c.as_str.ensures.value ∙ c.in_ok-text.ensures in
     rw is (front_fits (step_bytes (encode_utf8_all (points_of c.args.points)) (state_of p)) p.maker (subst (λ s. Fits s p.maker) (points_step (points_of c.args.points) (state_of p)) c.requires.room))
 
-pub returns-in-Ok-clause-ok : goal.returns-in-Ok-clause-ok
-returns-in-Ok-clause-ok c =
+pub returns-in-Ok : goal.returns-in-Ok
+returns-in-Ok c =
     let p = c.args.self.now in
     let is = c.as_str.ensures.value ∙ c.in_ok-text.ensures in
     let s = step_bytes (encode_utf8_all (points_of c.args.points)) (state_of p) in
-    subst (λ (x : Stepped). IsDone x p c.text.new.self) (sym (points_step (points_of c.args.points) (state_of p))) (front_done s p c.text.new.self (rw is at c.in-Ok.ensures.ok))
+    subst (λ (x : Stepped). IsDone x p c.text.new.self) (sym (points_step (points_of c.args.points) (state_of p))) (front_done s p c.text.new.self (rw is at c.in-Ok.ensures))
 
-pub returns-clause-err : goal.returns-clause-err
-returns-clause-err c =
+pub returns : goal.returns
+returns c =
     let p = c.args.self.now in
     let is = c.as_str.ensures.value ∙ c.in_ok-text.ensures in
     let s = step_bytes (encode_utf8_all (points_of c.args.points)) (state_of p) in
-    rw (points_step (points_of c.args.points) (state_of p), c.at_front.ensures) (front_refused s c.in-Err.fault (rw is at c.in-Err.ensures.err))
+    rw (points_step (points_of c.args.points) (state_of p), c.at_front.ensures) (front_refused s c.in-Err.fault (rw is at c.in-Err.ensures))

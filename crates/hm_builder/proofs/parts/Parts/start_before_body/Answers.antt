@@ -1,7 +1,7 @@
-use Rattle.std.proofs.Common.{IfErr, OnOk, sym, subst}
+use Rattle.std.proofs.Common.{sym, subst}
 use Rattle.hm_construction.specs.Steps.{Stepped}
-use Rattle.hm_builder.specs.Building.{Fits, IsRefused}
-use Rattle.hm_builder.specs.Inside.{IsDone}
+use Rattle.hm_builder.specs.Building.{Fits}
+use Rattle.hm_builder.specs.Inside.{Takes}
 use Rattle.hm_builder.proofs.BeforeBody.{noscript_alone, head_alone, noscript_step}
 use Rattle.hm_builder.proofs.parts.Parts.start_before_body.Goals as goal
 
@@ -19,16 +19,9 @@ pub start_in_head-requires-clause-takes : goal.start_in_head-requires-clause-tak
 start_in_head-requires-clause-takes c =
     head_alone c.args.self.now.insertion_mode c.args.self.now.path c.in-InHead.noscript c.in-InHead.text c.in-InHead.is c.if-noscript.false c.requires.not_text
 
-pub returns-then-noscript-clause-ok : goal.returns-then-noscript-clause-ok
-returns-then-noscript-clause-ok c =
+pub returns-then-noscript : goal.returns-then-noscript
+returns-then-noscript c =
     let p = c.args.self.now in
     let alone = noscript_alone p.insertion_mode p.path c.in-InHead.noscript c.in-InHead.text c.in-InHead.is c.if-noscript.true c.requires.not_text in
-    subst (λ (s : Stepped). OnOk c.start_in_noscript.result (IsDone s p c.start_in_noscript.new.self))
-    (sym (noscript_step p c.args.name.now c.args.attrs c.args.slash alone)) c.start_in_noscript.ensures.ok
-
-pub returns-then-noscript-clause-err : goal.returns-then-noscript-clause-err
-returns-then-noscript-clause-err c =
-    let p = c.args.self.now in
-    let alone = noscript_alone p.insertion_mode p.path c.in-InHead.noscript c.in-InHead.text c.in-InHead.is c.if-noscript.true c.requires.not_text in
-    subst (λ (s : Stepped). IfErr c.start_in_noscript.result (IsRefused s))
-    (sym (noscript_step p c.args.name.now c.args.attrs c.args.slash alone)) c.start_in_noscript.ensures.err
+    subst (λ (s : Stepped). Takes s c.start_in_noscript.result p c.start_in_noscript.new.self)
+    (sym (noscript_step p c.args.name.now c.args.attrs c.args.slash alone)) c.start_in_noscript.ensures

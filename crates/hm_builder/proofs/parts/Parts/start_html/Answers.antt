@@ -1,8 +1,8 @@
-use Rattle.std.proofs.Common.{◌≡◌, IfErr, OnOk, false, sym, subst, ◌∙◌}
+use Rattle.std.proofs.Common.{◌≡◌, false, sym, subst, ◌∙◌}
 use Rattle.hm_elements.specs.Tables.{is_root, is_refused}
 use Rattle.hm_construction.specs.Steps.{Stepped}
-use Rattle.hm_builder.specs.Building.{Fits, IsRefused}
-use Rattle.hm_builder.specs.Inside.{state_of, IsDone}
+use Rattle.hm_builder.specs.Building.{Fits}
+use Rattle.hm_builder.specs.Inside.{state_of, Takes}
 use Rattle.hm_builder.proofs.Started.{no_svg_before, name_refused, name_inside, name_root}
 use Rattle.hm_builder.proofs.parts.Parts.start_html.Goals as goal
 
@@ -14,18 +14,13 @@ open_root-requires-clause-room c =
     let p = c.args.self.now in
     subst (λ s. Fits s p.maker) (name_root c.args.name.now c.args.attrs c.args.slash (state_of p) (sym c.is_root.ensures ∙ c.if-is_root.true)) c.requires.room
 
-pub returns-then-is_refused-clause-err : goal.returns-then-is_refused-clause-err
-returns-then-is_refused-clause-err c = rw c.from.ensures (name_refused c.args.name.now c.args.attrs c.args.slash (state_of c.args.self.now) (sym c.is_refused.ensures ∙ c.if-is_refused.true))
+pub returns-then-is_refused : goal.returns-then-is_refused
+returns-then-is_refused c = rw c.from.ensures (name_refused c.args.name.now c.args.attrs c.args.slash (state_of c.args.self.now) (sym c.is_refused.ensures ∙ c.if-is_refused.true))
 
-pub returns-then-is_root-clause-ok : goal.returns-then-is_root-clause-ok
-returns-then-is_root-clause-ok c =
+pub returns-then-is_root : goal.returns-then-is_root
+returns-then-is_root c =
     let p = c.args.self.now in
-    subst (λ (s : Stepped). OnOk c.open_root.result (IsDone s p c.open_root.new.self)) (sym (name_root c.args.name.now c.args.attrs c.args.slash (state_of p) (sym c.is_root.ensures ∙ c.if-is_root.true))) c.open_root.ensures.ok
-
-pub returns-then-is_root-clause-err : goal.returns-then-is_root-clause-err
-returns-then-is_root-clause-err c =
-    let p = c.args.self.now in
-    subst (λ (s : Stepped). IfErr c.open_root.result (IsRefused s)) (sym (name_root c.args.name.now c.args.attrs c.args.slash (state_of p) (sym c.is_root.ensures ∙ c.if-is_root.true))) c.open_root.ensures.err
+    subst (λ (s : Stepped). Takes s c.open_root.result p c.open_root.new.self) (sym (name_root c.args.name.now c.args.attrs c.args.slash (state_of p) (sym c.is_root.ensures ∙ c.if-is_root.true))) c.open_root.ensures
 
 pub start_before_body-requires-clause-room : goal.start_before_body-requires-clause-room
 start_before_body-requires-clause-room c =
@@ -34,16 +29,9 @@ start_before_body-requires-clause-room c =
     let no_root : is_root c.args.name.now ≡ false = sym c.is_root.ensures ∙ c.if-is_root.false in
     subst (λ s. Fits s p.maker) (name_inside c.args.name.now c.args.attrs c.args.slash (state_of p) plain no_root) c.requires.room
 
-pub returns-clause-ok : goal.returns-clause-ok
-returns-clause-ok c =
+pub returns : goal.returns
+returns c =
     let p = c.args.self.now in
     let plain : is_refused c.args.name.now ≡ false = sym c.is_refused.ensures ∙ c.if-is_refused.false in
     let no_root : is_root c.args.name.now ≡ false = sym c.is_root.ensures ∙ c.if-is_root.false in
-    subst (λ (s : Stepped). OnOk c.start_before_body.result (IsDone s p c.start_before_body.new.self)) (sym (name_inside c.args.name.now c.args.attrs c.args.slash (state_of p) plain no_root)) c.start_before_body.ensures.ok
-
-pub returns-clause-err : goal.returns-clause-err
-returns-clause-err c =
-    let p = c.args.self.now in
-    let plain : is_refused c.args.name.now ≡ false = sym c.is_refused.ensures ∙ c.if-is_refused.false in
-    let no_root : is_root c.args.name.now ≡ false = sym c.is_root.ensures ∙ c.if-is_root.false in
-    subst (λ (s : Stepped). IfErr c.start_before_body.result (IsRefused s)) (sym (name_inside c.args.name.now c.args.attrs c.args.slash (state_of p) plain no_root)) c.start_before_body.ensures.err
+    subst (λ (s : Stepped). Takes s c.start_before_body.result p c.start_before_body.new.self) (sym (name_inside c.args.name.now c.args.attrs c.args.slash (state_of p) plain no_root)) c.start_before_body.ensures

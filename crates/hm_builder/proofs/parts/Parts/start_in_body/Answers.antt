@@ -1,10 +1,10 @@
-use Rattle.std.proofs.Common.{◌≡◌, Err, refl, ap, sym, subst}
+use Rattle.std.proofs.Common.{Err, refl, ap}
 use Rattle.hm_construction.specs.Steps.{reach_body, start_in_body}
 use Rattle.hm_builder.specs.Building.{IsRefused, of_settle}
-use Rattle.hm_builder.specs.Inside.{insertion_mode_of, state_of, IsEntered, IsDone}
-use Rattle.hm_builder.specs.declared.insertion.InsertionMode.TheVariants.{InBody}
-use Rattle.hm_builder.proofs.Dropped.{on_ok}
-use Rattle.hm_builder.proofs.EndTags.{err_from}
+use Rattle.hm_builder.specs.Inside.{insertion_mode_of, state_of, IsEntered}
+use Rattle.hm_builder.specs.declared.insertion.BuilderMode.TheVariants.{InBody}
+use Rattle.hm_builder.proofs.Dropped.{takes_unless_memory}
+use Rattle.hm_builder.proofs.EndTags.{takes_fault}
 use Rattle.hm_builder.proofs.Opened.{body_start, refused_start, opens_no_root}
 use Rattle.hm_builder.proofs.parts.Parts.start_in_body.Goals as goal
 
@@ -38,22 +38,22 @@ close_at_once-requires c =
     rw c.opens_as_svg-foreign.ensures ((body_start p n c.args.attrs c.args.slash c.in_ok-moves.moves c.start.new.self c.requires.reach c.requires.kept c.requires.all st (opens_no_root n p.path _ _ _ st.moved.does_move) c.requires.room).opened
     (record p { maker = c.move_and_start.new.maker; insertion_mode = InBody; path = c.start.new.self }) refl refl c.requires.all made)
 
-pub returns-clause-ok : goal.returns-clause-ok
-returns-clause-ok c =
+pub returns : goal.returns
+returns c =
     let p = c.args.self.now in
     let n = c.args.name.now in
     let st = c.in_ok-moves.ensures.ok in
     let made = rw (c.in_ok-make_missing.ensures, c.opens_as_svg-foreign.ensures) at c.in_ok-move_and_start.ensures in
     let q = record p { maker = c.move_and_start.new.maker; insertion_mode = InBody; path = c.start.new.self } in
-    on_ok c.close_at_once.result (IsEntered c.args.slash q c.close_at_once.new.self) (IsDone (reach_body (insertion_mode_of p.insertion_mode) (start_in_body n c.args.attrs c.args.slash) (state_of p)) p c.close_at_once.new.self)
-    (λ e. (body_start p n c.args.attrs c.args.slash c.in_ok-moves.moves c.start.new.self c.requires.reach c.requires.kept c.requires.all st (opens_no_root n p.path _ _ _ st.moved.does_move) c.requires.room).done q c.close_at_once.new.self refl refl made e) c.close_at_once.ensures.ok
+    takes_unless_memory c.close_at_once.result (reach_body (insertion_mode_of p.insertion_mode) (start_in_body n c.args.attrs c.args.slash) (state_of p)) p c.close_at_once.new.self (IsEntered c.args.slash q c.close_at_once.new.self)
+    (λ e. (body_start p n c.args.attrs c.args.slash c.in_ok-moves.moves c.start.new.self c.requires.reach c.requires.kept c.requires.all st (opens_no_root n p.path _ _ _ st.moved.does_move) c.requires.room).done q c.close_at_once.new.self refl refl made e) c.close_at_once.ensures.ok c.close_at_once.ensures.err
 
-pub returns-in_err-moves-clause-err : goal.returns-in_err-moves-clause-err
-returns-in_err-moves-clause-err c =
+pub returns-in_err-moves : goal.returns-in_err-moves
+returns-in_err-moves c =
     let p = c.args.self.now in
     let n = c.args.name.now in
     let fault = c.in_err-moves.field-0.0 in
     let s = reach_body (insertion_mode_of p.insertion_mode) (start_in_body n c.args.attrs c.args.slash) (state_of p) in
     let refused : IsRefused s (of_settle fault) =
     refused_start p n c.args.attrs c.args.slash c.requires.reach c.requires.kept c.requires.all fault (λ rule e. (c.in_err-moves.ensures.rule rule).0 (ap Err e)) in
-    err_from c.from_residual.result (λ e. e ≡ of_settle fault) (IsRefused s) c.from_residual.ensures.1 (λ e is. subst (IsRefused s) (sym is) refused)
+    takes_fault c.from_residual.result (of_settle fault) s p _ c.from_residual.ensures.1 refused

@@ -1,10 +1,10 @@
-use Rattle.std.proofs.Common.{◌≡◌, true, false, Some, IfErr, OnOk, sym, subst, ◌∙◌, refl}
+use Rattle.std.proofs.Common.{◌≡◌, true, false, Some, sym, subst, ◌∙◌, refl}
 use Rattle.hm_elements.specs.Names.{html, head}
 use Rattle.hm_elements.specs.Nesting.{may_stand}
 use Rattle.hm_construction.specs.Steps.{Stepped, opened}
 use Rattle.hm_builder.specs.BeforeBody.{head_opened, in_open_head}
-use Rattle.hm_builder.specs.Building.{Fits, IsRefused}
-use Rattle.hm_builder.specs.Inside.{state_of, IsKept, IsDone}
+use Rattle.hm_builder.specs.Building.{Fits}
+use Rattle.hm_builder.specs.Inside.{state_of, IsKept, IsDone, Takes}
 use Rattle.hm_builder.proofs.BeforeBody.{room_then, done_then, kept_open, child_step, no_child_step, no_metadata}
 use Rattle.hm_builder.proofs.parts.Parts.start_in_head.Goals as goal
 
@@ -12,7 +12,7 @@ pub reach_head-requires-clause-room : goal.reach_head-requires-clause-room
 reach_head-requires-clause-room c =
     let p = c.args.self.now in
     let n = c.args.name.now in
-    let stands : may_stand n head (Some html) ≡ true = sym (rw (c.of.ensures.name, c.of-2.ensures.name) at c.may_stand.ensures) ∙ c.if-may_stand.true in
+    let stands : may_stand n head (Some html) ≡ true = sym (rw (c.of.ensures, c.of-2.ensures) at c.may_stand.ensures) ∙ c.if-may_stand.true in
     room_then (head_opened p.insertion_mode) n c.args.attrs (state_of (in_open_head p)) p.maker
     (subst (λ s. Fits s p.maker) (child_step p.maker p.path p.drops_line_feed p.behind_body p.behind_html n c.args.attrs c.args.slash p.insertion_mode c.requires.takes stands) c.requires.room)
 
@@ -25,31 +25,23 @@ pub start_in_body-requires-clause-room : goal.start_in_body-requires-clause-room
 start_in_body-requires-clause-room c =
     let p = c.args.self.now in
     let n = c.args.name.now in
-    let stands : may_stand n head (Some html) ≡ false = sym (rw (c.of.ensures.name, c.of-2.ensures.name) at c.may_stand.ensures) ∙ c.if-may_stand.false in
+    let stands : may_stand n head (Some html) ≡ false = sym (rw (c.of.ensures, c.of-2.ensures) at c.may_stand.ensures) ∙ c.if-may_stand.false in
     subst (λ s. Fits s p.maker) (no_child_step p.maker p.path p.drops_line_feed p.behind_body p.behind_html n c.args.attrs c.args.slash p.insertion_mode c.requires.takes stands (no_metadata n stands)) c.requires.room
 
-pub returns-in_ok-start_child-clause-ok : goal.returns-in_ok-start_child-clause-ok
-returns-in_ok-start_child-clause-ok c =
+pub returns-in_ok-start_child : goal.returns-in_ok-start_child
+returns-in_ok-start_child c =
     let p = c.args.self.now in
     let n = c.args.name.now in
     let new = c.start_child.new.self in
-    let stands : may_stand n head (Some html) ≡ true = sym (rw (c.of.ensures.name, c.of-2.ensures.name) at c.may_stand.ensures) ∙ c.if-may_stand.true in
+    let stands : may_stand n head (Some html) ≡ true = sym (rw (c.of.ensures, c.of-2.ensures) at c.may_stand.ensures) ∙ c.if-may_stand.true in
     let done : IsDone (opened n c.args.attrs (state_of (in_open_head p))) (in_open_head p) new = subst (λ m. IsDone (opened n c.args.attrs (state_of m)) m new) c.in_ok-reach_head.ensures c.in_ok-start_child.ensures in
     subst (λ s. IsDone s p new) (sym (child_step p.maker p.path p.drops_line_feed p.behind_body p.behind_html n c.args.attrs c.args.slash p.insertion_mode c.requires.takes stands))
     (done_then (head_opened p.insertion_mode) (opened n c.args.attrs (state_of (in_open_head p))) p (in_open_head p) new refl done)
 
-pub returns-else-may_stand-clause-ok : goal.returns-else-may_stand-clause-ok
-returns-else-may_stand-clause-ok c =
+pub returns-else-may_stand : goal.returns-else-may_stand
+returns-else-may_stand c =
     let p = c.args.self.now in
     let n = c.args.name.now in
-    let stands : may_stand n head (Some html) ≡ false = sym (rw (c.of.ensures.name, c.of-2.ensures.name) at c.may_stand.ensures) ∙ c.if-may_stand.false in
-    subst (λ (s : Stepped). OnOk c.start_in_body.result (IsDone s p c.start_in_body.new.self))
-    (sym (no_child_step p.maker p.path p.drops_line_feed p.behind_body p.behind_html n c.args.attrs c.args.slash p.insertion_mode c.requires.takes stands (no_metadata n stands))) c.start_in_body.ensures.ok
-
-pub returns-else-may_stand-clause-err : goal.returns-else-may_stand-clause-err
-returns-else-may_stand-clause-err c =
-    let p = c.args.self.now in
-    let n = c.args.name.now in
-    let stands : may_stand n head (Some html) ≡ false = sym (rw (c.of.ensures.name, c.of-2.ensures.name) at c.may_stand.ensures) ∙ c.if-may_stand.false in
-    subst (λ (s : Stepped). IfErr c.start_in_body.result (IsRefused s))
-    (sym (no_child_step p.maker p.path p.drops_line_feed p.behind_body p.behind_html n c.args.attrs c.args.slash p.insertion_mode c.requires.takes stands (no_metadata n stands))) c.start_in_body.ensures.err
+    let stands : may_stand n head (Some html) ≡ false = sym (rw (c.of.ensures, c.of-2.ensures) at c.may_stand.ensures) ∙ c.if-may_stand.false in
+    subst (λ (s : Stepped). Takes s c.start_in_body.result p c.start_in_body.new.self)
+    (sym (no_child_step p.maker p.path p.drops_line_feed p.behind_body p.behind_html n c.args.attrs c.args.slash p.insertion_mode c.requires.takes stands (no_metadata n stands))) c.start_in_body.ensures

@@ -1,0 +1,2 @@
+//! The edges of attributes and of the close of a tag.
+#![tactic(auto)]

@@ -1,0 +1,4 @@
+pub mod States
+pub mod LayerStates
+pub mod LeastPrices
+pub mod WrittenRows

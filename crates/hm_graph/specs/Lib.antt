@@ -1,0 +1,5 @@
+pub mod UnitEdges
+pub mod Ways
+pub mod Layers
+pub mod Prices
+pub mod Laws

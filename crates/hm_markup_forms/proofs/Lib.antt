@@ -1,0 +1,4 @@
+pub mod Gaps
+pub mod Readable
+pub mod LineEnds
+pub mod WrittenLines

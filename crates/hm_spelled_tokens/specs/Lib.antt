@@ -1,0 +1,5 @@
+pub mod References
+pub mod Values
+pub mod Texts
+pub mod Tags
+pub mod Pages

@@ -1,0 +1,2 @@
+//! The edges of tags without attributes and of bytes without a choice.
+#![tactic(auto)]

@@ -1,0 +1,11 @@
+pub mod In
+pub mod Pieces
+pub mod Reading
+pub mod Literals
+pub mod Numbers
+pub mod ChoiceLaws
+pub mod ReferenceStarts
+pub mod Sections
+pub mod CharacterWays
+pub mod Spelled
+pub mod Ways

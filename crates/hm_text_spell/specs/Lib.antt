@@ -1,0 +1,2 @@
+pub mod CharacterEdges
+pub mod Laws

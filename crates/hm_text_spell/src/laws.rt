@@ -1,0 +1,12 @@
+//! Laws over the edges of characters and their spellings. The functions do nothing.
+ghost use Rattle.hm_text_spell.specs.Laws.{SpellingsHaveWays, WaysSpell};
+
+/// The bytes along the edges of the characters of a text or a value are a spelling (13.1.2.3 to 13.1.4).
+pub fn ways_spell()
+    ensures { WaysSpell }
+{}
+
+/// Each spelling has edges with no more bytes.
+pub fn spellings_have_ways()
+    ensures { SpellingsHaveWays }
+{}

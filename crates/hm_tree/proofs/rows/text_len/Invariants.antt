@@ -1,6 +1,0 @@
-use Rattle.std.proofs.Common.{◌≡◌, ◌+◌, drop}
-use Rattle.hm_base.specs.Walks.{attributes_size}
-use Rattle.hm_tree.proofs.rows.text_len.Given as goal
-
-abbrev pub invariant-loop-i : goal.invariant-loop-i
-invariant-loop-i l = l.len + attributes_size (drop l.i l.attrs) ≡ attributes_size l.attrs

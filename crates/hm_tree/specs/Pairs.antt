@@ -1,0 +1,40 @@
+-- Attributes whose names and values stand in one text, one behind the other.
+use Rattle.std.specs.Prelude.{◌≡◌, ℕ, ◌+◌, ◌^◌, ◌<◌, Bool, true, false, List, [], ◌∷◌, bytes_eq, length, map, All, if◌then◌else◌}
+use Rattle.hm_base.specs.Walks.{Attribute, has_name, has_distinct_names}
+use Rattle.hm_tree.specs.Pieces.{HasPieces, attributes_in, texts_of}
+use Rattle.hm_tree.specs.declared.pieces.AttributePieces.{AttributePieces}
+use Rattle.hm_tree.specs.declared.pieces.Pair.{Pair}
+
+-- name and value of a pair
+abbrev pub pieces_of : Pair → AttributePieces
+pieces_of p = record { name = record { from = p.from; to = p.middle }; value = record { from = p.middle; to = p.to } }
+
+abbrev pub attributes_of : List ℕ → List Pair → List Attribute
+attributes_of s pairs = attributes_in s (map pieces_of pairs)
+
+-- one of the names is n
+abbrev pub is_name_of : List (List ℕ) → List ℕ → Bool
+is_name_of [] n = false
+is_name_of (m ∷ names) n = if bytes_eq m n then true else is_name_of names n
+
+-- exactly the names of these attributes
+abbrev pub HasNames : List (List ℕ) → List Attribute → Type 0
+HasNames names attributes = (n : List ℕ) → is_name_of names n ≡ has_name n attributes
+
+-- name and value can be cut out of the text
+abbrev pub HasPair : List ℕ → Pair → Type 0
+HasPair s p = HasPieces s (pieces_of p)
+
+-- what is true of the attributes of a tag that is read: their text has nothing but names and values
+pub record IsAttributeList (s : List ℕ) (pairs : List Pair) : Type 0 where
+  pub inside : All (HasPair s) pairs
+  pub text : s ≡ texts_of (attributes_of s pairs)
+  pub distinct : has_distinct_names (attributes_of s pairs) ≡ true
+  pub count : length pairs < 2 ^ 32
+
+-- the pieces of a pair, so many bytes further on
+pub record IsShifted (n : ℕ) (p : Pair) (q : AttributePieces) : Type 0 where
+  pub name_from : q.name.from ≡ n + p.from
+  pub name_to : q.name.to ≡ n + p.middle
+  pub value_from : q.value.from ≡ n + p.middle
+  pub value_to : q.value.to ≡ n + p.to

@@ -1,0 +1,180 @@
+#!/bin/sh
+# Tries the script ./hminify in a small repository with an rt that proves nothing, and ends with 1 where it does otherwise
+# than it should.
+# shellcheck disable=SC2317 # what `wants` is given is called
+set -u
+here=$(CDPATH='' cd -- "$(dirname -- "$0")/.." && pwd -P)
+room=$(mktemp -d) || exit 1
+trap 'rm -rf "$room"' EXIT
+failed=0
+
+# The last call's status is $status, its output stands in the files out and err of the room.
+call() {
+    "$@" >"$room/out" 2>"$room/err"
+    status=$?
+}
+
+wants() {
+    what=$1
+    shift
+    if "$@"; then
+        echo "ok      $what"
+    else
+        echo "failed  $what"
+        sed 's/^/    /' "$room/out" "$room/err"
+        failed=1
+    fi
+}
+
+is() {
+    [ "$1" = "$2" ]
+}
+
+says() {
+    grep -qF -- "$1" "$room/err"
+}
+
+says_nothing() {
+    [ ! -s "$room/err" ]
+}
+
+builds() {
+    grep -c 'run hminify' "$room/calls"
+}
+
+# A repository of three crates and one that the program isn't made of. Its rt notes each call, fails in a crate with a file
+# `bad`, leaves a broken program and fails in one with a file `worse`, is slow in one with a file `slow`, and leaves a
+# program that is there. Its program prints its words and its folder, and ends with 3.
+repository() {
+    rm -rf "$room/a place"
+    top="$room/a place/of mine"
+    mkdir -p "$top/bin"
+    cp "$here/hminify" "$top/hminify"
+    printf '%s\n' '# crates' 'hm_tree: hm_base std' 'hm_cases: hm_tree' 'hminify may_abort=2: hm_tree hm_base' 'hm_base:' >"$top/crates.txt"
+    for crate in hm_base hm_tree hminify hm_cases; do
+        mkdir -p "$top/crates/$crate/src"
+        touch -t 200101010000 "$top/crates/$crate/src/lib.rt"
+    done
+    touch -t 200101010000 "$top/crates.txt"
+    cat >"$top/bin/rt" <<'END'
+#!/bin/sh
+crate=$(basename "$PWD")
+echo "$1 $crate" >>"$CALLS"
+echo 'rt: noise'
+[ ! -e slow ] || sleep 3
+[ ! -e bad ] || exit 1
+[ "$1" = run ] || exit 0
+mkdir -p out
+if [ -e worse ]; then
+    : >out/hminify
+    exit 1
+fi
+[ ! -x out/hminify ] || exit 0
+printf '#!/bin/sh\nprintf "<%%s>" "$@"; pwd; exit 3\n' >out/hminify
+chmod +x out/hminify
+END
+    chmod +x "$top/bin/rt"
+    : >"$room/calls"
+}
+
+CALLS=$room/calls
+PATH="$room/a place/of mine/bin:$PATH"
+export CALLS PATH
+cd "$room" || exit 1
+
+repository
+call "$top/hminify" tree 'a b' ''
+wants 'the first call builds: exit status' is "$status" 3
+wants 'the first call builds: output' is "$(cat out)" "<tree><a b><>$room"
+wants 'each crate behind those that it uses' is "$(tr '\n' ' ' <calls)" 'lib hm_base lib hm_tree run hminify '
+wants 'a line for each crate' says 'hminify: proving hm_tree (2 of 3)'
+call "$top/hminify" x
+wants 'the next call builds nothing' is "$(builds)" 1
+wants 'the next call says nothing' says_nothing
+wants 'the next call: exit status' is "$status" 3
+
+ln -s "$top/hminify" "$room/one"
+mkdir -p "$room/links" && ln -s ../one "$room/links/two"
+cd links || exit 1
+call ./two y
+wants 'through links' is "$(cat "$room/out")" "<y>$room/links"
+mkdir -p "$room/decoy/of mine"
+cd "$top/.." || exit 1
+call env CDPATH="$room/decoy" 'of mine/hminify' z
+wants 'from another folder, with CDPATH' is "$(cat "$room/out")" "<z>$room/a place"
+call env CDPATH="$room/decoy" sh 'of mine/hminify' z
+wants 'as the word of a shell' is "$(cat "$room/out")" "<z>$room/a place"
+cd "$room" || exit 1
+
+touch -t 200101010000 "$top/crates/hm_tree/src/lib.rt"
+touch "$top/crates/hm_cases/src/lib.rt"
+call "$top/hminify"
+wants 'a newer source of another program: nothing is said' says_nothing
+touch -t 209901010000 "$top/crates/hm_tree/src/lib.rt"
+call "$top/hminify" x
+wants 'a newer source: it is said' says "crates/hm_tree/src/lib.rt; to build it again: $top/hminify --build"
+wants 'a newer source: nothing is built' is "$(builds)" 1
+wants 'a newer source: output and status' is "$(cat out)$status" "<x>${room}3"
+call "$top/hminify" --build
+wants '--build builds and runs nothing' is "$(builds)$status$(cat out)" 20
+call "$top/hminify" x
+wants 'what changed since the build began is still newer' says 'crates/hm_tree/src/lib.rt; to build it again'
+touch "$top/crates/hm_tree/src/lib.rt"
+call "$top/hminify" x
+wants 'what changed since the last build is newer' says 'crates/hm_tree/src/lib.rt; to build it again'
+call "$top/hminify" --build
+call "$top/hminify" x
+wants 'behind a build that changed nothing, nothing is newer' says_nothing
+call "$top/hminify" --build x
+wants '--build beside other words is a word of the program' is "$(cat out)$status" "<--build><x>${room}3"
+
+touch "$top/crates/hm_tree/bad"
+call "$top/hminify" --build
+wants 'a build that fails: exit status' is "$status" 70
+wants 'a build that fails: where' says 'hminify: the build failed at hm_tree'
+wants 'a build that fails: what rt said' says 'rt: noise'
+wants 'a build that fails: no output' is "$(cat out)" ''
+rm "$top/crates/hm_tree/bad"
+touch "$top/crates/hminify/worse"
+call "$top/hminify" --build
+wants 'a build that leaves a broken program' is "$status" 70
+call "$top/hminify" x
+wants 'the program that was there stays' is "$(cat out)$status" "<x>${room}3"
+rm "$top/crates/hminify/worse" "$top/crates/hminify/out/hminify"
+touch "$top/crates/hminify/bad"
+call "$top/hminify" x
+wants 'a first build that fails' is "$(cat out)$status" 70
+
+repository
+touch "$top/crates/hm_tree/slow"
+"$top/hminify" one >"$room/out1" 2>"$room/err1" &
+until grep -q 'lib hm_tree' calls; do sleep 1; done
+call "$top/hminify" two
+wait
+wants 'two at once: one waits, and says so' says 'hminify: another call builds the program; waiting for it'
+wants 'two at once: one build' is "$(builds)" 1
+wants 'two at once: both run' is "$(cat out1)$(cat out)$status" "<one>$room<two>${room}3"
+
+repository
+touch "$top/crates/hm_tree/slow"
+"$top/hminify" one >"$room/out1" 2>"$room/err1" &
+until grep -q 'lib hm_tree' calls; do sleep 1; done
+kill -KILL $!
+wait
+call "$top/hminify" two
+wants 'a build that was killed holds up no other' is "$(cat out)$status" "<two>${room}3"
+
+repository
+mkdir "$room/no_rt"
+for tool in sh awk basename cat chmod cp dirname find flock grep head mkdir mv pwd readlink rm sed sleep tail touch; do
+    ln -s "$(command -v "$tool")" "$room/no_rt/$tool"
+done
+call env PATH="$room/no_rt" "$top/hminify" x
+wants 'without rt' is "$status" 70
+wants 'without rt: it is said' says 'hminify: no rt: the Rattle toolchain'
+rm "$room/no_rt/flock"
+cp "$top/bin/rt" "$room/no_rt/rt"
+call env PATH="$room/no_rt" "$top/hminify" x
+wants 'without flock it builds too' is "$(cat out)$status" "<x>${room}3"
+
+exit "$failed"

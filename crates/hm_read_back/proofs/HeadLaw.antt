@@ -25,7 +25,7 @@ use Rattle.hm_construction.specs.Trees.{mode_of}
 use Rattle.hm_construction.proofs.Modes.{is_mode}
 use Rattle.hm_construction.proofs.Texts.{texts}
 use Rattle.hm_construction.proofs.Bytes.{no_text_no_raw}
-use Rattle.hm_read_back.specs.Pieces.{PiecesAreNext}
+use Rattle.hm_read_back.proofs.Pieces.{PiecesAreNext}
 use Rattle.hm_read_back.proofs.Reading.{Builds, written}
 use Rattle.hm_read_back.proofs.Runs.{ran, run_of, run_bytes}
 use Rattle.hm_read_back.proofs.Ahead.{Sound, Ahead, tag, any_front, unseen}

@@ -11,7 +11,7 @@ use Rattle.hm_spellings.specs.Tags.{Spelling, SpellsStart}
 use Rattle.hm_spellings.specs.Omission.{start_falls}
 use Rattle.hm_spellings.specs.Spellings.{Before, other, opening, StartForm, StartSp, left_out_before, SpellsFrom}
 use Rattle.hm_construction.specs.Steps.{initial, before_html, before_head, in_head, went, under_html, under_head, first_state, step, step_start}
-use Rattle.hm_read_back.specs.Pieces.{PiecesAreNext}
+use Rattle.hm_read_back.proofs.Pieces.{PiecesAreNext}
 use Rattle.hm_read_back.proofs.Reading.{Builds, written}
 use Rattle.hm_read_back.proofs.Ahead.{Sound, Ahead, tag, unseen}
 use Rattle.hm_read_back.proofs.Frame.{here, First, frame_modes, frame_names, start_omitted}

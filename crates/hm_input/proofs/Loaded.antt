@@ -1,11 +1,11 @@
 -- What the loaded front of a file says of the file.
-use Rattle.std.proofs.Common.{◌≡◌, ◌⊎◌, inl, inr, ℕ, ◌+◌, ◌≤◌, ◌<◌, Bool, true, false, not, ◌||◌, cond, List, [], length, take, Some, None, IsSome, refl, sym, ap, ◌∙◌, subst, arith}
+use Rattle.std.proofs.Common.{◌≡◌, ℕ, ◌+◌, ◌≤◌, ◌<◌, Bool, true, false, not, ◌||◌, cond, List, [], length, take, Some, None, IsSome, refl, sym, ap, ◌∙◌, subst, arith}
 use Rattle.std.proofs.lemmas.Bool.Decides.{nat_tests}
 use Rattle.std.proofs.lemmas.Grind.{common_steps}
 use Rattle.std.proofs.lemmas.List.{take_all}
 use Rattle.std.specs.Bool.{nat_lt}
 use Rattle.std.specs.Str.{bytes_eq}
-use Rattle.std.specs.Prelude.{Result, Ok, Err, IfOk, IfErr}
+use Rattle.std.specs.Prelude.{Result, Ok, Err}
 use Rattle.std.specs.declared.option.Option.{Option}
 use Rattle.hm_base.specs.Faults.{HasText}
 use Rattle.hm_base.specs.Source.{Source, Refusal, source_of, text_fault}
@@ -131,9 +131,11 @@ seen_input None table page o table_content page_content input apart is_table is_
   where
     apart_by : (b : Bool) → is_none table ≡ b → (b || not (bytes_eq table page)) ≡ true
     apart_by b e = ap (λ x. x || not (bytes_eq table page)) (sym e) ∙ apart
+
     differ : (b : Bool) → (false || not b) ≡ true → b ≡ false
     differ true h = cc
     differ false h = refl
+
     by_none : (none : Bool) → is_none table ≡ none → IsInput None table page o input
     by_none true e = record {
       seen = λ _. page_content;
@@ -144,7 +146,7 @@ seen_input None table page o table_content page_content input apart is_table is_
       seen = λ name. cond (bytes_eq table name) table_content page_content;
       are_told = λ h. cc;
       holds = ap (λ b. input_from o (table_names (is_none table) (cond b table_content page_content)) (cond (bytes_eq table page) table_content page_content)) (same_bytes table)
-        ∙ ap (λ b. input_from o (table_names (is_none table) table_content) (cond b table_content page_content)) (differ (bytes_eq table page) (apart_by false e)) ∙ is;
+          ∙ ap (λ b. input_from o (table_names (is_none table) table_content) (cond b table_content page_content)) (differ (bytes_eq table page) (apart_by false e)) ∙ is;
     }
 
 pub input_of_tree : (told : Option FileMap) (table page : List ℕ) (o : TreeOptions) (t : List Entry) (text : Source) (w : List Event) → are_apart table page ≡ true → IsTableOf told table (Ok t) → IsTextOf told page text → IsTreeRead t text o w → IsInput told table page o (tree t w)

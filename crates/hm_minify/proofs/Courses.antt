@@ -1,11 +1,11 @@
 -- What follows from how a run goes.
-use Rattle.std.proofs.Common.{◌≡◌, ℕ, ◌≤◌, ◌<◌, ◌⊎◌, inl, inr, Bool, true, false, List, [], ◌∷◌, Some, None, IsSome, refl, sym, ap, ◌∙◌, subst, arith}
+use Rattle.std.proofs.Common.{◌≡◌, ℕ, ◌⊎◌, inl, inr, true, false, List, [], ◌∷◌, refl, sym, ap, ◌∙◌, subst}
 use Rattle.std.specs.declared.option.Option.{Option}
 use Rattle.std.specs.Io.KnownBytes.{append_known}
 use Rattle.hm_store.specs.Causes.{Rose}
 use Rattle.hm_store.specs.Contents.{Contents, Sees, Tells}
 use Rattle.hm_store.specs.Files.{FileMap, file_of, with_file, AppendsFront}
-use Rattle.hm_minify.specs.Endings.{Ending, store_fault, is_fault}
+use Rattle.hm_minify.specs.Endings.{Ending, is_fault}
 use Rattle.hm_minify.specs.Lines.{store_line}
 use Rattle.hm_minify.specs.Runs.{EndsAs, Puts, Course, written, missing, stopped, unready}
 use Rattle.hm_minify.specs.Writes.{Write, after_writes, IsLeft}

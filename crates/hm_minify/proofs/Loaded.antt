@@ -49,6 +49,7 @@ seen_page told name bytes out cert ended l e = by_told told l.there
   where
     of_page : page_outcome bytes ≡ page_outcome l.content
     of_page = ap page_outcome l.front ∙ outcome_front l.content
+
     by_told : (o : Option FileMap) → (IsSome o → file_of o name ≡ Some l.content) → Sees o (λ seen. ended ≡ page_ending out cert (seen name))
     by_told None there = record { seen = λ _. Some l.content; are_told = λ h. cc; holds = e ∙ ap (minified_ending out cert) of_page }
     by_told (Some files) there = record {

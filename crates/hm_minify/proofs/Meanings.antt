@@ -1,8 +1,7 @@
 -- What the ending of a run says of its command.
-use Rattle.std.proofs.Common.{◌≡◌, ℕ, ◌⊎◌, inl, inr, false, List, [], ◌∷◌, length, Some, None, refl, sym, ap, ◌∙◌, subst}
+use Rattle.std.proofs.Common.{◌≡◌, ℕ, ◌⊎◌, inl, inr, false, List, Some, None, refl, sym, ap, ◌∙◌, subst}
 use Rattle.std.specs.declared.option.Option.{Option}
 use Rattle.std.specs.Io.KnownBytes.{append_known}
-use Rattle.hm_base.specs.Walks.{Event}
 use Rattle.hm_base.specs.declared.plain.SpellRules.{SpellRules}
 use Rattle.hm_base.specs.declared.plain.TreeOptions.{TreeOptions}
 use Rattle.hm_store.specs.Contents.{Contents, Sees}
@@ -12,7 +11,7 @@ use Rattle.hm_first_path.specs.Graph.{shortest_text, prices_of}
 use Rattle.hm_first_path.specs.Certificate.{certificate_text}
 use Rattle.hm_input.specs.Inputs.{Input, missing, bad_table, bad_page, tree as tree_input, input_of}
 use Rattle.hm_words.specs.Words.{Command, Asked, asks, minify, tree, asked}
-use Rattle.hm_minify.specs.Endings.{Ending, is_fault, minified_ending, page_ending, shown_ending, command_ending, asked_ending, request_ending, ending}
+use Rattle.hm_minify.specs.Endings.{is_fault, minified_ending, page_ending, shown_ending, command_ending, asked_ending, request_ending, ending}
 use Rattle.hm_minify.specs.Lines.{usage_line}
 use Rattle.hm_minify.specs.Runs.{EndsAs, Puts, HasMinified, HasRefused, HasShown, HasRefusedPage, HasRefusedTable}
 use Rattle.hm_minify.specs.declared.status.Status.{Status}

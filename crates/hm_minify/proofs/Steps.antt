@@ -1,16 +1,15 @@
 -- How the steps of a run make its course.
-use Rattle.std.proofs.Common.{◌≡◌, ℕ, ◌≤◌, ◌<◌, ◌⊎◌, inl, inr, Bool, true, false, List, Some, None, IsSome, refl, sym, ap, ◌∙◌, subst, arith}
+use Rattle.std.proofs.Common.{◌≡◌, ℕ, ◌≤◌, ◌⊎◌, inl, inr, false, List, Some, None, refl, sym, ap, ◌∙◌, subst, arith}
 use Rattle.std.specs.declared.option.Option.{Option}
-use Rattle.std.specs.Io.KnownBytes.{append_known}
 use Rattle.hm_store.specs.Causes.{Rose}
-use Rattle.hm_store.specs.Contents.{Contents, Sees, Tells}
+use Rattle.hm_store.specs.Contents.{Sees, Tells}
 use Rattle.hm_store.specs.Files.{FileMap, file_of}
 use Rattle.hm_words.specs.Words.{asked}
 use Rattle.hm_words.specs.Answers.{request_of}
 use Rattle.hm_words.specs.declared.words.Asked as requests
 use Rattle.hm_minify.specs.Endings.{Ending, says, store_fault, is_fault, asked_ending, request_ending, ending}
 use Rattle.hm_minify.specs.Lines.{usage_line, store_line}
-use Rattle.hm_minify.specs.Runs.{Puts, Finishes, Course, written, missing, stopped, unready}
+use Rattle.hm_minify.specs.Runs.{Puts, Finishes, Course, written, missing, stopped}
 use Rattle.hm_minify.specs.Writes.{after_writes, IsLeft}
 use Rattle.hm_minify.specs.declared.status.Status.{Status}
 use Rattle.hm_minify.specs.declared.status.Status.TheVariants as status

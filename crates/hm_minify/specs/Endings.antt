@@ -1,6 +1,5 @@
 -- How a run ends, by its words and by what the files hold.
 use Rattle.std.specs.Prelude.{ℕ, Bool, true, false, List, [], ◌∷◌, length, Option, Some, None}
-use Rattle.hm_base.specs.Walks.{Event}
 use Rattle.hm_base.specs.declared.plain.SpellRules.{SpellRules}
 use Rattle.hm_base.specs.declared.plain.TreeOptions.{TreeOptions}
 use Rattle.hm_store.specs.Contents.{Contents}

@@ -3,3 +3,4 @@ pub mod Lines
 pub mod Writes
 pub mod Endings
 pub mod Runs
+pub mod Examples

@@ -27,11 +27,7 @@ use hm_words::{Asked, Command};
 use std::alloc::Global;
 
 /// What a request ends with. Files are read, and none is written yet.
-fn work<'w, S: Store>(
-    alloc: Global,
-    asked: &Asked<'w>,
-    store: &mut S,
-) -> Result<Ended<'w>, Stop>
+fn work<'w, S: Store>(alloc: Global, asked: &Asked<'w>, store: &mut S) -> Result<Ended<'w>, Stop>
     requires apart { request.is_apart (command_of asked.now.command) ≡ true }
     ensures ended { IfOk result (λ ended. Sees (S.files store.old) (λ seen. ended ≡ endings.asked_ending (request_of asked.now) seen)) }
     ensures answers { IfOk result (λ ended. is_fault ended.status ≡ false) }
@@ -72,12 +68,7 @@ fn finish<S: Store, O: Sink>(store: &mut S, out: &mut O, ended: &Ended<'_>) -> S
 }
 
 /// Does what the words ask for, step by step.
-fn perform<S: Store, O: Sink>(
-    alloc: Global,
-    words: &[Word],
-    store: &mut S,
-    out: &mut O,
-) -> Status
+fn perform<S: Store, O: Sink>(alloc: Global, words: &[Word], store: &mut S, out: &mut O) -> Status
     ensures unasked { asked_by words.now ≡ None → (store.new ≡ store.old) × spec.Puts (O.faults out.old) (O.faults out.new) (O.contents out.old) (O.contents out.new) usage_line Status.Usage result }
     ensures course { spec.Course (ending words.now) (S.files store.old) (S.files store.new) (S.faults store.old) (S.faults store.new) (O.contents out.old) (O.contents out.new) (O.faults out.old) (O.faults out.new) result }
     ensures writing { result ≡ Status.Memory → S.is_writing store.new ≡ S.is_writing store.old }

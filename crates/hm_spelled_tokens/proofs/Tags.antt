@@ -50,7 +50,6 @@ pub record Closed (after : List ℕ) : Type 0 where
   pub ends : closes spots.unquoted first ≡ true
 
 pub closed_by : (after : List ℕ) → head_is ends_value after ≡ true → Closed after
-unfolding ends_value
 closed_by [] h = absurd (cc)
 closed_by (d ∷ y) h = record { first = d; more = y; is = refl; ends = h }
 

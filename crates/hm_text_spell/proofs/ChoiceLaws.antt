@@ -112,7 +112,7 @@ pub named_is : (t : List Entry) (state : List ℕ → Pending) (points : List �
 named_is [] state points e i = elim i [ ]
 named_is (y ∷ t) state points e i = named_step y t state points e (bytes_eq y.points points) refl (named_is t state points e) i
 
-name_fits : (t : List Entry) (spot : Spot) (m : List ℕ) → is_good m ≡ true → Fits t spot (behind_name m)
+pub name_fits : (t : List Entry) (spot : Spot) (m : List ℕ) → is_good m ≡ true → Fits t spot (behind_name m)
 unfolding behind_name
 name_fits t spot [] g = absurd (cc)
 name_fits t spot (x ∷ m) g = fits_cond t spot (last_is 59 (x ∷ m)) nothing (named (x ∷ m)) tt refl

@@ -1,5 +1,5 @@
 -- What words ask for, on examples.
-use Rattle.std.specs.Prelude.{◌≡◌, true, false, [], ◌∷◌, Some, None, codes, refl}
+use Rattle.std.specs.Prelude.{◌≡◌, true, [], ◌∷◌, Some, None, codes, refl}
 use Rattle.hm_elements.specs.Names.{words}
 use Rattle.hm_words.specs.Words.{asked, asks, minify, tree, no_rewrites, omit_and_unquote, no_rules, tree_flags, options_of}
 

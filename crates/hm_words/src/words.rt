@@ -27,7 +27,10 @@ pub enum Command<'w> {
         cert: &'w str,
     },
     /// The tree of a page is shown.
-    Tree { table: &'w str, page: &'w str },
+    Tree {
+        table: &'w str,
+        page: &'w str,
+    },
 }
 
 /// A request: a command, the rewrites of the tree that it works on, and the spellings that are allowed.

@@ -5,7 +5,7 @@ use Rattle.std.specs.List.{list_all}
 use Rattle.hm_base.specs.Bytes.{is_space, is_null, head_is, all_pass}
 use Rattle.hm_base.specs.Walks.{Attribute, Event, doctype, start, text, comment, end, Element, begins_text, begins_comment}
 use Rattle.hm_elements.specs.Names.{words, is_among, html, head, body, svg, table}
-use Rattle.hm_elements.specs.Tables.{is_refused, refused_names, is_raw, raw_names, is_rcdata, rcdata_names, holds_text, voids}
+use Rattle.hm_elements.specs.Tables.{is_metadata, is_refused, refused_names, is_raw, raw_names, is_rcdata, rcdata_names, holds_text, voids}
 use Rattle.hm_elements.specs.Nesting.{children, may_stand}
 use Rattle.hm_elements.specs.Paths.{html_element, current, is_in_svg, is_in_raw, is_in_text, stands_on}
 use Rattle.hm_elements.specs.Places.{StartAllowed, ElementAllowed, HtmlAllowed, RootAllowed, TextAllowed, html_path, SettledBody, SettledBeforeBody}
@@ -16,7 +16,7 @@ use Rattle.hm_spellings.specs.Tags.{Spelling, SpellsStart}
 use Rattle.hm_spellings.specs.Omission.{begins_space, head_takes, begins_for_head, start_falls}
 use Rattle.hm_spellings.specs.Spellings.{Before, other, opening, StartForm, StartSp, TextSp, drops_first_line_feed, is_self_closing, behind_start, left_out_before, SpellsFrom}
 use Rattle.hm_settle.specs.Moves.{element}
-use Rattle.hm_construction.specs.Steps.{after_head, in_body, went, under_html, under_head, under_body, is_metadata, step, step_start}
+use Rattle.hm_construction.specs.Steps.{after_head, in_body, went, under_html, under_head, under_body, step, step_start}
 use Rattle.hm_construction.proofs.Texts.{texts}
 use Rattle.hm_spelled_tokens.specs.Texts.{InPieces, text_as_read}
 use Rattle.hm_read_back.proofs.Pieces.{PiecesAreNext}

@@ -16,3 +16,4 @@ pub mod BehindHead
 pub mod InHead
 pub mod HeadLaw
 pub mod Page
+pub mod ReadBack

@@ -1,8 +1,8 @@
 -- Each piece of a spelling is the next token or text, whatever follows it: what the laws of this crate cite, at one table and rules.
-use Rattle.std.proofs.Common.{◌≡◌, ℕ, Bool, true, false, ◌||◌, ◌==◌, List, [], ◌∷◌, ◌++◌, map, codes, refl, ◌∙◌, ap, append_assoc}
+use Rattle.std.proofs.Common.{◌≡◌, ℕ, Bool, true, false, ◌||◌, ◌==◌, List, [], ◌∷◌, ◌++◌, map, codes, refl, ◌∙◌, ap, append_assoc, Some, eq-eqb}
 use Rattle.std.proofs.lemmas.Bool.{and_parts}
 use Rattle.std.specs.Str.{is_utf8}
-use Rattle.hm_base.specs.Bytes.{is_space, head_is, lower}
+use Rattle.hm_base.specs.Bytes.{is_space, head_is, lower, strip_word}
 use Rattle.hm_base.specs.Forms.{is_blank, is_tag_name, is_comment_text}
 use Rattle.hm_base.specs.RawText.{is_name_end, begins_end_tag}
 use Rattle.hm_base.specs.Walks.{Attribute, Element}
@@ -44,6 +44,13 @@ gap_ends (c ∷ gap) r h = by_test (and_parts (is_space c) (is_blank gap) h).0
   where
     by_test : is_space c ≡ true → is_space c || c == 47 || c == 62 ≡ true
     by_test e = rw e refl
+
+-- a word in some ASCII case is found
+word_front : (w xs s : List ℕ) → map lower xs ≡ w → strip_word w (xs ++ s) ≡ Some s
+word_front w [] s e = rw (← e) refl
+word_front w (x ∷ xs) s e =
+    let same : (lower x == lower x) ≡ true = eq-eqb (lower x) (lower x) refl in
+    rw (← e, same) (word_front (map lower xs) xs s refl)
 
 -- a written end tag begins one of the name
 written_end : (name b after : List ℕ) → WritesEnd name b → begins_end_tag name (b ++ after) ≡ true

@@ -14,7 +14,7 @@ use Rattle.hm_spellings.specs.Omission.{may_omit_end}
 use Rattle.hm_spellings.specs.Spellings.{Before, other, EndForm, is_self_closing, has_no_end_tag, EndSp, behind_end, SpellsFrom}
 use Rattle.hm_construction.specs.Steps.{InsertionMode, in_body, after_body, after_html, State, Stepped, went, under_html, under_body, is_at_end, step, step_end, step_over}
 use Rattle.hm_construction.specs.Trees.{built, mode_of}
-use Rattle.hm_read_back.specs.Pieces.{PiecesAreNext}
+use Rattle.hm_read_back.proofs.Pieces.{PiecesAreNext}
 use Rattle.hm_read_back.proofs.Reading.{Builds, written}
 use Rattle.hm_read_back.proofs.Ahead.{Sound, Ahead, tag, finish, Begins, Agree, unseen}
 use Rattle.hm_read_back.proofs.Frame.{here, First, frame_modes, end_omitted_is, root_end_falls, frame_not_void, frame_names}

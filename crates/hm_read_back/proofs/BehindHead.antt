@@ -5,7 +5,7 @@ use Rattle.std.specs.List.{list_all}
 use Rattle.hm_base.specs.Bytes.{is_space, is_null, head_is, all_pass}
 use Rattle.hm_base.specs.Walks.{Attribute, Event, doctype, start, text, comment, end, Element, begins_text, begins_comment}
 use Rattle.hm_elements.specs.Names.{words, is_among, html, head, body, svg, table}
-use Rattle.hm_elements.specs.Tables.{is_refused, refused_names, is_raw, raw_names, is_rcdata, rcdata_names, holds_text, voids}
+use Rattle.hm_elements.specs.Tables.{is_metadata, is_refused, refused_names, is_raw, raw_names, is_rcdata, rcdata_names, holds_text, voids}
 use Rattle.hm_elements.specs.Nesting.{children, may_stand}
 use Rattle.hm_elements.specs.Paths.{html_element, current, is_in_svg, is_in_raw, is_in_text, stands_on}
 use Rattle.hm_elements.specs.Places.{StartAllowed, ElementAllowed, HtmlAllowed, RootAllowed, TextAllowed, html_path, SettledBody, SettledBeforeBody}
@@ -16,9 +16,10 @@ use Rattle.hm_spellings.specs.Tags.{Spelling, SpellsStart}
 use Rattle.hm_spellings.specs.Omission.{begins_space, head_takes, begins_for_head, start_falls}
 use Rattle.hm_spellings.specs.Spellings.{Before, other, opening, StartForm, StartSp, TextSp, drops_first_line_feed, is_self_closing, behind_start, left_out_before, SpellsFrom}
 use Rattle.hm_settle.specs.Moves.{element}
-use Rattle.hm_construction.specs.Steps.{after_head, in_body, went, under_html, under_head, under_body, is_metadata, step, step_start}
+use Rattle.hm_construction.specs.Steps.{after_head, in_body, went, under_html, under_head, under_body, step, step_start}
 use Rattle.hm_construction.proofs.Texts.{texts}
-use Rattle.hm_read_back.specs.Pieces.{PiecesAreNext, text_as_read}
+use Rattle.hm_spelled_tokens.specs.Texts.{InPieces, text_as_read}
+use Rattle.hm_read_back.proofs.Pieces.{PiecesAreNext}
 use Rattle.hm_read_back.proofs.Reading.{Builds, written}
 use Rattle.hm_read_back.proofs.Runs.{ran, run_of, run_bytes}
 use Rattle.hm_read_back.proofs.Ahead.{Sound, Ahead, tag, point, TextFront, any_front, unseen, text_first}
@@ -116,10 +117,10 @@ start_first g next w n foreign attributes before b piece rest StartForm.omitted 
 text_is_first : (g : Spelling) → PiecesAreNext g → (w : List Event) (s : List ℕ) (before : Before) (b piece rest : List ℕ) → TextAllowed under_body s false w → SettledBody under_body w → head_is is_space s ≡ false → b ≡ piece ++ rest → TextSp g before under_body s false piece rest → SpellsFrom g other under_body w rest → First g.table BodyFirst b
 text_is_first g next w [] before b piece rest a settled h e sp more = let bad : true ≡ false = a.not_empty in cc
 text_is_first g next w (c ∷ s) before b piece rest a settled h e sp more =
-    let p = next.texts before under_body (c ∷ s) piece rest a.utf8 refl body_is_plain.1 sp in
+    let p : InPieces g.table false (text_as_read before under_body (c ∷ s)) piece rest = rw body_is_plain.1 at (next.texts before under_body (c ∷ s) piece rest a.utf8 refl sp) in
     let as_is : text_as_read before under_body (c ∷ s) ≡ c ∷ s = read_text before under_body (c ∷ s) a.utf8 ∙ rw (body_no_flag before) refl in
     let (more_text, front) = text_follows g next w under_body other rest at_body refl settled a.alone refl more in
-    let whole = text_first g.table p.pieces b rest more_text (e ∙ ap (λ x. x ++ rest) (sym p.whole)) p.allowed front in
+    let whole = text_first g.table p.pieces b rest more_text (e ∙ ap (λ x. x ++ rest) (sym p.written)) p.good front in
     (point c, visible c h, (s ++ more_text, subst (TextFront g.table b) (ap (λ x. x ++ more_text) (p.means ∙ as_is)) whole))
 
 pub body_first : (g : Spelling) → PiecesAreNext g → (w : List Event) (b : List ℕ) (before : Before) → SettledBody under_body w → begins_comment w ≡ false → begins_space w ≡ false → begins_for_head w ≡ false → is_self_closing before ≡ false → SpellsFrom g before under_body w b → First g.table BodyFirst b

@@ -25,7 +25,7 @@ use Rattle.hm_construction.specs.Steps.{in_body, State, went, under_body, closes
 use Rattle.hm_construction.specs.Steps as steps
 use Rattle.hm_construction.specs.Trees.{mode_of, mode_of_name}
 use Rattle.hm_construction.proofs.Modes.{is_mode}
-use Rattle.hm_read_back.specs.Pieces.{PiecesAreNext}
+use Rattle.hm_read_back.proofs.Pieces.{PiecesAreNext}
 use Rattle.hm_read_back.proofs.Reading.{Builds, written}
 use Rattle.hm_read_back.proofs.Ahead.{Sound, Ahead, tag, Begins, unseen}
 use Rattle.hm_read_back.proofs.Frame.{here, First, start_omitted, end_omitted_is}

@@ -19,7 +19,8 @@ use Rattle.hm_construction.specs.Steps.{InsertionMode, initial, before_html, bef
 use Rattle.hm_construction.specs.Trees.{mode_of}
 use Rattle.hm_construction.proofs.Bytes.{no_text_no_raw}
 use Rattle.hm_construction.proofs.Texts.{texts}
-use Rattle.hm_read_back.specs.Pieces.{PiecesAreNext, text_as_read}
+use Rattle.hm_spelled_tokens.specs.Texts.{InPieces, text_as_read}
+use Rattle.hm_read_back.proofs.Pieces.{PiecesAreNext}
 use Rattle.hm_read_back.proofs.Reading.{Builds}
 use Rattle.hm_read_back.proofs.Runs.{Run, ran, run_of, run_bytes, Holds, Keeps, Reads}
 use Rattle.hm_read_back.proofs.Ahead.{Sound, text_alone, text_before_front}
@@ -178,11 +179,11 @@ pub plain_text : (g : Spelling) → Sound g.table → PiecesAreNext g → (mode 
 plain_text g sound next mode path s piece rest before w out t a sp front kept more =
     let no_raw = no_text_no_raw path t in
     let m = plain_path path out t in
-    let p = next.texts before path s piece rest a.utf8 out (not_rcdata (current path) (plain_name path out t)) sp in
+    let p : InPieces g.table false (text_as_read before path s) piece rest = rw (not_rcdata (current path) (plain_name path out t)) at (next.texts before path s piece rest a.utf8 out sp) in
     let run : run_bytes (text_as_read before path s) (here mode path (flag before path)) ≡ ran (texts false s) (here mode path false) =
         ap (λ x. run_bytes x (here mode path (flag before path))) (read_text before path s a.utf8) ∙ run_read mode path (flag before path) s a.not_empty ∙ (rw no_raw at kept) in
     rw (sym (one_text s false w a.not_empty a.alone))
-    (text_before_front g.table sound Plain plain_reads p.pieces (piece ++ rest) rest front.0 (here mode path (flag before path)) (here mode path false) (texts false s) w m m (ap (λ x. x ++ rest) (sym p.whole)) p.allowed front.1 (ap (λ x. run_bytes x (here mode path (flag before path))) p.means ∙ run) more)
+    (text_before_front g.table sound Plain plain_reads p.pieces (piece ++ rest) rest front.0 (here mode path (flag before path)) (here mode path false) (texts false s) w m m (ap (λ x. x ++ rest) (sym p.written)) p.good front.1 (ap (λ x. run_bytes x (here mode path (flag before path))) p.means ∙ run) more)
 
 plain_in_body : (path : List Element) (s : List ℕ) (w : List Event) → is_in_text path ≡ false → TextAllowed path s false w → run_bytes s (here in_body path false) ≡ ran (texts (is_in_raw path) s) (here in_body path false)
 plain_in_body path s w t a = by (is_in_blank path) refl

@@ -27,7 +27,7 @@ use Rattle.hm_spellings.specs.Omission.{start_falls, end_goes, end_falls, begins
 use Rattle.hm_spellings.specs.Spellings.{Before, opening, end_omitted, StartForm, EndForm, StartSp, EndSp, is_self_closing, has_no_end_tag, behind_start, behind_end, left_out_before, SpellsFrom}
 use Rattle.hm_settle.specs.Moves.{element}
 use Rattle.hm_construction.specs.Steps.{under_body}
-use Rattle.hm_read_back.specs.Pieces.{PiecesAreNext}
+use Rattle.hm_read_back.proofs.Pieces.{PiecesAreNext}
 use Rattle.hm_read_back.proofs.Ahead.{Ahead, tag, point, finish, Begins, TextFront, any_front}
 use Rattle.hm_read_back.proofs.Frame.{First, StartOmitted, start_omitted, end_omitted_is, root_end_falls, frame_not_void, frame_names}
 use Rattle.hm_read_back.proofs.Behind.{not_absent, EndFirst, end_first}

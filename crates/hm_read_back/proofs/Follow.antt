@@ -17,7 +17,7 @@ use Rattle.hm_spellings.specs.Omission.{end_goes}
 use Rattle.hm_spellings.specs.Spellings.{Before, end_omitted, StartForm, EndForm, StartSp, EndSp, is_self_closing, behind_start, behind_end, left_out_before, SpellsFrom}
 use Rattle.hm_settle.specs.Moves.{element}
 use Rattle.hm_construction.specs.Steps.{under_body}
-use Rattle.hm_read_back.specs.Pieces.{PiecesAreNext}
+use Rattle.hm_read_back.proofs.Pieces.{PiecesAreNext}
 use Rattle.hm_read_back.proofs.Ahead.{Ahead, tag, Begins, TextFront, any_front}
 use Rattle.hm_read_back.proofs.Frame.{First, start_omitted, end_omitted_is}
 use Rattle.hm_read_back.proofs.Behind.{not_absent}

@@ -5,10 +5,10 @@ use Rattle.hm_base.specs.Bytes.{is_space}
 use Rattle.hm_base.specs.Walks.{Attribute, Event, start, end, Element}
 use Rattle.hm_base.specs.declared.rules.Rule.TheVariants.{RefusedName, SecondRoot, AfterHead}
 use Rattle.hm_elements.specs.Names.{is_among, html, head, body, noscript}
-use Rattle.hm_elements.specs.Tables.{is_refused, refused_names, is_raw, raw_names, is_rcdata, rcdata_names, holds_text}
+use Rattle.hm_elements.specs.Tables.{is_metadata, is_refused, refused_names, is_raw, raw_names, is_rcdata, rcdata_names, holds_text}
 use Rattle.hm_elements.specs.Paths.{is_in_text, is_in_blank, blank_parents, stands_on}
 use Rattle.hm_tree.specs.Tokens as tokens
-use Rattle.hm_construction.specs.Steps.{initial, before_html, before_head, in_head, after_head, in_body, after_body, after_html, State, Stepped, went, stops, behind_events, under_html, under_head, under_body, is_metadata, is_at_end, start_in_body, start_after_head, start_in_head, step, step_start, step_end, step_byte, step_over}
+use Rattle.hm_construction.specs.Steps.{initial, before_html, before_head, in_head, after_head, in_body, after_body, after_html, State, Stepped, went, stops, behind_events, under_html, under_head, under_body, is_at_end, start_in_body, start_after_head, start_in_head, step, step_start, step_end, step_byte, step_over}
 use Rattle.hm_read_back.proofs.Ahead.{Ahead, tag, point, finish, Agree, events_twice}
 use Rattle.hm_read_back.proofs.Frame.{here}
 use Rattle.hm_read_back.proofs.Behind.{EndFirst, end_html, ended}

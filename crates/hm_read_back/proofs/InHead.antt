@@ -25,7 +25,7 @@ use Rattle.hm_construction.specs.Trees.{mode_of}
 use Rattle.hm_construction.proofs.Modes.{is_mode}
 use Rattle.hm_construction.proofs.Texts.{texts}
 use Rattle.hm_construction.proofs.Bytes.{no_text_no_raw}
-use Rattle.hm_read_back.specs.Pieces.{PiecesAreNext}
+use Rattle.hm_read_back.proofs.Pieces.{PiecesAreNext}
 use Rattle.hm_read_back.proofs.Reading.{Builds, written}
 use Rattle.hm_read_back.proofs.Runs.{ran, run_of, run_bytes}
 use Rattle.hm_read_back.proofs.Ahead.{Sound, Ahead, tag, any_front, unseen}
@@ -53,17 +53,18 @@ pub data InHead : List Element → Type 0 where
   around : (path : List Element) → Outer path → InHead path
   in_element : (n : List ℕ) (path : List Element) → holds_text n ≡ true → is_tag_name n ≡ true → Outer path → InHead (html_element n ∷ path)
 
-record PlainPath (path : List Element) : Type 0 where
-  outside : is_in_svg path ≡ false
-  no_text : is_in_text path ≡ false
-  blank : is_in_blank path ≡ true
+-- an element of HTML that holds whitespace and no text of its own
+pub record PlainPath (path : List Element) : Type 0 where
+  pub outside : is_in_svg path ≡ false
+  pub no_text : is_in_text path ≡ false
+  pub blank : is_in_blank path ≡ true
 
-outer_is_plain : (path : List Element) → Outer path → PlainPath path
+pub outer_is_plain : (path : List Element) → Outer path → PlainPath path
 unfolding holds_text is_raw raw_names is_rcdata rcdata_names is_in_blank blank_parents is_among
 outer_is_plain path at_head = record { outside = refl; no_text = refl; blank = refl }
 outer_is_plain path at_noscript = record { outside = refl; no_text = refl; blank = refl }
 
-noscript_name : is_tag_name noscript ≡ true
+pub noscript_name : is_tag_name noscript ≡ true
 unfolding is_tag_name is_small is_tag_byte is_digit_of
 noscript_name = refl
 
@@ -90,7 +91,7 @@ void_or_text : (n : List ℕ) → is_kept n ≡ true → is_void n ≡ false →
 void_or_text n h v = rw v at h
 
 -- a child that isn't void stays open
-child_path : (n : List ℕ) (path : List Element) → Outer path → stands_on n path ≡ true → is_tag_name n ≡ true → is_void n ≡ false → InHead (html_element n ∷ path)
+pub child_path : (n : List ℕ) (path : List Element) → Outer path → stands_on n path ≡ true → is_tag_name n ≡ true → is_void n ≡ false → InHead (html_element n ∷ path)
 child_path n path at_head h named v =
     let k : (is_void n || holds_text n) || bytes_eq n noscript ≡ true = entry_passes (λ m. is_kept m || bytes_eq m noscript) n (words "base link meta noscript script style title") head_children (rw (stands_in_head n) at h) in
     elim (or_cases (is_void n || holds_text n) (bytes_eq n noscript) k) [
@@ -107,7 +108,7 @@ no_svg path at_head = refl
 no_svg path at_noscript = refl
 
 -- an element of head is one of HTML
-html_child : (n : List ℕ) (foreign : Bool) (path : List Element) (w : List Event) → Outer path → ElementAllowed n foreign path w → foreign ≡ false
+pub html_child : (n : List ℕ) (foreign : Bool) (path : List Element) (w : List Event) → Outer path → ElementAllowed n foreign path w → foreign ≡ false
 html_child n foreign path w o a =
     let h = html_part n foreign path w (outer_is_plain path o).outside a in
     false_from_ne_true foreign (λ e. let is : n ≡ svg = same_bytes n svg (sym h.kind ∙ e) in both_ways (stands_on n path) (rw is (no_svg path o)) h.stands)
@@ -117,21 +118,21 @@ no_table path at_head e = both_ways (bytes_eq head table) refl (ap (λ (n : List
 no_table path at_noscript e = both_ways (bytes_eq noscript table) refl (ap (λ (n : List ℕ). bytes_eq n table) e)
 
 -- its start tag isn't left out
-no_omitted_start : (frame : Bool) (n : List ℕ) (path : List Element) (w : List Event) → Outer path → stands_on n path ≡ true → start_falls frame n w ≡ true → ⊥
+pub no_omitted_start : (frame : Bool) (n : List ℕ) (path : List Element) (w : List Event) → Outer path → stands_on n path ≡ true → start_falls frame n w ≡ true → ⊥
 no_omitted_start frame n path w o stands falls = no_table path o (child_in_table n path w stands (falls_child frame n w (stands_in n path stands).0.is_no_root falls))
 
 -- ---- Start tags
 
-head_opens : (n : List ℕ) (attributes : List Attribute) (slash : Bool) (path : List Element) (drops : Bool) → Outer path → stands_on n path ≡ true → is_refused n ≡ false → NoRoot n
+pub head_opens : (n : List ℕ) (attributes : List Attribute) (slash : Bool) (path : List Element) (drops : Bool) → Outer path → stands_on n path ≡ true → is_refused n ≡ false → NoRoot n
     → step (here in_head path drops) (tokens.start_tag n attributes slash) ≡ entered attributes false (here in_head path false) (html_element n ∷ path)
 unfolding step step_start
 head_opens n attributes slash path drops at_head stands known root = rw (known, root.no_html, root.no_head, root.no_body, stands) refl
 head_opens n attributes slash path drops at_noscript stands known root = let k = stands_in_noscript n in let child : is_among n noscript_children ≡ true = rw k at stands in rw (known, root.no_html, root.no_head, root.no_body, child) refl
 
-void_entered : (n : List ℕ) (attributes : List Attribute) (path : List Element) → is_void n ≡ true → entered attributes false (here in_head path false) (html_element n ∷ path) ≡ went (start n false attributes ∷ end n false ∷ []) (here in_head path false)
+pub void_entered : (n : List ℕ) (attributes : List Attribute) (path : List Element) → is_void n ≡ true → entered attributes false (here in_head path false) (html_element n ∷ path) ≡ went (start n false attributes ∷ end n false ∷ []) (here in_head path false)
 void_entered n attributes path h = rw h refl
 
-stays_entered : (n : List ℕ) (attributes : List Attribute) (path : List Element) → is_void n ≡ false → entered attributes false (here in_head path false) (html_element n ∷ path) ≡ went (start n false attributes ∷ []) (here in_head (html_element n ∷ path) (drops_behind (html_element n ∷ path)))
+pub stays_entered : (n : List ℕ) (attributes : List Attribute) (path : List Element) → is_void n ≡ false → entered attributes false (here in_head path false) (html_element n ∷ path) ≡ went (start n false attributes ∷ []) (here in_head (html_element n ∷ path) (drops_behind (html_element n ∷ path)))
 stays_entered n attributes path h = rw h refl
 
 -- ---- End tags
@@ -139,25 +140,25 @@ stays_entered n attributes path h = rw h refl
 current_ends : (e : Element) (path : List Element) → end_current e.name (here in_head (e ∷ path) false) (e ∷ path) ≡ went (end e.name e.foreign ∷ []) (here in_head path false)
 current_ends e path = rw (eq_self e.name) refl
 
-text_ended : (e : Element) (path : List Element) (drops : Bool) → is_in_text (e ∷ path) ≡ true → step (here in_head (e ∷ path) drops) (tokens.end_tag e.name) ≡ went (end e.name e.foreign ∷ []) (here in_head path false)
+pub text_ended : (e : Element) (path : List Element) (drops : Bool) → is_in_text (e ∷ path) ≡ true → step (here in_head (e ∷ path) drops) (tokens.end_tag e.name) ≡ went (end e.name e.foreign ∷ []) (here in_head path false)
 unfolding step step_end
 text_ended e path drops t = rw t (current_ends e path)
 
-noscript_ended : (drops : Bool) → step (here in_head (html_element noscript ∷ under_head) drops) (tokens.end_tag noscript) ≡ went (end noscript false ∷ []) (here in_head under_head false)
+pub noscript_ended : (drops : Bool) → step (here in_head (html_element noscript ∷ under_head) drops) (tokens.end_tag noscript) ≡ went (end noscript false ∷ []) (here in_head under_head false)
 unfolding step step_end holds_text is_raw raw_names is_rcdata rcdata_names is_among
 noscript_ended drops = refl
 
-head_ended : (drops : Bool) → step (here in_head under_head drops) (tokens.end_tag head) ≡ went (end head false ∷ []) (here after_head under_html false)
+pub head_ended : (drops : Bool) → step (here in_head under_head drops) (tokens.end_tag head) ≡ went (end head false ∷ []) (here after_head under_html false)
 unfolding step step_end holds_text is_raw raw_names is_rcdata rcdata_names is_among
 head_ended drops = refl
 
-comment_in_head : (path : List Element) (drops : Bool) (s : List ℕ) → step (here in_head path drops) (tokens.comment s) ≡ went (comment s ∷ []) (here in_head path false)
+pub comment_in_head : (path : List Element) (drops : Bool) (s : List ℕ) → step (here in_head path drops) (tokens.comment s) ≡ went (comment s ∷ []) (here in_head path false)
 unfolding step
 comment_in_head path drops s = refl
 
 -- ---- The end tag of noscript isn't left out
 
-noscript_goes : (w : List Event) → end_goes noscript head w ≡ true → ⊥
+pub noscript_goes : (w : List Event) → end_goes noscript head w ≡ true → ⊥
 unfolding goes_before before_rows goes_up up_names up_of_p blocks headings sections is_among
 noscript_goes [] h = cc
 noscript_goes (doctype legacy ∷ w) h = cc
@@ -170,6 +171,6 @@ noscript_goes (start m foreign attributes ∷ w) h = by foreign h
     by false k = cc
 noscript_goes (end m foreign ∷ w) h = cc
 
-noscript_facts : (is_root noscript ≡ false) × (is_void noscript ≡ false)
+pub noscript_facts : (is_root noscript ≡ false) × (is_void noscript ≡ false)
 unfolding is_root roots is_void voids is_among
 noscript_facts = (refl, refl)

@@ -26,7 +26,8 @@ use Rattle.hm_construction.specs.Trees.{mode_of}
 use Rattle.hm_construction.proofs.Modes.{RawMode, of_script, of_raw, raw_mode, is_mode}
 use Rattle.hm_construction.proofs.Starts.{raw_keeps}
 use Rattle.hm_construction.proofs.Texts.{texts}
-use Rattle.hm_read_back.specs.Pieces.{PiecesAreNext, text_as_read}
+use Rattle.hm_spelled_tokens.specs.Texts.{text_as_read}
+use Rattle.hm_read_back.proofs.Pieces.{PiecesAreNext}
 use Rattle.hm_read_back.proofs.Reading.{Builds}
 use Rattle.hm_read_back.proofs.Runs.{Run, ran, run_of, run_bytes, Holds, Keeps, Reads}
 use Rattle.hm_read_back.proofs.Ahead.{Sound, text_alone}
@@ -70,7 +71,7 @@ element_ends g next w d path before b piece rest EndForm.omitted t named fresh e
     let falls = (end_omitted_is g.rules d.name d.foreign path w sp.2).1 in
     let goes = falls_goes d.name (current path) w (no_root d.name (text_names d.name k.1).1) falls in
     absurd (both_ways (holds_text d.name) (goes_holds d.name (current path) w goes).no_text k.1)
-element_ends g next w d path before b piece rest EndForm.written t named fresh e sp = rw e (next.end_begins d.name piece rest named sp.1)
+element_ends g next w d path before b piece rest EndForm.written t named fresh e sp = rw e (next.end_begins d.name piece rest sp.1)
 
 no_start : (n : List ℕ) (foreign : Bool) (d : Element) (path : List Element) (w : List Event) → is_in_text (d ∷ path) ≡ true → ElementAllowed n foreign (d ∷ path) w → ⊥
 no_start n foreign d path w t (inl (inside, a)) = both_ways d.foreign (in_text_is d path t).0 inside

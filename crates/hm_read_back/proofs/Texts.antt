@@ -16,7 +16,7 @@ use Rattle.hm_elements.specs.Places.{TextAllowed}
 use Rattle.hm_spellings.specs.Spellings.{Before, is_opening, is_line_feed, drops_first_line_feed, wants_line_feed}
 use Rattle.hm_construction.specs.Steps.{InsertionMode, in_head, after_head, in_body, State, Stepped, went, stops, no_drop, drops_behind, keep_byte, step_byte}
 use Rattle.hm_construction.proofs.Texts.{texts, texts_join}
-use Rattle.hm_read_back.specs.Pieces.{text_as_read}
+use Rattle.hm_spelled_tokens.specs.Texts.{text_as_read}
 use Rattle.hm_read_back.proofs.Runs.{Run, ran, halted, behind_run, then_run, run_of, run_bytes}
 use Rattle.hm_read_back.proofs.Frame.{here}
 

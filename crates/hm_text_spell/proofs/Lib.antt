@@ -9,3 +9,4 @@ pub mod Sections
 pub mod CharacterWays
 pub mod Spelled
 pub mod Ways
+pub mod Ends

@@ -96,7 +96,7 @@ module _ (t : List Entry) (table : IsTable t) (rules : CharacterRules) (kind : T
       }
 
   -- the code point that is due has an edge without bytes, and no other
-  due_edge : (d : ℕ) (next : Option ℕ) (left : Option (List ℕ)) (e : Edge) → IsIn e (character_edges t rules kind d next (state at (half left))) → e ≡ edge [] at (behind_half left)
+  pub due_edge : (d : ℕ) (next : Option ℕ) (left : Option (List ℕ)) (e : Edge) → IsIn e (character_edges t rules kind d next (state at (half left))) → e ≡ edge [] at (behind_half left)
   due_edge d next left e i = by_kind (outside_edge_is t rules kind at d next (half left) e placed i)
     where
       by_kind : IsOutsideEdge t rules (spot_at kind at) at d next (half left) e → e ≡ edge [] at (behind_half left)

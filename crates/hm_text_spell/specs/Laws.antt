@@ -33,6 +33,17 @@ pub record MayStand (t : List Entry) (kind : TextKind) (s : State) : Type 0 wher
 abbrev pub keeps_at : List Entry → TextKind → State → List ℕ → Bool
 keeps_at t kind s x = keeps t (spot_at kind s.at) s.pending x
 
+-- the text may end in that state, in the same place
+pub record IsEnd (t : List Entry) (kind : TextKind) (from to : State) : Type 0 where
+  pub ends : MayStand t kind to
+  pub same_place : to.at ≡ from.at
+
+-- edges over all characters of a text lead to a state in which it may end
+abbrev pub WaysEnd : Type 0
+WaysEnd =
+    (t : List Entry) → IsTable t → (rules : CharacterRules) (es : UnitEdges) → HasCharacterEdges t rules es
+    → (kind : TextKind) (cs : List ℕ) (from to : State) (b : List ℕ) → MayStand t kind from → WayTo es (character_units kind cs) from b to → IsEnd t kind from to
+
 -- b spells the code points in front of what follows and keeps what was pending, and the text ends in the same place
 pub record Spelled (t : List Entry) (rules : CharacterRules) (kind : TextKind) (cs : List ℕ) (from to : State) (b after : List ℕ) : Type 0 where
   pub spells : SpellsPoints t rules (spot_at kind from.at) cs b after

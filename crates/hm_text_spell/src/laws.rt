@@ -1,9 +1,14 @@
 //! Laws over the edges of characters and their spellings. The functions do nothing.
-ghost use Rattle.hm_text_spell.specs.Laws.{SpellingsHaveWays, WaysSpell};
+ghost use Rattle.hm_text_spell.specs.Laws.{SpellingsHaveWays, WaysEnd, WaysSpell};
 
 /// The bytes along the edges of the characters of a text or a value are a spelling (13.1.2.3 to 13.1.4).
 pub fn ways_spell()
     ensures { WaysSpell }
+{}
+
+/// Edges over all characters of a text or a value lead to a state in which it may end.
+pub fn ways_end()
+    ensures { WaysEnd }
 {}
 
 /// Each spelling has edges with no more bytes.

@@ -1,26 +1,22 @@
 -- Spellings of what stands in head are read back.
-use Rattle.std.proofs.Common.{◌≡◌, ℕ, Bool, true, false, cond, not, ◌&&◌, ◌||◌, List, [], ◌∷◌, ◌++◌, map, bytes_eq, refl, sym, ◌∙◌, ap, subst, inl, inr, codes, ◌⊎◌}
-use Rattle.std.proofs.lemmas.Bool.{and_parts, or_cases, not-true, both_ways, false_from_ne_true}
-use Rattle.std.specs.List.{list_all}
-use Rattle.hm_base.specs.Bytes.{is_space, all_pass, is_digit_of}
-use Rattle.hm_base.specs.Forms.{is_small, is_tag_byte, is_tag_name}
+use Rattle.std.proofs.Common.{◌≡◌, ℕ, Bool, true, false, not, ◌||◌, List, [], ◌∷◌, ◌++◌, bytes_eq, refl, sym, ◌∙◌, ap, subst, codes}
+use Rattle.std.proofs.lemmas.Bool.{and_parts, not-true, both_ways}
+use Rattle.hm_base.specs.Bytes.{is_space, all_pass}
+use Rattle.hm_base.specs.Forms.{is_tag_name}
 use Rattle.hm_base.specs.Walks.{Attribute, Event, doctype, start, text, comment, end, Element, begins_text, begins_comment, begins_end, begins_end_of, begins_start}
-use Rattle.hm_elements.specs.Names.{words, is_among, html, head, body, noscript, svg, table}
-use Rattle.hm_elements.specs.Tables.{voids, is_void, is_refused, is_raw, raw_names, is_rcdata, rcdata_names, holds_text, blocks, headings, sections, roots, is_root}
-use Rattle.hm_elements.specs.Nesting.{children, noscript_children, may_stand}
-use Rattle.hm_elements.specs.Omission.{before_rows, goes_before, up_names, up_of_p, goes_up}
-use Rattle.hm_elements.specs.Paths.{html_element, current, is_in_svg, is_in_raw, is_in_text, is_in_blank, blank_parents, stands_on}
+use Rattle.hm_elements.specs.Names.{is_among, html, head, noscript}
+use Rattle.hm_elements.specs.Tables.{is_void, holds_text}
+use Rattle.hm_elements.specs.Paths.{html_element, current, is_in_raw}
 use Rattle.hm_elements.specs.Settled.{is_html}
 use Rattle.hm_elements.specs.Places.{StartAllowed, ElementAllowed, HtmlAllowed, TextAllowed, CommentAllowed, html_path, SettledBeforeBody, SettledHead}
-use Rattle.hm_elements.proofs.TableTools.{same_bytes, entry_passes, eq_self}
 use Rattle.hm_tree.specs.Tokens as tokens
 use Rattle.hm_tokens.specs.First.{ordinary}
 use Rattle.hm_tokens.specs.Written.{IsNext}
 use Rattle.hm_spellings.specs.Tags.{Spelling, SpellsStart}
-use Rattle.hm_spellings.specs.Omission.{start_falls, end_falls, end_goes}
-use Rattle.hm_spellings.specs.Spellings.{Before, other, drops_first_line_feed, opening, StartForm, EndForm, StartSp, EndSp, TextSp, is_self_closing, has_no_end_tag, behind_start, behind_end, left_out_before, SpellsFrom}
+use Rattle.hm_spellings.specs.Omission.{end_falls}
+use Rattle.hm_spellings.specs.Spellings.{Before, other, drops_first_line_feed, opening, StartForm, EndForm, StartSp, EndSp, TextSp, is_self_closing, behind_start, behind_end, left_out_before, SpellsFrom}
 use Rattle.hm_settle.specs.Moves.{element}
-use Rattle.hm_construction.specs.Steps.{in_head, after_head, State, Stepped, went, under_html, under_head, drops_behind, opened, entered, is_in_noscript, end_current, step, step_start, step_end}
+use Rattle.hm_construction.specs.Steps.{in_head, after_head, under_html, under_head, drops_behind}
 use Rattle.hm_construction.specs.Trees.{mode_of}
 use Rattle.hm_construction.proofs.Modes.{is_mode}
 use Rattle.hm_construction.proofs.Texts.{texts}
@@ -28,17 +24,17 @@ use Rattle.hm_construction.proofs.Bytes.{no_text_no_raw}
 use Rattle.hm_read_back.proofs.Pieces.{PiecesAreNext}
 use Rattle.hm_read_back.proofs.Reading.{Builds, written}
 use Rattle.hm_read_back.proofs.Runs.{ran, run_of, run_bytes}
-use Rattle.hm_read_back.proofs.Ahead.{Sound, Ahead, tag, any_front, unseen}
+use Rattle.hm_read_back.proofs.Ahead.{Sound, tag, any_front, unseen}
 use Rattle.hm_read_back.proofs.Frame.{here, First, frame_modes, frame_names, frame_not_void, start_omitted, end_omitted_is}
 use Rattle.hm_read_back.proofs.Behind.{not_absent}
 use Rattle.hm_read_back.proofs.BodySteps.{stands_in, NoRoot, no_root}
-use Rattle.hm_read_back.proofs.Closing.{html_part, falls_child, child_in_table, falls_goes, goes_holds}
+use Rattle.hm_read_back.proofs.Closing.{html_part, falls_goes, goes_holds}
 use Rattle.hm_read_back.proofs.Follow.{Fronted}
 use Rattle.hm_read_back.proofs.Texts.{flag, flag_behind, run_kept, head_space}
-use Rattle.hm_read_back.proofs.TextElements.{flag_off, in_text_is, text_names, text_ends, element_text}
+use Rattle.hm_read_back.proofs.TextElements.{flag_off, text_names, text_ends, element_text}
 use Rattle.hm_read_back.proofs.BodyTexts.{plain_path, plain_text}
 use Rattle.hm_read_back.proofs.BodyLaw.{markup_mode, end_is_next}
-use Rattle.hm_read_back.proofs.FrameFirst.{BehindHeadFirst, HeadFirst, head_child, end_head, behind_head, end_head_agrees}
+use Rattle.hm_read_back.proofs.FrameFirst.{HeadFirst, head_child, end_head, behind_head, end_head_agrees}
 use Rattle.hm_read_back.proofs.BehindHead.{behind_head_first, behind_head_law}
 use Rattle.hm_read_back.proofs.InHead.{Outer, at_head, at_noscript, InHead, around, in_element, outer_is_plain, noscript_name, child_path, html_child, no_omitted_start, head_opens, void_entered, stays_entered, text_ended, noscript_ended, head_ended, comment_in_head, noscript_goes, noscript_facts}
 
@@ -157,7 +153,7 @@ head_comment : (g : Spelling) → Sound g.table → PiecesAreNext g → (w : Lis
     → b ≡ codes "<!--" ++ (s ++ (codes "-->" ++ rest)) → SpellsFrom g other path w rest → Builds g.table (here in_head path drops) b (comment s ∷ w)
 head_comment g sound next w law s path b rest drops ins allowed settled e more =
     rw e (written g.table (mode_of path) (here in_head path drops) (here in_head path false) (comment s ∷ []) w _ 0 (tokens.comment s) rest sound.names (is_mode path) refl
-        (next.comments (mode_of path) s rest (markup_mode path allowed.outside) allowed.form).1 (comment_in_head path drops s) (law path rest other ins settled refl more))
+    (next.comments (mode_of path) s rest (markup_mode path allowed.outside) allowed.form).1 (comment_in_head path drops s) (law path rest other ins settled refl more))
 
 blank_kept : (path : List Element) (s : List ℕ) → Outer path → all_pass is_space s ≡ true → run_bytes s (here in_head path false) ≡ ran (texts (is_in_raw path) s) (here in_head path false)
 blank_kept path s o blank = run_kept (here in_head path false) (is_in_raw path) is_space (λ c h. ap run_of (head_space path c (outer_is_plain path o).no_text h)) s blank
@@ -205,11 +201,11 @@ written_start g sound next w laws n attributes slash path piece rest drops o all
     by true v =
         let c = void_case g w laws n path rest (around path o) settled (h.void_is_closed v) v root.no_head more in
         rw c.1 (written g.table ordinary (here in_head path drops) (here in_head path false) (start n false attributes ∷ end n false ∷ []) c.0 (piece ++ rest) 0 (tokens.start_tag n attributes slash) rest sound.names tt (outer_mode path o) read
-            (head_opens n attributes slash path drops o h.stands h.known root ∙ void_entered n attributes path v) c.2)
+        (head_opens n attributes slash path drops o h.stands h.known root ∙ void_entered n attributes path v) c.2)
     by false v =
         written g.table ordinary (here in_head path drops) (here in_head (html_element n ∷ path) (drops_behind (html_element n ∷ path))) (start n false attributes ∷ []) w (piece ++ rest) 0 (tokens.start_tag n attributes slash) rest sound.names tt (outer_mode path o) read
-            (head_opens n attributes slash path drops o h.stands h.known root ∙ stays_entered n attributes path v)
-            (rw (flag_behind (html_element n) path) (law_of g w laws (html_element n ∷ path) rest opening (child_path n path o h.stands h.name v) settled refl more))
+        (head_opens n attributes slash path drops o h.stands h.known root ∙ stays_entered n attributes path v)
+        (rw (flag_behind (html_element n) path) (law_of g w laws (html_element n ∷ path) rest opening (child_path n path o h.stands h.name v) settled refl more))
 
 start_case : (g : Spelling) → Sound g.table → PiecesAreNext g → (w : List Event) → HeadLaws g w → (n : List ℕ) (attributes : List Attribute) (path : List Element) (b piece rest : List ℕ) (before : Before) (drops : Bool) (form : StartForm) → Outer path → StartAllowed n false attributes path w → SettledHead (html_element n ∷ path) w
     → b ≡ piece ++ rest → StartSp g before n false attributes w form piece rest → SpellsFrom g (behind_start false form) (html_element n ∷ path) w rest → Builds g.table (here in_head path drops) b (start n false attributes ∷ w)
@@ -230,7 +226,7 @@ text_end g sound next w law n path b piece rest before drops EndForm.omitted t n
     absurd (both_ways (holds_text n) (goes_holds n (current path) w goes).no_text t)
 text_end g sound next w law n path b piece rest before drops EndForm.written t named o settled fresh e sp more =
     rw e (written g.table (mode_of (html_element n ∷ path)) (here in_head (html_element n ∷ path) drops) (here in_head path false) (end n false ∷ []) w (piece ++ rest) 0 (tokens.end_tag n) rest sound.names (is_mode (html_element n ∷ path)) refl
-        (end_is_next g next (html_element n) path piece rest named sp.1) (text_ended (html_element n) path drops t) (law path rest other (around path o) settled refl more))
+    (end_is_next g next (html_element n) path piece rest named sp.1) (text_ended (html_element n) path drops t) (law path rest other (around path o) settled refl more))
 
 noscript_end : (g : Spelling) → Sound g.table → PiecesAreNext g → (w : List Event) → HeadLaw g w → (b piece rest : List ℕ) (before : Before) (drops : Bool) (form : EndForm) → SettledHead under_head w → is_self_closing before ≡ false
     → b ≡ piece ++ rest → EndSp g before noscript false under_head w form piece → SpellsFrom g (behind_end noscript form) under_head w rest → Builds g.table (here in_head (html_element noscript ∷ under_head) drops) b (end noscript false ∷ w)
@@ -238,7 +234,7 @@ noscript_end g sound next w law b piece rest before drops EndForm.absent settled
 noscript_end g sound next w law b piece rest before drops EndForm.omitted settled fresh e sp more = absurd (noscript_goes w (falls_goes noscript head w (no_root noscript noscript_facts.0) (end_omitted_is g.rules noscript false under_head w sp.2).1))
 noscript_end g sound next w law b piece rest before drops EndForm.written settled fresh e sp more =
     rw e (written g.table ordinary (here in_head (html_element noscript ∷ under_head) drops) (here in_head under_head false) (end noscript false ∷ []) w (piece ++ rest) 0 (tokens.end_tag noscript) rest sound.names tt (outer_mode (html_element noscript ∷ under_head) at_noscript)
-        (next.ends ordinary noscript piece rest refl noscript_name sp.1).1 (noscript_ended drops) (law under_head rest other (around under_head at_head) settled refl more))
+    (next.ends ordinary noscript piece rest refl noscript_name sp.1).1 (noscript_ended drops) (law under_head rest other (around under_head at_head) settled refl more))
 
 head_no_flag : (before : Before) → flag before under_head ≡ false
 unfolding drops_first_line_feed is_among
@@ -254,7 +250,7 @@ head_end g sound next w b piece rest before EndForm.omitted settled fresh e sp m
     rw cut (unseen g.table sound rest x (here in_head under_head false) (here after_head under_html false) (end head false ∷ []) w frame_modes.1.1.0 frame_modes.1.0 begins (end_head_agrees x is) (behind_head_law g sound next w rest (behind_end head EndForm.omitted) settled more))
 head_end g sound next w b piece rest before EndForm.written settled fresh e sp more =
     rw e (written g.table ordinary (here in_head under_head false) (here after_head under_html false) (end head false ∷ []) w (piece ++ rest) 0 (tokens.end_tag head) rest sound.names tt frame_modes.1.1.0
-        (next.ends ordinary head piece rest refl frame_names.1.0 sp.1).1 (head_ended false) (behind_head_law g sound next w rest other settled more))
+    (next.ends ordinary head piece rest refl frame_names.1.0 sp.1).1 (head_ended false) (behind_head_law g sound next w rest other settled more))
 
 head_event : (g : Spelling) → Sound g.table → PiecesAreNext g → (e : Event) (w : List Event) → HeadLaws g w → HeadLaw g (e ∷ w)
 head_event g sound next (doctype legacy) w laws path b before ins settled fresh sp = absurd settled

@@ -1,45 +1,23 @@
 -- Inside head: metadata, noscript with metadata in it, whitespace and comments.
-use Rattle.std.proofs.Common.{◌≡◌, ℕ, Bool, true, false, cond, not, ◌&&◌, ◌||◌, List, [], ◌∷◌, ◌++◌, map, bytes_eq, refl, sym, ◌∙◌, ap, subst, inl, inr, codes, ◌⊎◌}
-use Rattle.std.proofs.lemmas.Bool.{and_parts, or_cases, not-true, both_ways, false_from_ne_true}
+use Rattle.std.proofs.Common.{◌≡◌, ℕ, Bool, true, false, not, ◌&&◌, ◌||◌, List, [], ◌∷◌, bytes_eq, refl, sym, ◌∙◌, ap, inl, inr}
+use Rattle.std.proofs.lemmas.Bool.{or_cases, both_ways, false_from_ne_true}
 use Rattle.std.specs.List.{list_all}
-use Rattle.hm_base.specs.Bytes.{is_space, all_pass, is_digit_of}
+use Rattle.hm_base.specs.Bytes.{is_digit_of}
 use Rattle.hm_base.specs.Forms.{is_small, is_tag_byte, is_tag_name}
-use Rattle.hm_base.specs.Walks.{Attribute, Event, doctype, start, text, comment, end, Element, begins_text, begins_comment, begins_end, begins_end_of, begins_start}
-use Rattle.hm_elements.specs.Names.{words, is_among, html, head, body, noscript, svg, table}
+use Rattle.hm_base.specs.Walks.{Attribute, Event, doctype, start, text, comment, end, Element}
+use Rattle.hm_elements.specs.Names.{words, is_among, head, noscript, svg, table}
 use Rattle.hm_elements.specs.Tables.{voids, is_void, is_refused, is_raw, raw_names, is_rcdata, rcdata_names, holds_text, blocks, headings, sections, roots, is_root}
 use Rattle.hm_elements.specs.Nesting.{children, noscript_children, may_stand}
 use Rattle.hm_elements.specs.Omission.{before_rows, goes_before, up_names, up_of_p, goes_up}
-use Rattle.hm_elements.specs.Paths.{html_element, current, is_in_svg, is_in_raw, is_in_text, is_in_blank, blank_parents, stands_on}
-use Rattle.hm_elements.specs.Settled.{is_html}
-use Rattle.hm_elements.specs.Places.{StartAllowed, ElementAllowed, HtmlAllowed, TextAllowed, CommentAllowed, html_path, SettledBeforeBody, SettledHead}
+use Rattle.hm_elements.specs.Paths.{html_element, current, is_in_svg, is_in_text, is_in_blank, blank_parents, stands_on}
+use Rattle.hm_elements.specs.Places.{ElementAllowed}
 use Rattle.hm_elements.proofs.TableTools.{same_bytes, entry_passes, eq_self}
 use Rattle.hm_tree.specs.Tokens as tokens
-use Rattle.hm_tokens.specs.First.{ordinary}
-use Rattle.hm_tokens.specs.Written.{IsNext}
-use Rattle.hm_spellings.specs.Tags.{Spelling, SpellsStart}
-use Rattle.hm_spellings.specs.Omission.{start_falls, end_falls, end_goes}
-use Rattle.hm_spellings.specs.Spellings.{Before, other, opening, StartForm, EndForm, StartSp, EndSp, TextSp, is_self_closing, has_no_end_tag, behind_start, behind_end, left_out_before, SpellsFrom}
-use Rattle.hm_settle.specs.Moves.{element}
-use Rattle.hm_construction.specs.Steps.{in_head, after_head, State, Stepped, went, under_html, under_head, drops_behind, opened, entered, is_in_noscript, end_current, step, step_start, step_end}
-use Rattle.hm_construction.specs.Trees.{mode_of}
-use Rattle.hm_construction.proofs.Modes.{is_mode}
-use Rattle.hm_construction.proofs.Texts.{texts}
-use Rattle.hm_construction.proofs.Bytes.{no_text_no_raw}
-use Rattle.hm_read_back.proofs.Pieces.{PiecesAreNext}
-use Rattle.hm_read_back.proofs.Reading.{Builds, written}
-use Rattle.hm_read_back.proofs.Runs.{ran, run_of, run_bytes}
-use Rattle.hm_read_back.proofs.Ahead.{Sound, Ahead, tag, any_front, unseen}
-use Rattle.hm_read_back.proofs.Frame.{here, First, frame_modes, frame_names, frame_not_void, start_omitted, end_omitted_is}
-use Rattle.hm_read_back.proofs.Behind.{not_absent}
-use Rattle.hm_read_back.proofs.BodySteps.{stands_in, NoRoot, no_root}
-use Rattle.hm_read_back.proofs.Closing.{html_part, falls_child, child_in_table, falls_goes}
-use Rattle.hm_read_back.proofs.Follow.{Fronted}
-use Rattle.hm_read_back.proofs.Texts.{flag, flag_behind, run_kept, head_space}
-use Rattle.hm_read_back.proofs.TextElements.{flag_off, in_text_is, text_names, text_ends, element_text}
-use Rattle.hm_read_back.proofs.BodyTexts.{plain_path, plain_text}
-use Rattle.hm_read_back.proofs.BodyLaw.{end_is_next}
-use Rattle.hm_read_back.proofs.FrameFirst.{BehindHeadFirst, HeadFirst, head_child, end_head, behind_head, end_head_agrees}
-use Rattle.hm_read_back.proofs.BehindHead.{behind_head_first, behind_head_law}
+use Rattle.hm_spellings.specs.Omission.{start_falls, end_goes}
+use Rattle.hm_construction.specs.Steps.{in_head, after_head, went, under_html, under_head, drops_behind, entered, end_current, step, step_start, step_end}
+use Rattle.hm_read_back.proofs.Frame.{here}
+use Rattle.hm_read_back.proofs.BodySteps.{stands_in, NoRoot}
+use Rattle.hm_read_back.proofs.Closing.{html_part, falls_child, child_in_table}
 
 -- ---- Paths in head
 

@@ -1,7 +1,7 @@
 -- From the doctype to head, and the whole page.
-use Rattle.std.proofs.Common.{◌≡◌, ℕ, Bool, true, false, not, ◌&&◌, ◌||◌, List, [], ◌∷◌, ◌++◌, refl, sym, ◌∙◌, ap, codes}
-use Rattle.std.proofs.lemmas.Bool.{and_parts, not-true}
-use Rattle.hm_base.specs.Walks.{Attribute, Event, doctype, start, text, comment, end, Element, begins_comment, begins_start, begins_end_of}
+use Rattle.std.proofs.Common.{◌≡◌, ℕ, Bool, true, false, ◌||◌, List, [], ◌∷◌, ◌++◌, refl}
+use Rattle.std.proofs.lemmas.Bool.{not-true}
+use Rattle.hm_base.specs.Walks.{Attribute, Event, doctype, start, text, comment, end, begins_comment, begins_start, begins_end_of}
 use Rattle.hm_elements.specs.Names.{is_among, html, head}
 use Rattle.hm_elements.specs.Tables.{is_refused, refused_names}
 use Rattle.hm_elements.specs.Places.{RootAllowed, html_path, SettledHead, SettledBeforeHead, SettledBeforeHtml, SettledPage}
@@ -10,13 +10,13 @@ use Rattle.hm_tokens.specs.First.{ordinary}
 use Rattle.hm_spellings.specs.Tags.{Spelling, SpellsStart}
 use Rattle.hm_spellings.specs.Omission.{start_falls}
 use Rattle.hm_spellings.specs.Spellings.{Before, other, opening, StartForm, StartSp, left_out_before, SpellsFrom}
-use Rattle.hm_construction.specs.Steps.{initial, before_html, before_head, in_head, went, under_html, under_head, first_state, step, step_start}
+use Rattle.hm_construction.specs.Steps.{before_html, before_head, in_head, went, under_html, under_head, first_state, step, step_start}
 use Rattle.hm_read_back.proofs.Pieces.{PiecesAreNext}
 use Rattle.hm_read_back.proofs.Reading.{Builds, written}
-use Rattle.hm_read_back.proofs.Ahead.{Sound, Ahead, tag, unseen}
+use Rattle.hm_read_back.proofs.Ahead.{Sound, tag, unseen}
 use Rattle.hm_read_back.proofs.Frame.{here, First, frame_modes, frame_names, start_omitted}
 use Rattle.hm_read_back.proofs.FrameFirst.{BeforeHeadFirst, start_head, head_left_out, head_agrees, html_agrees}
-use Rattle.hm_read_back.proofs.BehindHead.{StartsRoot, starts_root}
+use Rattle.hm_read_back.proofs.BehindHead.{starts_root}
 use Rattle.hm_read_back.proofs.HeadLaw.{head_first, head_law}
 
 -- ---- The start of head
@@ -37,7 +37,7 @@ written_head : (g : Spelling) → Sound g.table → PiecesAreNext g → (w : Lis
     → Builds g.table (here before_head under_html false) (piece ++ rest) (start head false attributes ∷ w)
 written_head g sound next w n foreign attributes slash piece rest a settled sp more =
     written g.table ordinary (here before_head under_html false) (here in_head under_head false) (start head false attributes ∷ []) w (piece ++ rest) 0 (tokens.start_tag head attributes slash) rest sound.names tt frame_modes.1.0
-        (next.starts ordinary head attributes slash piece rest refl frame_names.1.0 a.attributes_allowed sp).1 (opens_head attributes slash) (head_law g sound next w rest opening settled refl more)
+    (next.starts ordinary head attributes slash piece rest refl frame_names.1.0 a.attributes_allowed sp).1 (opens_head attributes slash) (head_law g sound next w rest opening settled refl more)
 
 head_start : (g : Spelling) → Sound g.table → PiecesAreNext g → (w : List Event) (n : List ℕ) (foreign : Bool) (attributes : List Attribute) (before : Before) (b piece rest : List ℕ) (form : StartForm) → RootAllowed head n foreign attributes → SettledHead under_head w
     → b ≡ piece ++ rest → StartSp g before head false attributes w form piece rest → SpellsFrom g opening under_head w rest → Builds g.table (here before_head under_html false) b (start head false attributes ∷ w)
@@ -56,7 +56,7 @@ before_head_law g sound next (end n foreign ∷ w) b before settled sp = absurd 
 before_head_law g sound next (text s raw ∷ w) b before settled sp = absurd settled
 before_head_law g sound next (comment s ∷ w) b before (allowed, settled) (rest, e, more) =
     rw e (written g.table ordinary (here before_head under_html false) (here before_head under_html false) (comment s ∷ []) w _ 0 (tokens.comment s) rest sound.names tt frame_modes.1.0
-        (next.comments ordinary s rest refl allowed.form).1 (comment_before_head s) (before_head_law g sound next w rest other settled more))
+    (next.comments ordinary s rest refl allowed.form).1 (comment_before_head s) (before_head_law g sound next w rest other settled more))
 before_head_law g sound next (start n foreign attributes ∷ w) b before (a, settled) sp =
     let i = starts_root g head before n foreign attributes html_path w b a sp in
     rw (a.name, a.kind) (head_start g sound next w n foreign attributes i.before b i.piece i.rest i.form a settled i.whole i.spells i.more)
@@ -100,7 +100,7 @@ written_html : (g : Spelling) → Sound g.table → PiecesAreNext g → (w : Lis
     → Builds g.table (here before_html [] false) (piece ++ rest) (start html false attributes ∷ w)
 written_html g sound next w n foreign attributes slash piece rest a settled sp more =
     written g.table ordinary (here before_html [] false) (here before_head under_html false) (start html false attributes ∷ []) w (piece ++ rest) 0 (tokens.start_tag html attributes slash) rest sound.names tt frame_modes.0
-        (next.starts ordinary html attributes slash piece rest refl frame_names.0 a.attributes_allowed sp).1 (opens_html attributes slash) (before_head_law g sound next w rest opening settled more)
+    (next.starts ordinary html attributes slash piece rest refl frame_names.0 a.attributes_allowed sp).1 (opens_html attributes slash) (before_head_law g sound next w rest opening settled more)
 
 html_start : (g : Spelling) → Sound g.table → PiecesAreNext g → (w : List Event) (n : List ℕ) (foreign : Bool) (attributes : List Attribute) (before : Before) (b piece rest : List ℕ) (form : StartForm) → RootAllowed html n foreign attributes → SettledBeforeHead w
     → b ≡ piece ++ rest → StartSp g before html false attributes w form piece rest → SpellsFrom g opening html_path w rest → Builds g.table (here before_html [] false) b (start html false attributes ∷ w)
@@ -119,7 +119,7 @@ before_html_law g sound next (end n foreign ∷ w) b before settled sp = absurd 
 before_html_law g sound next (text s raw ∷ w) b before settled sp = absurd settled
 before_html_law g sound next (comment s ∷ w) b before (allowed, settled) (rest, e, more) =
     rw e (written g.table ordinary (here before_html [] false) (here before_html [] false) (comment s ∷ []) w _ 0 (tokens.comment s) rest sound.names tt frame_modes.0
-        (next.comments ordinary s rest refl allowed.form).1 (comment_before_html s) (before_html_law g sound next w rest other settled more))
+    (next.comments ordinary s rest refl allowed.form).1 (comment_before_html s) (before_html_law g sound next w rest other settled more))
 before_html_law g sound next (start n foreign attributes ∷ w) b before (a, settled) sp =
     let i = starts_root g html before n foreign attributes [] w b a sp in
     rw (a.name, a.kind) (html_start g sound next w n foreign attributes i.before b i.piece i.rest i.form a settled i.whole i.spells i.more)
@@ -142,7 +142,7 @@ page_law g sound next (text s raw ∷ w) b before settled sp = absurd settled
 page_law g sound next (start n foreign attributes ∷ w) b before settled sp = absurd settled
 page_law g sound next (comment s ∷ w) b before (allowed, settled) (rest, e, more) =
     rw e (written g.table ordinary first_state first_state (comment s ∷ []) w _ 0 (tokens.comment s) rest sound.names tt frame_modes.0
-        (next.comments ordinary s rest refl allowed.form).1 (comment_first s) (page_law g sound next w rest other settled more))
+    (next.comments ordinary s rest refl allowed.form).1 (comment_first s) (page_law g sound next w rest other settled more))
 page_law g sound next (doctype legacy ∷ w) b before settled (piece, rest, e, sp, more) =
     rw e (written g.table ordinary first_state (here before_html [] false) (doctype legacy ∷ []) w (piece ++ rest) 0 (tokens.doctype legacy) rest sound.names tt frame_modes.0
-        (next.doctypes ordinary legacy piece rest refl sp).1 (doctype_first legacy) (before_html_law g sound next w rest other settled more))
+    (next.doctypes ordinary legacy piece rest refl sp).1 (doctype_first legacy) (before_html_law g sound next w rest other settled more))

@@ -1,5 +1,5 @@
 -- Spellings of settled trees are pages whose trees they are.
-use Rattle.std.proofs.Common.{◌≡◌, ℕ, Bool, List, [], map, refl, ◌∙◌, ap}
+use Rattle.std.proofs.Common.{◌≡◌, ℕ, List, [], map, ◌∙◌, ap}
 use Rattle.hm_base.specs.Source.{source_of, byte_of, place_in}
 use Rattle.hm_base.specs.Walks.{Event}
 use Rattle.hm_elements.specs.Settled.{Settled}

@@ -46,7 +46,7 @@ not_in_both n (k ∷ ks) ms a b = by (bytes_eq k n) (is_among n ks) refl a (λ e
 abbrev head_names : List (List ℕ)
 head_names = words "link meta noscript script style" ++ words "base title"
 
-stands_in_head : (n : List ℕ) → stands_on n under_head ≡ is_among n (words "base link meta noscript script style title")
+pub stands_in_head : (n : List ℕ) → stands_on n under_head ≡ is_among n (words "base link meta noscript script style title")
 unfolding may_stand children is_among
 stands_in_head n = refl
 

@@ -16,6 +16,7 @@ use Rattle.hm_tree.specs.Tokens as tokens
 use Rattle.hm_spellings.specs.Omission.{start_falls, end_goes}
 use Rattle.hm_construction.specs.Steps.{in_head, after_head, went, under_html, under_head, drops_behind, entered, end_current, step, step_start, step_end}
 use Rattle.hm_read_back.proofs.Frame.{here}
+use Rattle.hm_read_back.proofs.BehindHead.{stands_in_head}
 use Rattle.hm_read_back.proofs.BodySteps.{stands_in, NoRoot}
 use Rattle.hm_read_back.proofs.Closing.{html_part, falls_child, child_in_table}
 
@@ -56,10 +57,6 @@ head_children = refl
 inner_children : list_all is_kept noscript_children ≡ true
 unfolding noscript_children is_void voids holds_text is_raw raw_names is_rcdata rcdata_names is_among
 inner_children = refl
-
-stands_in_head : (n : List ℕ) → stands_on n under_head ≡ is_among n (words "base link meta noscript script style title")
-unfolding may_stand children is_among
-stands_in_head n = refl
 
 stands_in_noscript : (n : List ℕ) → stands_on n (html_element noscript ∷ under_head) ≡ is_among n noscript_children
 unfolding may_stand

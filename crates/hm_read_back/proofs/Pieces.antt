@@ -23,6 +23,7 @@ use Rattle.hm_spelled_tokens.specs.Texts.{InPieces, text_as_read}
 use Rattle.hm_spelled_tokens.proofs.Tags.{spelled_starts_are_next, spelled_doctypes_are_next}
 use Rattle.hm_spelled_tokens.proofs.Texts.{spelled_texts_are_in_pieces, spelled_svg_texts_are_read, spelled_element_texts_are_read}
 
+-- what is known of the pieces of spellings with this table and these rules
 pub record PiecesAreNext (g : Spelling) : Type 0 where
   pub starts : (mode : Mode) (name : List ℕ) (attributes : List Attribute) (slash : Bool) (b after : List ℕ)
       → reads_markup mode ≡ true → is_tag_name name ≡ true → AttributesAllowed attributes → SpellsStart g name attributes slash b after

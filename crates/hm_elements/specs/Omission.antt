@@ -47,3 +47,7 @@ start_goes_before n child = is_pair start_rows n child
 -- Where the end tag of this element was left out, the start tag of that one behind it isn't left out.
 unfoldable pub bars_start : List ℕ → List ℕ → Bool
 bars_start before n = (bytes_eq n tbody && is_section before) || (bytes_eq n colgroup && bytes_eq before colgroup)
+
+-- Elements that are taken into head where no start tag of body stands before them, so that tag isn't left out there.
+abbrev pub head_takers : List (List ℕ)
+head_takers = words "link meta noscript script style"

@@ -5,7 +5,7 @@ use Rattle.std.proofs.lemmas.Bool.{eq-eqb}
 use Rattle.hm_units.specs.States.{State}
 use Rattle.hm_units.specs.Units.{Unit}
 use Rattle.hm_graph.specs.Ways.{Edges, best, least}
-use Rattle.hm_graph.specs.Layers.{Follows, states_behind}
+use Rattle.hm_graph.specs.Layers.{LayerTest, states_behind}
 use Rattle.hm_graph.specs.Prices.{Row, price_at, least_prices, written_rows, has_width, row_over, followed_by, full_from}
 use Rattle.hm_graph.proofs.LayerStates.{end_behind, price_at-map, best_same, map_same}
 
@@ -35,7 +35,7 @@ followed edges unit units states = by_first (least_first edges units (states_beh
     by_first (rows, e) = rw (e, least_follows edges unit units states) refl
 
 -- some row is written: that of the last layer at least
-some_written : (edges : Edges) (follows : Follows) (k : ℕ) (units : List Unit) (states : List State)
+some_written : (edges : Edges) (follows : LayerTest) (k : ℕ) (units : List Unit) (states : List State)
     → (row : Row) × (rows : List Row) × (written_rows edges follows k units states (least_prices edges units states) ≡ row ∷ rows)
 some_written edges follows k [] states = (map (least edges []) states, [], refl)
 some_written edges follows k (unit ∷ units) states = by_test (not (k == 0) && follows unit states) (some_written edges follows (suc k) units (states_behind edges unit states))
@@ -49,7 +49,7 @@ some_written edges follows k (unit ∷ units) states = by_test (not (k == 0) && 
     by_test false w = (map (least edges (unit ∷ units)) states, behind, refl)
 
 -- What the written least prices stand for are the least prices.
-pub full_is_least : (edges : Edges) (follows : Follows) (k : ℕ) (units : List Unit) (states : List State)
+pub full_is_least : (edges : Edges) (follows : LayerTest) (k : ℕ) (units : List Unit) (states : List State)
     → full_from edges follows k units states (written_rows edges follows k units states (least_prices edges units states)) ≡ Some (least_prices edges units states)
 full_is_least edges follows k [] states = rw (least_width edges [] states) refl
 full_is_least edges follows k (unit ∷ units) states =

@@ -3,7 +3,7 @@ use Rattle.std.specs.Prelude.{◌≡◌, ◌≤◌, ℕ, List, length, Some}
 use Rattle.hm_units.specs.States.{State, first_state, same_state}
 use Rattle.hm_units.specs.Units.{Unit}
 use Rattle.std.specs.Prelude.{true}
-use Rattle.hm_graph.specs.Layers.{Follows, first_layer}
+use Rattle.hm_graph.specs.Layers.{LayerTest, first_layer}
 use Rattle.hm_graph.specs.Prices.{Row, Feasible, first_price, least_prices, written_rows, full}
 use Rattle.hm_graph.specs.Ways.{Edges, Way, least, first_way}
 
@@ -33,5 +33,5 @@ LeastPricesAreReached = (edges : Edges) (units : List Unit) (s : State) (n : ℕ
 
 -- What the written least prices stand for are the least prices, whatever is left out.
 abbrev pub WrittenPricesAreWhole : Type 0
-WrittenPricesAreWhole = (edges : Edges) (follows : Follows) (units : List Unit)
+WrittenPricesAreWhole = (edges : Edges) (follows : LayerTest) (units : List Unit)
     → full edges follows units (written_rows edges follows 0 units first_layer (least_prices edges units first_layer)) ≡ Some (least_prices edges units first_layer)

@@ -35,11 +35,11 @@ layers es (unit ∷ units) states = states ∷ layers es units (states_behind es
 -- ---- Which layers are written
 
 -- A test of a layer by its unit and states: whether its prices follow from those behind it, so that they aren't written.
-abbrev pub Follows : Type 0
-Follows = Unit → List State → Bool
+abbrev pub LayerTest : Type 0
+LayerTest = Unit → List State → Bool
 
 -- no layer is left out
-abbrev pub nothing_follows : Follows
+abbrev pub nothing_follows : LayerTest
 nothing_follows unit states = false
 
 abbrev pub is_single : {A : Type 0} → List A → Bool
@@ -47,17 +47,17 @@ is_single (x ∷ []) = true
 is_single xs = false
 
 -- one state with one edge
-abbrev pub single_follows : Edges → Follows
+abbrev pub single_follows : Edges → LayerTest
 single_follows es unit states = is_single states && list_all (λ s. is_single (es unit s)) states
 
 -- The first layer and the last one are written, and of the others those that don't follow; k is the number of the layer
 -- whose states these are.
-abbrev pub written_from : Edges → Follows → ℕ → List Unit → List State → List ℕ
+abbrev pub written_from : Edges → LayerTest → ℕ → List Unit → List State → List ℕ
 written_from es follows k [] states = k ∷ []
 written_from es follows k (unit ∷ units) states =
     if not (k == 0) && follows unit states then written_from es follows (suc k) units (states_behind es unit states)
     else k ∷ written_from es follows (suc k) units (states_behind es unit states)
 
 -- the numbers of the written layers
-abbrev pub written : Edges → Follows → List Unit → List ℕ
+abbrev pub written : Edges → LayerTest → List Unit → List ℕ
 written es follows units = written_from es follows 0 units first_layer

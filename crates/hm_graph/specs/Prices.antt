@@ -1,6 +1,6 @@
 -- Prices for the states of the layers: the least ones, those that show a bound by themselves, and those that are written.
 use Rattle.std.specs.Prelude.{◌≡◌, ◌≤◌, ℕ, suc, ◌+◌, Bool, not, ◌&&◌, ◌==◌, List, [], ◌∷◌, length, map, Option, Some, None, if◌then◌else◌}
-use Rattle.hm_graph.specs.Layers.{Follows, states_behind, first_layer}
+use Rattle.hm_graph.specs.Layers.{LayerTest, states_behind, first_layer}
 use Rattle.hm_graph.specs.Ways.{Edges, best, least}
 use Rattle.hm_units.specs.Edges.{Edge, edge_length}
 use Rattle.hm_units.specs.States.{State, same_state}
@@ -70,7 +70,7 @@ first_price ((q ∷ row) ∷ rows) = q
 -- ---- Written prices, and all that they stand for
 
 -- the rows that are written of those of all layers; k is the number of the layer whose states these are
-abbrev pub written_rows : Edges → Follows → ℕ → List Unit → List State → List Row → List Row
+abbrev pub written_rows : Edges → LayerTest → ℕ → List Unit → List State → List Row → List Row
 written_rows es follows k units states [] = []
 written_rows es follows k [] states (row ∷ rows) = row ∷ []
 written_rows es follows k (unit ∷ units) states (row ∷ rows) =
@@ -95,7 +95,7 @@ followed_by es unit states (Some []) = None
 followed_by es unit states (Some (next ∷ rows)) = Some (row_over es unit states (price_at (states_behind es unit states) next) ∷ next ∷ rows)
 
 -- the rows of all layers from one on, by those that are written; none where these are too few or too many or of another width
-abbrev pub full_from : Edges → Follows → ℕ → List Unit → List State → List Row → Option (List Row)
+abbrev pub full_from : Edges → LayerTest → ℕ → List Unit → List State → List Row → Option (List Row)
 full_from es follows k [] states [] = None
 full_from es follows k [] states (row ∷ []) = if has_width states row then Some (row ∷ []) else None
 full_from es follows k [] states (row ∷ more ∷ rows) = None
@@ -106,5 +106,5 @@ full_from es follows k (unit ∷ units) states (row ∷ rows) =
     else None
 
 -- the prices of all layers that written ones stand for
-abbrev pub full : Edges → Follows → List Unit → List Row → Option (List Row)
+abbrev pub full : Edges → LayerTest → List Unit → List Row → Option (List Row)
 full es follows units rows = full_from es follows 0 units first_layer rows

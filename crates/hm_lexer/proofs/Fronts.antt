@@ -1,5 +1,5 @@
 -- What is read in the front of a text, up to the end of an element's text.
-use Rattle.std.proofs.Common.{◌≡◌, ℕ, zero, suc, ◌+◌, ◌-◌, ◌<◌, ◌≤◌, true, false, List, ◌++◌, length, take, drop, get_or, slice_range, Some, refl, sym, ap, ap₂, subst, ◌∙◌, inl, inr, arith}
+use Rattle.std.proofs.Common.{◌≡◌, ℕ, zero, suc, ◌+◌, ◌-◌, ◌<◌, ◌≤◌, true, false, List, ◌++◌, length, take, drop, get_or, slice_range, Result, Ok, Err, IfOk, Some, refl, sym, ap, ap₂, subst, ◌∙◌, inl, inr, arith}
 use Rattle.std.specs.Str.{IsCharBoundary}
 use Rattle.std.proofs.lemmas.Bool.{cases_lt}
 use Rattle.std.proofs.lemmas.List.{drop-drop, drop-take, take-take, length-take-le, get_or-take}
@@ -7,7 +7,7 @@ use Rattle.std.proofs.lemmas.List.Folds.{drop_split}
 use Rattle.hm_refs.specs.Names.{Entry}
 use Rattle.hm_text_scan.specs.Texts.{read_text}
 use Rattle.hm_tokens.specs.First.{before_rest, read_inside}
-use Rattle.hm_tree.specs.Tokens.{IsPiece, IsInText, Reads, Scanned, seen, slice, comment, taken}
+use Rattle.hm_tree.specs.Tokens.{BeginsAt, IsPiece, IsInText, Reads, Scanned, seen, slice, comment, taken}
 use Rattle.hm_tree.specs.declared.tokens.Token.{Token}
 use Rattle.hm_tree.specs.declared.tokens.Token.TheVariants as tokens
 use Rattle.hm_lexer.specs.Steps.{read_piece}
@@ -95,3 +95,10 @@ reads_nothing t s at to low starts end =
       inside = record { ordered = omega arith; from_boundary = starts; to_boundary = end };
       boundary = end;
     }
+
+-- ---- where a token begins
+
+-- a token that names no piece of its text begins at each place
+pub at_each : {E : Type 0} (o : Result (Token × ℕ) E) (place : ℕ) → IfOk o (λ r. (at : ℕ) → BeginsAt at r.0) → IfOk o (λ r. BeginsAt place r.0)
+at_each (Ok r) place h = h place
+at_each (Err e) place h = tt

@@ -5,11 +5,11 @@ use Rattle.hm_base.specs.Bytes.{is_null}
 use Rattle.hm_base.specs.Source.{place_in}
 use Rattle.hm_refs.specs.Names.{Entry}
 use Rattle.hm_tokens.specs.First.{Mode, ordinary, in_svg, rcdata, raw, script, at_end, behind_bytes, first, rule_of}
-use Rattle.hm_tree.specs.Tokens.{Reads, refused}
+use Rattle.hm_tree.specs.Tokens.{BeginsAt, Reads, refused}
 use Rattle.hm_tree.specs.declared.tokens.Token.{Token}
 use Rattle.hm_tree.specs.declared.tokens.ScanFault.{ScanFault}
 use Rattle.hm_tree.specs.declared.tokens.ScanFault.TheVariants as faults
-use Rattle.hm_lexer.specs.Reading.{Reading, IsTaken, IsFaulty, Refuses, next_of, text_of}
+use Rattle.hm_lexer.specs.Reading.{Reading, IsTaken, IsFaulty, Refuses, next_of, text_front, text_of}
 use Rattle.hm_lexer.specs.Steps.{IsBehind, behind_nothing, next_behind, read_in, refusal_of}
 
 next_is : (t : List Entry) (mode : Mode) (s : List ℕ) → first t mode s ≡ next_behind t mode (behind_nothing mode s)
@@ -36,8 +36,8 @@ next_reads old mode from b low =
 
 -- a token is read
 pub next_taken : (old : Reading) (mode : Mode) (token : Token) (from to : ℕ) → IsBehind mode (text_of old) old.at from → from < length (text_of old) → from < to
-    → Reads (read_in old.names mode (drop from (text_of old))) (text_of old) token to → IsTaken old mode (record { token = token; from = from; to = to }) (record old { at = to })
-next_taken old mode token from to b low forward r =
+    → Reads (read_in old.names mode (drop from (text_of old))) (text_of old) token to → BeginsAt (from + text_front mode (drop from (text_of old))) token → IsTaken old mode (record { token = token; from = from; to = to }) (record old { at = to })
+next_taken old mode token from to b low forward r placed =
     record {
       passed = from - old.at;
       is = next_reads old mode from b low ∙ ap (behind_bytes (from - old.at)) r.is;
@@ -46,6 +46,7 @@ next_taken old mode token from to b low forward r =
       forward = forward;
       inside = r.boundary.0;
       pieces = r.inside;
+      places = placed;
     }
 
 -- a fault

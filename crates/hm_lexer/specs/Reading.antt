@@ -1,15 +1,17 @@
 -- A text that is read token by token, and what is answered of the next one.
-use Rattle.std.specs.Prelude.{◌≡◌, ◌≢◌, ℕ, ◌+◌, ◌<◌, ◌≤◌, List, length, drop, map, Option, MatchOption}
+use Rattle.std.specs.Prelude.{◌≡◌, ◌≢◌, ℕ, ◌+◌, ◌<◌, ◌≤◌, Bool, true, false, ◌&&◌, if◌then◌else◌, List, length, drop, map, Option, MatchOption}
 use Rattle.hm_base.specs.Source.{Source, byte_of, place_in}
 use Rattle.hm_base.specs.declared.rules.Refused.{Refused}
 use Rattle.hm_base.specs.declared.rules.Refused.TheVariants as answers
 use Rattle.hm_base.specs.declared.rules.Rule.{Rule}
 use Rattle.hm_refs.specs.Names.{Entry}
-use Rattle.hm_tree.specs.Tokens.{taken, refused, seen, IsInText}
+use Rattle.hm_mark_scan.specs.Comments.{begins_cdata, comment_front}
+use Rattle.hm_text_scan.specs.Texts.{begins_markup}
+use Rattle.hm_tree.specs.Tokens.{taken, refused, seen, BeginsAt, IsInText}
 use Rattle.hm_tree.specs.declared.tokens.ScanFault.{ScanFault}
 use Rattle.hm_tree.specs.declared.tokens.ScanFault.TheVariants as faults
 use Rattle.hm_tree.specs.declared.tokens.Spanned.{Spanned}
-use Rattle.hm_tokens.specs.First.{Mode, Next, at_end, behind_bytes, first, rule_of}
+use Rattle.hm_tokens.specs.First.{Mode, ordinary, in_svg, rcdata, raw, script, Next, at_end, behind_bytes, first, rule_of}
 
 -- the names of character references, the text with its places, and how many bytes of the text were taken
 pub record Reading : Type 0 where
@@ -25,6 +27,21 @@ text_of r = map byte_of r.source.placed
 abbrev pub next_of : Reading → Mode → Next
 next_of r mode = first r.names mode (drop r.at (text_of r))
 
+-- how many bytes of the markup that begins here stand before the text of its token: `<![CDATA[`, or what opens a comment
+abbrev pub markup_front : Bool → List ℕ → ℕ
+markup_front foreign s = if foreign && begins_cdata s then 9 else comment_front s
+
+abbrev pub front_here : Bool → List ℕ → ℕ
+front_here foreign s = if begins_markup s then markup_front foreign s else 0
+
+-- how many bytes of what stands here come before the text that its token names: none, but of markup
+abbrev pub text_front : Mode → List ℕ → ℕ
+text_front ordinary s = front_here false s
+text_front in_svg s = front_here true s
+text_front (rcdata name) s = 0
+text_front (raw name) s = 0
+text_front script s = 0
+
 -- This token stands next, and was taken: it begins behind so many bytes that stand for nothing.
 pub record IsTaken (old : Reading) (mode : Mode) (token : Spanned) (new : Reading) : Type 0 where
   pub passed : ℕ
@@ -34,6 +51,7 @@ pub record IsTaken (old : Reading) (mode : Mode) (token : Spanned) (new : Readin
   pub forward : token.from < token.to
   pub inside : token.to ≤ length (text_of old)
   pub pieces : IsInText (text_of old) token.token
+  pub places : BeginsAt (token.from + text_front mode (drop token.from (text_of old))) token.token
 
 -- the next token, or none where the text ends
 abbrev pub Gives : Reading → Mode → Option Spanned → Reading → Type 0

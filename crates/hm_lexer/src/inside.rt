@@ -4,7 +4,7 @@ ghost use Rattle.hm_base.specs.Bytes.{head_is};
 ghost use Rattle.hm_base.specs.Forms.{is_small};
 ghost use Rattle.hm_base.specs.RawText.{raw_end, script_end};
 ghost use Rattle.hm_tokens.specs.First.{read_inside};
-ghost use Rattle.hm_tree.specs.Tokens.{Reads, refused};
+ghost use Rattle.hm_tree.specs.Tokens.{BeginsAt, Reads, refused};
 ghost use Rattle.hm_lexer.specs.Steps.{Ends, IsEndAt, read_piece};
 
 use hm_mark_scan::{scan_raw, scan_script};
@@ -56,6 +56,7 @@ pub fn scan_up_to(
     ensures err { IfErr result
         (λ fault. fault ≢ ScanFault.Memory → read_inside table.now.entries (drop at text.now) (Some (to - at)) (read_piece references table.now.entries) ≡ refused fault) }
     ensures forward { IfOk result (λ r. at < r.1) }
+    ensures placed { IfOk result (λ r. BeginsAt at r.0) }
 {
     if at == to {
         return scan_tag(alloc, text, at, table);
@@ -81,6 +82,7 @@ pub fn scan_raw_text(
     ensures err { IfErr result
         (λ fault. fault ≢ ScanFault.Memory → read_inside table.now.entries (drop at text.now) (raw_end name.now (drop at text.now)) (read_piece false table.now.entries) ≡ refused fault) }
     ensures forward { IfOk result (λ r. at < r.1) }
+    ensures placed { IfOk result (λ r. BeginsAt at r.0) }
 {
     match raw_text_end(text, at, name) {
         Some(to) => scan_up_to(alloc, text, at, to, table, false),
@@ -101,6 +103,7 @@ pub fn scan_script_text(
     ensures err { IfErr result
         (λ fault. fault ≢ ScanFault.Memory → read_inside table.now.entries (drop at text.now) (script_end (drop at text.now)) (read_piece false table.now.entries) ≡ refused fault) }
     ensures forward { IfOk result (λ r. at < r.1) }
+    ensures placed { IfOk result (λ r. BeginsAt at r.0) }
 {
     match script_text_end(text, at) {
         Some(to) => scan_up_to(alloc, text, at, to, table, false),

@@ -1,11 +1,11 @@
 //! The lexer: a place in a text, from which it is read token by token.
-ghost use Rattle.std.specs.Prelude.{◌≡◌, ◌≢◌, ℕ, ◌^◌, ◌<◌, ◌≤◌, List, drop, length, IfOk, IfErr, OnErr, IsCharBoundary};
+ghost use Rattle.std.specs.Prelude.{◌≡◌, ◌≢◌, ℕ, ◌+◌, ◌^◌, ◌<◌, ◌≤◌, List, drop, length, IfOk, IfErr, OnErr, IsCharBoundary};
 ghost use Rattle.hm_base.specs.RawText.{raw_end};
 ghost use Rattle.hm_base.specs.Source.{place_in};
-ghost use Rattle.hm_tree.specs.Tokens.{Reads, refused};
+ghost use Rattle.hm_tree.specs.Tokens.{BeginsAt, Reads, refused};
 ghost use Rattle.hm_tokens.specs.First as tokens;
 ghost use Rattle.hm_lexer.specs.Modes.{mode_of, rcdata_name};
-ghost use Rattle.hm_lexer.specs.Reading.{Gives, Refuses, text_of};
+ghost use Rattle.hm_lexer.specs.Reading.{Gives, Refuses, text_front, text_of};
 ghost use Rattle.hm_lexer.specs.Steps.{Ends, IsBehind, IsLexer, read_in, refusal_of};
 
 use crate::inside::{raw_text_end, scan_raw_text, scan_script_text, scan_up_to};
@@ -140,6 +140,7 @@ impl<'a> Lexer<'a> {
         ensures err { IfErr result
             (λ fault. fault ≢ ScanFault.Memory → read_in self.old.names (mode_of mode) (drop from (text_of self.old)) ≡ refused fault) }
         ensures forward { IfOk result (λ r. from < r.1) }
+        ensures placed { IfOk result (λ r. BeginsAt (from + text_front (mode_of mode) (drop from (text_of self.old))) r.0) }
         ensures same { self.new ≡ self.old }
     {
         let text = self.source.text();
@@ -159,6 +160,7 @@ impl<'a> Lexer<'a> {
         ensures err { IfErr result
             (λ fault. fault ≢ ScanFault.Memory → read_in self.old.names (tokens.rcdata (rcdata_name name)) (drop self.old.at (text_of self.old)) ≡ refused fault) }
         ensures forward { IfOk result (λ r. self.old.at < r.1) }
+        ensures placed { IfOk result (λ r. BeginsAt self.old.at r.0) }
         ensures same { self.new ≡ self.old }
     {
         match self.end_of(name) {

@@ -1,9 +1,10 @@
 //! Ordinary text: markup, and the text between.
-ghost use Rattle.std.specs.Prelude.{◌≡◌, ◌≢◌, ◌^◌, ◌<◌, ◌≤◌, drop, false, length, true, IfOk, IfErr, IsCharBoundary};
+ghost use Rattle.std.specs.Prelude.{◌≡◌, ◌≢◌, ◌+◌, ◌^◌, ◌<◌, ◌≤◌, drop, false, length, true, IfOk, IfErr, IsCharBoundary};
 ghost use Rattle.hm_text_scan.specs.Texts as texts;
 ghost use Rattle.hm_tokens.specs.First as tokens;
 ghost use Rattle.hm_tokens.specs.First.{read_here, read_markup};
-ghost use Rattle.hm_tree.specs.Tokens.{Reads, refused};
+ghost use Rattle.hm_tree.specs.Tokens.{BeginsAt, Reads, refused};
+ghost use Rattle.hm_lexer.specs.Reading.{front_here, markup_front};
 ghost use Rattle.hm_lexer.specs.Steps as steps;
 ghost use Rattle.hm_lexer.specs.Steps.{IsBehind};
 
@@ -55,6 +56,7 @@ fn scan_markup(
     ensures err { IfErr result
         (λ fault. fault ≢ ScanFault.Memory → read_markup table.now.entries foreign (drop at text.now) ≡ refused fault) }
     ensures forward { IfOk result (λ r. at < r.1) }
+    ensures placed { IfOk result (λ r. BeginsAt (at + markup_front foreign (drop at text.now)) r.0) }
 {
     if begins_tag(text, at) {
         return scan_tag(alloc, text, at, table);
@@ -85,6 +87,7 @@ pub fn scan_here(
     ensures err { IfErr result
         (λ fault. fault ≢ ScanFault.Memory → read_here table.now.entries foreign (drop at text.now) ≡ refused fault) }
     ensures forward { IfOk result (λ r. at < r.1) }
+    ensures placed { IfOk result (λ r. BeginsAt (at + front_here foreign (drop at text.now)) r.0) }
 {
     if begins_markup(text, at) {
         scan_markup(alloc, text, at, table, foreign)

@@ -1,11 +1,11 @@
 -- Scans of comments and CDATA sections.
-use Rattle.std.proofs.Common.{◌≡◌, ℕ, ◌+◌, ◌-◌, ◌<◌, ◌≤◌, Bool, true, false, not, cond, ◌&&◌, ◌||◌, ◌==◌, List, [], ◌∷◌, ◌++◌, length, drop, get_or, Option, Some, None, refl, ap, sym, subst, ◌∙◌, arith, codes, MatchOption, inl, inr, length-drop}
+use Rattle.std.proofs.Common.{◌≡◌, ℕ, ◌+◌, ◌-◌, ◌<◌, ◌≤◌, Bool, true, false, not, cond, ◌&&◌, ◌||◌, ◌==◌, List, [], ◌∷◌, ◌++◌, length, drop, get_or, Option, Some, None, refl, ap, sym, subst, ◌∙◌, arith, codes, MatchOption, IfSome, inl, inr, length-drop}
 use Rattle.std.proofs.lemmas.Bool.{cases_lt}
 use Rattle.std.proofs.lemmas.List.{drop-drop, get_or-drop}
 use Rattle.memchr.specs.Find.{OccursAt}
 use Rattle.hm_base.specs.Bytes.{Cut, strip, cut_at}
 use Rattle.hm_base.specs.RawText.{is_found}
-use Rattle.hm_mark_scan.specs.Comments.{begins, begins_comment, found_and, is_no_tag, behind_end, cut_comment, cut_where, comment_at}
+use Rattle.hm_mark_scan.specs.Comments.{begins, begins_comment, found_and, is_no_tag, behind_end, cut_comment, cut_where, comment_at, comment_front}
 use Rattle.hm_mark_scan.specs.Doctypes.{begins_doctype}
 use Rattle.hm_mark_scan.specs.Found.{IsFound, IsFoundBehind, Finds}
 use Rattle.hm_mark_scan.specs.declared.search.Piece.{Piece}
@@ -90,6 +90,11 @@ comment_long s e = either (begins (codes "<?") s) refl
     either : (a : Bool) → begins (codes "<?") s ≡ a → 2 ≤ length s
     either true f = begins_long (codes "<?") s f
     either false f = (second_byte s e f).0
+
+-- a piece that is found from a place on begins there
+pub starts_behind : (s : List ℕ) (start n : ℕ) (cut : Option Cut) (found : Option Piece) → Finds s (start + n) cut found → n ≡ comment_front (drop start s) → IfSome found (λ piece. piece.from ≡ start + comment_front (drop start s))
+starts_behind s start n cut None h e = tt
+starts_behind s start n cut (Some p) h e = h.starts ∙ ap (λ m. start + m) e
 
 -- The piece that is found gives the comment.
 module _ (s : List ℕ) (start : ℕ) where

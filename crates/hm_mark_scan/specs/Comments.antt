@@ -36,6 +36,13 @@ comment_at s =
     else if begins (codes "<!--") s then cut_comment (drop 4 s)
     else cut_at (codes ">") (drop 2 s)
 
+-- how many bytes of the comment that begins here stand before its text
+abbrev pub comment_front : List ℕ → ℕ
+comment_front s =
+    if begins (codes "<?") s then 1
+    else if begins (codes "<!--") s then 4
+    else 2
+
 -- the comment that begins here
 unfoldable pub read_comment : List ℕ → Scanned
 read_comment s = as_comment (comment_at s)

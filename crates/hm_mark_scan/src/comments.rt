@@ -1,9 +1,9 @@
 //! Comments and CDATA sections.
-ghost use Rattle.std.specs.Prelude.{◌≡◌, ℕ, ◌+◌, ◌^◌, ◌<◌, ◌≤◌, true, codes, drop, length, IfOk, IfErr, MatchOption, None};
-ghost use Rattle.hm_tree.specs.Tokens.{Reads, refused};
+ghost use Rattle.std.specs.Prelude.{◌≡◌, ℕ, ◌+◌, ◌^◌, ◌<◌, ◌≤◌, true, codes, drop, length, IfOk, IfErr, IfSome, MatchOption, None};
+ghost use Rattle.hm_tree.specs.Tokens.{BeginsAt, Reads, refused};
 ghost use Rattle.hm_base.specs.Bytes.{strip};
 ghost use Rattle.hm_mark_scan.specs.Comments as comments;
-ghost use Rattle.hm_mark_scan.specs.Comments.{comment_at, read_comment, read_cdata, cut_comment, cut_where, behind_end};
+ghost use Rattle.hm_mark_scan.specs.Comments.{comment_at, comment_front, read_comment, read_cdata, cut_comment, cut_where, behind_end};
 ghost use Rattle.hm_mark_scan.specs.Found.{Finds, IsEnd, IsFoundBehind};
 
 use crate::doctypes::begins_doctype;
@@ -95,7 +95,8 @@ fn comment_text(bytes: &[u8], from: usize) -> Option<Piece>
 fn comment_piece(bytes: &[u8], start: usize) -> Option<Piece>
     requires inside { start + 2 ≤ length bytes.now }
     requires begins { comments.begins_comment (drop start bytes.now) ≡ true }
-    ensures { MatchOption result (comment_at (drop start bytes.now) ≡ None) (IsFoundBehind bytes.now start (comment_at (drop start bytes.now))) }
+    ensures found { MatchOption result (comment_at (drop start bytes.now) ≡ None) (IsFoundBehind bytes.now start (comment_at (drop start bytes.now))) }
+    ensures from { IfSome result (λ piece. piece.from ≡ start + comment_front (drop start bytes.now)) }
 {
     let rest = &bytes[start..];
     if begins_with(rest, b"<?") {
@@ -116,6 +117,7 @@ pub fn scan_comment(text: &str, at: u32) -> Result<(Token, u32), ScanFault>
     ensures ok { IfOk result (λ r. Reads (read_comment (drop at text.now)) text.now r.0 r.1) }
     ensures err { IfErr result (λ fault. read_comment (drop at text.now) ≡ refused fault) }
     ensures forward { IfOk result (λ r. at < r.1) }
+    ensures placed { IfOk result (λ r. BeginsAt (at + comment_front (drop at text.now)) r.0) }
 {
     match comment_piece(text.as_bytes(), at as usize) {
         Some(piece) => Ok((
@@ -147,6 +149,7 @@ pub fn scan_cdata(text: &str, at: u32) -> Result<(Token, u32), ScanFault>
     ensures ok { IfOk result (λ r. Reads (read_cdata (drop at text.now)) text.now r.0 r.1) }
     ensures err { IfErr result (λ fault. read_cdata (drop at text.now) ≡ refused fault) }
     ensures forward { IfOk result (λ r. at < r.1) }
+    ensures placed { IfOk result (λ r. BeginsAt (at + 9) r.0) }
 {
     match up_to_brackets(text.as_bytes(), at as usize + 9) {
         Some(piece) => Ok((

@@ -1,7 +1,7 @@
 //! Doctypes.
 ghost use Rattle.std.specs.Prelude.{◌≡◌, ℕ, ◌^◌, ◌<◌, ◌≤◌, true, drop, length, codes, Some, IfOk, IfErr};
 ghost use Rattle.hm_base.specs.Bytes.{head_is, is_space, strip_word};
-ghost use Rattle.hm_tree.specs.Tokens.{Reads, refused};
+ghost use Rattle.hm_tree.specs.Tokens.{BeginsAt, Reads, refused};
 ghost use Rattle.hm_mark_scan.specs.Doctypes as doctypes;
 
 use crate::search::{behind_mark, behind_space, behind_word, up_to_greater};
@@ -84,6 +84,7 @@ pub fn scan_doctype(text: &str, at: u32) -> Result<(Token, u32), ScanFault>
     ensures ok { IfOk result (λ r. Reads (doctypes.read_doctype (drop at text.now)) text.now r.0 r.1) }
     ensures err { IfErr result (λ fault. doctypes.read_doctype (drop at text.now) ≡ refused fault) }
     ensures forward { IfOk result (λ r. at < r.1) }
+    ensures placed { IfOk result (λ r. (place : ℕ) → BeginsAt place r.0) }
 {
     let bytes = text.as_bytes();
     match up_to_greater(bytes, at as usize + 9) {

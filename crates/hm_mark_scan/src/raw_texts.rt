@@ -2,7 +2,7 @@
 ghost use Rattle.std.specs.Prelude.{◌≡◌, ℕ, ◌^◌, ◌<◌, ◌≤◌, drop, length, IfOk, IfErr, IsCharBoundary};
 ghost use Rattle.hm_base.specs.Bytes.{head_is, strip_word};
 ghost use Rattle.hm_base.specs.RawText as raw;
-ghost use Rattle.hm_tree.specs.Tokens.{Reads, refused};
+ghost use Rattle.hm_tree.specs.Tokens.{BeginsAt, Reads, refused};
 ghost use Rattle.hm_mark_scan.specs.Found.{FindsPlace};
 ghost use Rattle.hm_mark_scan.specs.RawTexts.{read_raw};
 
@@ -67,6 +67,7 @@ pub fn scan_raw(text: &str, at: u32, name: &str) -> Result<(Token, u32), ScanFau
     ensures ok { IfOk result (λ r. Reads (read_raw name.now (drop at text.now)) text.now r.0 r.1) }
     ensures err { IfErr result (λ fault. read_raw name.now (drop at text.now) ≡ refused fault) }
     ensures forward { IfOk result (λ r. at ≤ r.1) }
+    ensures placed { IfOk result (λ r. BeginsAt at r.0) }
 {
     match end_tag_place(text.as_bytes(), at as usize, name.as_bytes()) {
         Some(to) => Ok((

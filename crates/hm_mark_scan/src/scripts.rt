@@ -1,7 +1,7 @@
 //! The text of a script.
 ghost use Rattle.std.specs.Prelude.{◌≡◌, ℕ, ◌^◌, ◌<◌, ◌≤◌, drop, length, IfOk, IfErr, IsCharBoundary, option_map};
 ghost use Rattle.hm_base.specs.RawText as raw;
-ghost use Rattle.hm_tree.specs.Tokens.{Reads, refused};
+ghost use Rattle.hm_tree.specs.Tokens.{BeginsAt, Reads, refused};
 ghost use Rattle.hm_mark_scan.specs.Found.{FindsPlace};
 ghost use Rattle.hm_mark_scan.specs.RawTexts.{read_script};
 ghost use Rattle.hm_mark_scan.specs.Scripts.{state_of, mark_of, next_state};
@@ -89,6 +89,7 @@ pub fn scan_script(text: &str, at: u32) -> Result<(Token, u32), ScanFault>
     ensures ok { IfOk result (λ r. Reads (read_script (drop at text.now)) text.now r.0 r.1) }
     ensures err { IfErr result (λ fault. read_script (drop at text.now) ≡ refused fault) }
     ensures forward { IfOk result (λ r. at ≤ r.1) }
+    ensures placed { IfOk result (λ r. BeginsAt at r.0) }
 {
     match script_end(text.as_bytes(), at as usize) {
         Some(to) => Ok((

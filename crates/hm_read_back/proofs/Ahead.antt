@@ -1,25 +1,23 @@
 -- What is next in a spelling: a hidden tag is one that what is next makes anyhow, and a text is read with what follows it.
-use Rattle.std.proofs.Common.{◌≡◌, ℕ, ◌+◌, Bool, true, false, List, [], ◌∷◌, ◌++◌, map, refl, sym, ◌∙◌, ap, subst, encode_utf8_all, append_assoc}
+use Rattle.std.proofs.Common.{◌≡◌, ℕ, ◌+◌, true, false, List, [], ◌∷◌, ◌++◌, map, refl, sym, ◌∙◌, ap, subst, encode_utf8_all, append_assoc}
 use Rattle.std.proofs.lemmas.Bool.{and_parts}
 use Rattle.hm_base.specs.Walks.{Event, pushes}
-use Rattle.hm_base.specs.declared.rules.Rule.{Rule}
 use Rattle.hm_refs.specs.Names.{Entry}
 use Rattle.hm_refs.specs.Tables.{IsTable}
 use Rattle.hm_tree.specs.Tokens.{Seen, taken}
 use Rattle.hm_tree.specs.Tokens as tokens
-use Rattle.hm_text_scan.specs.Texts.{begins_markup}
 use Rattle.hm_tokens.specs.First.{Mode, ordinary, behind_bytes, first}
 use Rattle.hm_tokens.specs.Laws.{SoundNames, IsMode}
 use Rattle.hm_tokens.specs.Readings.{ReadsAs}
 use Rattle.hm_tokens.specs.Decided.{TextPiece, literal, referred, written_so, meant, ArePieces, IsReadAs, ends_text, in_mode, texts_of, are_texts, is_text}
-use Rattle.hm_tokens.specs.Written.{IsNext, IsNextMarkup}
+use Rattle.hm_tokens.specs.Written.{IsNextMarkup}
 use Rattle.hm_tokens.proofs.TextReads.{texts_are_read, markup_ends_texts}
 use Rattle.hm_construction.specs.Steps.{State, Stepped, went, stops, behind_events, then_step, at_front, step_byte, step_bytes, step}
 use Rattle.hm_construction.specs.Steps as steps
 use Rattle.hm_construction.specs.Trees.{Outcome, built, refused_by, after_events, mode_of, stepped, over, tree_from}
 use Rattle.hm_construction.proofs.Standing.{pushes_append}
 use Rattle.hm_read_back.proofs.Reading.{after_none, after_after, Builds, token_steps, anywhere}
-use Rattle.hm_read_back.proofs.Runs.{Run, ran, halted, behind_run, then_run, run_bytes, run_append, Reached, Reads, ReachesRest, texts_reach, token_bytes, texts_split}
+use Rattle.hm_read_back.proofs.Runs.{Run, ran, halted, behind_run, then_run, run_bytes, run_append, Reached, Reads, texts_reach, token_bytes, texts_split}
 
 -- a table of names as its reader gives it
 pub record Sound (t : List Entry) : Type 0 where
@@ -120,7 +118,7 @@ texts_hidden t place st next es c x names m m' agree (k ∷ ks) at s rest texts 
     by [] b is whole on =
         let one = token_steps t place at ordinary s n k left names tt h in
         let here : (st' : State) → mode_of st'.path ≡ ordinary → tree_from t place 0 at st' s ≡ tree_from t place 0 one.0 st' left =
-            λ st' o. one.1 st' o ∙ ap (λ z. stepped place (at + n) z (λ q. tree_from t place 0 one.0 q left)) (empty_step st' k is b) ∙ after_none (tree_from t place 0 one.0 st' left) in
+        λ st' o. one.1 st' o ∙ ap (λ z. stepped place (at + n) z (λ q. tree_from t place 0 one.0 q left)) (empty_step st' k is b) ∙ after_none (tree_from t place 0 one.0 st' left) in
         here st m ∙ on one.0 whole ∙ ap (after_events es) (sym (here next m'))
     by (d ∷ y) b is whole on =
         let same : d ≡ c = cc in
@@ -189,12 +187,12 @@ text_before_front t sound P reads ps b rest text st next es w p p' whole allowed
     let off = texts_reach t place P ordinary sound.names tt reads q.tokens at (written_so f.pieces ++ f.rest) f.rest q.texts q.reads in
     let cut : b ≡ written_so all ++ f.rest = whole ∙ ap (λ s. written_so ps ++ s) f.whole ∙ sym (follow_on ps f.pieces f.rest) in
     let run : run_bytes (texts_of r.tokens) st ≡ behind_run es (run_bytes (meant f.pieces) next) =
-        ap (λ s. run_bytes s st) (r.joined ∙ meant_append ps f.pieces) ∙ run_append (meant ps) (meant f.pieces) st ∙ ap (λ z. then_run z (run_bytes (meant f.pieces))) runs in
+    ap (λ s. run_bytes s st) (r.joined ∙ meant_append ps f.pieces) ∙ run_append (meant ps) (meant f.pieces) st ∙ ap (λ z. then_run z (run_bytes (meant f.pieces))) runs in
     let here = subst (Reached (tree_from t place 0 at st (written_so all ++ f.rest)) (λ z. tree_from t place 0 on.0 z f.rest)) run (on.1 st p) in
     let there = subst (Reached (tree_from t place 0 at next (written_so f.pieces ++ f.rest)) (λ z. tree_from t place 0 off.0 z f.rest)) (ap (λ s. run_bytes s next) q.joined) (off.1 next p') in
     ap (tree_from t place 0 at st) cut
     ∙ joined_build t place on.0 off.0 f.rest es (tree_from t place 0 at st (written_so all ++ f.rest)) (tree_from t place 0 at next (written_so f.pieces ++ f.rest)) w (run_bytes (meant f.pieces) next) here there
-        (ap (tree_from t place 0 at next) (sym f.whole) ∙ more place at)
+    (ap (tree_from t place 0 at next) (sym f.whole) ∙ more place at)
 
 -- A text in front of what may begin with a text is one text, up to where that ends.
 pub text_first : (t : List Entry) (ps : List TextPiece) (b rest text : List ℕ) → b ≡ written_so ps ++ rest → ArePieces t false ps rest → TextFront t rest text → TextFront t b (meant ps ++ text)

@@ -1,22 +1,20 @@
 -- Behind the end of body: comments, the end of html, comments, and the end of the page; a p may still be fresh.
-use Rattle.std.proofs.Common.{◌≡◌, ℕ, Bool, true, false, ◌||◌, List, [], ◌∷◌, ◌++◌, map, bytes_eq, refl, sym, ◌∙◌, ap, subst, codes, append_assoc}
+use Rattle.std.proofs.Common.{◌≡◌, ℕ, Bool, true, false, List, [], ◌∷◌, ◌++◌, map, refl, sym, ◌∙◌, ap}
 use Rattle.std.proofs.lemmas.Bool.{both_ways}
 use Rattle.hm_base.specs.Walks.{Event, doctype, start, text, comment, end, Element, pushes, begins_comment}
-use Rattle.hm_elements.specs.Names.{is_among, html, head, body, p}
+use Rattle.hm_elements.specs.Names.{is_among, html, body, p}
 use Rattle.hm_elements.specs.Tables.{is_void, is_raw, raw_names, is_rcdata, rcdata_names, holds_text}
-use Rattle.hm_elements.specs.Paths.{html_element, current, is_in_svg, is_in_text}
-use Rattle.hm_elements.specs.Places.{CommentAllowed, SettledLast, SettledBehindBody, html_path}
+use Rattle.hm_elements.specs.Paths.{html_element}
+use Rattle.hm_elements.specs.Places.{SettledLast, SettledBehindBody, html_path}
 use Rattle.hm_tree.specs.Tokens as tokens
 use Rattle.hm_tokens.specs.First.{ordinary}
-use Rattle.hm_markup_forms.specs.Tags.{WritesEnd}
 use Rattle.hm_spellings.specs.Tags.{Spelling}
-use Rattle.hm_spellings.specs.Omission.{may_omit_end}
 use Rattle.hm_spellings.specs.Spellings.{Before, other, EndForm, is_self_closing, has_no_end_tag, EndSp, behind_end, SpellsFrom}
-use Rattle.hm_construction.specs.Steps.{InsertionMode, in_body, after_body, after_html, State, Stepped, went, under_html, under_body, is_at_end, step, step_end, step_over}
+use Rattle.hm_construction.specs.Steps.{InsertionMode, in_body, after_body, after_html, State, went, under_body, is_at_end, step, step_end, step_over}
 use Rattle.hm_construction.specs.Trees.{built, mode_of}
-use Rattle.hm_read_back.specs.Pieces.{PiecesAreNext}
+use Rattle.hm_read_back.proofs.Pieces.{PiecesAreNext}
 use Rattle.hm_read_back.proofs.Reading.{Builds, written}
-use Rattle.hm_read_back.proofs.Ahead.{Sound, Ahead, tag, finish, Begins, Agree, unseen}
+use Rattle.hm_read_back.proofs.Ahead.{Sound, Ahead, tag, finish, Agree, unseen}
 use Rattle.hm_read_back.proofs.Frame.{here, First, frame_modes, end_omitted_is, root_end_falls, frame_not_void, frame_names}
 
 -- html and body are open, and maybe a p
@@ -87,7 +85,7 @@ outer_law g sound next (comment s ∷ w) b before loose inner last (allowed, set
     let cut = (next.comments ordinary s rest refl allowed.form).1 in
     rw (e, sym (comment_moves last s w))
     (written g.table ordinary (left after_html loose inner last) (left after_html loose inner (last ++ s ∷ [])) [] _ _ 0 (tokens.comment s) rest sound.names tt (end_mode loose) cut (last_comment loose inner last s)
-        (outer_law g sound next w rest other loose inner (last ++ s ∷ []) settled more))
+    (outer_law g sound next w rest other loose inner (last ++ s ∷ []) settled more))
 outer_law g sound next (doctype legacy ∷ w) b before loose inner last settled sp = absurd settled
 outer_law g sound next (start n foreign attributes ∷ w) b before loose inner last settled sp = absurd settled
 outer_law g sound next (text s raw ∷ w) b before loose inner last settled sp = absurd settled
@@ -124,10 +122,10 @@ html_end g sound next EndForm.omitted w piece rest b before loose inner settled 
     let none : rest ≡ [] = over_is g w rest (behind_end html EndForm.omitted) settled (root_end_falls html [] w refl falls) more in
     let cut : b ≡ rest = rw (e, sp.0) refl in
     rw cut (unseen g.table sound rest finish (left after_body loose inner []) (left after_html loose inner []) [] _ (end_mode loose) (end_mode loose) none (html_over loose inner)
-        (outer_law g sound next w rest (behind_end html EndForm.omitted) loose inner [] settled more))
+    (outer_law g sound next w rest (behind_end html EndForm.omitted) loose inner [] settled more))
 html_end g sound next EndForm.written w piece rest b before loose inner settled fresh e sp more =
     rw e (written g.table ordinary (left after_body loose inner []) (left after_html loose inner []) [] _ _ 0 (tokens.end_tag html) rest sound.names tt (end_mode loose) (next.ends ordinary html piece rest refl frame_names.0 sp.1).1 (ends_html loose inner)
-        (outer_law g sound next w rest (behind_end html EndForm.written) loose inner [] settled more))
+    (outer_law g sound next w rest (behind_end html EndForm.written) loose inner [] settled more))
 
 -- ---- Behind body
 
@@ -138,7 +136,7 @@ inner_law g sound next (comment s ∷ w) b before loose inner (allowed, settled)
     let cut = (next.comments ordinary s rest refl allowed.form).1 in
     rw (e, sym (comment_moves inner s w))
     (written g.table ordinary (left after_body loose inner []) (left after_body loose (inner ++ s ∷ []) []) [] _ _ 0 (tokens.comment s) rest sound.names tt (end_mode loose) cut (inner_comment loose inner s)
-        (inner_law g sound next w rest other loose (inner ++ s ∷ []) settled refl more))
+    (inner_law g sound next w rest other loose (inner ++ s ∷ []) settled refl more))
 inner_law g sound next (end n foreign ∷ w) b before loose inner (named, kind, settled) fresh (form, piece, rest, e, sp, more) =
     let sp' : EndSp g before html false [] w form piece = rw (named, kind) at sp in
     let more' : SpellsFrom g (behind_end html form) [] w rest = rw named at more in
@@ -189,7 +187,7 @@ last_law g sound next EndForm.omitted w piece rest b before loose drops settled 
     let (x, is, begins) = end_first g next w rest (behind_end body EndForm.omitted) settled (root_end_falls body html w refl falls) refl more in
     let cut : b ≡ rest = rw (e, sp.0) refl in
     rw cut (unseen g.table sound rest x (here in_body (end_path loose) drops) (left after_body loose [] []) [] _ (end_mode loose) (end_mode loose) begins (end_agrees loose drops x is)
-        (inner_law g sound next w rest (behind_end body EndForm.omitted) loose [] settled refl more))
+    (inner_law g sound next w rest (behind_end body EndForm.omitted) loose [] settled refl more))
 last_law g sound next EndForm.written w piece rest b before loose drops settled fresh e sp more =
     rw e (written g.table ordinary (here in_body (end_path loose) drops) (left after_body loose [] []) [] _ _ 0 (tokens.end_tag body) rest sound.names tt (end_mode loose) (next.ends ordinary body piece rest refl frame_names.1.1 sp.1).1 (ends_body loose drops)
-        (inner_law g sound next w rest (behind_end body EndForm.written) loose [] settled refl more))
+    (inner_law g sound next w rest (behind_end body EndForm.written) loose [] settled refl more))

@@ -1,29 +1,28 @@
 -- Behind the end of head: whitespace and comments, and body, with its start tag or without.
-use Rattle.std.proofs.Common.{◌≡◌, ℕ, Bool, true, false, cond, not, ◌&&◌, ◌||◌, List, [], ◌∷◌, ◌++◌, map, bytes_eq, refl, sym, ◌∙◌, ap, subst, inl, inr, codes}
+use Rattle.std.proofs.Common.{◌≡◌, ℕ, Bool, true, false, not, ◌&&◌, ◌||◌, List, [], ◌∷◌, ◌++◌, bytes_eq, refl, sym, ◌∙◌, ap, subst}
 use Rattle.std.proofs.lemmas.Bool.{and_parts, not-true, both_ways, false_from_ne_true}
-use Rattle.std.specs.List.{list_all}
-use Rattle.hm_base.specs.Bytes.{is_space, is_null, head_is, all_pass}
+use Rattle.hm_base.specs.Bytes.{is_space, head_is, all_pass}
 use Rattle.hm_base.specs.Walks.{Attribute, Event, doctype, start, text, comment, end, Element, begins_text, begins_comment}
-use Rattle.hm_elements.specs.Names.{words, is_among, html, head, body, svg, table}
-use Rattle.hm_elements.specs.Tables.{is_refused, refused_names, is_raw, raw_names, is_rcdata, rcdata_names, holds_text, voids}
+use Rattle.hm_elements.specs.Names.{words, is_among, head, body, svg, table}
+use Rattle.hm_elements.specs.Tables.{is_metadata, is_refused, refused_names, is_raw, raw_names, is_rcdata, rcdata_names, holds_text}
 use Rattle.hm_elements.specs.Nesting.{children, may_stand}
-use Rattle.hm_elements.specs.Paths.{html_element, current, is_in_svg, is_in_raw, is_in_text, stands_on}
-use Rattle.hm_elements.specs.Places.{StartAllowed, ElementAllowed, HtmlAllowed, RootAllowed, TextAllowed, html_path, SettledBody, SettledBeforeBody}
+use Rattle.hm_elements.specs.Paths.{html_element, is_in_raw, is_in_text, stands_on}
+use Rattle.hm_elements.specs.Places.{StartAllowed, ElementAllowed, RootAllowed, TextAllowed, html_path, SettledBody, SettledBeforeBody}
 use Rattle.hm_elements.proofs.TableTools.{same_bytes, none_among}
 use Rattle.hm_tree.specs.Tokens as tokens
 use Rattle.hm_tokens.specs.First.{ordinary}
 use Rattle.hm_spellings.specs.Tags.{Spelling, SpellsStart}
 use Rattle.hm_spellings.specs.Omission.{begins_space, head_takes, begins_for_head, start_falls}
 use Rattle.hm_spellings.specs.Spellings.{Before, other, opening, StartForm, StartSp, TextSp, drops_first_line_feed, is_self_closing, behind_start, left_out_before, SpellsFrom}
-use Rattle.hm_settle.specs.Moves.{element}
-use Rattle.hm_construction.specs.Steps.{after_head, in_body, went, under_html, under_head, under_body, is_metadata, step, step_start}
+use Rattle.hm_construction.specs.Steps.{after_head, in_body, went, under_html, under_head, under_body, step, step_start}
 use Rattle.hm_construction.proofs.Texts.{texts}
-use Rattle.hm_read_back.specs.Pieces.{PiecesAreNext, text_as_read}
+use Rattle.hm_spelled_tokens.specs.Texts.{InPieces, text_as_read}
+use Rattle.hm_read_back.proofs.Pieces.{PiecesAreNext}
 use Rattle.hm_read_back.proofs.Reading.{Builds, written}
 use Rattle.hm_read_back.proofs.Runs.{ran, run_of, run_bytes}
-use Rattle.hm_read_back.proofs.Ahead.{Sound, Ahead, tag, point, TextFront, any_front, unseen, text_first}
-use Rattle.hm_read_back.proofs.Frame.{here, First, frame_modes, frame_names, StartOmitted, start_omitted}
-use Rattle.hm_read_back.proofs.BodySteps.{Inside, at_body, stands_in, NoRoot, no_root}
+use Rattle.hm_read_back.proofs.Ahead.{Sound, tag, point, TextFront, any_front, unseen, text_first}
+use Rattle.hm_read_back.proofs.Frame.{here, First, frame_modes, frame_names, start_omitted}
+use Rattle.hm_read_back.proofs.BodySteps.{at_body, stands_in, no_root}
 use Rattle.hm_read_back.proofs.Closing.{html_part, start_name, falls_child, child_in_table, ends_body, body_end_first}
 use Rattle.hm_read_back.proofs.Follow.{Fronted, text_follows}
 use Rattle.hm_read_back.proofs.Texts.{flag, read_text, run_kept, space_behind}
@@ -47,7 +46,7 @@ not_in_both n (k ∷ ks) ms a b = by (bytes_eq k n) (is_among n ks) refl a (λ e
 abbrev head_names : List (List ℕ)
 head_names = words "link meta noscript script style" ++ words "base title"
 
-stands_in_head : (n : List ℕ) → stands_on n under_head ≡ is_among n (words "base link meta noscript script style title")
+pub stands_in_head : (n : List ℕ) → stands_on n under_head ≡ is_among n (words "base link meta noscript script style title")
 unfolding may_stand children is_among
 stands_in_head n = refl
 
@@ -116,10 +115,10 @@ start_first g next w n foreign attributes before b piece rest StartForm.omitted 
 text_is_first : (g : Spelling) → PiecesAreNext g → (w : List Event) (s : List ℕ) (before : Before) (b piece rest : List ℕ) → TextAllowed under_body s false w → SettledBody under_body w → head_is is_space s ≡ false → b ≡ piece ++ rest → TextSp g before under_body s false piece rest → SpellsFrom g other under_body w rest → First g.table BodyFirst b
 text_is_first g next w [] before b piece rest a settled h e sp more = let bad : true ≡ false = a.not_empty in cc
 text_is_first g next w (c ∷ s) before b piece rest a settled h e sp more =
-    let p = next.texts before under_body (c ∷ s) piece rest a.utf8 refl body_is_plain.1 sp in
+    let p : InPieces g.table false (text_as_read before under_body (c ∷ s)) piece rest = rw body_is_plain.1 at (next.texts before under_body (c ∷ s) piece rest a.utf8 refl sp) in
     let as_is : text_as_read before under_body (c ∷ s) ≡ c ∷ s = read_text before under_body (c ∷ s) a.utf8 ∙ rw (body_no_flag before) refl in
     let (more_text, front) = text_follows g next w under_body other rest at_body refl settled a.alone refl more in
-    let whole = text_first g.table p.pieces b rest more_text (e ∙ ap (λ x. x ++ rest) (sym p.whole)) p.allowed front in
+    let whole = text_first g.table p.pieces b rest more_text (e ∙ ap (λ x. x ++ rest) (sym p.written)) p.good front in
     (point c, visible c h, (s ++ more_text, subst (TextFront g.table b) (ap (λ x. x ++ more_text) (p.means ∙ as_is)) whole))
 
 pub body_first : (g : Spelling) → PiecesAreNext g → (w : List Event) (b : List ℕ) (before : Before) → SettledBody under_body w → begins_comment w ≡ false → begins_space w ≡ false → begins_for_head w ≡ false → is_self_closing before ≡ false → SpellsFrom g before under_body w b → First g.table BodyFirst b
@@ -217,7 +216,7 @@ written_body : (g : Spelling) → Sound g.table → PiecesAreNext g → (w : Lis
 written_body g sound next w attributes slash piece rest a settled sp more =
     let law : Builds g.table (here in_body under_body false) rest w = rw (body_no_flag opening) at (body_law g sound next w under_body rest opening at_body settled refl more) in
     written g.table ordinary (here after_head under_html false) (here in_body under_body false) (start body false attributes ∷ []) w (piece ++ rest) 0 (tokens.start_tag body attributes slash) rest sound.names tt frame_modes.1.0
-        (next.starts ordinary body attributes slash piece rest refl frame_names.1.1 a.attributes_allowed sp).1 (opens_body attributes slash) law
+    (next.starts ordinary body attributes slash piece rest refl frame_names.1.1 a.attributes_allowed sp).1 (opens_body attributes slash) law
 
 body_start : (g : Spelling) → Sound g.table → PiecesAreNext g → (w : List Event) (attributes : List Attribute) (before : Before) (b piece rest : List ℕ) (form : StartForm) → RootAllowed body body false attributes → SettledBody under_body w → b ≡ piece ++ rest → StartSp g before body false attributes w form piece rest → SpellsFrom g opening under_body w rest
     → Builds g.table (here after_head under_html false) b (start body false attributes ∷ w)
@@ -244,7 +243,7 @@ behind_head_law g sound next (doctype legacy ∷ w) b before settled sp = absurd
 behind_head_law g sound next (end n foreign ∷ w) b before settled sp = absurd settled
 behind_head_law g sound next (comment s ∷ w) b before (allowed, settled) (rest, e, more) =
     rw e (written g.table ordinary (here after_head under_html false) (here after_head under_html false) (comment s ∷ []) w _ 0 (tokens.comment s) rest sound.names tt frame_modes.1.0
-        (next.comments ordinary s rest refl allowed.form).1 (comment_behind_head s) (behind_head_law g sound next w rest other settled more))
+    (next.comments ordinary s rest refl allowed.form).1 (comment_behind_head s) (behind_head_law g sound next w rest other settled more))
 behind_head_law g sound next (text s true ∷ w) b before (a, blank, settled) sp = absurd (both_ways (is_in_raw under_html) html_is_plain.1 (sym a.kind))
 behind_head_law g sound next (text s false ∷ w) b before (a, blank, settled) (piece, rest, e, sp, more) =
     let law = plain_text g sound next after_head under_html s piece rest before w refl html_is_plain.0 a sp (behind_head_follows g next w rest other settled a.alone more) (space_kept s blank) (behind_head_law g sound next w rest other settled more) in

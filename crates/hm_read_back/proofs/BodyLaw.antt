@@ -1,37 +1,36 @@
 -- Spellings of what stands in body are read back.
 use Rattle.std.proofs.Common.{◌≡◌, ℕ, Bool, true, false, cond, not, ◌&&◌, ◌||◌, List, [], ◌∷◌, ◌++◌, bytes_eq, refl, sym, ◌∙◌, ap, subst, inl, inr, codes}
-use Rattle.std.proofs.lemmas.Bool.{and_parts, not-true, both_ways, false_from_ne_true}
+use Rattle.std.proofs.lemmas.Bool.{both_ways}
 use Rattle.hm_base.specs.Forms.{is_tag_name}
-use Rattle.hm_base.specs.Walks.{Attribute, Event, doctype, start, text, comment, end, Element, pushes, begins_end}
-use Rattle.hm_elements.specs.Names.{is_among, html, head, body, p, script as script_name}
-use Rattle.hm_elements.specs.Tables.{is_void, is_raw, raw_names, is_rcdata, rcdata_names, holds_text}
+use Rattle.hm_base.specs.Walks.{Attribute, Event, doctype, start, text, comment, end, Element, begins_end}
+use Rattle.hm_elements.specs.Names.{html, body, p, script as script_name}
+use Rattle.hm_elements.specs.Tables.{is_void, is_raw, is_rcdata, holds_text}
 use Rattle.hm_elements.specs.Nesting.{yields}
 use Rattle.hm_elements.specs.Paths.{html_element, current, is_in_svg, is_in_text, head_yields}
 use Rattle.hm_elements.specs.Settled.{is_html}
 use Rattle.hm_elements.specs.Omission.{goes_up}
-use Rattle.hm_elements.specs.Places.{CommentAllowed, StartAllowed, HtmlAllowed, SvgAllowed, ElementAllowed, SettledBehindBody, SettledBody}
-use Rattle.hm_elements.specs.Laws.{StartIsMade}
+use Rattle.hm_elements.specs.Places.{CommentAllowed, StartAllowed, HtmlAllowed, ElementAllowed, SettledBody}
 use Rattle.hm_elements.proofs.TableTools.{same_bytes}
 use Rattle.hm_tree.specs.Tokens as tokens
-use Rattle.hm_tokens.specs.First.{Mode, ordinary, in_svg, rcdata, raw as raw_mode_of, script}
+use Rattle.hm_tokens.specs.First.{ordinary, rcdata, raw as raw_mode_of, script}
 use Rattle.hm_tokens.specs.Laws.{reads_markup}
 use Rattle.hm_tokens.specs.Written.{IsNext, IsTextOf}
 use Rattle.hm_markup_forms.specs.Tags.{WritesEnd}
 use Rattle.hm_spellings.specs.Tags.{Spelling, SpellsStart}
 use Rattle.hm_spellings.specs.Omission.{end_goes}
-use Rattle.hm_spellings.specs.Spellings.{Before, other, opening, self_closing, end_omitted, StartForm, EndForm, StartSp, EndSp, is_self_closing, has_no_end_tag, may_be_slashed, behind_start, behind_end, left_out_before, SpellsFrom}
-use Rattle.hm_settle.specs.Moves.{element, is_void_open}
+use Rattle.hm_spellings.specs.Spellings.{Before, other, opening, end_omitted, StartForm, EndForm, StartSp, EndSp, is_self_closing, has_no_end_tag, may_be_slashed, behind_start, behind_end, left_out_before, SpellsFrom}
+use Rattle.hm_settle.specs.Moves.{element}
 use Rattle.hm_construction.specs.Steps.{in_body, State, went, under_body, closes_at_once, entered}
 use Rattle.hm_construction.specs.Steps as steps
 use Rattle.hm_construction.specs.Trees.{mode_of, mode_of_name}
 use Rattle.hm_construction.proofs.Modes.{is_mode}
-use Rattle.hm_read_back.specs.Pieces.{PiecesAreNext}
+use Rattle.hm_read_back.proofs.Pieces.{PiecesAreNext}
 use Rattle.hm_read_back.proofs.Reading.{Builds, written}
-use Rattle.hm_read_back.proofs.Ahead.{Sound, Ahead, tag, Begins, unseen}
-use Rattle.hm_read_back.proofs.Frame.{here, First, start_omitted, end_omitted_is}
-use Rattle.hm_read_back.proofs.Behind.{end_path, last_law}
-use Rattle.hm_read_back.proofs.BodySteps.{Inside, at_body, inner, Stands, stands_in, NoRoot, no_root, element_no_root, start_steps, stays_open, closes_again, end_steps, comment_steps, close_agrees, Closes, start_made}
-use Rattle.hm_read_back.proofs.Closing.{html_part, start_name, falls_child, ChildFirst, child_first, falls_goes, goes_holds, p_in_body, closes_first, ends_inner, ends_body}
+use Rattle.hm_read_back.proofs.Ahead.{Sound, tag, unseen}
+use Rattle.hm_read_back.proofs.Frame.{here, start_omitted, end_omitted_is}
+use Rattle.hm_read_back.proofs.Behind.{last_law}
+use Rattle.hm_read_back.proofs.BodySteps.{Inside, at_body, inner, Stands, stands_in, no_root, element_no_root, start_steps, stays_open, closes_again, end_steps, comment_steps, close_agrees, start_made}
+use Rattle.hm_read_back.proofs.Closing.{start_name, falls_child, ChildFirst, child_first, falls_goes, goes_holds, p_in_body, closes_first, ends_inner, ends_body}
 use Rattle.hm_read_back.proofs.Follow.{AtEnd, body_ends, goes_on, at_end}
 use Rattle.hm_read_back.proofs.Texts.{flag, flag_behind}
 use Rattle.hm_read_back.proofs.TextElements.{in_text_is}
@@ -185,13 +184,13 @@ written_start g sound next w laws n foreign attributes path piece rest drops sla
         let k = goes.ends h in
         let c = closed_case g w laws n foreign path before rest ins settled k.0 outside k.1 more in
         rw c.1 (written g.table (mode_of path) (here in_body path drops) (here in_body path false) (start n foreign attributes ∷ end n foreign ∷ []) c.0 (piece ++ rest) 0 (tokens.start_tag n attributes slash) rest sound.names (is_mode path) refl read
-            (start_steps n foreign attributes slash path w drops allowed ∙ closes_again attributes slash n foreign path h) c.2)
+        (start_steps n foreign attributes slash path w drops allowed ∙ closes_again attributes slash n foreign path h) c.2)
     by false h =
         let is : before ≡ opening = goes.stays h in
         let more' : SpellsFrom g opening (element n foreign ∷ path) w rest = subst (λ (x : Before). SpellsFrom g x (element n foreign ∷ path) w rest) is more in
         written g.table (mode_of path) (here in_body path drops) (here in_body (element n foreign ∷ path) (steps.drops_behind (element n foreign ∷ path))) (start n foreign attributes ∷ []) w (piece ++ rest) 0 (tokens.start_tag n attributes slash) rest sound.names (is_mode path) refl read
-            (start_steps n foreign attributes slash path w drops allowed ∙ stays_open attributes slash n foreign path h)
-            (rw (flag_behind (element n foreign) path) (law_of g w laws (element n foreign ∷ path) rest opening (inner (element n foreign) path (stands_here n foreign path w allowed.element (solid h)) ins) settled refl more'))
+        (start_steps n foreign attributes slash path w drops allowed ∙ stays_open attributes slash n foreign path h)
+        (rw (flag_behind (element n foreign) path) (law_of g w laws (element n foreign ∷ path) rest opening (inner (element n foreign) path (stands_here n foreign path w allowed.element (solid h)) ins) settled refl more'))
 
 kept_by : (path : List Element) (k : List ℕ) → yields (current path) k ≡ false → head_yields path k ≡ false
 kept_by [] k h = refl
@@ -205,9 +204,9 @@ omitted_start g sound next w laws n path rest drops ins out a settled c more =
     let t' = no_text_name (html_element n ∷ path) c.holds.no_text in
     let stands : Stands (html_element n) path = record { name = a.name; outside = λ h. out; stands = λ h. a.stands; solid = λ h. c.holds.not_void } in
     unseen g.table sound rest (tag (tokens.start_tag c.child c.attributes c.slash)) (here in_body path drops) (here in_body (html_element n ∷ path) (flag opening (html_element n ∷ path))) (start n false [] ∷ []) w
-        (plain_path path out t) (plain_path (html_element n ∷ path) refl t') c.begins
-        (start_made c.attributes c.slash n c.child (current path) path drops (flag opening (html_element n ∷ path)) out refl c.made (kept_by path c.child c.made.kept) c.nothing)
-        (law_of g w laws (html_element n ∷ path) rest opening (inner (html_element n) path stands ins) settled refl more)
+    (plain_path path out t) (plain_path (html_element n ∷ path) refl t') c.begins
+    (start_made c.attributes c.slash n c.child (current path) path drops (flag opening (html_element n ∷ path)) out refl c.made (kept_by path c.child c.made.kept) c.nothing)
+    (law_of g w laws (html_element n ∷ path) rest opening (inner (html_element n) path stands ins) settled refl more)
 
 start_case : (g : Spelling) → Sound g.table → PiecesAreNext g → (w : List Event) → BodyLaws g w → (n : List ℕ) (foreign : Bool) (attributes : List Attribute) (path : List Element) (b piece rest : List ℕ) (before : Before) (drops : Bool) (form : StartForm)
     → Inside path → StartAllowed n foreign attributes path w → SettledBody (element n foreign ∷ path) w → b ≡ piece ++ rest → StartSp g before n foreign attributes w form piece rest → SpellsFrom g (behind_start foreign form) (element n foreign ∷ path) w rest
@@ -261,9 +260,9 @@ omitted_end g sound next w law n path b drops s ins settled goes sp (goes_on wit
     let holds = goes_holds n (current path) w goes in
     let t = no_text_name path (stands_in n path (s.stands refl)).1.0.no_text in
     unseen g.table sound b x (here in_body (html_element n ∷ path) drops) (here in_body path false) (end n false ∷ []) w
-        (plain_path (html_element n ∷ path) refl (no_text_name (html_element n ∷ path) holds.no_text)) (plain_path path (s.outside refl) t) begins
-        (close_agrees n path drops false x (s.outside refl) holds.no_text t closes)
-        (law path b (end_omitted n) ins settled refl sp)
+    (plain_path (html_element n ∷ path) refl (no_text_name (html_element n ∷ path) holds.no_text)) (plain_path path (s.outside refl) t) begins
+    (close_agrees n path drops false x (s.outside refl) holds.no_text t closes)
+    (law path b (end_omitted n) ins settled refl sp)
 
 end_case : (g : Spelling) → Sound g.table → PiecesAreNext g → (w : List Event) → BodyLaw g w → (d : Element) (path : List Element) (b piece rest : List ℕ) (before : Before) (drops : Bool) (form : EndForm)
     → Stands d path → Inside path → SettledBody path w → is_self_closing before ≡ false → b ≡ piece ++ rest → EndSp g before d.name d.foreign path w form piece → SpellsFrom g (behind_end d.name form) path w rest
@@ -276,10 +275,10 @@ end_case g sound next w law d path b piece rest before drops EndForm.omitted s i
     let s' : Stands (html_element d.name) path = subst (λ (x : Element). Stands x path) is s in
     let cut : b ≡ rest = rw (e, sp.0) refl in
     rw cut (subst (λ (x : Element). Builds g.table (here in_body (x ∷ path) drops) rest (end x.name x.foreign ∷ w)) (sym is)
-        (omitted_end g sound next w law d.name path rest drops s' ins settled goes more (at_end path w ins (s'.outside refl))))
+    (omitted_end g sound next w law d.name path rest drops s' ins settled goes more (at_end path w ins (s'.outside refl))))
 end_case g sound next w law d path b piece rest before drops EndForm.written s ins settled fresh e sp more =
     rw e (written g.table (mode_of (d ∷ path)) (here in_body (d ∷ path) drops) (here in_body path false) (end d.name d.foreign ∷ []) w (piece ++ rest) 0 (tokens.end_tag d.name) rest sound.names (is_mode (d ∷ path)) refl
-        (end_is_next g next d path piece rest s.name sp.1) (end_steps d path drops s) (law path rest other ins settled refl more))
+    (end_is_next g next d path piece rest s.name sp.1) (end_steps d path drops s) (law path rest other ins settled refl more))
 
 -- ---- The law
 
@@ -287,7 +286,7 @@ comment_case : (g : Spelling) → Sound g.table → PiecesAreNext g → (w : Lis
     → b ≡ codes "<!--" ++ (s ++ (codes "-->" ++ rest)) → SpellsFrom g other path w rest → Builds g.table (here in_body path drops) b (comment s ∷ w)
 comment_case g sound next w law s path b rest drops ins allowed settled e more =
     rw e (written g.table (mode_of path) (here in_body path drops) (here in_body path false) (comment s ∷ []) w _ 0 (tokens.comment s) rest sound.names (is_mode path) refl
-        (next.comments (mode_of path) s rest (markup_mode path allowed.outside) allowed.form).1 (comment_steps path drops s) (law path rest other ins settled refl more))
+    (next.comments (mode_of path) s rest (markup_mode path allowed.outside) allowed.form).1 (comment_steps path drops s) (law path rest other ins settled refl more))
 
 body_end_case : (g : Spelling) → Sound g.table → PiecesAreNext g → (m : List ℕ) (foreign : Bool) (w : List Event) (b : List ℕ) (before : Before) (drops : Bool) → is_self_closing before ≡ false → SettledBody under_body (end m foreign ∷ w) → SpellsFrom g before under_body (end m foreign ∷ w) b
     → Builds g.table (here in_body under_body drops) b (end m foreign ∷ w)

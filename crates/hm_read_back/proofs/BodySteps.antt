@@ -1,20 +1,20 @@
 -- Tags in body: what one does where its element stands, and where the tag before it was left out.
-use Rattle.std.proofs.Common.{◌≡◌, ℕ, Bool, true, false, cond, not, ◌&&◌, ◌||◌, List, [], ◌∷◌, ◌++◌, map, bytes_eq, refl, sym, ◌∙◌, ap, subst, inl, inr, codes, Option, Some, None}
+use Rattle.std.proofs.Common.{◌≡◌, ℕ, Bool, true, false, cond, not, ◌&&◌, ◌||◌, List, [], ◌∷◌, ◌++◌, map, bytes_eq, refl, sym, ◌∙◌, ap, inl, inr}
 use Rattle.std.proofs.lemmas.Bool.{and_parts, not-true, both_ways, false_from_ne_true}
 use Rattle.hm_base.specs.Forms.{is_tag_name}
 use Rattle.hm_base.specs.Walks.{Attribute, Event, start, end, comment, Element}
 use Rattle.hm_base.specs.declared.rules.Rule.TheVariants.{RefusedName, SecondRoot, BlockInParagraph, Nested, WrongParent, TooDeep}
-use Rattle.hm_elements.specs.Names.{is_among, html, head, body, p, svg}
-use Rattle.hm_elements.specs.Tables.{roots, headings, sections, blocks, is_root, is_void, is_refused, is_svg_name, holds_svg_text, holds_text}
-use Rattle.hm_elements.specs.Nesting.{may_stand, yields, ends_with, made_under, end_rows}
+use Rattle.hm_elements.specs.Names.{is_among, html, head, body, svg}
+use Rattle.hm_elements.specs.Tables.{roots, headings, sections, blocks, is_root, is_void, is_refused, holds_text}
+use Rattle.hm_elements.specs.Nesting.{yields, ends_with, made_under, end_rows}
 use Rattle.hm_elements.specs.Paths.{html_element, current, current_name, is_in_svg, is_in_text, stands_on, head_yields, is_open, is_block_in_p, is_nested, is_deep, front, behind, yields_to, falls_to, made_on}
 use Rattle.hm_elements.specs.Places.{StartAllowed, HtmlAllowed, SvgAllowed, ElementAllowed}
 use Rattle.hm_elements.specs.Laws.{ParentIs, HoldsMore, StartIsMade}
 use Rattle.hm_elements.proofs.TableTools.{same_bytes, eq_self, each_pair, pair_passes}
 use Rattle.hm_elements.proofs.TableFacts.{stands_parent, stands_parent_holds, stands_made, ends_is_other, outer_is_not_deep}
-use Rattle.hm_settle.specs.Moves.{Moves, moves, refuses, element, opens, opens_in_place, start_on, svg_start_moves, html_start_moves, start_moves, ends_nothing, end_on, html_end_moves, end_moves, is_void_open}
+use Rattle.hm_settle.specs.Moves.{moves, refuses, element, opens_in_place, start_on, html_start_moves, start_moves, ends_nothing, end_on, end_moves}
 use Rattle.hm_tree.specs.Tokens as tokens
-use Rattle.hm_construction.specs.Steps.{in_body, State, Stepped, went, stops, behind_events, under_body, drops_behind, closes_at_once, entered, end_event, start_event, starts, after_moves, start_in_body, open_html, open_head, open_body, start_inside, html_start, after_end_moves, end_current, end_inside, html_end, end_head, end_body, end_html, step, step_start, step_end}
+use Rattle.hm_construction.specs.Steps.{in_body, State, Stepped, went, stops, behind_events, under_body, drops_behind, closes_at_once, entered, end_event, start_event, starts, after_moves, start_in_body, after_end_moves, end_current, html_end, step, step_start, step_end}
 use Rattle.hm_read_back.proofs.Ahead.{Ahead, tag, point, finish, Agree, events_twice}
 use Rattle.hm_read_back.proofs.Frame.{here}
 

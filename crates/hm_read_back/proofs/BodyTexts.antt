@@ -1,30 +1,28 @@
 -- Texts in body: in an element of SVG, and ordinary text.
-use Rattle.std.proofs.Common.{◌≡◌, ℕ, ◌+◌, Bool, true, false, cond, not, ◌&&◌, ◌||◌, ◌==◌, List, [], ◌∷◌, ◌++◌, length, map, bytes_eq, refl, sym, ◌∙◌, ap, subst, inl, inr, codes, Some}
-use Rattle.std.proofs.lemmas.Bool.{and_parts, not-true, both_ways, false_from_ne_true}
+use Rattle.std.proofs.Common.{◌≡◌, ℕ, Bool, true, false, cond, ◌&&◌, ◌||◌, ◌==◌, List, [], ◌∷◌, ◌++◌, refl, sym, ◌∙◌, ap, subst}
+use Rattle.std.proofs.lemmas.Bool.{both_ways}
 use Rattle.hm_base.specs.Bytes.{is_space, all_pass}
-use Rattle.hm_base.specs.Forms.{is_tag_name}
-use Rattle.hm_base.specs.RawText.{begins_end_tag}
-use Rattle.hm_base.specs.Walks.{Event, start, text, end, Element, begins_text}
+use Rattle.hm_base.specs.Walks.{Event, start, text, end, Element}
 use Rattle.hm_base.specs.declared.rules.Rule.TheVariants.{TextHere}
 use Rattle.hm_elements.specs.Tables.{is_raw, is_rcdata, holds_text, raw_names, rcdata_names}
 use Rattle.hm_elements.specs.Names.{is_among, html, head, body}
 use Rattle.hm_elements.specs.Paths.{current, is_in_svg, is_in_raw, is_in_text, is_in_blank}
 use Rattle.hm_elements.specs.Places.{TextAllowed, SettledBody}
-use Rattle.hm_tokens.specs.First.{Mode, ordinary, in_svg}
+use Rattle.hm_tokens.specs.First.{ordinary, in_svg}
 use Rattle.hm_tokens.proofs.TextReads.{markup_ends_texts}
-use Rattle.hm_text_scan.specs.Texts.{begins_markup}
 use Rattle.hm_spellings.specs.Tags.{Spelling}
 use Rattle.hm_spellings.specs.Spellings.{Before, other, TextSp, drops_first_line_feed, SpellsFrom}
-use Rattle.hm_construction.specs.Steps.{InsertionMode, initial, before_html, before_head, in_head, after_head, in_body, after_body, after_html, State, Stepped, went, stops, behind_events, moved, no_drop, under_html, under_head, under_body, make_html, make_head, close_head, make_body, reach_body, is_in_noscript, keep_byte, kept_byte, space_byte, body_byte, other_byte, step_byte}
+use Rattle.hm_construction.specs.Steps.{InsertionMode, initial, before_html, before_head, in_head, after_head, in_body, after_body, after_html, State, Stepped, went, stops, behind_events, moved, no_drop, under_html, under_head, under_body, make_head, close_head, make_body, reach_body, is_in_noscript, keep_byte, kept_byte, space_byte, body_byte, step_byte}
 use Rattle.hm_construction.specs.Trees.{mode_of}
 use Rattle.hm_construction.proofs.Bytes.{no_text_no_raw}
 use Rattle.hm_construction.proofs.Texts.{texts}
-use Rattle.hm_read_back.specs.Pieces.{PiecesAreNext, text_as_read}
+use Rattle.hm_spelled_tokens.specs.Texts.{InPieces, text_as_read}
+use Rattle.hm_read_back.proofs.Pieces.{PiecesAreNext}
 use Rattle.hm_read_back.proofs.Reading.{Builds}
-use Rattle.hm_read_back.proofs.Runs.{Run, ran, run_of, run_bytes, Holds, Keeps, Reads}
+use Rattle.hm_read_back.proofs.Runs.{ran, run_of, run_bytes, Holds, Keeps, Reads}
 use Rattle.hm_read_back.proofs.Ahead.{Sound, text_alone, text_before_front}
 use Rattle.hm_read_back.proofs.Frame.{here, plain_mode, frame_modes}
-use Rattle.hm_read_back.proofs.BodySteps.{Inside, at_body, inner, Stands}
+use Rattle.hm_read_back.proofs.BodySteps.{Inside, at_body, inner}
 use Rattle.hm_read_back.proofs.Follow.{Fronted, text_follows, svg_follows}
 use Rattle.hm_read_back.proofs.Texts as bytes
 use Rattle.hm_read_back.proofs.Texts.{flag, read_text, run_kept, any_byte, all_any, run_read, one_text}
@@ -178,11 +176,11 @@ pub plain_text : (g : Spelling) → Sound g.table → PiecesAreNext g → (mode 
 plain_text g sound next mode path s piece rest before w out t a sp front kept more =
     let no_raw = no_text_no_raw path t in
     let m = plain_path path out t in
-    let p = next.texts before path s piece rest a.utf8 out (not_rcdata (current path) (plain_name path out t)) sp in
+    let p : InPieces g.table false (text_as_read before path s) piece rest = rw (not_rcdata (current path) (plain_name path out t)) at (next.texts before path s piece rest a.utf8 out sp) in
     let run : run_bytes (text_as_read before path s) (here mode path (flag before path)) ≡ ran (texts false s) (here mode path false) =
-        ap (λ x. run_bytes x (here mode path (flag before path))) (read_text before path s a.utf8) ∙ run_read mode path (flag before path) s a.not_empty ∙ (rw no_raw at kept) in
+    ap (λ x. run_bytes x (here mode path (flag before path))) (read_text before path s a.utf8) ∙ run_read mode path (flag before path) s a.not_empty ∙ (rw no_raw at kept) in
     rw (sym (one_text s false w a.not_empty a.alone))
-    (text_before_front g.table sound Plain plain_reads p.pieces (piece ++ rest) rest front.0 (here mode path (flag before path)) (here mode path false) (texts false s) w m m (ap (λ x. x ++ rest) (sym p.whole)) p.allowed front.1 (ap (λ x. run_bytes x (here mode path (flag before path))) p.means ∙ run) more)
+    (text_before_front g.table sound Plain plain_reads p.pieces (piece ++ rest) rest front.0 (here mode path (flag before path)) (here mode path false) (texts false s) w m m (ap (λ x. x ++ rest) (sym p.written)) p.good front.1 (ap (λ x. run_bytes x (here mode path (flag before path))) p.means ∙ run) more)
 
 plain_in_body : (path : List Element) (s : List ℕ) (w : List Event) → is_in_text path ≡ false → TextAllowed path s false w → run_bytes s (here in_body path false) ≡ ran (texts (is_in_raw path) s) (here in_body path false)
 plain_in_body path s w t a = by (is_in_blank path) refl

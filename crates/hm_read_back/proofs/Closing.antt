@@ -1,35 +1,30 @@
 -- What is first behind a tag that was left out in body, and behind a text.
-use Rattle.std.proofs.Common.{◌≡◌, ℕ, Bool, true, false, cond, not, ◌&&◌, ◌||◌, List, [], ◌∷◌, ◌++◌, bytes_eq, refl, sym, ◌∙◌, ap, subst, inl, inr, codes, Some, None}
-use Rattle.std.proofs.lemmas.Bool.{and_parts, not-true, both_ways, false_from_ne_true}
-use Rattle.hm_base.specs.RawText.{begins_end_tag}
+use Rattle.std.proofs.Common.{◌≡◌, ℕ, Bool, true, false, not, ◌&&◌, List, [], ◌∷◌, ◌++◌, bytes_eq, refl, sym, ap, subst, inl, inr, Some}
+use Rattle.std.proofs.lemmas.Bool.{and_parts, both_ways, false_from_ne_true}
 use Rattle.hm_base.specs.Forms.{is_tag_name}
-use Rattle.hm_base.specs.Walks.{Attribute, Event, doctype, start, text, comment, end, Element, begins_text, begins_comment, begins_end}
-use Rattle.hm_elements.specs.Names.{is_among, html, head, body, p, table}
-use Rattle.hm_elements.specs.Tables.{is_root, is_void, holds_text}
-use Rattle.hm_elements.specs.Nesting.{may_stand, yields, ends_with, made_under}
-use Rattle.hm_elements.specs.Omission.{goes_before, goes_up, start_goes_before, bars_start}
-use Rattle.hm_elements.specs.Paths.{html_element, current, current_name, is_in_svg, is_in_text, stands_on, head_yields}
+use Rattle.hm_base.specs.Walks.{Attribute, Event, doctype, start, text, comment, end, Element, begins_end}
+use Rattle.hm_elements.specs.Names.{html, body, p, table}
+use Rattle.hm_elements.specs.Tables.{is_root}
+use Rattle.hm_elements.specs.Nesting.{may_stand, yields, made_under}
+use Rattle.hm_elements.specs.Omission.{goes_before, goes_up, start_goes_before}
+use Rattle.hm_elements.specs.Paths.{html_element, current, current_name, is_in_svg, stands_on}
 use Rattle.hm_elements.specs.Settled.{is_html}
-use Rattle.hm_elements.specs.Places.{StartAllowed, HtmlAllowed, SvgAllowed, ElementAllowed, one_of_two, html_path, SettledBehindBody, SettledBody}
+use Rattle.hm_elements.specs.Places.{StartAllowed, HtmlAllowed, ElementAllowed, html_path, SettledBehindBody, SettledBody}
 use Rattle.hm_elements.specs.Laws.{HoldsMore, Follows, StartIsMade}
-use Rattle.hm_elements.proofs.TableTools.{same_bytes, eq_self}
+use Rattle.hm_elements.proofs.TableTools.{same_bytes}
 use Rattle.hm_elements.proofs.TableFacts.{start_is_made}
 use Rattle.hm_elements.proofs.UpFacts.{goes_yields, goes_yields_inside, up_means, up_in_body, left_open_holds}
 use Rattle.hm_elements.proofs.NameFacts.{svg_name_is_tag_name}
 use Rattle.hm_tree.specs.Tokens as tokens
-use Rattle.hm_tokens.specs.First.{ordinary, in_svg}
-use Rattle.hm_tokens.specs.Decided.{ends_text}
-use Rattle.hm_tokens.proofs.TextReads.{markup_ends_texts}
-use Rattle.hm_text_scan.specs.Texts.{begins_markup}
-use Rattle.hm_markup_forms.specs.Tags.{WritesEnd}
+use Rattle.hm_tokens.specs.First.{ordinary}
 use Rattle.hm_spellings.specs.Tags.{Spelling, SpellsStart}
 use Rattle.hm_spellings.specs.Omission.{start_falls, end_goes, end_falls, begins_child_of}
-use Rattle.hm_spellings.specs.Spellings.{Before, opening, end_omitted, StartForm, EndForm, StartSp, EndSp, is_self_closing, has_no_end_tag, behind_start, behind_end, left_out_before, SpellsFrom}
+use Rattle.hm_spellings.specs.Spellings.{Before, end_omitted, StartForm, EndForm, StartSp, EndSp, is_self_closing, behind_start, behind_end, left_out_before, SpellsFrom}
 use Rattle.hm_settle.specs.Moves.{element}
 use Rattle.hm_construction.specs.Steps.{under_body}
-use Rattle.hm_read_back.specs.Pieces.{PiecesAreNext}
-use Rattle.hm_read_back.proofs.Ahead.{Ahead, tag, point, finish, Begins, TextFront, any_front}
-use Rattle.hm_read_back.proofs.Frame.{First, StartOmitted, start_omitted, end_omitted_is, root_end_falls, frame_not_void, frame_names}
+use Rattle.hm_read_back.proofs.Pieces.{PiecesAreNext}
+use Rattle.hm_read_back.proofs.Ahead.{Ahead, tag, point, finish, Begins}
+use Rattle.hm_read_back.proofs.Frame.{First, start_omitted, end_omitted_is, root_end_falls, frame_not_void, frame_names}
 use Rattle.hm_read_back.proofs.Behind.{not_absent, EndFirst, end_first}
 use Rattle.hm_read_back.proofs.BodySteps.{Inside, at_body, inner, Stands, stands_in, NoRoot, no_root, element_no_root, Closes}
 

@@ -1,13 +1,10 @@
 -- What follows a text in body.
-use Rattle.std.proofs.Common.{◌≡◌, ℕ, Bool, true, false, cond, not, ◌&&◌, ◌||◌, List, [], ◌∷◌, ◌++◌, bytes_eq, refl, sym, ◌∙◌, ap, subst, inl, inr, codes, ◌⊎◌}
-use Rattle.std.proofs.lemmas.Bool.{and_parts, not-true, both_ways, false_from_ne_true}
-use Rattle.hm_base.specs.RawText.{begins_end_tag}
+use Rattle.std.proofs.Common.{◌≡◌, ℕ, Bool, true, false, ◌||◌, List, [], ◌∷◌, ◌++◌, bytes_eq, refl, subst, inl, inr}
+use Rattle.std.proofs.lemmas.Bool.{both_ways}
 use Rattle.hm_base.specs.Walks.{Attribute, Event, doctype, start, text, comment, end, Element, begins_text, begins_end}
-use Rattle.hm_elements.specs.Names.{html, head, body, p}
-use Rattle.hm_elements.specs.Tables.{holds_text}
-use Rattle.hm_elements.specs.Paths.{html_element, current, is_in_svg, is_in_text}
-use Rattle.hm_elements.specs.Places.{StartAllowed, SvgAllowed, ElementAllowed, SettledBody}
-use Rattle.hm_elements.proofs.TableTools.{same_bytes}
+use Rattle.hm_elements.specs.Names.{body}
+use Rattle.hm_elements.specs.Paths.{html_element, current, is_in_svg}
+use Rattle.hm_elements.specs.Places.{StartAllowed, ElementAllowed, SettledBody}
 use Rattle.hm_refs.specs.Names.{Entry}
 use Rattle.hm_tree.specs.Tokens as tokens
 use Rattle.hm_tokens.specs.First.{ordinary, in_svg}
@@ -17,12 +14,12 @@ use Rattle.hm_spellings.specs.Omission.{end_goes}
 use Rattle.hm_spellings.specs.Spellings.{Before, end_omitted, StartForm, EndForm, StartSp, EndSp, is_self_closing, behind_start, behind_end, left_out_before, SpellsFrom}
 use Rattle.hm_settle.specs.Moves.{element}
 use Rattle.hm_construction.specs.Steps.{under_body}
-use Rattle.hm_read_back.specs.Pieces.{PiecesAreNext}
-use Rattle.hm_read_back.proofs.Ahead.{Ahead, tag, Begins, TextFront, any_front}
+use Rattle.hm_read_back.proofs.Pieces.{PiecesAreNext}
+use Rattle.hm_read_back.proofs.Ahead.{Ahead, tag, TextFront, any_front}
 use Rattle.hm_read_back.proofs.Frame.{First, start_omitted, end_omitted_is}
 use Rattle.hm_read_back.proofs.Behind.{not_absent}
-use Rattle.hm_read_back.proofs.BodySteps.{Inside, at_body, inner, Stands, stands_in, NoRoot, element_no_root}
-use Rattle.hm_read_back.proofs.Closing.{html_part, start_name, falls_child, child_first, falls_goes, goes_holds, closes_first, ends_inner, ends_body, body_end_first}
+use Rattle.hm_read_back.proofs.BodySteps.{Inside, at_body, inner, Stands, stands_in, element_no_root}
+use Rattle.hm_read_back.proofs.Closing.{html_part, start_name, falls_child, child_first, falls_goes, closes_first, ends_inner, ends_body, body_end_first}
 
 -- an end of body behind an element whose end tag was left out, or not
 pub data AtEnd (path : List Element) (w : List Event) : Type 0 where

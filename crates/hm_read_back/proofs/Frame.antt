@@ -1,15 +1,15 @@
 -- The states in which a spelling is read, their modes, and what follows from a tag that is left out.
-use Rattle.std.proofs.Common.{◌≡◌, ℕ, Bool, true, false, cond, not, ◌&&◌, ◌||◌, List, [], ◌∷◌, ◌++◌, bytes_eq, refl, sym, codes}
-use Rattle.std.proofs.lemmas.Bool.{and_parts, not-true, both_ways, false_from_ne_true}
+use Rattle.std.proofs.Common.{◌≡◌, ℕ, Bool, true, false, cond, not, ◌||◌, List, [], ◌∷◌, bytes_eq, refl}
+use Rattle.std.proofs.lemmas.Bool.{and_parts, not-true, both_ways}
 use Rattle.hm_base.specs.Bytes.{is_digit_of}
 use Rattle.hm_base.specs.Forms.{is_small, is_tag_byte, is_tag_name}
 use Rattle.hm_base.specs.Walks.{Attribute, Event, Element, begins_comment}
 use Rattle.hm_base.specs.declared.plain.SpellRules.{SpellRules}
 use Rattle.hm_elements.specs.Names.{is_among, html, head, body, p, script}
 use Rattle.hm_elements.specs.Tables.{voids, is_void, is_raw, raw_names, is_rcdata, rcdata_names, holds_text}
-use Rattle.hm_elements.specs.Paths.{html_element, current, is_in_svg, is_in_text}
+use Rattle.hm_elements.specs.Paths.{html_element, current, is_in_svg}
 use Rattle.hm_elements.proofs.TableTools.{same_bytes}
-use Rattle.hm_tokens.specs.First.{Mode, ordinary, in_svg, rcdata, raw, script as script_mode}
+use Rattle.hm_tokens.specs.First.{ordinary, rcdata, raw, script as script_mode}
 use Rattle.hm_refs.specs.Names.{Entry}
 use Rattle.hm_spellings.specs.Omission.{LeftOut, may_omit_start, may_omit_end, start_falls, end_falls, bars, has_none}
 use Rattle.hm_construction.specs.Steps.{InsertionMode, State, under_html, under_head, under_body}

@@ -1,17 +1,16 @@
 -- What may be first behind a tag of html, head or body that was left out, and that it makes the element anyhow.
-use Rattle.std.proofs.Common.{◌≡◌, ℕ, Bool, true, false, cond, not, ◌&&◌, ◌||◌, List, [], ◌∷◌, ◌++◌, map, bytes_eq, refl, sym, ◌∙◌, ap, subst, inl, inr, codes}
-use Rattle.std.proofs.lemmas.Bool.{and_parts, not-true, both_ways, false_from_ne_true}
+use Rattle.std.proofs.Common.{◌≡◌, ℕ, Bool, true, false, cond, List, [], ◌∷◌, refl}
 use Rattle.hm_base.specs.Bytes.{is_space}
-use Rattle.hm_base.specs.Walks.{Attribute, Event, start, end, Element}
-use Rattle.hm_base.specs.declared.rules.Rule.TheVariants.{RefusedName, SecondRoot, AfterHead}
-use Rattle.hm_elements.specs.Names.{is_among, html, head, body, noscript}
-use Rattle.hm_elements.specs.Tables.{is_refused, refused_names, is_raw, raw_names, is_rcdata, rcdata_names, holds_text}
-use Rattle.hm_elements.specs.Paths.{is_in_text, is_in_blank, blank_parents, stands_on}
+use Rattle.hm_base.specs.Walks.{Attribute, Event, start, end}
+use Rattle.hm_base.specs.declared.rules.Rule.TheVariants.{RefusedName}
+use Rattle.hm_elements.specs.Names.{is_among, html, head, body}
+use Rattle.hm_elements.specs.Tables.{is_metadata, is_refused, refused_names, is_raw, raw_names, is_rcdata, rcdata_names, holds_text}
+use Rattle.hm_elements.specs.Paths.{is_in_blank, blank_parents, stands_on}
 use Rattle.hm_tree.specs.Tokens as tokens
-use Rattle.hm_construction.specs.Steps.{initial, before_html, before_head, in_head, after_head, in_body, after_body, after_html, State, Stepped, went, stops, behind_events, under_html, under_head, under_body, is_metadata, is_at_end, start_in_body, start_after_head, start_in_head, step, step_start, step_end, step_byte, step_over}
-use Rattle.hm_read_back.proofs.Ahead.{Ahead, tag, point, finish, Agree, events_twice}
+use Rattle.hm_construction.specs.Steps.{before_html, before_head, in_head, after_head, in_body, Stepped, stops, behind_events, under_html, under_head, under_body, is_at_end, step, step_start, step_end, step_byte, step_over}
+use Rattle.hm_read_back.proofs.Ahead.{Ahead, tag, point, Agree}
 use Rattle.hm_read_back.proofs.Frame.{here}
-use Rattle.hm_read_back.proofs.Behind.{EndFirst, end_html, ended}
+use Rattle.hm_read_back.proofs.Behind.{end_html, ended}
 use Rattle.hm_read_back.proofs.BodySteps.{NoRoot}
 use Rattle.hm_read_back.proofs.Closing.{BodyEndFirst, end_body, behind}
 

@@ -1,3 +1,4 @@
+pub mod Pieces
 pub mod Reading
 pub mod Runs
 pub mod Ahead
@@ -13,3 +14,6 @@ pub mod BodyLaw
 pub mod FrameFirst
 pub mod BehindHead
 pub mod InHead
+pub mod HeadLaw
+pub mod Page
+pub mod ReadBack

@@ -1,18 +1,14 @@
 -- What a token and a text do to the tree that is built of the bytes from here on.
-use Rattle.std.proofs.Common.{◌≡◌, ℕ, zero, suc, pred, ◌+◌, ◌-◌, ◌<◌, ◌≤◌, Bool, true, false, List, [], ◌∷◌, ◌++◌, length, drop, map, refl, sym, ◌∙◌, ap, subst, arith, encode_utf8_all, append_assoc}
+use Rattle.std.proofs.Common.{◌≡◌, ℕ, zero, suc, pred, ◌+◌, ◌-◌, ◌<◌, ◌≤◌, List, [], ◌∷◌, ◌++◌, length, drop, refl, ◌∙◌, ap, subst, arith}
 use Rattle.hm_base.specs.Walks.{Event, pushes}
-use Rattle.hm_base.specs.declared.rules.Rule.{Rule}
 use Rattle.hm_refs.specs.Names.{Entry}
 use Rattle.hm_tree.specs.Tokens.{Seen, Scanned, taken, refused}
 use Rattle.hm_tree.specs.Tokens as tokens
 use Rattle.hm_tokens.specs.First.{Mode, Next, at_end, behind_bytes, first}
 use Rattle.hm_tokens.specs.Laws.{SoundNames, IsMode, least_size}
-use Rattle.hm_tokens.specs.Readings.{ReadsAs}
-use Rattle.hm_tokens.specs.Decided.{in_mode, texts_of, are_texts, is_text}
 use Rattle.hm_tokens.proofs.Firsts.{tokens_are_small}
-use Rattle.hm_construction.specs.Steps.{State, Stepped, went, stops, behind_events, then_step, at_front, step_byte, step_bytes, step, step_over}
-use Rattle.hm_construction.specs.Steps as steps
-use Rattle.hm_construction.specs.Trees.{Outcome, built, refused_by, after_events, mode_of, stepped, next_step, over, tree_from}
+use Rattle.hm_construction.specs.Steps.{State, Stepped, went, stops, step, step_over}
+use Rattle.hm_construction.specs.Trees.{Outcome, built, refused_by, after_events, mode_of, stepped, next_step, tree_from}
 use Rattle.hm_construction.proofs.Standing.{pushes_append}
 use Rattle.hm_construction.proofs.Rests.{EndsNext, first_ends, rest_reached}
 

@@ -1,18 +1,18 @@
 -- Bytes of a text step by step, without the places of refusals: how a text is read, cut into tokens in any way.
-use Rattle.std.proofs.Common.{◌≡◌, ℕ, zero, suc, ◌+◌, Bool, true, false, List, [], ◌∷◌, ◌++◌, map, refl, sym, ◌∙◌, ap, subst, encode_utf8_all, append_assoc}
+use Rattle.std.proofs.Common.{◌≡◌, ℕ, ◌+◌, true, List, [], ◌∷◌, ◌++◌, map, refl, sym, ◌∙◌, ap, subst, encode_utf8_all, append_assoc}
 use Rattle.std.proofs.lemmas.Bool.{and_parts}
-use Rattle.hm_base.specs.Walks.{Event, pushes}
+use Rattle.hm_base.specs.Walks.{Event}
 use Rattle.hm_base.specs.declared.rules.Rule.{Rule}
 use Rattle.hm_refs.specs.Names.{Entry}
 use Rattle.hm_tree.specs.Tokens.{Seen, taken}
 use Rattle.hm_tree.specs.Tokens as tokens
-use Rattle.hm_tokens.specs.First.{Mode, first}
+use Rattle.hm_tokens.specs.First.{Mode}
 use Rattle.hm_tokens.specs.Laws.{SoundNames, IsMode}
 use Rattle.hm_tokens.specs.Readings.{ReadsAs}
 use Rattle.hm_tokens.specs.Decided.{in_mode, texts_of, are_texts, is_text}
 use Rattle.hm_construction.specs.Steps.{State, Stepped, went, stops, behind_events, behind_bytes, then_step, at_front, step_byte, step_bytes, step}
-use Rattle.hm_construction.specs.Trees.{Outcome, built, refused_by, after_events, mode_of, stepped, tree_from}
-use Rattle.hm_read_back.proofs.Reading.{after_none, after_after, Builds, token_steps, anywhere}
+use Rattle.hm_construction.specs.Trees.{Outcome, refused_by, after_events, mode_of, stepped, tree_from}
+use Rattle.hm_read_back.proofs.Reading.{after_none, after_after, token_steps}
 
 -- events and the state behind them, or a refusal
 pub data Run : Type 0 where
@@ -148,11 +148,13 @@ texts_reach t place P mode names m reads [] at s rest texts e = (at, λ st p. ap
 texts_reach t place P mode names m reads (k ∷ ks) at s rest texts (n, left, h, more) =
     let two = and_parts (is_text k) (are_texts ks) texts in
     let one = token_steps t place at mode s n k left names m h in
-    let on = texts_reach t place P mode names m reads ks one.0 left rest two.1 more in
-    (on.0, λ st p. rw (texts_split k ks two.0, run_append (token_bytes k) (texts_of ks) st)
-        (then_reached P (tree_from t place 0 at st s) (run_bytes (token_bytes k) st) (run_bytes (texts_of ks)) (λ next. tree_from t place 0 one.0 next left) (λ next. tree_from t place 0 on.0 next rest)
-            (bytes_keep P reads.keeps (token_bytes k) st p) on.1
-            (here st p one two.0)))
+    let on = texts_reach t place P mode names m reads ks one.0 left rest two.1 more in (
+      on.0,
+      λ st p. rw (texts_split k ks two.0, run_append (token_bytes k) (texts_of ks) st)
+          (then_reached P (tree_from t place 0 at st s) (run_bytes (token_bytes k) st) (run_bytes (texts_of ks)) (λ next. tree_from t place 0 one.0 next left) (λ next. tree_from t place 0 on.0 next rest)
+          (bytes_keep P reads.keeps (token_bytes k) st p) on.1
+          (here st p one two.0)),
+    )
   where
     here : (st : State) → P st → (one : (later : ℕ) × ((st : State) → mode_of st.path ≡ mode → tree_from t place 0 at st s ≡ stepped place (at + n) (step st k) (λ next. tree_from t place 0 later next left))) → is_text k ≡ true
         → Reached (tree_from t place 0 at st s) (λ next. tree_from t place 0 one.0 next left) (run_bytes (token_bytes k) st)

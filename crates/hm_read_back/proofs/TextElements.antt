@@ -1,38 +1,38 @@
 -- Elements that hold one text: title, textarea, style, iframe and script, in head and in body.
-use Rattle.std.proofs.Common.{◌≡◌, ℕ, ◌+◌, Bool, true, false, cond, not, ◌&&◌, ◌||◌, ◌==◌, List, [], ◌∷◌, ◌++◌, length, map, bytes_eq, refl, sym, ◌∙◌, ap, subst, inl, inr, codes, Some, append-nil}
-use Rattle.std.proofs.lemmas.Bool.{and_parts, or_cases, not-true, both_ways, false_from_ne_true}
+use Rattle.std.proofs.Common.{◌≡◌, ℕ, Bool, true, false, cond, not, ◌&&◌, ◌==◌, List, [], ◌∷◌, ◌++◌, refl, sym, ◌∙◌, ap, subst, inl, inr, append-nil}
+use Rattle.std.proofs.lemmas.Bool.{and_parts, or_cases, not-true, both_ways}
 use Rattle.std.specs.List.{list_all}
-use Rattle.hm_base.specs.Bytes.{is_null, head_is}
 use Rattle.hm_base.specs.Forms.{is_tag_name}
 use Rattle.hm_base.specs.RawText.{begins_end_tag}
 use Rattle.hm_base.specs.Walks.{Event, start, text, comment, doctype, end, Element, begins_text}
 use Rattle.hm_elements.specs.Names.{is_among, script as script_name}
 use Rattle.hm_elements.specs.Tables.{roots, voids, raw_names, rcdata_names, is_root, is_void, is_raw, is_rcdata, holds_text}
-use Rattle.hm_elements.specs.Paths.{current, is_in_svg, is_in_raw, is_in_text}
+use Rattle.hm_elements.specs.Paths.{current, is_in_raw, is_in_text}
 use Rattle.hm_elements.specs.Settled.{end_tag}
-use Rattle.hm_elements.specs.Places.{TextAllowed, StartAllowed, ElementAllowed, HtmlAllowed, SettledInside}
+use Rattle.hm_elements.specs.Places.{TextAllowed, ElementAllowed, SettledInside}
 use Rattle.hm_elements.proofs.TableTools.{entry_passes}
 use Rattle.hm_refs.specs.Names.{Entry}
 use Rattle.hm_tree.specs.Tokens as tokens
-use Rattle.hm_tokens.specs.First.{Mode, rcdata, raw as raw_mode_of, script}
+use Rattle.hm_tokens.specs.First.{Mode, rcdata}
 use Rattle.hm_tokens.specs.Laws.{IsMode}
 use Rattle.hm_tokens.specs.Decided.{IsReadAs}
 use Rattle.hm_tokens.specs.Written.{IsNext}
 use Rattle.hm_tokens.proofs.Written.{raw_texts_are_next, scripts_are_next}
 use Rattle.hm_spellings.specs.Tags.{Spelling}
-use Rattle.hm_spellings.specs.Spellings.{Before, EndForm, EndSp, TextSp, is_opening, drops_first_line_feed, is_self_closing, has_no_end_tag, is_line_feed, behind_end, SpellsFrom}
-use Rattle.hm_construction.specs.Steps.{InsertionMode, State, Stepped, went, no_drop, keep_byte, kept_byte, space_byte, other_byte, step_byte, drops_behind}
+use Rattle.hm_spellings.specs.Spellings.{Before, EndForm, EndSp, TextSp, is_opening, drops_first_line_feed, is_self_closing, SpellsFrom}
+use Rattle.hm_construction.specs.Steps.{InsertionMode, State, went, no_drop, kept_byte, step_byte}
 use Rattle.hm_construction.specs.Trees.{mode_of}
 use Rattle.hm_construction.proofs.Modes.{RawMode, of_script, of_raw, raw_mode, is_mode}
 use Rattle.hm_construction.proofs.Starts.{raw_keeps}
 use Rattle.hm_construction.proofs.Texts.{texts}
-use Rattle.hm_read_back.specs.Pieces.{PiecesAreNext, text_as_read}
+use Rattle.hm_spelled_tokens.specs.Texts.{text_as_read}
+use Rattle.hm_read_back.proofs.Pieces.{PiecesAreNext}
 use Rattle.hm_read_back.proofs.Reading.{Builds}
-use Rattle.hm_read_back.proofs.Runs.{Run, ran, run_of, run_bytes, Holds, Keeps, Reads}
+use Rattle.hm_read_back.proofs.Runs.{ran, run_of, run_bytes, Holds, Keeps, Reads}
 use Rattle.hm_read_back.proofs.Ahead.{Sound, text_alone}
 use Rattle.hm_read_back.proofs.Frame.{here, end_omitted_is}
 use Rattle.hm_read_back.proofs.Behind.{not_absent}
-use Rattle.hm_read_back.proofs.BodySteps.{NoRoot, no_root, stands_in}
+use Rattle.hm_read_back.proofs.BodySteps.{no_root, stands_in}
 use Rattle.hm_read_back.proofs.Closing.{falls_goes, goes_holds}
 use Rattle.hm_read_back.proofs.Texts.{flag, flag_behind, read_text, run_kept, any_byte, all_any, run_read, text_byte, one_text}
 
@@ -70,7 +70,7 @@ element_ends g next w d path before b piece rest EndForm.omitted t named fresh e
     let falls = (end_omitted_is g.rules d.name d.foreign path w sp.2).1 in
     let goes = falls_goes d.name (current path) w (no_root d.name (text_names d.name k.1).1) falls in
     absurd (both_ways (holds_text d.name) (goes_holds d.name (current path) w goes).no_text k.1)
-element_ends g next w d path before b piece rest EndForm.written t named fresh e sp = rw e (next.end_begins d.name piece rest named sp.1)
+element_ends g next w d path before b piece rest EndForm.written t named fresh e sp = rw e (next.end_begins d.name piece rest sp.1)
 
 no_start : (n : List ℕ) (foreign : Bool) (d : Element) (path : List Element) (w : List Event) → is_in_text (d ∷ path) ≡ true → ElementAllowed n foreign (d ∷ path) w → ⊥
 no_start n foreign d path w t (inl (inside, a)) = both_ways d.foreign (in_text_is d path t).0 inside
@@ -151,7 +151,7 @@ rcdata_law g sound next mode d path s piece rest before w t r a ends sp more =
     let mode_is : mode_of (d ∷ path) ≡ rcdata d.name = rw (k.0, is_rc) refl in
     let is : IsReadAs g.table (rcdata d.name) (piece ++ rest) rest (text_as_read before (d ∷ path) s) = next.element_texts before (d ∷ path) s piece rest a.utf8 k.0 is_rc ends sp in
     let run : run_bytes (text_as_read before (d ∷ path) s) (here mode (d ∷ path) (flag before (d ∷ path))) ≡ ran (texts false s) (here mode (d ∷ path) false) =
-        ap (λ x. run_bytes x (here mode (d ∷ path) (flag before (d ∷ path)))) (read_text before (d ∷ path) s a.utf8) ∙ run_read mode (d ∷ path) (flag before (d ∷ path)) s a.not_empty ∙ (rw r at (kept_here mode (d ∷ path) s t)) in
+    ap (λ x. run_bytes x (here mode (d ∷ path) (flag before (d ∷ path)))) (read_text before (d ∷ path) s a.utf8) ∙ run_read mode (d ∷ path) (flag before (d ∷ path)) s a.not_empty ∙ (rw r at (kept_here mode (d ∷ path) s t)) in
     let m : IsMode (rcdata d.name) = subst IsMode mode_is (is_mode (d ∷ path)) in
     let reads : Reads (On (d ∷ path)) (rcdata d.name) = subst (Reads (On (d ∷ path))) mode_is (text_reads (d ∷ path) t) in
     rw (sym (one_text s false w a.not_empty a.alone))

@@ -1,22 +1,17 @@
 -- Texts where they stand: each byte is kept, but for a line feed that is dropped.
-use Rattle.std.proofs.Common.{◌≡◌, ℕ, ◌+◌, Bool, true, false, cond, not, ◌&&◌, ◌||◌, ◌==◌, List, [], ◌∷◌, ◌++◌, length, map, bytes_eq, refl, sym, ◌∙◌, ap, subst, inl, inr, codes, chars, encode_utf8_all, Some, arith, if◌then◌else◌}
+use Rattle.std.proofs.Common.{◌≡◌, ℕ, Bool, true, false, cond, ◌&&◌, ◌==◌, List, [], ◌∷◌, ◌++◌, refl, ◌∙◌, ap, chars, encode_utf8_all, arith, if◌then◌else◌}
 use lib.Utf8.{encode}
-use Rattle.std.proofs.lemmas.Bool.{and_parts, not-true, both_ways, false_from_ne_true}
+use Rattle.std.proofs.lemmas.Bool.{and_parts, both_ways, false_from_ne_true}
 use Rattle.std.proofs.lemmas.Str.{chars_past_char, encodes-chars, chars-nil, IsUtf8-from_is_utf8}
 use Rattle.std.specs.Str.{is_utf8, IsUtf8}
-use Rattle.std.specs.List.{list_all}
 use Rattle.hm_base.specs.Bytes.{is_space, is_null, head_is, all_pass}
-use Rattle.hm_base.specs.Forms.{is_blank}
-use Rattle.hm_base.specs.RawText.{begins_end_tag}
 use Rattle.hm_base.specs.Walks.{Event, start, text, comment, doctype, end, Element, text_before, pushes, begins_text}
 use Rattle.hm_base.specs.declared.rules.Rule.TheVariants.{TextHere}
-use Rattle.hm_elements.specs.Names.{words, is_among}
-use Rattle.hm_elements.specs.Paths.{current, is_in_svg, is_in_raw, is_in_text, is_in_blank}
-use Rattle.hm_elements.specs.Places.{TextAllowed}
-use Rattle.hm_spellings.specs.Spellings.{Before, is_opening, is_line_feed, drops_first_line_feed, wants_line_feed}
-use Rattle.hm_construction.specs.Steps.{InsertionMode, in_head, after_head, in_body, State, Stepped, went, stops, no_drop, drops_behind, keep_byte, step_byte}
+use Rattle.hm_elements.specs.Paths.{is_in_raw, is_in_text, is_in_blank}
+use Rattle.hm_spellings.specs.Spellings.{Before, is_opening, is_line_feed, drops_first_line_feed}
+use Rattle.hm_construction.specs.Steps.{InsertionMode, in_head, after_head, in_body, State, went, stops, drops_behind, keep_byte, step_byte}
 use Rattle.hm_construction.proofs.Texts.{texts, texts_join}
-use Rattle.hm_read_back.specs.Pieces.{text_as_read}
+use Rattle.hm_spelled_tokens.specs.Texts.{text_as_read}
 use Rattle.hm_read_back.proofs.Runs.{Run, ran, halted, behind_run, then_run, run_of, run_bytes}
 use Rattle.hm_read_back.proofs.Frame.{here}
 

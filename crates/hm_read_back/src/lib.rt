@@ -1,2 +1,4 @@
-//! Every spelling of a settled tree is read back as the tree.
+//! What is written is read back: laws about the spellings of a tree and the tree of a page.
 #![tactic(auto)]
+
+pub mod laws;

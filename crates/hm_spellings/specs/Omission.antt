@@ -4,9 +4,9 @@ use Rattle.std.specs.Prelude.{ℕ, Bool, true, false, not, ◌&&◌, ◌||◌, L
 use Rattle.hm_base.specs.Bytes.{is_space, head_is}
 use Rattle.hm_base.specs.Walks.{Attribute, Event, start, text, end, Element, begins_text, begins_comment, begins_start, begins_end_of}
 use Rattle.hm_base.specs.declared.plain.SpellRules.{SpellRules}
-use Rattle.hm_elements.specs.Names.{words, is_among, html, head, body}
+use Rattle.hm_elements.specs.Names.{is_among, html, head, body}
 use Rattle.hm_elements.specs.Paths.{current}
-use Rattle.hm_elements.specs.Omission.{goes_before, goes_up, start_goes_before, bars_start}
+use Rattle.hm_elements.specs.Omission.{goes_before, goes_up, start_goes_before, bars_start, head_takers}
 
 -- the name of an element whose end tag was left out directly before, if one was
 abbrev pub LeftOut : Type 0
@@ -21,9 +21,9 @@ abbrev pub begins_space : List Event → Bool
 begins_space (text s raw ∷ w) = head_is is_space s
 begins_space w = false
 
--- elements that are taken into head where no start tag of body stands before them
+-- it is taken into head where no start tag of body stands before it
 unfoldable pub head_takes : List ℕ → Bool
-head_takes n = is_among n (words "link meta noscript script style")
+head_takes n = is_among n head_takers
 
 abbrev pub begins_for_head : List Event → Bool
 begins_for_head (start n foreign attributes ∷ w) = not foreign && head_takes n

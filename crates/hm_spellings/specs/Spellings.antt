@@ -3,8 +3,8 @@ use Rattle.std.specs.Prelude.{◌≡◌, ◌≤◌, ℕ, Bool, true, false, not,
 use Rattle.hm_base.specs.Bytes.{head_is}
 use Rattle.hm_base.specs.Walks.{Attribute, Event, doctype, start, text, comment, end, Element, begins_end}
 use Rattle.hm_base.specs.declared.plain.SpellRules.{SpellRules}
-use Rattle.hm_elements.specs.Names.{words, is_among}
-use Rattle.hm_elements.specs.Tables.{is_void, is_rcdata}
+use Rattle.hm_elements.specs.Names.{is_among}
+use Rattle.hm_elements.specs.Tables.{preformatted, is_void, is_rcdata}
 use Rattle.hm_elements.specs.Paths.{current, is_in_svg, outer}
 use Rattle.hm_markup_forms.specs.Tags.{WritesEnd}
 use Rattle.hm_refs.specs.Names.{Entry}
@@ -32,7 +32,7 @@ spot_of path = if is_in_svg path then spots.foreign else if is_rcdata (current p
 
 -- a line feed that comes first in these elements isn't read (HTML Standard, 13.1.2.5)
 unfoldable pub drops_first_line_feed : List Element → Bool
-drops_first_line_feed path = not (is_in_svg path) && is_among (current path) (words "pre textarea")
+drops_first_line_feed path = not (is_in_svg path) && is_among (current path) preformatted
 
 abbrev pub is_line_feed : ℕ → Bool
 is_line_feed c = c == 10

@@ -1,8 +1,9 @@
 -- Tags as tokens, or why they are refused.
-use Rattle.std.specs.Prelude.{ℕ, Bool, true, false, not, ◌&&◌, ◌||◌, ◌==◌, nat_lt, List, [], ◌∷◌, map, length, drop, Option, Some, None, if◌then◌else◌, bytes_eq, codes}
+use Rattle.std.specs.Prelude.{ℕ, Bool, true, false, not, ◌&&◌, ◌||◌, ◌==◌, nat_le, nat_lt, List, [], ◌∷◌, map, length, drop, Option, Some, None, if◌then◌else◌, bytes_eq, codes}
 use Rattle.hm_base.specs.Bytes.{front, behind, strip, head_is, some_passes, lower, is_letter}
 use Rattle.hm_base.specs.Forms.{is_tag_name}
 use Rattle.hm_base.specs.Walks.{Attribute}
+use Rattle.hm_base.specs.declared.limits.TheConstants.{ATTRIBUTE_LIMIT}
 use Rattle.hm_refs.specs.Names.{Entry}
 use Rattle.hm_tree.specs.Tokens.{Seen, start_tag, end_tag, Scanned, taken, refused}
 use Rattle.hm_tree.specs.declared.tokens.ScanFault.{ScanFault}
@@ -12,7 +13,11 @@ use Rattle.hm_tag_scan.specs.Tags.{Tag, cut_tag, is_name_byte}
 
 -- the most attributes that may be written in one tag
 abbrev pub attribute_limit : ℕ
-attribute_limit = 256
+attribute_limit = ATTRIBUTE_LIMIT
+
+-- an ASCII capital
+unfoldable pub is_capital : ℕ → Bool
+is_capital c = nat_le 65 c && nat_le c 90
 
 -- a quote or '<'
 unfoldable pub is_bad_byte : ℕ → Bool

@@ -1,18 +1,15 @@
 //! The attributes that were read of a tag.
-ghost use Rattle.std.specs.Prelude.{◌≡◌, ◌+◌, ◌^◌, ◌<◌, ◌≤◌, ◌&&◌, nat_le, not, false, [], ◌∷◌, ◌++◌, List, length, OnOk};
+ghost use Rattle.std.specs.Prelude.{◌≡◌, ◌+◌, ◌^◌, ◌<◌, ◌≤◌, ◌&&◌, nat_le, not, true, false, [], ◌∷◌, ◌++◌, List, length, OnOk};
 ghost use Rattle.hm_base.specs.Walks.{Attribute};
 ghost use Rattle.hm_tag_scan.specs.Collected.{IsCollected, added};
 ghost use Rattle.hm_tag_scan.specs.Reading as reading;
 
-use crate::names::{is_bad_name, lowered};
-use crate::values::read_value;
-use hm_base::Memory;
+use crate::names::{has_capital, is_bad_name, lowered};
+use crate::values::{has_reference, read_value};
+use hm_base::{ATTRIBUTE_LIMIT, Memory};
 use hm_refs::Table;
 use hm_tree::Attrs;
 use std::alloc::Global;
-
-/// The most attributes that may be written in one tag.
-pub(crate) const ATTRIBUTE_LIMIT: u32 = 256;
 
 /// How many attributes were written, whether one of them has a name that isn't read, and the first attribute of each
 /// name, unless the tag is refused anyway. An end tag keeps none.
@@ -68,7 +65,7 @@ impl Collected {
     }
 }
 
-/// Adds an attribute as it is read, unless its name is there.
+/// Adds an attribute as it is read, unless its name is there. One that is read as it is written isn't copied before.
 fn keep(
     attrs: &mut Attrs,
     alloc: Global,
@@ -80,8 +77,19 @@ fn keep(
     ensures { OnOk result
         (attrs.new ≡ added attrs.old (reading.read_attribute table.now.entries (record { name = name.now; value = value.now }))) }
 {
+    if is_plain(name, value, table) {
+        attrs.put(name, value)?;
+        return Ok(());
+    }
     let name = lowered(alloc, name)?;
     let value = read_value(alloc, value, table)?;
     attrs.add(name, value)?;
     Ok(())
+}
+
+/// Whether an attribute is read as it is written.
+fn is_plain(name: &str, value: &str, table: &Table) -> bool
+    ensures { result ≡ true → reading.read_attribute table.now.entries (record { name = name.now; value = value.now }) ≡ record { name = name.now; value = value.now } }
+{
+    !has_capital(name.as_bytes()) && !has_reference(value, table)
 }

@@ -1,19 +1,19 @@
 //! The tag at a place of a text.
-ghost use Rattle.std.specs.Prelude.{◌≡◌, ◌≢◌, ◌^◌, ◌<◌, List, drop, length, true, Some, IfOk, IfErr, IsCharBoundary};
+ghost use Rattle.std.specs.Prelude.{◌≡◌, ◌≢◌, ℕ, ◌^◌, ◌<◌, List, drop, length, true, Some, IfOk, IfErr, IsCharBoundary};
 ghost use Rattle.hm_base.specs.Walks.{Attribute};
 ghost use Rattle.hm_refs.specs.Names.{Entry};
-ghost use Rattle.hm_tree.specs.Tokens.{Reads, refused};
+ghost use Rattle.hm_tree.specs.Tokens.{BeginsAt, Reads, refused};
 ghost use Rattle.hm_tag_scan.specs.Collected.{IsCollected};
 ghost use Rattle.hm_refs.specs.Reads.{IsEndOf};
 ghost use Rattle.hm_tag_scan.specs.Tags.{is_name_byte};
 ghost use Rattle.hm_tag_scan.specs.Wholes.{IsWhole, fault_at};
 ghost use Rattle.hm_tag_scan.specs.Reading.{begins_tag, read_end, read_start, read_tag, tag_fault};
 
-use crate::collected::{ATTRIBUTE_LIMIT, Collected};
+use crate::collected::Collected;
 use crate::names::{is_tag_name, lowered};
 use crate::runs::{Run, run_end};
 use crate::tag_body::read_body;
-use hm_base::Word;
+use hm_base::{ATTRIBUTE_LIMIT, Word};
 use hm_refs::Table;
 use hm_tree::{Attrs, ScanFault, Token};
 use std::alloc::Global;
@@ -95,6 +95,7 @@ fn scan_start(
     ensures err { IfErr result
         (λ fault. fault ≢ ScanFault.Memory → read_start table.now.entries (drop from text.now) ≡ refused fault) }
     ensures forward { IfOk result (λ r. from < r.1) }
+    ensures placed { IfOk result (λ r. (place : ℕ) → BeginsAt place r.0) }
 {
     let whole = read_whole(alloc, text, from, table, true)?;
     let token = Token::StartTag {
@@ -118,6 +119,7 @@ fn scan_end(
     ensures err { IfErr result
         (λ fault. fault ≢ ScanFault.Memory → read_end (drop from text.now) ≡ refused fault) }
     ensures forward { IfOk result (λ r. from < r.1) }
+    ensures placed { IfOk result (λ r. (place : ℕ) → BeginsAt place r.0) }
 {
     let whole = read_whole(alloc, text, from, table, false)?;
     Ok((Token::EndTag { name: whole.name }, whole.behind))
@@ -143,6 +145,7 @@ pub fn scan_tag(
     ensures err { IfErr result
         (λ fault. fault ≢ ScanFault.Memory → read_tag table.now.entries (drop at text.now) ≡ refused fault) }
     ensures forward { IfOk result (λ r. at < r.1) }
+    ensures placed { IfOk result (λ r. (place : ℕ) → BeginsAt place r.0) }
 {
     let start = at as usize;
     if text.as_bytes()[start + 1] == b'/' {

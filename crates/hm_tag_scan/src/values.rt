@@ -1,5 +1,5 @@
 //! Values of attributes as they are read.
-ghost use Rattle.std.specs.Prelude.{◌≡◌, ◌++◌, ◌≤◌, length, drop, string_bytes, encode_utf8_all, IfOk, OnOk, MatchOption, IsUtf8};
+ghost use Rattle.std.specs.Prelude.{false, ◌≡◌, ◌++◌, ◌≤◌, length, drop, string_bytes, encode_utf8_all, IfOk, OnOk, MatchOption, IsUtf8};
 ghost use Rattle.hm_refs.specs.Tables.{points_list};
 ghost use Rattle.hm_tag_scan.specs.Reads.{IsNext};
 ghost use Rattle.hm_tag_scan.specs.Values as values;
@@ -33,6 +33,13 @@ fn next_reference(table: &Table, bytes: &[u8], from: usize) -> Option<Placed>
         at = amp + 1;
     }
     None
+}
+
+/// Whether a character reference is in a value.
+pub(crate) fn has_reference(written: &str, table: &Table) -> bool
+    ensures { result ≡ false → values.read_value table.now.entries written.now ≡ written.now }
+{
+    next_reference(table, written.as_bytes(), 0).is_some()
 }
 
 /// Puts the code points of a reference behind a text.

@@ -1,6 +1,6 @@
 //! The scan of a piece of text.
 ghost use Rattle.std.specs.Prelude.{◌≡◌, ◌^◌, ◌<◌, ◌≤◌, drop, false, length, IsCharBoundary};
-ghost use Rattle.hm_tree.specs.Tokens.{Reads};
+ghost use Rattle.hm_tree.specs.Tokens.{BeginsAt, Reads};
 ghost use Rattle.hm_text_scan.specs.Texts as texts;
 ghost use Rattle.hm_text_scan.specs.Texts.{read_text};
 
@@ -27,6 +27,7 @@ pub fn scan_text(text: &str, at: u32, rcdata: bool, table: &Table) -> (Token, u3
     requires markup { rcdata ≡ false → texts.begins_markup (drop at text.now) ≡ false }
     ensures reads { Reads (read_text table.now.entries rcdata (drop at text.now)) text.now result.0 result.1 }
     ensures forward { at < result.1 }
+    ensures placed { BeginsAt at result.0 }
 {
     let bytes = text.as_bytes();
     let from = at as usize;

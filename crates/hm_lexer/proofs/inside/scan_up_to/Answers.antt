@@ -1,5 +1,5 @@
 use Rattle.std.proofs.Common.{◌<◌, arith}
-use Rattle.hm_lexer.proofs.Fronts.{reads_nothing, reads_references}
+use Rattle.hm_lexer.proofs.Fronts.{at_each, reads_nothing, reads_references}
 use Rattle.hm_lexer.proofs.inside.scan_up_to.Goals as goal
 
 pub returns-then-references-clause-ok : goal.returns-then-references-clause-ok
@@ -12,3 +12,6 @@ pub returns-clause-ok : goal.returns-clause-ok
 returns-clause-ok c =
     let low : c.args.at < c.args.to = omega (arith, c.requires.end.forward, c.if-at-to.false) in
     rw c.if-references.false (reads_nothing c.args.table.now.entries c.args.text.now c.args.at c.args.to low c.requires.boundary c.requires.end.boundary)
+
+pub returns-then-at-to-clause-placed : goal.returns-then-at-to-clause-placed
+returns-then-at-to-clause-placed c = at_each c.scan_tag.result c.args.at c.scan_tag.ensures.placed

@@ -17,9 +17,12 @@ comment_piece-requires c =
 pub returns-in-Some-clause-ok : goal.returns-in-Some-clause-ok
 unfolding read_comment
 returns-in-Some-clause-ok c =
-    let h = rw c.as_bytes.ensures.value at c.in-Some.ensures in
+    let h = rw c.as_bytes.ensures.value at c.in-Some.ensures.found in
     comment_read c.args.text.now c.utf8.text c.args.at (comment_at (drop c.args.at c.args.text.now)) c.in-Some.piece h
 
 pub returns-in-None-clause-err : goal.returns-in-None-clause-err
 unfolding read_comment
-returns-in-None-clause-err c = ap as_comment (rw c.as_bytes.ensures.value at c.in-None.ensures)
+returns-in-None-clause-err c = ap as_comment (rw c.as_bytes.ensures.value at c.in-None.ensures.found)
+
+pub returns-in-Some-clause-placed : goal.returns-in-Some-clause-placed
+returns-in-Some-clause-placed c = rw c.as_bytes.ensures.value at c.in-Some.ensures.from

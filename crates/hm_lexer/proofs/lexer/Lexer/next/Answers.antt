@@ -22,7 +22,7 @@ returns-in-Ok-clause-ok c =
     let low : c.token_start-from.result < length (text_of c.args.self.now) = omega (arith, c.if-from-text.false) in
     let moved : record c.args.self.now { at = c.in-Ok.to } ≡ c.advance.new.self = sym (c.advance.ensures ∙ ap (λ (r : Reading). record r { at = c.in-Ok.to }) c.in-Ok.ensures.same) in
     subst (λ (r : Reading). IsTaken c.args.self.now (mode_of c.args.mode) (record { token = c.in-Ok.token; from = c.token_start-from.result; to = c.in-Ok.to }) r) moved
-    (next_taken c.args.self.now (mode_of c.args.mode) c.in-Ok.token c.token_start-from.result c.in-Ok.to b low c.in-Ok.ensures.forward c.in-Ok.ensures.ok)
+    (next_taken c.args.self.now (mode_of c.args.mode) c.in-Ok.token c.token_start-from.result c.in-Ok.to b low c.in-Ok.ensures.forward c.in-Ok.ensures.ok c.in-Ok.ensures.placed)
 
 pub returns-in-Err-clause-err : goal.returns-in-Err-clause-err
 returns-in-Err-clause-err c =

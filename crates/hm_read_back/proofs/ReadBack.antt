@@ -1,0 +1,35 @@
+-- Spellings of settled trees are pages whose trees they are.
+use Rattle.std.proofs.Common.{◌≡◌, ℕ, List, [], map, ◌∙◌, ap}
+use Rattle.hm_base.specs.Source.{source_of, byte_of, place_in}
+use Rattle.hm_base.specs.Walks.{Event}
+use Rattle.hm_elements.specs.Settled.{Settled}
+use Rattle.hm_elements.proofs.Chain.{settled_page}
+use Rattle.hm_refs.specs.Tables.{IsTable}
+use Rattle.hm_tokens.proofs.TextPieces.{names_of_table}
+use Rattle.hm_spellings.specs.Spellings.{other, SpellsFrom}
+use Rattle.hm_spellings.specs.Tags.{Spelling}
+use Rattle.hm_spelled_tokens.proofs.Pages.{settled_spellings_have_text}
+use Rattle.hm_construction.specs.Trees.{built, tree_of_source, tree_of_text, page_tree, unless_faulty}
+use Rattle.hm_read_back.specs.Laws.{SpellingsAreReadBack, TextsAreReadBack}
+use Rattle.hm_read_back.proofs.Ahead.{Sound}
+use Rattle.hm_read_back.proofs.Pieces.{pieces_are_next}
+use Rattle.hm_read_back.proofs.Page.{page_law}
+
+sound : (g : Spelling) → IsTable g.table → Sound g.table
+sound g table = record { table = table; names = names_of_table g.table table }
+
+-- the text of a page that is spelled
+text_is_read : (g : Spelling) (w : List Event) (b : List ℕ) → IsTable g.table → Settled w → SpellsFrom g other [] w b → tree_of_text g.table b ≡ built w
+unfolding tree_of_source
+text_is_read g w b table settled sp =
+    let page = source_of b in
+    page_law g (sound g table) (pieces_are_next g table) w (map byte_of page.placed) other (settled_page w settled) (settled_spellings_have_text g w b table settled sp).1 (place_in page.placed page.end) 0
+
+pub texts_are_read_back : TextsAreReadBack
+texts_are_read_back refers t r w b table settled sp = text_is_read (record { table = t; rules = r; refers = refers }) w b table settled sp
+
+pub spellings_are_read_back : SpellingsAreReadBack
+unfolding page_tree
+spellings_are_read_back refers t r w b table settled sp =
+    ap (λ fault. unless_faulty fault (tree_of_text t b)) (settled_spellings_have_text (record { table = t; rules = r; refers = refers }) w b table settled sp).0
+    ∙ texts_are_read_back refers t r w b table settled sp

@@ -1,15 +1,12 @@
 -- A reference written again before other bytes.
-use Rattle.std.proofs.Common.{◌≡◌, ℕ, ◌+◌, ◌≤◌, Bool, true, false, List, [], ◌∷◌, ◌++◌, length, Some, refl, sym, ap, ◌∙◌, subst, append_assoc, inl, inr, ◌⊎◌, arith, length-append}
-use Rattle.hm_base.specs.Bytes.{is_digit_of}
+use Rattle.std.proofs.Common.{◌≡◌, ℕ, ◌+◌, ◌≤◌, Bool, true, false, List, [], ◌∷◌, ◌++◌, length, Some, refl, sym, ap, ◌∙◌, subst, inl, inr, ◌⊎◌, arith, length-append}
 use Rattle.hm_refs.specs.Names.{Entry, last_is, points_of}
-use Rattle.hm_refs.specs.Numbers.{point_of}
-use Rattle.hm_refs.specs.References.{reference, value_of}
 use Rattle.hm_refs.specs.Tables.{IsTable}
 use Rattle.hm_refs.proofs.Found.{entry_of, good_of, last_append}
 use Rattle.hm_spellings.specs.Characters.{Spot, is_value}
 use Rattle.hm_text_spell.specs.CharacterEdges.{behind_name}
 use Rattle.hm_text_spell.proofs.ChoiceLaws.{name_fits}
-use Rattle.hm_text_spell.proofs.Numbers.{number_for, number_reads, number_fits, hash_is, NumberAt, decimal_read, hex_read, numeric_some}
+use Rattle.hm_text_spell.proofs.Numbers.{decimal_closed, hash_is, hex_closed, number_fits, number_for, number_reads, NumberAt, read_gives}
 use Rattle.hm_text_spell.proofs.Pieces.{Refers}
 use Rattle.hm_text_spell.proofs.Reading.{name_read, IsName, IsNumber, reference_is}
 use Rattle.hm_units.specs.States.{nothing}
@@ -62,42 +59,19 @@ close_name t k spot points piece x y n = by_last (last_is 59 piece) refl
       short = omega (arith, length-append piece (59 ∷ []));
     }
 
-no_digit_10 : is_digit_of 10 59 ≡ false
-unfolding is_digit_of
-no_digit_10 = refl
-
-no_digit_16 : is_digit_of 16 59 ≡ false
-unfolding is_digit_of
-no_digit_16 = refl
-
-close_number : (t : List Entry) → IsTable t → (spot : Spot) (c : ℕ) (piece x y : List ℕ) → IsNumber (c ∷ []) piece x → Again t spot (c ∷ []) (length piece + 1) y
-close_number t k spot c piece x y n = by_kind (hash_is n.inner (record { points = c ∷ []; len = length piece }) n.read)
+close_number : (t : List Entry) (spot : Spot) (c : ℕ) (piece x y : List ℕ) → IsNumber (c ∷ []) piece x → Again t spot (c ∷ []) (length piece + 1) y
+close_number t spot c piece x y n = by_kind (hash_is n.inner (record { points = c ∷ []; len = length piece }) n.read)
   where
-    point_so : (d : ℕ) → c ∷ [] ≡ d ∷ [] → d ≡ c
-    point_so d h = cc
-
     by_kind : NumberAt 2 10 [] n.inner (record { points = c ∷ []; len = length piece }) ⊎ ((d : ℕ) × NumberAt 3 16 (d ∷ []) n.inner (record { points = c ∷ []; len = length piece })) → Again t spot (c ∷ []) (length piece + 1) y
-    by_kind (inl m) = let ds = m.digits_are in record {
-      piece = 38 ∷ 35 ∷ (ds ++ 59 ∷ []);
-      refers = record {
-        inner = 35 ∷ (ds ++ 59 ∷ []);
-        bytes = refl;
-        found = ap (λ w. reference t (is_value spot) (38 ∷ 35 ∷ w)) (append_assoc ds (59 ∷ []) y)
-            ∙ decimal_read t (is_value spot) ds (59 ∷ y) m.all m.numeric_is.some no_digit_10
-            ∙ numeric_some 2 10 c ds (59 ∷ y) (length (38 ∷ 35 ∷ (ds ++ 59 ∷ []))) m.numeric_is.some (point_so (point_of (value_of 10 ds)) m.numeric_is.points) (omega (arith, length-append ds (59 ∷ [])));
-      };
-      short = let l = m.numeric_is.len in omega (arith, length-append ds (59 ∷ []), l);
+    by_kind (inl m) = record {
+      piece = 38 ∷ 35 ∷ (m.digits_are ++ 59 ∷ []);
+      refers = decimal_closed t spot c m.digits_are y (read_gives 2 10 c [] n.inner (length piece) m);
+      short = omega (arith, length-append m.digits_are (59 ∷ []), m.numeric_is.len);
     }
-    by_kind (inr (d, m)) = let ds = m.digits_are in record {
-      piece = 38 ∷ 35 ∷ 120 ∷ (ds ++ 59 ∷ []);
-      refers = record {
-        inner = 35 ∷ 120 ∷ (ds ++ 59 ∷ []);
-        bytes = refl;
-        found = ap (λ w. reference t (is_value spot) (38 ∷ 35 ∷ 120 ∷ w)) (append_assoc ds (59 ∷ []) y)
-            ∙ hex_read t (is_value spot) ds (59 ∷ y) m.all no_digit_16
-            ∙ numeric_some 3 16 c ds (59 ∷ y) (length (38 ∷ 35 ∷ 120 ∷ (ds ++ 59 ∷ []))) m.numeric_is.some (point_so (point_of (value_of 16 ds)) m.numeric_is.points) (omega (arith, length-append ds (59 ∷ [])));
-      };
-      short = let l = m.numeric_is.len in omega (arith, length-append ds (59 ∷ []), l);
+    by_kind (inr (d, m)) = record {
+      piece = 38 ∷ 35 ∷ 120 ∷ (m.digits_are ++ 59 ∷ []);
+      refers = hex_closed t spot c m.digits_are y (read_gives 3 16 c (d ∷ []) n.inner (length piece) m);
+      short = omega (arith, length-append m.digits_are (59 ∷ []), m.numeric_is.len);
     }
 
 pub close_one : (t : List Entry) → IsTable t → (spot : Spot) (c : ℕ) (piece x y : List ℕ) → Refers t spot (c ∷ []) piece x → Again t spot (c ∷ []) (length piece + 1) y
@@ -105,4 +79,4 @@ close_one t k spot c piece x y r = by_kind (reference_is t k spot (c ∷ []) pie
   where
     by_kind : IsName t spot (c ∷ []) piece x ⊎ IsNumber (c ∷ []) piece x → Again t spot (c ∷ []) (length piece + 1) y
     by_kind (inl n) = close_name t k spot (c ∷ []) piece x y n
-    by_kind (inr n) = close_number t k spot c piece x y n
+    by_kind (inr n) = close_number t spot c piece x y n

@@ -1,7 +1,10 @@
 -- Plain characters need no reference.
-use Rattle.std.proofs.Common.{◌≡◌, ℕ, zero, suc, ◌^◌, ◌<◌, ◌≤◌, Bool, true, false, ◌&&◌, ◌||◌, ◌==◌, nat_le, nat_lt, not, List, [], ◌∷◌, length, Option, Some, None, refl, subst, inl, inr, ◌⊎◌, arith}
+use Rattle.std.proofs.Common.{◌≡◌, ℕ, ◌<◌, ◌≤◌, Bool, true, false, ◌&&◌, ◌||◌, ◌==◌, nat_le, nat_lt, not, List, [], ◌∷◌, length, Option, Some, None, refl, subst, inl, inr, ◌⊎◌, arith}
+use Rattle.std.specs.Char.{digit_value}
 use Rattle.std.specs.List.{list_all}
-use Rattle.hm_base.specs.Bytes.{head_is, is_space, some_passes}
+use Rattle.std.proofs.lemmas.Int.Digits.{digits_value-lt}
+use Rattle.hm_base.specs.Bytes.{head_is, is_digit_of, is_space, some_passes}
+use Rattle.hm_refs.specs.Laws.{Gives}
 use Rattle.hm_refs.specs.Names.{Entry, points_of}
 use Rattle.hm_refs.specs.Numbers.{best_number, look_up, or_number, point_of, replaced}
 use Rattle.hm_refs.specs.Plain.{allows, is_plain, is_plain_byte, is_single, plain_bytes}
@@ -11,7 +14,7 @@ use Rattle.hm_refs.proofs.Bools.{and_left, and_right, eq_of, le_of}
 use Rattle.hm_refs.proofs.Found.{entry_of}
 use Rattle.hm_refs.proofs.NumberLaws.{gives_of, up_passes}
 use Rattle.hm_spellings.specs.Characters.{Spot, double, foreign, is_barred, is_writable, may_stand, rcdata, single, text, unquoted}
-use Rattle.hm_text_spell.proofs.Numbers.{hash_is, NumberAt, value_lt}
+use Rattle.hm_text_spell.proofs.Numbers.{hash_is, NumberAt, read_gives}
 use Rattle.hm_text_spell.proofs.Pieces.{Refers}
 use Rattle.hm_text_spell.proofs.Reading.{IsName, IsNumber, reference_is}
 
@@ -99,26 +102,25 @@ not_short c v e low top s = by_up (look_up v replaced) refl (gives_of v c e not_
     by_up None h i = let j : v ≡ c = i in omega arith
     by_up (Some d) h i = let k = le_of 128 v (up_passes high v d replaced all_high h) in omega arith
 
+one_digit : (d : ℕ) → is_digit_of 10 d ≡ true → value_of 10 (d ∷ []) < 10
+unfolding value_of is_digit_of
+one_digit d h = let l = digits_value-lt 10 (d ∷ []) (lt_of (digit_value d) 10 h, tt) in omega (arith, l)
+
+two_digits : (c : ℕ) (ds : List ℕ) → 33 ≤ c → c < 128 → Gives 10 ds c → 2 ≤ length ds
+two_digits c [] low top g = absurd (let no = g.some in cc)
+two_digits c (d ∷ []) low top g = absurd (not_short c (value_of 10 (d ∷ [])) g.value low top (one_digit d (and_left (is_digit_of 10 d) true g.digits)))
+two_digits c (d ∷ e ∷ ds) low top g = omega arith
+
+one_more : (c : ℕ) (ds : List ℕ) → Gives 16 ds c → 1 ≤ length ds
+one_more c [] g = absurd (let no = g.some in cc)
+one_more c (d ∷ ds) g = omega arith
+
 long_number : (c : ℕ) (piece x : List ℕ) → 33 ≤ c → c < 128 → IsNumber (c ∷ []) piece x → 4 ≤ length piece
 long_number c piece x low top n = by_kind (hash_is n.inner (record { points = c ∷ []; len = length piece }) n.read)
   where
-    point_so : (d : ℕ) → c ∷ [] ≡ d ∷ [] → d ≡ c
-    point_so d h = cc
-
-    by_digits : (ds : List ℕ) → 0 < length ds → value_of 10 ds ≤ value_of 10 ds → ((length ds ≡ 1 → ⊥) → 2 ≤ length ds)
-    by_digits ds s h k = by_length (length ds) s k
-      where
-        by_length : (l : ℕ) → 0 < l → (l ≡ 1 → ⊥) → 2 ≤ l
-        by_length zero a b = absurd (omega arith)
-        by_length (suc zero) a b = absurd (b refl)
-        by_length (suc (suc l)) a b = omega arith
-
     by_kind : NumberAt 2 10 [] n.inner (record { points = c ∷ []; len = length piece }) ⊎ ((d : ℕ) × NumberAt 3 16 (d ∷ []) n.inner (record { points = c ∷ []; len = length piece })) → 4 ≤ length piece
-    by_kind (inl m) =
-        let v = value_lt 10 m.digits_are m.all in
-        let two = by_digits m.digits_are m.numeric_is.some (omega arith) (λ one. not_short c (value_of 10 m.digits_are) (point_so (point_of (value_of 10 m.digits_are)) m.numeric_is.points) low top (subst (λ l. value_of 10 m.digits_are < 10 ^ l) one v)) in
-        let l = m.numeric_is.len in omega arith
-    by_kind (inr (d, m)) = let s = m.numeric_is.some in let l = m.numeric_is.len in omega arith
+    by_kind (inl m) = let two = two_digits c m.digits_are low top (read_gives 2 10 c [] n.inner (length piece) m) in omega (arith, two, m.numeric_is.len)
+    by_kind (inr (d, m)) = let one = one_more c m.digits_are (read_gives 3 16 c (d ∷ []) n.inner (length piece) m) in omega (arith, one, m.numeric_is.len)
 
 pub plain_test : (t : List Entry) → IsTable t → IsPlainTest t (is_plain t)
 plain_test t k = record {

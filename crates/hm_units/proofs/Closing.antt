@@ -12,7 +12,7 @@ use Rattle.hm_units.specs.Steps.{Fits, ampersand_in_text, ampersand_in_value, is
 use Rattle.hm_units.proofs.Steps.{step_law}
 use Rattle.hm_units.proofs.Runs.{Special, no_child, onto_none, no_name, lt_special}
 
-ten_hex : (c : ℕ) → is_digit_of 16 c ≡ false → is_digit_of 10 c ≡ false
+pub ten_hex : (c : ℕ) → is_digit_of 16 c ≡ false → is_digit_of 10 c ≡ false
 unfolding is_digit_of
 ten_hex c h = by_value (digit_value c) h
   where

@@ -269,6 +269,9 @@ module _ (g : Spelling) (table : IsTable g.table) (es : UnitEdges) (has : HasTag
           by_two (inl h) = by_plain h
           by_two (inr h) = by_slash k h
 
+  tag_bytes : (b n rest left right tail : List ℕ) → b ≡ (60 ∷ n) ++ rest → rest ≡ left ++ right → right ≡ tail → b ≡ 60 ∷ (n ++ (left ++ tail))
+  tag_bytes b n rest left right tail is cut same = is ∙ ap (λ y. 60 ∷ (n ++ y)) (cut ∙ ap (λ y. left ++ y) same)
+
   tag_spelled : (n : List ℕ) (attributes : List Attribute) (closes : Bool) (from to : State) (b after : List ℕ) → map lower n ≡ n → AreLow attributes → WayTo es (tag_name n ∷ (attribute_units attributes ++ tag_close closes ∷ [])) from b to
       → TagSpelled g n attributes closes to b after
   tag_spelled n attributes closes from to b after low lows (e, i, (rest, is, w)) =
@@ -276,7 +279,7 @@ module _ (g : Spelling) (table : IsTable g.table) (es : UnitEdges) (has : HasTag
       let p = way_parts es (attribute_units attributes) (tag_close closes ∷ []) (state behind_name nothing) rest to (subst (λ x. WayTo es (attribute_units attributes ++ tag_close closes ∷ []) x.to rest to) here w) in
       let m = attributes_spelled attributes lows bare p.left p.middle p.before in
       let f = ended closes m.last p.right to (subst (λ s. WayTo es (tag_close closes ∷ []) s p.right to) m.leads p.behind) in
-      let cut : b ≡ 60 ∷ (n ++ (p.left ++ (f.gap ++ tag_end f.slash))) = is ∙ ap (λ x. x.bytes ++ rest) here ∙ ap (λ y. 60 ∷ (n ++ y)) (p.whole ∙ ap (λ y. p.left ++ y) f.whole) in
+      let cut = tag_bytes b n rest p.left p.right (f.gap ++ tag_end f.slash) (is ∙ ap (λ x. x.bytes ++ rest) here) p.whole f.whole in
       record {
         slash = f.slash;
         inner = n ++ (p.left ++ (f.gap ++ tag_end f.slash));

@@ -1,2 +1,3 @@
 pub mod CharacterEdges
 pub mod Laws
+pub mod Examples

@@ -4,3 +4,4 @@ pub mod Edges
 pub mod Units
 pub mod Laws
 pub mod Ways
+pub mod Examples

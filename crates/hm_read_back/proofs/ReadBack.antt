@@ -6,11 +6,14 @@ use Rattle.hm_elements.specs.Settled.{Settled}
 use Rattle.hm_elements.proofs.Chain.{settled_page}
 use Rattle.hm_refs.specs.Tables.{IsTable}
 use Rattle.hm_tokens.proofs.TextPieces.{names_of_table}
-use Rattle.hm_spellings.specs.Spellings.{other, SpellsFrom}
+use Rattle.hm_options.specs.Rewrites.{rewrite}
+use Rattle.hm_options.proofs.InOrder.{rewrite_settled}
+use Rattle.hm_spellings.specs.Spellings.{other, everywhere, SpellsFrom}
 use Rattle.hm_spellings.specs.Tags.{Spelling}
 use Rattle.hm_spelled_tokens.proofs.Pages.{settled_spellings_have_text}
 use Rattle.hm_construction.specs.Trees.{built, tree_of_source, tree_of_text, page_tree, unless_faulty}
-use Rattle.hm_read_back.specs.Laws.{SpellingsAreReadBack, TextsAreReadBack}
+use Rattle.hm_construction.proofs.Pages.{pages_are_settled}
+use Rattle.hm_read_back.specs.Laws.{SpellingsAreReadBack, TextsAreReadBack, RewrittenIsReadBack}
 use Rattle.hm_read_back.proofs.Ahead.{Sound}
 use Rattle.hm_read_back.proofs.Pieces.{pieces_are_next}
 use Rattle.hm_read_back.proofs.Page.{page_law}
@@ -33,3 +36,7 @@ unfolding page_tree
 spellings_are_read_back refers t r w b table settled sp =
     ap (λ fault. unless_faulty fault (tree_of_text t b)) (settled_spellings_have_text (record { table = t; rules = r; refers = refers }) w b table settled sp).0
     ∙ texts_are_read_back refers t r w b table settled sp
+
+pub rewritten_is_read_back : RewrittenIsReadBack
+rewritten_is_read_back t r o page w b table read sp =
+    spellings_are_read_back everywhere t r (rewrite o w) b table (rewrite_settled o w (pages_are_settled t page w (names_of_table t table) read)) sp

@@ -4,3 +4,6 @@ pub mod Spots
 pub mod Names
 pub mod Tables
 pub mod Order
+pub mod Written
+pub mod TagEdges
+pub mod Between

@@ -31,6 +31,7 @@ pub record Agrees (t : List Entry) (before : Before) (previous : Previous) (path
   pub place : Place path w at
   pub fits : Fits t (spot_of path) p
   pub quiet : needs_nothing previous path w ≡ true → p ≡ nothing
+  pub calm : is_self_closed at ≡ true → p ≡ nothing
   pub self : is_self_closing before ≡ is_self_closed at
   pub behind_start : begins_text w ≡ true → is_opening before ≡ is_behind_start previous
   pub barred : (n : List ℕ) → bars (left_out_before before) n ≡ is_firm previous n && is_loose at
@@ -46,12 +47,16 @@ and_true false = refl
 moved : (t : List Entry) (a b : List Element) (p : Pending) → Fits t (spot_of a) p → Fits t (spot_of b) p
 moved t a b p f = fits_over t (spot_of a) (spot_of b) p (text_spot a ∙ sym (text_spot b)) f
 
+not_closed : (at : Where) → at ≡ outside → is_self_closed at ≡ true → ⊥
+not_closed at e h = let k : is_self_closed outside ≡ true = subst (λ a. is_self_closed a ≡ true) e h in cc
+
 -- behind what is written nothing is pending
 pub fresh : (t : List Entry) (before : Before) (previous : Previous) (path : List Element) (w : List Event) → is_opening before ≡ is_behind_start previous → is_self_closing before ≡ false → left_out_before before ≡ None → Agrees t before previous path outside nothing w
 fresh t before previous path w o s l = record {
   place = at_outside refl;
   fits = tt;
   quiet = λ h. refl;
+  calm = λ h. refl;
   self = s;
   behind_start = λ h. o;
   barred = λ n. ap (λ x. bars x n) l ∙ sym (and_false (is_firm previous n));
@@ -62,6 +67,7 @@ behind_text t path w s raw at p here f alone = record {
   place = at_outside here;
   fits = f;
   quiet = λ h. absurd (let k : false && (is_in_text path || (false && drops_first_line_feed path)) ≡ true = rw alone at h in cc);
+  calm = λ h. absurd (not_closed at here h);
   self = rw here refl;
   behind_start = λ h. refl;
   barred = λ n. refl;
@@ -83,6 +89,7 @@ start_left t before previous path at p n attributes w o a =
       place = at_outside here;
       fits = moved t path (element n false ∷ path) p a.fits;
       quiet = λ h. absurd (nothing_needed (begins_text w) (rw (feed_is n path, o.no_text, o.no_feed) at h));
+      calm = λ h. absurd (not_closed (unloosed at) here h);
       self = rw here refl;
       behind_start = λ h. refl;
       barred = λ m. refl;
@@ -106,6 +113,7 @@ start_closed t path n attributes w e = record {
   place = at_closed refl refl e;
   fits = tt;
   quiet = λ h. refl;
+  calm = λ h. refl;
   self = refl;
   behind_start = λ h. absurd (end_no_text w e h);
   barred = λ m. refl;
@@ -113,10 +121,10 @@ start_closed t path n attributes w e = record {
 
 -- ---- ends
 
-top_name : (n : List ℕ) (foreign : Bool) (path : List Element) → EndFits n foreign path → current path ≡ n
+pub top_name : (n : List ℕ) (foreign : Bool) (path : List Element) → EndFits n foreign path → current path ≡ n
 top_name n foreign path f = ap current f.top
 
-top_kind : (n : List ℕ) (foreign : Bool) (path : List Element) → EndFits n foreign path → is_in_svg path ≡ foreign
+pub top_kind : (n : List ℕ) (foreign : Bool) (path : List Element) → EndFits n foreign path → is_in_svg path ≡ foreign
 top_kind n foreign path f = ap is_in_svg f.top
 
 quiet_end : (n : List ℕ) (path : List Element) (w : List Event) → is_in_text (outer path) ≡ false → needs_nothing (Some (end n false)) (outer path) w ≡ true → ⊥
@@ -135,6 +143,7 @@ end_void t before previous path at p n w f v a =
       place = at_outside here;
       fits = moved t path (outer path) p a.fits;
       quiet = λ h. absurd (quiet_end n path w f.placed.around h);
+      calm = λ h. absurd (not_closed at here h);
       self = rw here refl;
       behind_start = λ h. refl;
       barred = λ m. sym (rw (bars_nothing n m (void_plain n v).0) refl);
@@ -154,6 +163,7 @@ end_left t before previous path at p n w f l s falls a =
       place = at_outside here;
       fits = moved t path (outer path) p a.fits;
       quiet = λ h. absurd (quiet_end n path w f.placed.around h);
+      calm = λ h. absurd (not_closed at here h);
       self = rw here refl;
       behind_start = λ h. refl;
       barred = λ m. rw (bars_nothing n m l) refl;
@@ -170,6 +180,7 @@ end_loosened t path n w f l falls = record {
   place = at_loose refl (f.placed.in_table refl l) (loose_goes n (current (outer path)) w l falls);
   fits = tt;
   quiet = λ h. refl;
+  calm = λ h. refl;
   self = refl;
   behind_start = λ h. refl;
   barred = λ m. sym (and_true (bars_start n m));

@@ -7,3 +7,6 @@ pub mod Order
 pub mod Written
 pub mod TagEdges
 pub mod Between
+pub mod Texts
+pub mod Markup
+pub mod Spelled

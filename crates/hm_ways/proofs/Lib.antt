@@ -1,0 +1,12 @@
+pub mod Needs
+pub mod Cuts
+pub mod Spots
+pub mod Names
+pub mod Tables
+pub mod Order
+pub mod Written
+pub mod TagEdges
+pub mod Between
+pub mod Texts
+pub mod Markup
+pub mod Spelled

@@ -100,8 +100,7 @@ module _ (g : Spelling) (table : IsTable g.table) (ends : TextsEnd g) where
   chars_spell path cs p b after to f w k =
       let (here, fits) = chars_end path cs p b to f w in
       let kept : keeps_at g.table (kind_of path) to after ≡ true = subst (λ spot. keeps g.table spot to.pending after ≡ true) (sym (ap (λ a. spot_at (kind_of path) a) here ∙ kind_spot path)) k in
-      let s = ways_spell g.table table (character_rules g) (edges_of g) (has_edges g) (kind_of path) cs (state outside p) to b after (may_begin g.table path p f) w kept in
-      (
+      let s = ways_spell g.table table (character_rules g) (edges_of g) (has_edges g) (kind_of path) cs (state outside p) to b after (may_begin g.table path p f) w kept in (
         subst (λ spot. SpellsPoints g.table (character_rules g) spot cs b after) (kind_spot path) s.spells,
         subst (λ spot. keeps g.table spot p (b ++ after) ≡ true) (kind_spot path) s.kept,
       )
@@ -123,8 +122,7 @@ module _ (g : Spelling) (table : IsTable g.table) (ends : TextsEnd g) where
   feed_spell path cs p b after to f k false q w = chars_spell path cs p b after to f w k
   feed_spell path cs p b after to f k true q (e, i, (rest, is, w)) =
       let same = only e (edge_to (10 ∷ []) first_state) i in
-      let s = chars_spell path cs nothing rest after to tt (subst (λ x. WayTo (edges_of g) (character_units (kind_of path) cs) x.to rest to) same w) k in
-      (
+      let s = chars_spell path cs nothing rest after to tt (subst (λ x. WayTo (edges_of g) (character_units (kind_of path) cs) x.to rest to) same w) k in (
         subst (λ w. SpellsPoints g.table (character_rules g) (spot_of path) (10 ∷ cs) w after) (sym (is ∙ ap (λ x. x.bytes ++ rest) same)) (with_feed g.table (character_rules g) (spot_of path) cs rest after (text_spot path) s.0),
         subst (λ z. keeps g.table (spot_of path) z (b ++ after) ≡ true) (sym (q refl)) refl,
       )

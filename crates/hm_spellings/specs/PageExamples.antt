@@ -1,26 +1,22 @@
 -- Trees of small pages and spellings of them, by computing. The terms tell how each piece is spelled.
-use Rattle.std.specs.Prelude.{⊤, ◌≡◌, ◌==◌, Bool, true, false, List, [], ◌∷◌, Option, Some, None, codes, refl}
+use Rattle.std.specs.Prelude.{⊤, true, false, List, [], ◌∷◌, codes, refl}
 use Rattle.std.specs.Str.{chars}
 use lib.Utf8.{encode}
-use mathlib.Core.Bool.{false≢true}
-use mathlib.Core.Path.{ap}
 use Rattle.hm_base.specs.Bytes.{is_space, is_letter, is_alnum, is_digit_of, lower}
-use Rattle.hm_base.specs.Walks.{Event, doctype, start, text, comment, end}
+use Rattle.hm_base.specs.Walks.{Event, doctype, start, text, end}
 use Rattle.hm_base.specs.declared.plain.SpellRules.{SpellRules}
-use Rattle.hm_elements.specs.Names.{is_among, html, head, body, p, tbody}
-use Rattle.hm_elements.specs.Paths.{html_element}
+use Rattle.hm_elements.specs.Names.{is_among}
 use Rattle.hm_elements.specs.Tables.{voids, rcdata_names, sections, blocks, headings, is_void, is_rcdata, is_section}
 use Rattle.hm_elements.specs.Omission.{before_rows, goes_before, up_names, up_of_p, goes_up, start_rows, start_goes_before, bars_start}
 use Rattle.hm_markup_forms.specs.Gaps.{is_gap}
-use Rattle.hm_markup_forms.specs.Tags.{bare, unquoted, double, single, parts_slash}
+use Rattle.hm_markup_forms.specs.Tags.{bare, unquoted, double, single}
 use Rattle.hm_refs.specs.Examples.{seven}
 use Rattle.hm_refs.specs.Names.{found_here}
 use Rattle.hm_refs.specs.Numbers.{point_of, best_number}
-use Rattle.hm_refs.specs.References.{Reference, reference, value_of, is_blocked}
-use Rattle.hm_spellings.specs.Characters.{opens_text, is_barred, is_writable, may_stand, stays, is_section as is_cdata, itself, reference_to, section, IsAllowed}
-use Rattle.hm_spellings.specs.Characters as spots
+use Rattle.hm_refs.specs.References.{reference, value_of, is_blocked}
+use Rattle.hm_spellings.specs.Characters.{opens_text, is_barred, is_writable, may_stand, stays, is_section as is_cdata, itself, reference_to, section}
 use Rattle.hm_spellings.specs.Omission.{head_takes, start_falls, may_omit_start, end_falls, may_omit_end}
-use Rattle.hm_spellings.specs.Spellings.{drops_first_line_feed, wants_line_feed, opening, omitted, written, slashed, absent, Spells}
+use Rattle.hm_spellings.specs.Spellings.{drops_first_line_feed, omitted, written, slashed, absent, Spells}
 
 unfoldable pub on_literals : ⊤
 unfolding chars encode is_space is_letter is_alnum is_digit_of lower is_among voids rcdata_names sections blocks headings is_void is_rcdata is_section before_rows goes_before up_names up_of_p goes_up start_rows start_goes_before bars_start is_gap found_here point_of best_number reference value_of is_blocked opens_text is_barred is_writable may_stand stays is_cdata head_takes start_falls may_omit_start end_falls may_omit_end drops_first_line_feed
@@ -28,8 +24,6 @@ on_literals = tt
 
 abbrev usual : SpellRules
 usual = record { omit = true; unquote = true; tight = false; ascii = false; frame = false }
-
--- ---- Spellings
 
 abbrev two_paragraphs_tree : List Event
 two_paragraphs_tree =
@@ -853,64 +847,3 @@ names_of_references = (
     ),
   ),
 )
-
--- ---- What is no spelling, and why
-
--- the end tag of p before that of a span
-p_in_span : may_omit_end usual p false (html_element (codes "span") ∷ []) (end (codes "span") false ∷ []) ≡ false
-unfolding on_literals
-p_in_span = refl
-
--- the start tag of tbody behind a section whose end tag was left out
-two_sections : may_omit_start usual (Some (codes "thead")) tbody false [] (start (codes "tr") false [] ∷ []) ≡ false
-unfolding on_literals
-two_sections = refl
-
--- the start tag of body before whitespace
-space_in_body : may_omit_start usual None body false [] (text (codes " x") false ∷ []) ≡ false
-unfolding on_literals
-space_in_body = refl
-
--- the start tag of head before a comment in it, which would be a child of html
-comment_in_head : may_omit_start usual None head false [] (comment (codes "x") ∷ []) ≡ false
-unfolding on_literals
-comment_in_head = refl
-
--- the end tag of body before a comment behind it, which would be a child of body
-comment_behind_body : may_omit_end usual body false (html_element html ∷ []) (comment (codes "x") ∷ []) ≡ false
-unfolding on_literals
-comment_behind_body = refl
-
--- `&not` before `in;`, which is another character's name
-longer_name : reference seven false (codes "&notin;") ≡ Some (record { points = 8713 ∷ []; len = 7 })
-unfolding on_literals
-longer_name = refl
-
-abbrev has_four_bytes : Option Reference → Bool
-has_four_bytes (Some r) = r.len == 4
-has_four_bytes None = false
-
--- so `&not` isn't allowed there
-shorter_name : IsAllowed seven (record { ascii = false; refers = λ c. true }) spots.text (reference_to (codes "&not") (172 ∷ [])) (codes "in;") → ⊥
-unfolding on_literals
-shorter_name (h, e) = false≢true (ap has_four_bytes e)
-
--- one line feed alone in pre before a line feed
-first_line_feed : wants_line_feed opening (html_element (codes "pre") ∷ []) (10 ∷ 120 ∷ []) ≡ true
-unfolding on_literals
-first_line_feed = refl
-
--- a value without quotes that holds '='
-equals_unquoted : may_stand false spots.unquoted 61 ≡ false
-unfolding on_literals
-equals_unquoted = refl
-
--- '/' directly behind a value without quotes
-slash_behind_value : is_gap (parts_slash unquoted) [] ≡ false
-unfolding on_literals
-slash_behind_value = refl
-
--- a section that holds `]]>`
-split_section : is_cdata false (codes "a]]>b") ≡ false
-unfolding on_literals
-split_section = refl

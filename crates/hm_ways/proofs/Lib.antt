@@ -13,3 +13,4 @@ pub mod Spelled
 pub mod Feeds
 pub mod TextWays
 pub mod Found
+pub mod Direct

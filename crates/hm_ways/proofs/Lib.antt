@@ -14,3 +14,5 @@ pub mod Feeds
 pub mod TextWays
 pub mod Found
 pub mod Direct
+pub mod Wider
+pub mod Best

@@ -1,8 +1,6 @@
 -- Ways and spellings of settled trees, and what prices and the first way show.
-use Rattle.std.proofs.Common.{◌≡◌, ℕ, ◌≤◌, Bool, true, false, not, List, [], length, Some, refl, sym, ap, ◌∙◌, subst, arith}
-use Rattle.hm_base.specs.Walks.{Event}
+use Rattle.std.proofs.Common.{◌≡◌, Bool, true, false, not, List, [], length, Some, refl, sym, ap, ◌∙◌, arith}
 use Rattle.hm_base.specs.declared.plain.SpellRules.{SpellRules}
-use Rattle.hm_elements.specs.Settled.{Settled}
 use Rattle.hm_exchange.proofs.PlainTests.{plain_test}
 use Rattle.hm_exchange.proofs.Trees.{spellings_spare_plain}
 use Rattle.hm_graph.proofs.LeastPrices.{first_bounds, first_least, least_feasible, least_number, least_reached}
@@ -17,7 +15,7 @@ use Rattle.hm_spellings.specs.Spellings.{other}
 use Rattle.hm_spellings.specs.Tags.{Spelling}
 use Rattle.hm_units.specs.States.{first_state}
 use Rattle.hm_units.specs.Units.{units_of}
-use Rattle.hm_ways.specs.Laws.{AlwaysStands, FeasiblePricesShow, FirstWaysAreBest, IsBest, SparesOnlyPlain, sparing, SpellingsHaveWays, WaysSpellTrees}
+use Rattle.hm_ways.specs.Laws.{AlwaysStands, FeasiblePricesShow, FirstWaysAreBest, SparesOnlyPlain, sparing, SpellingsHaveWays, WaysSpellTrees}
 use Rattle.hm_ways.proofs.Direct.{trees_have_ways}
 use Rattle.hm_ways.proofs.Found.{spelling_way}
 use Rattle.hm_ways.proofs.Needs.{SpellingsHaveTags, TagsSpell, TextsEnd}

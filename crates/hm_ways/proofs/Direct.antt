@@ -1,5 +1,5 @@
 -- A tree has a way: every tag is written, and a character stands as itself or is a reference by its number.
-use Rattle.std.proofs.Common.{◌≡◌, ℕ, Bool, true, false, cond, not, ◌&&◌, ◌||◌, ◌==◌, nat_lt, List, [], ◌∷◌, ◌++◌, Option, Some, None, is_none, is_some, codes, chars, encode_utf8, refl, sym, ap, ◌∙◌, subst, append_assoc, inl, inr, ◌⊎◌}
+use Rattle.std.proofs.Common.{◌≡◌, ℕ, Bool, true, false, cond, not, ◌&&◌, ◌||◌, ◌==◌, nat_lt, List, [], ◌∷◌, ◌++◌, Option, Some, None, is_none, is_some, codes, chars, encode_utf8, refl, sym, ap, ◌∙◌, subst, append_assoc}
 use Rattle.std.specs.Fmt as digits
 use Rattle.std.proofs.lemmas.Bool.{eqb-true, false_from_ne_true}
 use Rattle.hm_attr_spell.specs.AttributeEdges.{gap_at}
@@ -10,7 +10,7 @@ use Rattle.hm_elements.specs.Tables.{is_void}
 use Rattle.hm_graph.specs.UnitEdges.{edges_of}
 use Rattle.hm_graph.specs.Ways.{Way}
 use Rattle.hm_refs.specs.Names.{Entry}
-use Rattle.hm_refs.specs.Numbers.{best_number, look_up, point_of}
+use Rattle.hm_refs.specs.Numbers.{best_number, point_of}
 use Rattle.hm_refs.specs.Tables.{first, IsIn, later}
 use Rattle.hm_spellings.specs.Characters as spots
 use Rattle.hm_spellings.specs.Characters.{CharacterRules, is_barred, is_value, is_writable, may_stand, may_stand_in, Spot}
@@ -19,15 +19,14 @@ use Rattle.hm_spellings.specs.Tags.{character_rules, Spelling}
 use Rattle.hm_tag_spell.specs.TagEdges.{end_bytes, start_bytes}
 use Rattle.hm_text_spell.proofs.CharacterWays.{choice_in}
 use Rattle.hm_text_spell.proofs.In.{in_left, in_right}
-use Rattle.hm_text_spell.specs.CharacterEdges.{as_itself, behind_name, by_decimal, by_hexadecimal, by_names, by_pairs, by_references, choice, Choice, choices, is_in_section, itself_by, itself_to, kept_at, spot_at}
+use Rattle.hm_text_spell.specs.CharacterEdges.{as_itself, behind_name, by_decimal, by_hexadecimal, by_names, by_pairs, by_references, choice, choices, is_in_section, kept_at, spot_at}
 use Rattle.hm_units.specs.Edges.{Edge, edge, edge_to}
 use Rattle.hm_units.specs.States.{Where, behind_name as at_name, behind_quoted, decimal, in_double, in_single, in_unquoted, nothing, outside, State, first_state, state}
-use Rattle.hm_units.specs.Steps.{run, step}
+use Rattle.hm_units.specs.Steps.{run}
 use Rattle.hm_units.specs.Units.{attribute_end, attribute_name, attribute_units, bare_attribute, character, character_units, doctype_bytes, end_tag, end_units, fixed, in_value, is_firm, is_loose_end, kind_of, line_feed_units, may_close_itself, next_of, Previous, start_tag, start_units, tag_close, tag_name, text_units, TextKind, Unit, units_from}
 use Rattle.hm_units.specs.Ways.{WayTo}
 use Rattle.hm_ways.specs.Laws.{AlwaysStands, SparesOnlyPlain, TreesHaveWays}
 use Rattle.hm_ways.proofs.Cuts.{joined}
-use Rattle.hm_ways.proofs.Needs.{tag_units}
 use Rattle.hm_ways.proofs.Order.{element}
 use Rattle.hm_ways.proofs.TagEdges.{into_end_written, into_written}
 

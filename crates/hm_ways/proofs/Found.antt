@@ -1,6 +1,6 @@
 -- Each spelling has a way with no more bytes, event by event.
-use Rattle.std.proofs.Common.{◌≡◌, ℕ, ◌+◌, ◌≤◌, Bool, true, false, cond, not, ◌&&◌, ◌||◌, List, [], ◌∷◌, ◌++◌, length, Some, None, codes, refl, sym, ap, ◌∙◌, subst, arith, length-append}
-use Rattle.std.proofs.lemmas.Bool.{both_ways, or_cases, or_parts, or_right}
+use Rattle.std.proofs.Common.{◌≡◌, ℕ, ◌≤◌, Bool, true, false, cond, not, ◌&&◌, List, [], ◌∷◌, ◌++◌, length, Some, None, codes, refl, sym, ap, ◌∙◌, subst, arith, length-append}
+use Rattle.std.proofs.lemmas.Bool.{both_ways, or_parts, or_right}
 use Rattle.hm_base.specs.Walks.{Attribute, Event, doctype, start, text, comment, end, Element, begins_end}
 use Rattle.hm_elements.specs.Paths.{current, is_in_text, outer}
 use Rattle.hm_elements.specs.Tables.{holds_text, is_void}
@@ -11,17 +11,17 @@ use Rattle.hm_spellings.specs.Omission.{bars, end_falls, has_none, may_omit_end,
 use Rattle.hm_spellings.specs.Spellings as forms
 use Rattle.hm_spellings.specs.Spellings.{Before, behind_end, behind_start, end_omitted, EndForm, EndSp, has_no_end_tag, is_self_closing, left_out_before, opening, other, self_closing, SpellsFrom, spot_of, StartForm, StartSp}
 use Rattle.hm_spellings.specs.Tags.{Spelling, SpellsStart}
-use Rattle.hm_tag_spell.specs.TagEdges.{behind_left_out, end_bytes, end_edges, is_loose, is_self_closed, start_bytes, start_edges, unloosed}
-use Rattle.hm_units.specs.Edges.{Edge, edge, edge_to}
+use Rattle.hm_tag_spell.specs.TagEdges.{behind_left_out, end_bytes, is_self_closed, start_bytes, unloosed}
+use Rattle.hm_units.specs.Edges.{edge_to}
 use Rattle.hm_units.specs.States.{Where, outside, loose, self_closed, Pending, nothing, State, first_state, state}
-use Rattle.hm_units.specs.Steps.{Fits, keeps}
-use Rattle.hm_units.specs.Units.{doctype_bytes, end_tag, end_units, is_firm, is_loose_end, may_close_itself, Previous, start_tag, start_units, text_units, Unit, units_from}
+use Rattle.hm_units.specs.Steps.{keeps}
+use Rattle.hm_units.specs.Units.{doctype_bytes, end_tag, is_firm, is_loose_end, may_close_itself, Previous, start_tag, text_units, Unit, units_from}
 use Rattle.hm_ways.specs.Laws.{HasWay}
 use Rattle.hm_ways.proofs.Between.{Agrees, behind_text, end_left, end_loosened, end_void, fresh, start_closed, start_left, text_outside}
 use Rattle.hm_ways.proofs.Cuts.{joined}
 use Rattle.hm_ways.proofs.Markup.{leaves_end, leaves_start}
-use Rattle.hm_ways.proofs.Needs.{behind_tag, HasTagWay, SpellingsHaveTags, tag_units}
-use Rattle.hm_ways.proofs.Order.{element, EndFits, InOrder, StartFits, TextFits}
+use Rattle.hm_ways.proofs.Needs.{SpellingsHaveTags, tag_units}
+use Rattle.hm_ways.proofs.Order.{element, EndFits, InOrder, StartFits}
 use Rattle.hm_ways.proofs.Spots.{keeps_text}
 use Rattle.hm_ways.proofs.Tables.{end_open, start_open, void_plain}
 use Rattle.hm_ways.proofs.TagEdges.{into_closed, into_end_left_out, into_end_written, into_left_out, into_slashed, into_written, slashed_bytes}

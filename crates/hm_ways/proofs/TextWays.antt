@@ -1,5 +1,5 @@
 -- Edges for a spelled text.
-use Rattle.std.proofs.Common.{◌≡◌, ℕ, suc, ◌+◌, ◌≤◌, Bool, true, false, cond, List, [], ◌∷◌, ◌++◌, length, chars, refl, sym, ap, ◌∙◌, subst, append-nil, arith, length-append}
+use Rattle.std.proofs.Common.{◌≡◌, ℕ, ◌≤◌, Bool, true, false, cond, List, [], ◌∷◌, ◌++◌, length, chars, refl, sym, ap, ◌∙◌, subst, append-nil, arith}
 use Rattle.hm_base.specs.Walks.{Element, Event, text}
 use Rattle.hm_graph.specs.UnitEdges.{edges_of}
 use Rattle.hm_refs.specs.Tables.{first, IsTable}

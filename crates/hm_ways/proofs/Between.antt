@@ -1,13 +1,13 @@
 -- Between two events: the state of a way, and what a spelling knows of the event before.
-use Rattle.std.proofs.Common.{◌≡◌, ℕ, Bool, true, false, not, ◌&&◌, ◌||◌, List, [], ◌∷◌, bytes_eq, refl, sym, ap, ◌∙◌, subst, Some, None}
+use Rattle.std.proofs.Common.{◌≡◌, ℕ, Bool, true, false, ◌&&◌, ◌||◌, List, [], ◌∷◌, refl, sym, ap, ◌∙◌, subst, Some, None}
 use Rattle.std.proofs.lemmas.Bool.{both_ways}
 use Rattle.hm_base.specs.Walks.{Attribute, Event, doctype, start, text, comment, end, Element, begins_end, begins_text}
 use Rattle.hm_elements.specs.Names.{words, is_among, table}
 use Rattle.hm_elements.specs.Omission.{bars_start}
 use Rattle.hm_elements.specs.Paths.{current, is_in_svg, is_in_text, outer}
-use Rattle.hm_elements.specs.Tables.{holds_text, is_void}
+use Rattle.hm_elements.specs.Tables.{is_void}
 use Rattle.hm_refs.specs.Names.{Entry}
-use Rattle.hm_spellings.specs.Omission.{bars, end_falls, LeftOut}
+use Rattle.hm_spellings.specs.Omission.{bars, end_falls}
 use Rattle.hm_spellings.specs.Spellings.{Before, drops_first_line_feed, end_omitted, is_opening, is_self_closing, left_out_before, opening, other, self_closing, spot_of}
 use Rattle.hm_tag_spell.specs.TagEdges.{is_loose, is_self_closed, unloosed}
 use Rattle.hm_units.specs.States.{Where, outside, loose, self_closed, Pending, nothing}

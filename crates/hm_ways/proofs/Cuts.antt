@@ -1,8 +1,6 @@
 -- Ways cut behind some of their units, and put together.
 use Rattle.std.proofs.Common.{◌≡◌, ℕ, List, [], ◌∷◌, ◌++◌, refl, sym, ap, ◌∙◌, subst, append_assoc}
 use Rattle.hm_graph.specs.Ways.{Edges, Way}
-use Rattle.hm_refs.specs.Tables.{IsIn}
-use Rattle.hm_units.specs.Edges.{Edge}
 use Rattle.hm_units.specs.States.{State}
 use Rattle.hm_units.specs.Units.{Unit}
 use Rattle.hm_units.specs.Ways.{WayTo}

@@ -10,3 +10,9 @@ pub mod Between
 pub mod Texts
 pub mod Markup
 pub mod Spelled
+pub mod Feeds
+pub mod TextWays
+pub mod Found
+pub mod Direct
+pub mod Wider
+pub mod Best

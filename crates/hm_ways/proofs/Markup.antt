@@ -1,11 +1,11 @@
 -- Markup begins with '<', which keeps whatever is pending in a text.
-use Rattle.std.proofs.Common.{◌≡◌, ℕ, Bool, true, false, not, ◌&&◌, ◌||◌, List, [], ◌∷◌, ◌++◌, codes, refl, sym, ap, ◌∙◌, subst}
+use Rattle.std.proofs.Common.{◌≡◌, ℕ, Bool, true, false, not, ◌&&◌, List, [], ◌∷◌, ◌++◌, codes, refl, sym, ap, ◌∙◌, subst}
 use Rattle.std.proofs.lemmas.Bool.{and_parts, both_ways, not-true}
 use Rattle.hm_base.specs.Walks.{Attribute, Event, doctype, start, text, comment, end, Element}
 use Rattle.hm_elements.specs.Names.{table}
 use Rattle.hm_elements.specs.Omission.{start_goes_before}
 use Rattle.hm_elements.specs.Paths.{current, outer}
-use Rattle.hm_elements.specs.Tables.{is_root, is_void}
+use Rattle.hm_elements.specs.Tables.{is_void}
 use Rattle.hm_refs.specs.Names.{Entry}
 use Rattle.hm_refs.specs.Tables.{IsTable}
 use Rattle.hm_spellings.specs.Omission.{bars, begins_child_of, end_falls, has_none, LeftOut, may_omit_end, may_omit_start, start_falls}

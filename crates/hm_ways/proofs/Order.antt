@@ -1,14 +1,13 @@
 -- What ways ask of the events of a walk; settled walks have it.
-use Rattle.std.proofs.Common.{◌≡◌, ℕ, Bool, true, false, cond, not, ◌&&◌, ◌||◌, List, [], ◌∷◌, map, bytes_eq, refl, sym, ap, ◌∙◌, subst, inl, inr, ◌⊎◌, Option, Some, None}
+use Rattle.std.proofs.Common.{◌≡◌, ℕ, Bool, true, false, cond, not, List, [], ◌∷◌, map, bytes_eq, refl, sym, ap, ◌∙◌, subst, inl, inr, ◌⊎◌, Option, Some, None}
 use Rattle.std.proofs.lemmas.Bool.{and_parts, both_ways, not-true, or_cases}
 use Rattle.hm_base.specs.Bytes.{lower}
-use Rattle.hm_base.specs.Forms.{is_tag_name}
 use Rattle.hm_base.specs.Walks.{Attribute, Event, doctype, start, text, comment, end, Element, path_behind, begins_text, is_same_element, ends_match}
 use Rattle.hm_elements.specs.Names.{words, is_among, html, head, body, table, colgroup}
-use Rattle.hm_elements.specs.Paths.{current, current_name, is_in_raw, is_in_svg, is_in_text, outer, stands_on}
-use Rattle.hm_elements.specs.Places.{ElementAllowed, HtmlAllowed, StartAllowed, SvgAllowed, TextAllowed}
+use Rattle.hm_elements.specs.Paths.{current, current_name, is_in_raw, is_in_text, outer, stands_on}
+use Rattle.hm_elements.specs.Places.{ElementAllowed}
 use Rattle.hm_elements.specs.Settled.{Frame, Settled, SettledFrom, Top, all_there, go_on, has_body, has_frame, has_top, is_html, is_text_in_place, next_frame, next_top, no_body, no_doctype, no_head, no_html, no_zero_in_values, starts_root}
-use Rattle.hm_elements.specs.Tables.{is_root, is_section, roots, sections}
+use Rattle.hm_elements.specs.Tables.{is_root, is_section, sections}
 use Rattle.hm_elements.proofs.Chain.{behind_event, here, html_is, same_element}
 use Rattle.hm_elements.proofs.Events.{EventStands, attributes_allowed, start_allowed, text_allowed}
 use Rattle.hm_elements.proofs.NameFacts.{svg_name_is_tag_name}

@@ -1,28 +1,27 @@
 -- The bytes of each way are a spelling, event by event.
-use Rattle.std.proofs.Common.{◌≡◌, ℕ, Bool, true, false, cond, not, ◌&&◌, ◌||◌, List, [], ◌∷◌, ◌++◌, Some, None, codes, refl, sym, ap, ◌∙◌, subst, append_assoc}
-use Rattle.std.proofs.lemmas.Bool.{and_parts, not-true, or_left, or_right}
+use Rattle.std.proofs.Common.{◌≡◌, ℕ, Bool, true, false, cond, not, ◌&&◌, List, [], ◌∷◌, ◌++◌, Some, None, codes, refl, sym, ap, ◌∙◌, subst, append_assoc}
+use Rattle.std.proofs.lemmas.Bool.{and_parts, or_left, or_right}
 use Rattle.hm_base.specs.Walks.{Attribute, Event, doctype, start, text, comment, end, Element, begins_end}
 use Rattle.hm_elements.specs.Paths.{current, is_in_text, outer}
 use Rattle.hm_elements.specs.Tables.{holds_text, is_void}
 use Rattle.hm_graph.specs.UnitEdges.{edges_of}
 use Rattle.hm_graph.specs.Ways.{Way}
-use Rattle.hm_refs.specs.Tables.{IsIn, IsTable}
-use Rattle.hm_spellings.specs.Characters as spots
-use Rattle.hm_spellings.specs.Omission.{bars, end_falls, may_omit_end, start_falls}
+use Rattle.hm_refs.specs.Tables.{IsTable}
+use Rattle.hm_spellings.specs.Omission.{may_omit_end, start_falls}
 use Rattle.hm_spellings.specs.Spellings as forms
 use Rattle.hm_spellings.specs.Spellings.{Before, behind_end, end_omitted, has_no_end_tag, is_self_closing, left_out_before, opening, other, self_closing, SpellsFrom, spot_of}
 use Rattle.hm_spellings.specs.Tags.{Spelling, SpellsStart}
-use Rattle.hm_tag_spell.specs.TagEdges.{behind_left_out, end_bytes, end_edges, is_loose, is_self_closed, start_bytes, start_edges, unloosed}
+use Rattle.hm_tag_spell.specs.TagEdges.{behind_left_out, end_bytes, is_loose, is_self_closed, unloosed}
 use Rattle.hm_text_spell.proofs.In.{only}
-use Rattle.hm_units.specs.Edges.{Edge, edge, edge_to}
-use Rattle.hm_units.specs.States.{Where, outside, loose, self_closed, Pending, nothing, State, first_state, state}
+use Rattle.hm_units.specs.Edges.{edge_to}
+use Rattle.hm_units.specs.States.{Where, outside, loose, self_closed, Pending, nothing, first_state, state}
 use Rattle.hm_units.specs.Steps.{Fits, keeps}
-use Rattle.hm_units.specs.Units.{doctype_bytes, end_tag, end_units, is_firm, is_loose_end, may_close_itself, Previous, start_units, text_units, Unit, units_from}
+use Rattle.hm_units.specs.Units.{doctype_bytes, end_tag, is_firm, is_loose_end, may_close_itself, Previous, text_units, units_from}
 use Rattle.hm_ways.proofs.Between.{Agrees, behind_text, end_left, end_loosened, end_void, fresh, start_closed, start_left, text_outside}
 use Rattle.hm_ways.proofs.Cuts.{cut}
-use Rattle.hm_ways.proofs.Markup.{doctype_markup, IsMarkup, leaves_end, markup_front, markup_keeps, may_leave_start, table_markup}
-use Rattle.hm_ways.proofs.Needs.{behind_tag, tag_units, TagSpelled, TagsSpell, TextsEnd}
-use Rattle.hm_ways.proofs.Order.{element, EndFits, InOrder, StartFits, TextFits}
+use Rattle.hm_ways.proofs.Markup.{doctype_markup, leaves_end, markup_front, markup_keeps, may_leave_start, table_markup}
+use Rattle.hm_ways.proofs.Needs.{behind_tag, tag_units, TagsSpell, TextsEnd}
+use Rattle.hm_ways.proofs.Order.{element, EndFits, InOrder, StartFits}
 use Rattle.hm_ways.proofs.Spots.{end_keeps, keeps_text, text_spot}
 use Rattle.hm_ways.proofs.Tables.{end_open, loose_goes, start_open, void_plain}
 use Rattle.hm_ways.proofs.TagEdges.{closed, end_edge_is, IsEndEdge, IsStartEdge, leaves_out, slashed_bytes, slashes, start_edge_is, writes}

@@ -1,19 +1,15 @@
 -- What the tables say of tags that are left out.
-use Rattle.std.proofs.Common.{◌≡◌, ℕ, Bool, true, false, cond, not, ◌&&◌, ◌||◌, List, [], ◌∷◌, bytes_eq, refl, sym, ap, ◌∙◌, subst, inl, inr, ◌⊎◌, codes}
+use Rattle.std.proofs.Common.{◌≡◌, ℕ, Bool, true, false, cond, not, ◌&&◌, ◌||◌, List, [], ◌∷◌, bytes_eq, refl, sym, subst, inl, inr, ◌⊎◌}
 use Rattle.std.specs.List.{list_all}
 use Rattle.std.proofs.lemmas.Bool.{and_parts, false_from_ne_true, both_ways, not-true}
-use Rattle.hm_base.specs.Walks.{Event, doctype, start, text, comment, end, Element, begins_end, begins_start, begins_text, begins_comment}
-use Rattle.hm_base.specs.declared.plain.SpellRules.{SpellRules}
-use Rattle.hm_elements.specs.Names.{words, is_among, find, html, head, body, table, colgroup, tbody, col, tr, p, option}
-use Rattle.hm_elements.specs.Nesting.{without}
-use Rattle.hm_elements.specs.Omission.{bars_start, before_rows, goes_before, goes_up, start_goes_before, start_rows, up_names, up_of_p}
-use Rattle.hm_elements.specs.Paths.{current, is_in_svg, is_in_text}
+use Rattle.hm_base.specs.Walks.{Event, doctype, start, text, comment, end, begins_end, begins_start}
+use Rattle.hm_elements.specs.Names.{words, is_among, html, head, body, table, colgroup, tbody, col, tr}
+use Rattle.hm_elements.specs.Omission.{bars_start, before_rows, goes_before, goes_up, start_goes_before, start_rows, up_names}
 use Rattle.hm_elements.specs.Tables.{blocks, headings, holds_text, is_raw, is_rcdata, is_root, is_section, is_void, raw_names, rcdata_names, roots, sections, voids}
 use Rattle.hm_elements.proofs.TableFacts.{start_cases}
-use Rattle.hm_elements.proofs.TableTools.{eq_self, entry_passes, same_bytes}
+use Rattle.hm_elements.proofs.TableTools.{entry_passes, same_bytes}
 use Rattle.hm_elements.proofs.UpFacts.{left_open_holds}
-use Rattle.hm_spellings.specs.Omission.{begins_child_of, end_falls, end_goes, may_omit_end, start_falls}
-use Rattle.hm_spellings.specs.Spellings.{drops_first_line_feed}
+use Rattle.hm_spellings.specs.Omission.{begins_child_of, end_falls, end_goes, start_falls}
 use Rattle.hm_units.specs.Units.{is_loose_end}
 
 abbrev pub begins_tag : List Event → Bool

@@ -1,8 +1,8 @@
 -- What the edges of tags without attributes are.
 use Rattle.std.proofs.Common.{◌≡◌, ℕ, Bool, true, false, cond, not, ◌&&◌, List, [], ◌∷◌, ◌++◌, codes, refl, inl, inr, ◌⊎◌}
 use Rattle.hm_refs.specs.Tables.{IsIn, first, later}
-use Rattle.hm_tag_spell.specs.TagEdges.{behind_left_out, end_bytes, end_edges, fixed_edges, is_loose, is_self_closed, start_bytes, start_edges, unloosed}
-use Rattle.hm_text_spell.proofs.In.{in_append, in_left, in_right, only}
+use Rattle.hm_tag_spell.specs.TagEdges.{behind_left_out, end_bytes, end_edges, is_loose, is_self_closed, start_bytes, start_edges, unloosed}
+use Rattle.hm_text_spell.proofs.In.{in_append, in_right, only}
 use Rattle.hm_units.specs.Edges.{Edge, edge, edge_to}
 use Rattle.hm_units.specs.States.{nothing, self_closed, State, first_state, state}
 

@@ -1,30 +1,28 @@
 -- Texts along edges: what they spell, and where they end.
-use Rattle.std.proofs.Common.{◌≡◌, ℕ, Bool, true, false, cond, not, ◌&&◌, ◌||◌, ◌==◌, List, [], ◌∷◌, ◌++◌, Some, chars, encode_utf8, refl, sym, ap, ◌∙◌, subst, append-nil, arith}
+use Rattle.std.proofs.Common.{◌≡◌, ℕ, Bool, true, false, cond, not, ◌&&◌, ◌||◌, List, [], ◌∷◌, ◌++◌, chars, refl, sym, ap, ◌∙◌, subst, append-nil, arith}
 use Rattle.std.proofs.lemmas.Bool.{and_parts, or_left, or_right}
 use Rattle.std.proofs.lemmas.Str.{encode_ascii}
-use Rattle.hm_base.specs.Bytes.{head_is, is_space}
+use Rattle.hm_base.specs.Bytes.{head_is}
 use Rattle.hm_base.specs.Walks.{Element, Event, text}
-use Rattle.hm_elements.specs.Paths.{is_in_raw, is_in_svg, is_in_text}
-use Rattle.hm_elements.specs.Tables.{holds_text, is_raw, is_rcdata}
+use Rattle.hm_elements.specs.Paths.{is_in_raw, is_in_text}
+use Rattle.hm_elements.specs.Tables.{holds_text, is_raw}
 use Rattle.hm_graph.specs.UnitEdges.{edges_of}
-use Rattle.hm_refs.specs.Numbers.{best_number}
-use Rattle.hm_refs.specs.Tables.{IsIn, IsTable}
+use Rattle.hm_refs.specs.Tables.{IsTable}
 use Rattle.hm_refs.specs.Names.{Entry}
 use Rattle.hm_spellings.specs.Characters as spots
 use Rattle.hm_spellings.specs.Characters.{CharacterRules, Spot, is_barred, is_value, is_writable, itself, may_stand, spelled, SpellsPoints, stays}
-use Rattle.hm_spellings.specs.Spellings.{Before, drops_first_line_feed, is_line_feed, is_opening, opening, other, spot_of, TextSp, wants_line_feed, with_line_feed}
+use Rattle.hm_spellings.specs.Spellings.{Before, drops_first_line_feed, is_line_feed, is_opening, opening, other, spot_of, TextSp, wants_line_feed}
 use Rattle.hm_spellings.specs.Tags.{character_rules, Spelling}
-use Rattle.hm_tag_spell.specs.TagEdges.{fixed_edges}
 use Rattle.hm_text_spell.proofs.In.{only}
 use Rattle.hm_text_spell.proofs.Spelled.{ways_spell}
 use Rattle.hm_text_spell.specs.CharacterEdges.{spot_at}
 use Rattle.hm_text_spell.specs.Laws.{HasCharacterEdges, keeps_at, MayStand}
-use Rattle.hm_units.specs.Edges.{Edge, edge_to}
+use Rattle.hm_units.specs.Edges.{edge_to}
 use Rattle.hm_units.specs.States.{outside, Pending, nothing, State, first_state, state}
 use Rattle.hm_units.specs.Steps.{Fits, keeps}
 use Rattle.hm_units.specs.Units.{character_units, fixed, is_behind_start, kind_of, line_feed_units, Previous, text_units, Unit}
 use Rattle.hm_units.specs.Ways.{WayTo}
-use Rattle.hm_ways.proofs.Between.{Agrees, text_outside}
+use Rattle.hm_ways.proofs.Between.{Agrees}
 use Rattle.hm_ways.proofs.Needs.{TextsEnd}
 use Rattle.hm_ways.proofs.Spots.{kind_spot, kind_stands, text_spot}
 

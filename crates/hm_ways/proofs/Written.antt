@@ -1,13 +1,10 @@
 -- Doctypes and tags without attributes, as the edges write them and as they may be spelled.
-use Rattle.std.proofs.Common.{◌≡◌, ℕ, ◌+◌, ◌≤◌, Bool, true, false, not, ◌&&◌, List, [], ◌∷◌, ◌++◌, length, map, codes, refl, sym, ap, ◌∙◌, subst, inl, inr, ◌⊎◌, arith, length-append}
+use Rattle.std.proofs.Common.{◌≡◌, ℕ, ◌≤◌, Bool, true, false, List, [], ◌∷◌, ◌++◌, length, map, codes, refl, sym, ap, ◌∙◌, inl, inr, ◌⊎◌, arith, length-append}
 use Rattle.std.proofs.lemmas.List.{length-map}
-use Rattle.std.proofs.lemmas.Bool.{and_parts}
-use Rattle.hm_base.specs.Bytes.{is_null, is_space, lower}
-use Rattle.hm_base.specs.Forms.{is_blank}
+use Rattle.hm_base.specs.Bytes.{is_space, lower}
 use Rattle.hm_base.specs.Walks.{Attribute}
-use Rattle.hm_markup_forms.specs.Doctypes.{IsLegacyDoctype, IsPlainDoctype}
-use Rattle.hm_markup_forms.specs.Gaps.{IsWord, is_gap}
-use Rattle.hm_markup_forms.specs.Tags.{bare, tag_end, WritesEnd, WritesStart}
+use Rattle.hm_markup_forms.specs.Gaps.{is_gap}
+use Rattle.hm_markup_forms.specs.Tags.{bare, tag_end, WritesEnd}
 use Rattle.hm_spellings.specs.Tags.{Spelling, SpellsDoctype, SpellsStart}
 use Rattle.hm_tag_spell.specs.TagEdges.{end_bytes, start_bytes}
 use Rattle.hm_units.specs.Units.{doctype_bytes}

@@ -1,5 +1,5 @@
 -- Between the ways of the graph and the spellings of a tree, over its events.
-use Rattle.std.specs.Prelude.{◌≡◌, ℕ, ◌≤◌, Bool, true, false, not, ◌==◌, List, [], length, Some}
+use Rattle.std.specs.Prelude.{◌≡◌, ℕ, ◌≤◌, Bool, true, false, ◌==◌, List, [], length, Some}
 use Rattle.hm_base.specs.Walks.{Event}
 use Rattle.hm_base.specs.declared.plain.SpellRules.{SpellRules}
 use Rattle.hm_elements.specs.Settled.{Settled}
@@ -7,7 +7,7 @@ use Rattle.hm_exchange.specs.Laws.{needs_reference}
 use Rattle.hm_graph.specs.Layers.{first_layer}
 use Rattle.hm_graph.specs.Prices.{Row, Feasible, first_price, least_prices}
 use Rattle.hm_graph.specs.UnitEdges.{edges_of}
-use Rattle.hm_graph.specs.Ways.{Way, least, first_way}
+use Rattle.hm_graph.specs.Ways.{Way, first_way}
 use Rattle.hm_refs.specs.Names.{Entry}
 use Rattle.hm_refs.specs.Tables.{IsTable}
 use Rattle.hm_spellings.specs.Characters.{Spot, may_stand}

@@ -18,7 +18,6 @@ use Rattle.hm_units.specs.Units.{units_of}
 use Rattle.hm_ways.specs.Laws.{AlwaysStands, FeasiblePricesShow, FirstWaysAreBest, SparesOnlyPlain, sparing, SpellingsHaveWays, WaysSpellTrees}
 use Rattle.hm_ways.proofs.Direct.{trees_have_ways}
 use Rattle.hm_ways.proofs.Found.{spelling_way}
-use Rattle.hm_ways.proofs.Needs.{SpellingsHaveTags, TagsSpell, TextsEnd}
 use Rattle.hm_ways.proofs.Order.{settled_in_order}
 use Rattle.hm_ways.proofs.Spelled.{way_spells}
 use Rattle.hm_ways.proofs.Wider.{wider}
@@ -31,30 +30,29 @@ spares_plain t k r c h = by_plain (is_plain t c) refl h
     by_plain true e n = let p = plain_test t k in record { stands = λ ascii spot. p.stands ascii spot c e; no_amp = p.no_amp c e; no_lt = p.no_lt c e }
     by_plain false e n = absurd (cc)
 
-module _ (ends : (g : Spelling) → IsTable g.table → TextsEnd g) (tags : (g : Spelling) → IsTable g.table → TagsSpell g) (tag_ways : (g : Spelling) → IsTable g.table → SpellingsHaveTags g) where
-  pub ways_spell_trees : WaysSpellTrees
-  ways_spell_trees g k w s b way = way_spells g k (ends g k) (tags g k) w (settled_in_order w s) b way
+pub ways_spell_trees : WaysSpellTrees
+ways_spell_trees g k w s b way = way_spells g k w (settled_in_order w s) b way
 
-  pub spellings_have_ways : SpellingsHaveWays
-  spellings_have_ways g k w s b spells = spelling_way g k (tag_ways g k) w (settled_in_order w s) b spells
+pub spellings_have_ways : SpellingsHaveWays
+spellings_have_ways g k w s b spells = spelling_way g k w (settled_in_order w s) b spells
 
-  pub feasible_prices_show : FeasiblePricesShow
-  feasible_prices_show t k r w s prices n feasible price b spells =
-      let p = spellings_spare_plain t k r w b spells in
-      let f = spellings_have_ways (sparing t r) k w s p.bytes p.spells in
-      let bound = first_bounds (edges_of (sparing t r)) (units_of r w) prices n f.bytes feasible price f.way in
-      omega (arith, bound, f.short, p.short)
+pub feasible_prices_show : FeasiblePricesShow
+feasible_prices_show t k r w s prices n feasible price b spells =
+    let p = spellings_spare_plain t k r w b spells in
+    let f = spellings_have_ways (sparing t r) k w s p.bytes p.spells in
+    let bound = first_bounds (edges_of (sparing t r)) (units_of r w) prices n f.bytes feasible price f.way in
+    omega (arith, bound, f.short, p.short)
 
-  pub first_ways_are_best : FirstWaysAreBest
-  first_ways_are_best t k r w s =
-      let es = edges_of (sparing t r) in
-      let units = units_of r w in
-      let (b, way) = trees_have_ways (sparing t r) (spares_plain t k r) w in
-      let (n, is, le) = least_number es units first_state b way in
-      let (first, long) = least_reached es units first_state n is in
-      let price = first_least es units ∙ is ∙ ap Some (sym long) in
-      record {
-        spells = wider (sparing t r) w other [] (first_way es units first_state) (ways_spell_trees (sparing t r) k w s (first_way es units first_state) first);
-        price = price;
-        shortest = feasible_prices_show t k r w s (least_prices es units first_layer) (length (first_way es units first_state)) (least_feasible es units first_layer) price;
-      }
+pub first_ways_are_best : FirstWaysAreBest
+first_ways_are_best t k r w s =
+    let es = edges_of (sparing t r) in
+    let units = units_of r w in
+    let (b, way) = trees_have_ways (sparing t r) (spares_plain t k r) w in
+    let (n, is, le) = least_number es units first_state b way in
+    let (first, long) = least_reached es units first_state n is in
+    let price = first_least es units ∙ is ∙ ap Some (sym long) in
+    record {
+      spells = wider (sparing t r) w other [] (first_way es units first_state) (ways_spell_trees (sparing t r) k w s (first_way es units first_state) first);
+      price = price;
+      shortest = feasible_prices_show t k r w s (least_prices es units first_layer) (length (first_way es units first_state)) (least_feasible es units first_layer) price;
+    }

@@ -20,6 +20,7 @@ use Rattle.hm_tag_spell.specs.TagEdges.{end_bytes, start_bytes}
 use Rattle.hm_text_spell.proofs.CharacterWays.{choice_in}
 use Rattle.hm_text_spell.proofs.In.{in_left, in_right}
 use Rattle.hm_text_spell.specs.CharacterEdges.{as_itself, behind_name, by_decimal, by_hexadecimal, by_names, by_pairs, by_references, choice, choices, is_in_section, kept_at, spot_at}
+use Rattle.hm_units.proofs.Splits.{join_ways}
 use Rattle.hm_units.specs.Edges.{Edge, edge, edge_to}
 use Rattle.hm_units.specs.States.{Where, behind_name as at_name, behind_quoted, decimal, in_double, in_single, in_unquoted, nothing, outside, State, first_state, state}
 use Rattle.hm_units.specs.Steps.{run}
@@ -137,13 +138,8 @@ module _ (g : Spelling) where
   add : (unit : Unit) (us : List Unit) (from to : State) (e : Edge) → IsIn e (edges_of g unit from) → Over g us e.to to → Over g (unit ∷ us) from to
   add unit us from to e i o = record { bytes = e.bytes ++ o.bytes; way = (e, i, (o.bytes, refl, o.way)) }
 
-  ways_join : (us vs : List Unit) (from middle to : State) (b c : List ℕ) → WayTo (edges_of g) us from b middle → WayTo (edges_of g) vs middle c to → WayTo (edges_of g) (us ++ vs) from (b ++ c) to
-  ways_join [] vs from middle to b c (same, here) v = subst (λ s. WayTo (edges_of g) vs s (b ++ c) to) (sym here) (subst (λ x. WayTo (edges_of g) vs middle (x ++ c) to) (sym same) v)
-  ways_join (unit ∷ us) vs from middle to b c (e, i, (rest, is, w)) v =
-      (e, i, (rest ++ c, ap (λ x. x ++ c) is ∙ append_assoc e.bytes rest c, ways_join us vs e.to middle to rest c w v))
-
   join : (us vs : List Unit) (from middle to : State) → Over g us from middle → Over g vs middle to → Over g (us ++ vs) from to
-  join us vs from middle to o p = record { bytes = o.bytes ++ p.bytes; way = ways_join us vs from middle to o.bytes p.bytes o.way p.way }
+  join us vs from middle to o p = record { bytes = o.bytes ++ p.bytes; way = join_ways (edges_of g) us vs from middle to o.bytes p.bytes o.way p.way }
 
   -- ---- texts and values
 

@@ -1,6 +1,8 @@
 -- Each spelling has a way with no more bytes, event by event.
 use Rattle.std.proofs.Common.{◌≡◌, ℕ, ◌≤◌, Bool, true, false, cond, not, ◌&&◌, List, [], ◌∷◌, ◌++◌, length, Some, None, codes, refl, sym, ap, ◌∙◌, subst, arith, length-append}
 use Rattle.std.proofs.lemmas.Bool.{both_ways, or_parts, or_right}
+use Rattle.hm_attr_spell.proofs.Ways.{spellings_have_tags}
+use Rattle.hm_attr_spell.specs.Laws.{tag_units}
 use Rattle.hm_base.specs.Walks.{Attribute, Event, doctype, start, text, comment, end, Element, begins_end}
 use Rattle.hm_elements.specs.Paths.{current, is_in_text, outer}
 use Rattle.hm_elements.specs.Tables.{holds_text, is_void}
@@ -20,11 +22,11 @@ use Rattle.hm_ways.specs.Laws.{HasWay}
 use Rattle.hm_ways.proofs.Between.{Agrees, behind_text, end_left, end_loosened, end_void, fresh, start_closed, start_left, text_outside}
 use Rattle.hm_ways.proofs.Cuts.{joined}
 use Rattle.hm_ways.proofs.Markup.{leaves_end, leaves_start}
-use Rattle.hm_ways.proofs.Needs.{SpellingsHaveTags, tag_units}
 use Rattle.hm_ways.proofs.Order.{element, EndFits, InOrder, StartFits}
 use Rattle.hm_ways.proofs.Spots.{keeps_text}
 use Rattle.hm_ways.proofs.Tables.{end_open, start_open, void_plain}
 use Rattle.hm_ways.proofs.TagEdges.{into_closed, into_end_left_out, into_end_written, into_left_out, into_slashed, into_written, slashed_bytes}
+use Rattle.hm_ways.proofs.Texts.{tag_edges}
 use Rattle.hm_ways.proofs.TextWays.{text_way}
 use Rattle.hm_ways.proofs.Written.{doctype_short, end_short, slashed_short, start_short}
 
@@ -44,7 +46,7 @@ record Through (g : Spelling) (unit : Unit) (units : List Unit) (from : State) (
   way : Way (edges_of g) (unit ∷ units) from bytes
   short : length bytes ≤ length b
 
-module _ (g : Spelling) (table : IsTable g.table) (tags : SpellingsHaveTags g) where
+module _ (g : Spelling) (table : IsTable g.table) where
   same_kept : (a b : List Element) (p : Pending) (x : List ℕ) → is_in_text a ≡ false → is_in_text b ≡ false → keeps g.table (spot_of b) p x ≡ true → keeps g.table (spot_of a) p x ≡ true
   same_kept a b p x ha hb k = keeps_text g.table a p x ha ∙ sym (keeps_text g.table b p x hb) ∙ k
 
@@ -116,7 +118,7 @@ module _ (g : Spelling) (table : IsTable g.table) (tags : SpellingsHaveTags g) w
       record { bytes = t.bytes; way = t.way; short = t.short }
   start_written w more n foreign (x ∷ attributes) slash before previous path at p b piece rest o is s more_spells =
       let m = more opening (Some (start n foreign (x ∷ attributes))) (element n foreign ∷ path) outside nothing rest (fresh g.table opening (Some (start n foreign (x ∷ attributes))) (element n foreign ∷ path) w refl refl refl) o more_spells refl in
-      let t = tags n (x ∷ attributes) (may_close_itself foreign w) slash false (state at p) piece rest s (λ h. absurd (cc)) in
+      let t = spellings_have_tags g table (edges_of g) (tag_edges g) n (x ∷ attributes) (may_close_itself foreign w) slash false (state at p) piece rest s (λ h. absurd (cc)) in
       record {
         bytes = t.bytes ++ m.bytes;
         way = joined (edges_of g) (tag_units n (x ∷ attributes) (may_close_itself foreign w)) (units_from g.rules (Some (start n foreign (x ∷ attributes))) (element n foreign ∷ path) w) (state at p) first_state t.bytes m.bytes t.way m.way;
@@ -132,7 +134,7 @@ module _ (g : Spelling) (table : IsTable g.table) (tags : SpellingsHaveTags g) w
       record { bytes = t.bytes; way = t.way; short = t.short }
   start_slashed w more n (x ∷ attributes) before previous path at p b piece rest o e is s more_spells =
       let m = more self_closing (Some (start n true (x ∷ attributes))) (element n true ∷ path) self_closed nothing rest (start_closed g.table path n (x ∷ attributes) w e) o more_spells refl in
-      let t = tags n (x ∷ attributes) (may_close_itself true w) true true (state at p) piece rest s (λ h. (refl, e)) in
+      let t = spellings_have_tags g table (edges_of g) (tag_edges g) n (x ∷ attributes) (may_close_itself true w) true true (state at p) piece rest s (λ h. (refl, e)) in
       record {
         bytes = t.bytes ++ m.bytes;
         way = joined (edges_of g) (tag_units n (x ∷ attributes) (may_close_itself true w)) (units_from g.rules (Some (start n true (x ∷ attributes))) (element n true ∷ path) w) (state at p) (state self_closed nothing) t.bytes m.bytes t.way m.way;

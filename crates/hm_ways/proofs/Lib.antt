@@ -1,4 +1,3 @@
-pub mod Needs
 pub mod Cuts
 pub mod Spots
 pub mod Names

@@ -4,11 +4,11 @@ use Rattle.std.specs.Char.{digit_value}
 use Rattle.std.specs.Int.{IsInRange}
 use Rattle.std.proofs.lemmas.Bool.{and_parts, eqb-true, false_from_ne_true, leb-true, ltb-true, not-true, or_parts}
 use Rattle.std.proofs.lemmas.Str.Parse.{digit_from_value}
+use Rattle.hm_attr_spell.specs.Laws.{AreLow}
 use Rattle.hm_base.specs.Bytes.{all_pass, is_digit_of, lower}
 use Rattle.hm_base.specs.Forms.{is_attribute_byte, is_attribute_name, is_small, is_tag_byte, is_tag_name}
 use Rattle.hm_base.specs.Walks.{Attribute}
 use Rattle.hm_elements.specs.Settled.{all_names_in_form}
-use Rattle.hm_ways.proofs.Needs.{AreLow}
 
 abbrev is_capital : ℕ → Bool
 is_capital c = nat_le 65 c && nat_le c 90

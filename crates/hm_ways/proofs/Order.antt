@@ -1,6 +1,7 @@
 -- What ways ask of the events of a walk; settled walks have it.
 use Rattle.std.proofs.Common.{◌≡◌, ℕ, Bool, true, false, cond, not, List, [], ◌∷◌, map, bytes_eq, refl, sym, ap, ◌∙◌, subst, inl, inr, ◌⊎◌, Option, Some, None}
 use Rattle.std.proofs.lemmas.Bool.{and_parts, both_ways, not-true, or_cases}
+use Rattle.hm_attr_spell.specs.Laws.{AreLow}
 use Rattle.hm_base.specs.Bytes.{lower}
 use Rattle.hm_base.specs.Walks.{Attribute, Event, doctype, start, text, comment, end, Element, path_behind, begins_text, is_same_element, ends_match}
 use Rattle.hm_elements.specs.Names.{words, is_among, html, head, body, table, colgroup}
@@ -15,7 +16,6 @@ use Rattle.hm_elements.proofs.TableFacts.{stands_parent}
 use Rattle.hm_elements.proofs.TableTools.{entry_passes, same_bytes}
 use Rattle.hm_units.specs.Units.{is_loose_end}
 use Rattle.hm_ways.proofs.Names.{names_low, tag_name_low}
-use Rattle.hm_ways.proofs.Needs.{AreLow}
 
 abbrev pub element : List ℕ → Bool → Element
 element n foreign = record { name = n; foreign = foreign }

@@ -1,6 +1,8 @@
 -- The bytes of each way are a spelling, event by event.
 use Rattle.std.proofs.Common.{◌≡◌, ℕ, Bool, true, false, cond, not, ◌&&◌, List, [], ◌∷◌, ◌++◌, Some, None, codes, refl, sym, ap, ◌∙◌, subst, append_assoc}
 use Rattle.std.proofs.lemmas.Bool.{and_parts, or_left, or_right}
+use Rattle.hm_attr_spell.proofs.Spelled.{tags_spell}
+use Rattle.hm_attr_spell.specs.Laws.{behind_tag, tag_units}
 use Rattle.hm_base.specs.Walks.{Attribute, Event, doctype, start, text, comment, end, Element, begins_end}
 use Rattle.hm_elements.specs.Paths.{current, is_in_text, outer}
 use Rattle.hm_elements.specs.Tables.{holds_text, is_void}
@@ -20,13 +22,12 @@ use Rattle.hm_units.specs.Units.{doctype_bytes, end_tag, is_firm, is_loose_end, 
 use Rattle.hm_ways.proofs.Between.{Agrees, behind_text, end_left, end_loosened, end_void, fresh, start_closed, start_left, text_outside}
 use Rattle.hm_ways.proofs.Cuts.{cut}
 use Rattle.hm_ways.proofs.Markup.{doctype_markup, leaves_end, markup_front, markup_keeps, may_leave_start, table_markup}
-use Rattle.hm_ways.proofs.Needs.{behind_tag, tag_units, TagsSpell, TextsEnd}
 use Rattle.hm_ways.proofs.Order.{element, EndFits, InOrder, StartFits}
 use Rattle.hm_ways.proofs.Spots.{end_keeps, keeps_text, text_spot}
 use Rattle.hm_ways.proofs.Tables.{end_open, loose_goes, start_open, void_plain}
 use Rattle.hm_ways.proofs.TagEdges.{closed, end_edge_is, IsEndEdge, IsStartEdge, leaves_out, slashed_bytes, slashes, start_edge_is, writes}
 use Rattle.hm_ways.proofs.TagEdges as edges
-use Rattle.hm_ways.proofs.Texts.{text_end, text_spell}
+use Rattle.hm_ways.proofs.Texts.{tag_edges, text_end, text_spell}
 use Rattle.hm_ways.proofs.Written.{doctype_spelled, end_spelled, slashed_spelled, start_spelled}
 
 -- a way's bytes spell the events, and keep what was pending
@@ -38,7 +39,7 @@ record Spells (g : Spelling) (before : Before) (path : List Element) (p : Pendin
 abbrev More : Spelling → List Event → Type 0
 More g w = (before : Before) (previous : Previous) (path : List Element) (at : Where) (p : Pending) (b : List ℕ) → Agrees g.table before previous path at p w → InOrder path w → Way (edges_of g) (units_from g.rules previous path w) (state at p) b → Spells g before path p w b
 
-module _ (g : Spelling) (table : IsTable g.table) (ends : TextsEnd g) (tags : TagsSpell g) where
+module _ (g : Spelling) (table : IsTable g.table) where
   -- what is kept in one place is kept in the other
   same_kept : (a b : List Element) (p : Pending) (x : List ℕ) → is_in_text a ≡ false → is_in_text b ≡ false → keeps g.table (spot_of b) p x ≡ true → keeps g.table (spot_of a) p x ≡ true
   same_kept a b p x ha hb k = keeps_text g.table a p x ha ∙ sym (keeps_text g.table b p x hb) ∙ k
@@ -65,9 +66,9 @@ module _ (g : Spelling) (table : IsTable g.table) (ends : TextsEnd g) (tags : Ta
       at_outside : Agrees g.table before previous path outside p (text s raw ∷ w) → Way (edges_of g) (units_from g.rules previous path (text s raw ∷ w)) (state outside p) b → Spells g before path p (text s raw ∷ w) b
       at_outside a way =
           let c = cut (edges_of g) (text_units previous path s raw) (units_from g.rules (Some (text s raw)) path w) (state outside p) b way in
-          let (there, fits) = text_end g table ends before previous path s raw w p c.front c.middle a c.before in
+          let (there, fits) = text_end g table before previous path s raw w p c.front c.middle a c.before in
           let m = more other (Some (text s raw)) path c.middle.at c.middle.pending c.rest (behind_text g.table path w s raw c.middle.at c.middle.pending there fits o.alone) rest c.behind in
-          let t = text_spell g table ends before previous path s raw w p c.front c.rest c.middle o.kind a c.before m.kept in
+          let t = text_spell g table before previous path s raw w p c.front c.rest c.middle o.kind a c.before m.kept in
           record { spells = (c.front, c.rest, c.whole, t.spells, m.spells); kept = subst (λ x. keeps g.table (spot_of path) p x ≡ true) (sym c.whole) t.kept }
 
   -- ---- starts
@@ -128,7 +129,7 @@ module _ (g : Spelling) (table : IsTable g.table) (ends : TextsEnd g) (tags : Ta
       by_edge false a f o way (edges.slashes closes same) = absurd (cc)
   start_case w more n foreign (x ∷ attributes) before previous path at p b a (f, o) way =
       let c = cut (edges_of g) (tag_units n (x ∷ attributes) (may_close_itself foreign w)) (units_from g.rules (Some (start n foreign (x ∷ attributes))) (element n foreign ∷ path) w) (state at p) b way in
-      let t = tags n (x ∷ attributes) (may_close_itself foreign w) (state at p) c.middle c.front c.rest f.placed.low f.names c.before in
+      let t = tags_spell g table (edges_of g) (tag_edges g) n (x ∷ attributes) (may_close_itself foreign w) (state at p) c.middle c.front c.rest f.placed.low f.names c.before in
       by_slash foreign a o t.slash t.inner c.rest (c.whole ∙ ap (λ y. y ++ c.rest) t.is) (subst (λ y. SpellsStart g n (x ∷ attributes) t.slash y c.rest) t.is t.spells) t.may
       (subst (λ s. Way (edges_of g) (units_from g.rules (Some (start n foreign (x ∷ attributes))) (element n foreign ∷ path) w) s c.rest) t.leads c.behind)
     where

@@ -2,6 +2,7 @@
 use Rattle.std.proofs.Common.{◌≡◌, ℕ, Bool, true, false, cond, not, ◌&&◌, ◌||◌, List, [], ◌∷◌, ◌++◌, chars, refl, sym, ap, ◌∙◌, subst, append-nil, arith}
 use Rattle.std.proofs.lemmas.Bool.{and_parts, or_left, or_right}
 use Rattle.std.proofs.lemmas.Str.{encode_ascii}
+use Rattle.hm_attr_spell.specs.Laws.{HasTagEdges}
 use Rattle.hm_base.specs.Bytes.{head_is}
 use Rattle.hm_base.specs.Walks.{Element, Event, text}
 use Rattle.hm_elements.specs.Paths.{is_in_raw, is_in_text}
@@ -13,6 +14,7 @@ use Rattle.hm_spellings.specs.Characters as spots
 use Rattle.hm_spellings.specs.Characters.{CharacterRules, Spot, is_barred, is_value, is_writable, itself, may_stand, spelled, SpellsPoints, stays}
 use Rattle.hm_spellings.specs.Spellings.{Before, drops_first_line_feed, is_line_feed, is_opening, opening, other, spot_of, TextSp, wants_line_feed}
 use Rattle.hm_spellings.specs.Tags.{character_rules, Spelling}
+use Rattle.hm_text_spell.proofs.Ends.{ways_end}
 use Rattle.hm_text_spell.proofs.In.{only}
 use Rattle.hm_text_spell.proofs.Spelled.{ways_spell}
 use Rattle.hm_text_spell.specs.CharacterEdges.{spot_at}
@@ -23,11 +25,13 @@ use Rattle.hm_units.specs.Steps.{Fits, keeps}
 use Rattle.hm_units.specs.Units.{character_units, fixed, is_behind_start, kind_of, line_feed_units, Previous, text_units, Unit}
 use Rattle.hm_units.specs.Ways.{WayTo}
 use Rattle.hm_ways.proofs.Between.{Agrees}
-use Rattle.hm_ways.proofs.Needs.{TextsEnd}
 use Rattle.hm_ways.proofs.Spots.{kind_spot, kind_stands, text_spot}
 
 pub has_edges : (g : Spelling) → HasCharacterEdges g.table (character_rules g) (edges_of g)
 has_edges g kind c next s = refl
+
+pub tag_edges : (g : Spelling) → HasTagEdges g (edges_of g)
+tag_edges g = record { names = λ n s. refl; bare_ones = λ n s. refl; openings = λ n s. refl; characters = has_edges g; closings = λ s. refl; ends = λ closes s. refl }
 
 -- a text may begin outside of all
 pub may_begin : (t : List Entry) (path : List Element) (p : Pending) → Fits t (spot_of path) p → MayStand t (kind_of path) (state outside p)
@@ -87,11 +91,11 @@ unfolding holds_text
 raw_in_text [] h = absurd (cc)
 raw_in_text (e ∷ path) h = let two = and_parts (not e.foreign) (is_raw e.name) h in rw (two.0, two.1) refl
 
-module _ (g : Spelling) (table : IsTable g.table) (ends : TextsEnd g) where
+module _ (g : Spelling) (table : IsTable g.table) where
   chars_end : (path : List Element) (cs : List ℕ) (p : Pending) (b : List ℕ) (to : State) → Fits g.table (spot_of path) p → WayTo (edges_of g) (character_units (kind_of path) cs) (state outside p) b to → (to.at ≡ outside) × Fits g.table (spot_of path) to.pending
   chars_end path cs p b to f w =
-      let (m, here) = ends (kind_of path) cs (state outside p) to b (may_begin g.table path p f) w in
-      (here, subst (λ spot. Fits g.table spot to.pending) (ap (λ a. spot_at (kind_of path) a) here ∙ kind_spot path) m.fits)
+      let e = ways_end g.table table (character_rules g) (edges_of g) (has_edges g) (kind_of path) cs (state outside p) to b (may_begin g.table path p f) w in
+      (e.same_place, subst (λ spot. Fits g.table spot to.pending) (ap (λ a. spot_at (kind_of path) a) e.same_place ∙ kind_spot path) e.ends.fits)
 
   chars_spell : (path : List Element) (cs : List ℕ) (p : Pending) (b after : List ℕ) (to : State) → Fits g.table (spot_of path) p → WayTo (edges_of g) (character_units (kind_of path) cs) (state outside p) b to → keeps g.table (spot_of path) to.pending after ≡ true
       → SpellsPoints g.table (character_rules g) (spot_of path) cs b after × (keeps g.table (spot_of path) p (b ++ after) ≡ true)

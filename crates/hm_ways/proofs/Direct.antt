@@ -1,5 +1,5 @@
 -- A tree has a way: every tag is written, and a character stands as itself or is a reference by its number.
-use Rattle.std.proofs.Common.{◌≡◌, ℕ, Bool, true, false, cond, not, ◌&&◌, ◌||◌, ◌==◌, nat_lt, List, [], ◌∷◌, ◌++◌, Option, Some, None, is_none, is_some, codes, chars, encode_utf8, refl, sym, ap, ◌∙◌, subst, append_assoc}
+use Rattle.std.proofs.Common.{◌≡◌, ℕ, Bool, true, false, cond, not, ◌&&◌, ◌||◌, ◌==◌, nat_lt, List, [], ◌∷◌, ◌++◌, Option, Some, None, is_none, is_some, codes, chars, encode_utf8, refl, sym, ap, ◌∙◌, subst}
 use Rattle.std.specs.Fmt as digits
 use Rattle.std.proofs.lemmas.Bool.{eqb-true, false_from_ne_true}
 use Rattle.hm_attr_spell.specs.AttributeEdges.{gap_at}

@@ -36,7 +36,7 @@ pub record AlwaysStands (c : ℕ) : Type 0 where
   pub no_amp : (c == 38) ≡ false
   pub no_lt : (c == 60) ≡ false
 
--- a character at which no reference may begin can stand as itself
+-- each character at which no reference may begin can stand as itself
 abbrev pub SparesOnlyPlain : Spelling → Type 0
 SparesOnlyPlain g = (c : ℕ) → g.refers c ≡ false → AlwaysStands c
 
@@ -44,21 +44,25 @@ SparesOnlyPlain g = (c : ℕ) → g.refers c ≡ false → AlwaysStands c
 abbrev pub TreesHaveWays : Type 0
 TreesHaveWays = (g : Spelling) → SparesOnlyPlain g → (w : List Event) → (b : List ℕ) × Way (edges_of g) (units_of g.rules w) first_state b
 
+-- a settled tree has a spelling
+abbrev pub TreesHaveSpellings : Type 0
+TreesHaveSpellings = (t : List Entry) → IsTable t → (r : SpellRules) (w : List Event) → Settled w → (b : List ℕ) × Spells t r w b
+
 -- the spelling in which no reference begins at a plain character
-abbrev pub sparing : List Entry → SpellRules → Spelling
-sparing t r = record { table = t; rules = r; refers = needs_reference t }
+abbrev pub sparing_plain : List Entry → SpellRules → Spelling
+sparing_plain t r = record { table = t; rules = r; refers = needs_reference t }
 
 -- prices that keep the rules show that no spelling has fewer bytes than the first of them
 abbrev pub FeasiblePricesShow : Type 0
 FeasiblePricesShow =
     (t : List Entry) → IsTable t → (r : SpellRules) (w : List Event) → Settled w → (prices : List Row) (n : ℕ)
-    → Feasible (edges_of (sparing t r)) (units_of r w) prices → first_price prices ≡ Some n → Shortest t r w n
+    → Feasible (edges_of (sparing_plain t r)) (units_of r w) prices → first_price prices ≡ Some n → Shortest t r w n
 
 -- the first way is a spelling, as long as the first of the least prices, and no spelling has fewer bytes
 pub record IsBest (t : List Entry) (r : SpellRules) (w : List Event) (b : List ℕ) : Type 0 where
   pub spells : Spells t r w b
-  pub price : first_price (least_prices (edges_of (sparing t r)) (units_of r w) first_layer) ≡ Some (length b)
+  pub price : first_price (least_prices (edges_of (sparing_plain t r)) (units_of r w) first_layer) ≡ Some (length b)
   pub shortest : Shortest t r w (length b)
 
 abbrev pub FirstWaysAreBest : Type 0
-FirstWaysAreBest = (t : List Entry) → IsTable t → (r : SpellRules) (w : List Event) → Settled w → IsBest t r w (first_way (edges_of (sparing t r)) (units_of r w) first_state)
+FirstWaysAreBest = (t : List Entry) → IsTable t → (r : SpellRules) (w : List Event) → Settled w → IsBest t r w (first_way (edges_of (sparing_plain t r)) (units_of r w) first_state)

@@ -1,5 +1,5 @@
 //! Laws between the ways of the graph and the spellings of a tree. The functions do nothing.
-ghost use Rattle.hm_ways.specs.Laws.{FeasiblePricesShow, FirstWaysAreBest, SpellingsHaveWays, TreesHaveWays, WaysSpellTrees};
+ghost use Rattle.hm_ways.specs.Laws.{FeasiblePricesShow, FirstWaysAreBest, SpellingsHaveWays, TreesHaveSpellings, TreesHaveWays, WaysSpellTrees};
 
 /// The bytes of each way through the units of a settled tree are a spelling of it.
 pub fn ways_spell_trees()
@@ -11,9 +11,10 @@ pub fn spellings_have_ways()
     ensures { SpellingsHaveWays }
 {}
 
-/// A tree has a way, so a settled one has a spelling.
+/// Each tree has a way, so a settled one has a spelling.
 pub fn trees_have_ways()
-    ensures { TreesHaveWays }
+    ensures ways { TreesHaveWays }
+    ensures spellings { TreesHaveSpellings }
 {}
 
 /// Prices that keep the rules of a certificate show, whoever made them, that no spelling has fewer bytes than the first.

@@ -5,7 +5,7 @@ use Rattle.hm_base.specs.Walks.{Attribute, Event, doctype, start, text, comment,
 use Rattle.hm_elements.specs.Names.{words, is_among, table}
 use Rattle.hm_elements.specs.Omission.{bars_start}
 use Rattle.hm_elements.specs.Paths.{current, is_in_svg, is_in_text, outer}
-use Rattle.hm_elements.specs.Tables.{is_void}
+use Rattle.hm_elements.specs.Tables.{holds_text, is_void}
 use Rattle.hm_refs.specs.Names.{Entry}
 use Rattle.hm_spellings.specs.Omission.{bars, end_falls}
 use Rattle.hm_spellings.specs.Spellings.{Before, drops_first_line_feed, end_omitted, is_opening, is_self_closing, left_out_before, opening, other, self_closing, spot_of}
@@ -126,6 +126,9 @@ top_name n foreign path f = ap current f.top
 
 pub top_kind : (n : List ℕ) (foreign : Bool) (path : List Element) → EndFits n foreign path → is_in_svg path ≡ foreign
 top_kind n foreign path f = ap is_in_svg f.top
+
+pub end_in_text : (n : List ℕ) (path : List Element) → EndFits n false path → holds_text n ≡ false → is_in_text path ≡ false
+end_in_text n path f h = ap is_in_text f.top ∙ h
 
 quiet_end : (n : List ℕ) (path : List Element) (w : List Event) → is_in_text (outer path) ≡ false → needs_nothing (Some (end n false)) (outer path) w ≡ true → ⊥
 quiet_end n path w around h = by_text (begins_text w) (rw around at h)

@@ -4,8 +4,8 @@ use Rattle.std.proofs.lemmas.Bool.{both_ways, or_parts, or_right}
 use Rattle.hm_attr_spell.proofs.Ways.{spellings_have_tags}
 use Rattle.hm_attr_spell.specs.Laws.{tag_units}
 use Rattle.hm_base.specs.Walks.{Attribute, Event, doctype, start, text, comment, end, Element, begins_end}
-use Rattle.hm_elements.specs.Paths.{current, is_in_text, outer}
-use Rattle.hm_elements.specs.Tables.{holds_text, is_void}
+use Rattle.hm_elements.specs.Paths.{current, outer}
+use Rattle.hm_elements.specs.Tables.{is_void}
 use Rattle.hm_graph.specs.UnitEdges.{edges_of}
 use Rattle.hm_graph.specs.Ways.{Way}
 use Rattle.hm_refs.specs.Tables.{first, IsIn, IsTable}
@@ -19,11 +19,11 @@ use Rattle.hm_units.specs.States.{Where, outside, loose, self_closed, Pending, n
 use Rattle.hm_units.specs.Steps.{keeps}
 use Rattle.hm_units.specs.Units.{doctype_bytes, end_tag, is_firm, is_loose_end, may_close_itself, Previous, start_tag, text_units, Unit, units_from}
 use Rattle.hm_ways.specs.Laws.{HasWay}
-use Rattle.hm_ways.proofs.Between.{Agrees, behind_text, end_left, end_loosened, end_void, fresh, start_closed, start_left, text_outside}
+use Rattle.hm_ways.proofs.Between.{Agrees, behind_text, end_in_text, end_left, end_loosened, end_void, fresh, start_closed, start_left, text_outside}
 use Rattle.hm_ways.proofs.Cuts.{joined}
 use Rattle.hm_ways.proofs.Markup.{leaves_end, leaves_start}
 use Rattle.hm_ways.proofs.Order.{element, EndFits, InOrder, StartFits}
-use Rattle.hm_ways.proofs.Spots.{keeps_text}
+use Rattle.hm_ways.proofs.Spots.{same_kept}
 use Rattle.hm_ways.proofs.Tables.{end_open, start_open, void_plain}
 use Rattle.hm_ways.proofs.TagEdges.{into_closed, into_end_left_out, into_end_written, into_left_out, into_slashed, into_written, slashed_bytes}
 use Rattle.hm_ways.proofs.Texts.{tag_edges}
@@ -47,9 +47,6 @@ record Through (g : Spelling) (unit : Unit) (units : List Unit) (from : State) (
   short : length bytes ≤ length b
 
 module _ (g : Spelling) (table : IsTable g.table) where
-  same_kept : (a b : List Element) (p : Pending) (x : List ℕ) → is_in_text a ≡ false → is_in_text b ≡ false → keeps g.table (spot_of b) p x ≡ true → keeps g.table (spot_of a) p x ≡ true
-  same_kept a b p x ha hb k = keeps_text g.table a p x ha ∙ sym (keeps_text g.table b p x hb) ∙ k
-
   through : (unit : Unit) (units : List Unit) (from to : State) (front : List ℕ) (more b piece rest : List ℕ) → IsIn (edge_to front to) (edges_of g unit from) → length front ≤ length piece → b ≡ piece ++ rest → Way (edges_of g) units to more → length more ≤ length rest → Through g unit units from b
   through unit units from to front more b piece rest i short is way le = record {
     bytes = front ++ more;
@@ -102,7 +99,7 @@ module _ (g : Spelling) (table : IsTable g.table) where
   start_omitted w more n false (x ∷ attributes) before previous path at p b kind none omits free falls a f o s k = absurd (cc)
   start_omitted w more n false [] before previous path at p b kind none omits free falls a f o s k =
       let opens = start_open g.rules.frame n w falls in
-      let m = more opening (Some (start n false [])) (element n false ∷ path) (unloosed at) p b (start_left g.table before previous path at p n [] w opens a) o s (same_kept (element n false ∷ path) path p b opens.no_text f.placed.around k) in
+      let m = more opening (Some (start n false [])) (element n false ∷ path) (unloosed at) p b (start_left g.table before previous path at p n [] w opens a) o s (same_kept g.table (element n false ∷ path) path p b opens.no_text f.placed.around k) in
       let may : g.rules.omit && (not false && start_falls g.rules.frame n w) ≡ true = rw (omits, falls) refl in
       let t = through (start_tag n (g.rules.omit && (not false && start_falls g.rules.frame n w)) (is_firm previous n) (may_close_itself false w)) (units_from g.rules (Some (start n false [])) (element n false ∷ path) w) (state at p) (state (unloosed at) p) [] m.bytes b [] b
       (into_left_out n (g.rules.omit && (not false && start_falls g.rules.frame n w)) (is_firm previous n) (may_close_itself false w) (state at p) may (sym (a.barred n) ∙ free)) (omega arith) refl m.way m.short in
@@ -157,9 +154,6 @@ module _ (g : Spelling) (table : IsTable g.table) where
 
   -- ---- ends
 
-  text_of : (n : List ℕ) (path : List Element) → EndFits n false path → holds_text n ≡ false → is_in_text path ≡ false
-  text_of n path f h = ap is_in_text f.top ∙ h
-
   -- where an end tag may stand, the units have one
   with_end : (w : List Event) (n : List ℕ) (foreign : Bool) (previous : Previous) (path : List Element) (s : State) (b : List ℕ) → not foreign && is_void n ≡ false → Through g (end_tag n (may_omit_end g.rules n foreign (outer path) w) (is_loose_end n)) (units_from g.rules (Some (end n foreign)) (outer path) w) s b
       → Found g previous path s (end n foreign ∷ w) b
@@ -173,7 +167,7 @@ module _ (g : Spelling) (table : IsTable g.table) where
       → Agrees g.table before previous path at p (end n foreign ∷ w) → EndFits n foreign path → InOrder (outer path) w → SpellsFrom g other (outer path) w b → keeps g.table (spot_of path) p b ≡ true → Found g previous path (state at p) (end n foreign ∷ w) b
   end_void_way w more n true before previous path at p b v a f o s k = absurd (cc)
   end_void_way w more n false before previous path at p b v a f o s k =
-      let m = more other (Some (end n false)) (outer path) at p b (end_void g.table before previous path at p n w f v a) o s (same_kept (outer path) path p b f.placed.around (text_of n path f (void_plain n v).1) k) in
+      let m = more other (Some (end n false)) (outer path) at p b (end_void g.table before previous path at p n w f v a) o s (same_kept g.table (outer path) path p b f.placed.around (end_in_text n path f (void_plain n v).1) k) in
       record {
         bytes = m.bytes;
         way = subst (λ c. Way (edges_of g) (cond c [] (end_tag n (may_omit_end g.rules n false (outer path) w) (is_loose_end n) ∷ []) ++ units_from g.rules (Some (end n false)) (outer path) w) (state at p) m.bytes) (sym v) m.way;
@@ -199,7 +193,7 @@ module _ (g : Spelling) (table : IsTable g.table) where
       let m = more (end_omitted n) (Some (end n false)) (outer path) loose nothing b (end_loosened g.table path n w f l falls) o s refl in
       record { bytes = m.bytes; way = m.way; short = m.short }
   end_behind w more n before previous path at p b c falls a f o s k false l =
-      let m = more (end_omitted n) (Some (end n false)) (outer path) at p b (end_left g.table before previous path at p n w f l c falls a) o s (same_kept (outer path) path p b f.placed.around (text_of n path f (end_open n (current (outer path)) w falls)) k) in
+      let m = more (end_omitted n) (Some (end n false)) (outer path) at p b (end_left g.table before previous path at p n w f l c falls a) o s (same_kept g.table (outer path) path p b f.placed.around (end_in_text n path f (end_open n (current (outer path)) w falls)) k) in
       record { bytes = m.bytes; way = m.way; short = m.short }
 
   end_omits : (w : List Event) → More g w → (n : List ℕ) (foreign : Bool) (before : Before) (previous : Previous) (path : List Element) (at : Where) (p : Pending) (b : List ℕ) → not foreign && is_void n ≡ false → is_self_closed at ≡ false → may_omit_end g.rules n foreign (outer path) w ≡ true

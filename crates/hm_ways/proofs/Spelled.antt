@@ -4,8 +4,8 @@ use Rattle.std.proofs.lemmas.Bool.{and_parts, or_left, or_right}
 use Rattle.hm_attr_spell.proofs.Spelled.{tags_spell}
 use Rattle.hm_attr_spell.specs.Laws.{behind_tag, tag_units}
 use Rattle.hm_base.specs.Walks.{Attribute, Event, doctype, start, text, comment, end, Element, begins_end}
-use Rattle.hm_elements.specs.Paths.{current, is_in_text, outer}
-use Rattle.hm_elements.specs.Tables.{holds_text, is_void}
+use Rattle.hm_elements.specs.Paths.{current, outer}
+use Rattle.hm_elements.specs.Tables.{is_void}
 use Rattle.hm_graph.specs.UnitEdges.{edges_of}
 use Rattle.hm_graph.specs.Ways.{Way}
 use Rattle.hm_refs.specs.Tables.{IsTable}
@@ -19,11 +19,11 @@ use Rattle.hm_units.specs.Edges.{edge_to}
 use Rattle.hm_units.specs.States.{Where, outside, loose, self_closed, Pending, nothing, first_state, state}
 use Rattle.hm_units.specs.Steps.{Fits, keeps}
 use Rattle.hm_units.specs.Units.{doctype_bytes, end_tag, is_firm, is_loose_end, may_close_itself, Previous, text_units, units_from}
-use Rattle.hm_ways.proofs.Between.{Agrees, behind_text, end_left, end_loosened, end_void, fresh, start_closed, start_left, text_outside}
+use Rattle.hm_ways.proofs.Between.{Agrees, behind_text, end_in_text, end_left, end_loosened, end_void, fresh, start_closed, start_left, text_outside}
 use Rattle.hm_ways.proofs.Cuts.{cut}
 use Rattle.hm_ways.proofs.Markup.{doctype_markup, leaves_end, markup_front, markup_keeps, may_leave_start, table_markup}
 use Rattle.hm_ways.proofs.Order.{element, EndFits, InOrder, StartFits}
-use Rattle.hm_ways.proofs.Spots.{end_keeps, keeps_text, text_spot}
+use Rattle.hm_ways.proofs.Spots.{end_keeps, same_kept, text_spot}
 use Rattle.hm_ways.proofs.Tables.{end_open, loose_goes, start_open, void_plain}
 use Rattle.hm_ways.proofs.TagEdges.{closed, end_edge_is, IsEndEdge, IsStartEdge, leaves_out, slashed_bytes, slashes, start_edge_is, writes}
 use Rattle.hm_ways.proofs.TagEdges as edges
@@ -40,10 +40,6 @@ abbrev More : Spelling → List Event → Type 0
 More g w = (before : Before) (previous : Previous) (path : List Element) (at : Where) (p : Pending) (b : List ℕ) → Agrees g.table before previous path at p w → InOrder path w → Way (edges_of g) (units_from g.rules previous path w) (state at p) b → Spells g before path p w b
 
 module _ (g : Spelling) (table : IsTable g.table) where
-  -- what is kept in one place is kept in the other
-  same_kept : (a b : List Element) (p : Pending) (x : List ℕ) → is_in_text a ≡ false → is_in_text b ≡ false → keeps g.table (spot_of b) p x ≡ true → keeps g.table (spot_of a) p x ≡ true
-  same_kept a b p x ha hb k = keeps_text g.table a p x ha ∙ sym (keeps_text g.table b p x hb) ∙ k
-
   doctype_case : (w : List Event) → More g w → (legacy : Bool) → More g (doctype legacy ∷ w)
   doctype_case w more legacy before previous path at p b a o (e, i, (rest, is, way)) =
       let same = only e (edge_to (doctype_bytes legacy) first_state) i in
@@ -85,7 +81,7 @@ module _ (g : Spelling) (table : IsTable g.table) where
       let m = more opening (Some (start n false attributes)) (element n false ∷ path) (unloosed at) p b (start_left g.table before previous path at p n attributes w opens a) o way in
       record {
         spells = (forms.omitted, [], b, refl, (refl, may_leave_start g.rules (left_out_before before) n false attributes w (record { omits = omits; kind = refl; bare = rw none refl; free = a.barred n ∙ free; falls = falls })), m.spells);
-        kept = same_kept path (element n false ∷ path) p b f.placed.around opens.no_text m.kept;
+        kept = same_kept g.table path (element n false ∷ path) p b f.placed.around opens.no_text m.kept;
       }
 
   start_written : (w : List Event) → More g w → (n : List ℕ) (foreign : Bool) (attributes : List Attribute) (before : Before) (previous : Previous) (path : List Element) (at : Where) (p : Pending) (b inner rest : List ℕ)
@@ -141,9 +137,6 @@ module _ (g : Spelling) (table : IsTable g.table) where
 
   -- ---- ends
 
-  text_of : (n : List ℕ) (path : List Element) → EndFits n false path → holds_text n ≡ false → is_in_text path ≡ false
-  text_of n path f h = ap is_in_text f.top ∙ h
-
   -- an element that has no end tag
   end_absent : (w : List Event) → More g w → (n : List ℕ) (before : Before) (previous : Previous) (path : List Element) (at : Where) (p : Pending) (b : List ℕ) → EndFits n false path → is_void n ≡ true
       → Agrees g.table before previous path at p (end n false ∷ w) → InOrder (outer path) w → Way (edges_of g) (units_from g.rules (Some (end n false)) (outer path) w) (state at p) b → Spells g before path p (end n false ∷ w) b
@@ -151,7 +144,7 @@ module _ (g : Spelling) (table : IsTable g.table) where
       let m = more other (Some (end n false)) (outer path) at p b (end_void g.table before previous path at p n w f v a) o way in
       record {
         spells = (forms.absent, [], b, refl, (refl, or_right (is_self_closing before) (is_void n) v), m.spells);
-        kept = same_kept path (outer path) p b (text_of n path f (void_plain n v).1) f.placed.around m.kept;
+        kept = same_kept g.table path (outer path) p b (end_in_text n path f (void_plain n v).1) f.placed.around m.kept;
       }
 
   end_self : (w : List Event) → More g w → (n : List ℕ) (foreign : Bool) (before : Before) (previous : Previous) (path : List Element) (at : Where) (p : Pending) (b : List ℕ) → is_self_closed at ≡ true
@@ -185,7 +178,7 @@ module _ (g : Spelling) (table : IsTable g.table) where
       let m = more (end_omitted n) (Some (end n false)) (outer path) at p b (end_left g.table before previous path at p n w f l c falls a) o way in
       record {
         spells = (forms.omitted, [], b, refl, (refl, h, may), m.spells);
-        kept = same_kept path (outer path) p b (text_of n path f (end_open n (current (outer path)) w falls)) f.placed.around m.kept;
+        kept = same_kept g.table path (outer path) p b (end_in_text n path f (end_open n (current (outer path)) w falls)) f.placed.around m.kept;
       }
 
   end_tag_case : (w : List Event) → More g w → (n : List ℕ) (foreign : Bool) (before : Before) (previous : Previous) (path : List Element) (at : Where) (p : Pending) (b : List ℕ) → not foreign && is_void n ≡ false

@@ -1,5 +1,5 @@
 -- What is pending in one text is kept in another one by the same bytes.
-use Rattle.std.proofs.Common.{◌≡◌, ℕ, Bool, true, false, cond, not, ◌&&◌, ◌||◌, List, [], ◌∷◌, refl, ap, ◌∙◌, subst, is_none}
+use Rattle.std.proofs.Common.{◌≡◌, ℕ, Bool, true, false, cond, not, ◌&&◌, ◌||◌, List, [], ◌∷◌, refl, sym, ap, ◌∙◌, subst, is_none}
 use Rattle.hm_base.specs.Bytes.{head_is}
 use Rattle.hm_base.specs.Walks.{Element}
 use Rattle.hm_elements.specs.Names.{is_among}
@@ -102,7 +102,7 @@ unfolding is_rcdata rcdata_names is_among
 top_no_rcdata = refl
 
 -- in what holds more than a text what is pending is kept by the same bytes everywhere
-pub keeps_text : (t : List Entry) (path : List Element) (p : Pending) (s : List ℕ) → is_in_text path ≡ false → keeps t (spot_of path) p s ≡ keeps t text p s
+keeps_text : (t : List Entry) (path : List Element) (p : Pending) (s : List ℕ) → is_in_text path ≡ false → keeps t (spot_of path) p s ≡ keeps t text p s
 keeps_text t path p s h = by_path path h
   where
     by_tests : (a b : Bool) → (a ≡ false → b ≡ false) → keeps t (cond a foreign (cond b rcdata text)) p s ≡ keeps t text p s
@@ -117,3 +117,7 @@ keeps_text t path p s h = by_path path h
     by_path : (path : List Element) → is_in_text path ≡ false → keeps t (spot_of path) p s ≡ keeps t text p s
     by_path [] k = by_tests false (is_rcdata []) (λ e. top_no_rcdata)
     by_path (e ∷ path) k = by_tests e.foreign (is_rcdata e.name) (λ f. no_rcdata e.name (by_foreign e.foreign (holds_text e.name) k f))
+
+-- what is kept in one such place is kept in the other
+pub same_kept : (t : List Entry) (a b : List Element) (p : Pending) (s : List ℕ) → is_in_text a ≡ false → is_in_text b ≡ false → keeps t (spot_of b) p s ≡ true → keeps t (spot_of a) p s ≡ true
+same_kept t a b p s ha hb k = keeps_text t a p s ha ∙ sym (keeps_text t b p s hb) ∙ k

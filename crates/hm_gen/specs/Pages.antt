@@ -1,4 +1,4 @@
--- The page of a number, with so many blocks.
+-- Generated pages: each is made from a number, with so many blocks.
 use Rattle.std.specs.Prelude.{ℕ, zero, suc, ◌+◌, ◌*◌, ◌/◌, ◌%◌, ◌^◌, List, [], ◌++◌, codes}
 use Rattle.std.specs.Fmt.{decimal}
 use Rattle.hm_gen.specs.declared.block.Block.{Block}
@@ -6,6 +6,7 @@ use Rattle.hm_gen.specs.declared.block.Block.TheVariants.{Paragraph, Items, Tabl
 
 -- ---- The sequence of a linear congruential generator
 
+-- the number behind one of the sequence
 abbrev pub next : ℕ → ℕ
 next x = (x * 1103515245 + 12345) % 2 ^ 31
 
@@ -16,6 +17,7 @@ chance number (suc k) = next (chance number k)
 
 -- ---- Blocks
 
+-- the kinds of blocks, by number
 abbrev pub block_at : ℕ → Block
 block_at zero = Paragraph
 block_at (suc zero) = Items
@@ -40,8 +42,10 @@ abbrev pub lines : ℕ → ℕ → List ℕ
 lines number zero = []
 lines number (suc k) = lines number k ++ line (chosen (chance number (suc k))) (suc k)
 
+-- what stands before the blocks: the title shows the page's number
 abbrev pub heading : ℕ → List ℕ
 heading number = codes "<!doctype html><title>" ++ (decimal number ++ codes "</title>\n")
 
+-- the page of a number, with so many blocks
 unfoldable pub page : ℕ → ℕ → List ℕ
 page number size = heading number ++ lines number size

@@ -1,0 +1,4 @@
+//! The trees of generated pages.
+#![tactic(auto)]
+
+pub mod laws;

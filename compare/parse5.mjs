@@ -29,13 +29,8 @@ const LEFT_OUT = new Map(Object.entries({
   reference_cr_is_whitespace:
     "a carriage return that a numeric reference gives is whitespace for the standard's tree construction; parse5 takes it " +
     "for other text",
-  table_names_none: "the table is empty, so its names are text; parse5 has the standard's table",
   names_two_points: "the table has a name that the standard's table hasn't",
   page_two_point_name: "the table has a name that the standard's table hasn't",
-  table_names_last_member_counts: "the table has names that the standard's table hasn't",
-  table_names_four_without_semicolon: "the table has names that the standard's table hasn't",
-  table_names_64_alike: "the table has names that the standard's table hasn't",
-  table_names_of_64_characters: "the table has names that the standard's table hasn't",
 }));
 
 const SVG = "http://www.w3.org/2000/svg";

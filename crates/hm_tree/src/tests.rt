@@ -1,56 +1,290 @@
+#![tactic(auto, using(crate::proofs::RoomLemmas::room))]
+
+ghost use Rattle.std.specs.Prelude.{◌≡◌, ◌+◌, ◌^◌, ◌<◌, ◌≤◌, [], length, true, false, IfOk, OnOk};
+ghost use Rattle.hm_base.specs.Walks.{attributes_size, path_after, walk_size};
+ghost use Rattle.hm_tree.specs.Trees.{last_agrees};
+
 use super::*;
 use hm_base::Memory;
-use std::alloc::Global;
+use std::alloc::{AllocError, AllocFailed, Global};
 use std::test::Fail;
 
-/// The tree of `<!doctype html>`, `<p id=x>a<!--b--></p>`.
-fn paragraph(alloc: Global) -> Result<Tree, Memory> {
+// A call of a maker. A start may have one attribute, a name and a value.
+#[derive(Clone, Copy)]
+enum Step {
+    Doctype(bool),
+    Start(&'static str),
+    With(&'static str, &'static str, &'static str),
+    Text(&'static str),
+    Comment(&'static str),
+    End,
+}
+
+fn attributes(alloc: Global, name: &str, value: &str) -> Result<Attrs, Memory>
+    ensures { IfOk result (λ attrs. attributes_size attrs ≤ length name.now + length value.now) }
+{
     let mut attrs = Attrs::new(alloc);
-    attrs.put("id", "x")?;
-    let mut maker = Tree::maker(alloc);
-    maker.doctype(false)?;
-    maker.start("p", false, attrs)?;
-    maker.text("a", false)?;
-    maker.comment("b")?;
+    let name = String::from_str(alloc, name)?;
+    let value = String::from_str(alloc, value)?;
+    attrs.add(name, value)?;
+    Ok(attrs)
+}
+
+fn start(maker: &mut Maker, name: &str, attrs: Attrs) -> Result<(), Memory>
+    requires events { length maker.old + length (path_after [] maker.old) + 2 < 2 ^ 29 }
+    requires bytes { walk_size maker.old + 300 < 2 ^ 29 }
+    requires attrs { attributes_size attrs ≤ 200 }
+    ensures events { OnOk result (length maker.new + length (path_after [] maker.new) ≤ length maker.old + length (path_after [] maker.old) + 2) }
+    ensures bytes { OnOk result (walk_size maker.new ≤ walk_size maker.old + 300) }
+    ensures plain { OnOk result (last_agrees maker.new false ≡ true) }
+{
+    if name.len() > 100 {
+        return Err(Memory);
+    }
+    maker.start(name, false, attrs)?;
+    Ok(())
+}
+
+fn text(maker: &mut Maker, text: &str) -> Result<(), Memory>
+    requires events { length maker.old + length (path_after [] maker.old) + 2 < 2 ^ 29 }
+    requires bytes { walk_size maker.old + 300 < 2 ^ 29 }
+    requires plain { last_agrees maker.old false ≡ true }
+    ensures events { OnOk result (length maker.new + length (path_after [] maker.new) ≤ length maker.old + length (path_after [] maker.old) + 2) }
+    ensures bytes { OnOk result (walk_size maker.new ≤ walk_size maker.old + 300) }
+    ensures plain { OnOk result (last_agrees maker.new false ≡ true) }
+{
+    if text.len() > 100 {
+        return Err(Memory);
+    }
+    maker.text(text, false)?;
+    Ok(())
+}
+
+fn comment(maker: &mut Maker, text: &str) -> Result<(), Memory>
+    requires events { length maker.old + length (path_after [] maker.old) + 2 < 2 ^ 29 }
+    requires bytes { walk_size maker.old + 300 < 2 ^ 29 }
+    ensures events { OnOk result (length maker.new + length (path_after [] maker.new) ≤ length maker.old + length (path_after [] maker.old) + 2) }
+    ensures bytes { OnOk result (walk_size maker.new ≤ walk_size maker.old + 300) }
+    ensures plain { OnOk result (last_agrees maker.new false ≡ true) }
+{
+    if text.len() > 100 {
+        return Err(Memory);
+    }
+    maker.comment(text)?;
+    Ok(())
+}
+
+fn doctype(maker: &mut Maker, legacy: bool) -> Result<(), Memory>
+    requires events { length maker.old + length (path_after [] maker.old) + 2 < 2 ^ 29 }
+    requires bytes { walk_size maker.old + 300 < 2 ^ 29 }
+    ensures events { OnOk result (length maker.new + length (path_after [] maker.new) ≤ length maker.old + length (path_after [] maker.old) + 2) }
+    ensures bytes { OnOk result (walk_size maker.new ≤ walk_size maker.old + 300) }
+    ensures plain { OnOk result (last_agrees maker.new false ≡ true) }
+{
+    maker.doctype(legacy)?;
+    Ok(())
+}
+
+fn end(maker: &mut Maker) -> Result<(), Memory>
+    ensures events { OnOk result (length maker.new + length (path_after [] maker.new) ≤ length maker.old + length (path_after [] maker.old) + 2) }
+    ensures bytes { OnOk result (walk_size maker.new ≤ walk_size maker.old + 300) }
+    ensures plain { OnOk result (last_agrees maker.new false ≡ true) }
+{
+    if maker.depth() == 0 {
+        return Err(Memory);
+    }
     maker.end()?;
+    Ok(())
+}
+
+fn take(alloc: Global, maker: &mut Maker, step: Step) -> Result<(), Memory>
+    requires events { length maker.old + length (path_after [] maker.old) + 2 < 2 ^ 29 }
+    requires bytes { walk_size maker.old + 300 < 2 ^ 29 }
+    requires plain { last_agrees maker.old false ≡ true }
+    ensures events { OnOk result (length maker.new + length (path_after [] maker.new) ≤ length maker.old + length (path_after [] maker.old) + 2) }
+    ensures bytes { OnOk result (walk_size maker.new ≤ walk_size maker.old + 300) }
+    ensures plain { OnOk result (last_agrees maker.new false ≡ true) }
+{
+    match step {
+        Step::Doctype(legacy) => doctype(maker, legacy),
+        Step::Start(name) => start(maker, name, Attrs::new(alloc)),
+        Step::With(name, attr, value) => {
+            if attr.len() > 100 || value.len() > 100 {
+                return Err(Memory);
+            }
+            start(maker, name, attributes(alloc, attr, value)?)
+        }
+        Step::Text(s) => text(maker, s),
+        Step::Comment(s) => comment(maker, s),
+        Step::End => end(maker),
+    }
+}
+
+// The tree of these calls.
+fn made(alloc: Global, steps: &[Step]) -> Result<Tree, Memory>
+    requires { length steps.now < 100 }
+{
+    let mut maker = Tree::maker(alloc);
+    for step in steps {
+        take(alloc, &mut maker, *step)?;
+    }
+    if maker.depth() > 0 {
+        return Err(Memory);
+    }
     Ok(maker.finish())
 }
 
+// `<p id=x>a<br>b` as a page.
+const PAGE: [Step; 13] = [
+    Step::Doctype(false),
+    Step::Start("html"),
+    Step::Start("head"),
+    Step::End,
+    Step::Start("body"),
+    Step::With("p", "id", "x"),
+    Step::Text("a"),
+    Step::Start("br"),
+    Step::End,
+    Step::Text("b"),
+    Step::End,
+    Step::End,
+    Step::End,
+];
+
+// The name or the text of an event, and whether it is an end.
+fn shown<'t>(event: EventView<'t>) -> (&'t str, bool) {
+    match event {
+        EventView::Doctype { .. } => ("", false),
+        EventView::Start { name, .. } => (name, false),
+        EventView::Text { text, .. } => (text, false),
+        EventView::Comment { text } => (text, false),
+        EventView::End { name, .. } => (name, true),
+    }
+}
+
 #[test]
-fn dumps_a_line_for_each_event(rt: HostRuntime) -> Result<(), Fail> {
-    let tree = paragraph(rt.alloc())?;
-    let lines = "doctype\nelement p id=\"x\"\n  text \"a\"\n  comment \"b\"\n";
+fn a_page(rt: HostRuntime) -> Result<(), Fail> {
+    let tree = made(rt.alloc(), &PAGE)?;
+    let events = [
+        ("", false, None),
+        ("html", false, None),
+        ("head", false, Some(1)),
+        ("head", true, Some(2)),
+        ("body", false, Some(1)),
+        ("p", false, Some(4)),
+        ("a", false, Some(5)),
+        ("br", false, Some(5)),
+        ("br", true, Some(7)),
+        ("b", false, Some(5)),
+        ("p", true, Some(5)),
+        ("body", true, Some(4)),
+        ("html", true, Some(1)),
+    ];
+    assert_eq!(rt; tree.len(), 13);
+    for i in 0..13u32 {
+        let (name, is_end, parent) = events[i as usize];
+        assert_eq!(rt; shown(tree.event(i)), (name, is_end), "at {i}");
+        assert_eq!(rt; tree.parent(i), parent, "at {i}");
+    }
+    let lines =
+        "doctype\nelement html\n  element head\n  element body\n    element p id=\"x\"\n      text \"a\"\n      element br\n      text \"b\"\n";
+    assert_eq!(rt; tree.dump(rt.alloc())?.as_str(), lines);
+    Ok(())
+}
+
+const ONE: [Step; 3] = [Step::Start("p"), Step::Text("a"), Step::End];
+
+const IN_PARTS: [Step; 5] = [
+    Step::Start("p"),
+    Step::Text(""),
+    Step::Text("a"),
+    Step::Text(""),
+    Step::End,
+];
+
+const JOINED: [Step; 4] = [
+    Step::Start("p"),
+    Step::Text("a"),
+    Step::Text("b"),
+    Step::End,
+];
+
+const NAMED: [Step; 3] = [Step::With("p", "id", "x"), Step::Text("a"), Step::End];
+
+const LONGER: [Step; 4] = [
+    Step::Start("p"),
+    Step::Text("a"),
+    Step::End,
+    Step::Comment("a"),
+];
+
+// Where the trees differ first, and whether they are the same.
+fn compared(alloc: Global, one: &[Step], other: &[Step]) -> Result<(Option<u32>, bool), Memory>
+    requires one { length one.now < 100 }
+    requires other { length other.now < 100 }
+{
+    let one = made(alloc, one)?;
+    let other = made(alloc, other)?;
+    Ok((one.first_other(&other), one.same(&other)))
+}
+
+#[test]
+fn first_differences(rt: HostRuntime) -> Result<(), Fail> {
+    let cases: [(&[Step], &[Step], Option<u32>); 5] = [
+        (&ONE, &IN_PARTS, None),
+        (&ONE, &JOINED, Some(1)),
+        (&ONE, &NAMED, Some(0)),
+        (&ONE, &LONGER, Some(3)),
+        (&LONGER, &ONE, Some(3)),
+    ];
+    for (one, other, place) in cases {
+        assert!(rt; one.len() < 100 && other.len() < 100);
+        let (found, same) = compared(rt.alloc(), one, other)?;
+        assert_eq!(rt; found, place);
+        assert_eq!(rt; same, place.is_none());
+    }
+    Ok(())
+}
+
+#[test]
+fn quoted_texts(rt: HostRuntime) -> Result<(), Fail> {
+    let steps = [
+        Step::Doctype(true),
+        Step::With("a", "title", "\"\\\n\r\té"),
+        Step::Comment("<b>"),
+        Step::Text("\u{1F600}\""),
+        Step::End,
+    ];
+    let tree = made(rt.alloc(), &steps)?;
+    let lines =
+        "doctype legacy\nelement a title=\"\\\"\\\\\\n\\r\\té\"\n  comment \"<b>\"\n  text \"\u{1F600}\\\"\"\n";
     assert_eq!(rt; tree.dump(rt.alloc())?.as_str(), lines);
     Ok(())
 }
 
 #[test]
-fn an_end_is_below_its_start(rt: HostRuntime) -> Result<(), Fail> {
-    let tree = paragraph(rt.alloc())?;
-    if tree.len() == 5 {
-        assert_eq!(rt; tree.parent(1), None);
-        assert_eq!(rt; tree.parent(4), Some(1));
-        assert!(rt; matches!(tree.event(4), EventView::End { name: "p", .. }));
-        return Ok(());
+fn a_name_once(rt: HostRuntime) -> Result<(), Fail> {
+    let alloc = rt.alloc();
+    let mut attrs = Attrs::new(alloc);
+    for (name, value, added) in [("id", "x", true), ("class", "", true), ("id", "y", false)] {
+        if attrs.len() < 3 {
+            let name = String::from_str(alloc, name)?;
+            let value = String::from_str(alloc, value)?;
+            assert_eq!(rt; attrs.add(name, value)?, added);
+        }
     }
-    Err("another length")?
-}
-
-#[test]
-fn compares_trees(rt: HostRuntime) -> Result<(), Fail> {
-    let one = paragraph(rt.alloc())?;
-    let other = Tree::maker(rt.alloc()).finish();
-    assert!(rt; one.same(&paragraph(rt.alloc())?));
-    assert_eq!(rt; one.first_other(&other), Some(0));
-    Ok(())
-}
-
-#[test]
-fn adds_a_name_once(rt: HostRuntime) -> Result<(), Fail> {
-    let mut attrs = Attrs::new(rt.alloc());
-    assert!(rt; attrs.put("id", "x")?);
-    assert!(rt; !attrs.put("id", "y")?);
-    assert_eq!(rt; attrs.len(), 1);
+    assert_eq!(rt; attrs.len(), 2);
     assert_eq!(rt; attrs.at(0), ("id", "x"));
+    assert_eq!(rt; attrs.at(1), ("class", ""));
     Ok(())
+}
+
+#[test]
+fn want_of_memory_is_a_fault(rt: HostRuntime) {
+    assert_eq!(rt; ScanFault::from(Memory), ScanFault::Memory);
+    assert_eq!(rt; ScanFault::from(AllocError), ScanFault::Memory);
+    assert_eq!(rt;
+        ScanFault::from(AllocFailed { value: 1u8 }),
+        ScanFault::Memory
+    );
 }

@@ -1,0 +1,48 @@
+//! A certificate, read.
+ghost use Rattle.std.specs.Prelude.{◌≡◌};
+ghost use Rattle.hm_cert.specs.Reading.{ReadsAs, RowsAre, rows_in};
+
+use crate::lines::{CertificateFault, Lines, read_head};
+use crate::prices::Prices;
+use crate::text::Format;
+use hm_base::{CERTIFICATE_LIMIT, SpellRules};
+use std::alloc::Global;
+
+/// A certificate: its format, the rules that it is about, and the prices of the layers that are written.
+#[derive(Drop)]
+pub struct Certificate {
+    pub format: Format,
+    pub rules: SpellRules,
+    pub prices: Prices,
+}
+
+impl Certificate {
+    /// Reads the text of a certificate.
+    pub fn read(alloc: Global, bytes: &[u8]) -> Result<Certificate, CertificateFault>
+        ensures { ReadsAs bytes.now result }
+    {
+        if bytes.len() > CERTIFICATE_LIMIT as usize {
+            return Err(CertificateFault::TooLong);
+        }
+        let head = read_head(bytes)?;
+        let prices = read_rows(alloc, head.lines)?;
+        Ok(Certificate {
+            format: head.format,
+            rules: head.rules,
+            prices,
+        })
+    }
+}
+
+/// Reads the rows of all lines that are left.
+fn read_rows(alloc: Global, lines: Lines<'_>) -> Result<Prices, CertificateFault>
+    ensures { RowsAre (rows_in lines.entry.number lines.entry.rest.now) result }
+{
+    let mut lines = lines;
+    let mut prices = Prices::new(alloc);
+    let mut row = Vec::new(alloc);
+    while lines.next_row(&mut row)? {
+        prices.push_row(&row)?;
+    }
+    Ok(prices)
+}

@@ -1,9 +1,9 @@
 -- Lines of prices, from the front and from the end.
-use Rattle.std.proofs.Common.{◌≡◌, ◌+◌, ◌<◌, ◌≤◌, ◌^◌, ◌/◌, ◌%◌, drop-cons, ℕ, zero, suc, List, [], ◌∷◌, ◌++◌, length, get_or, drop, map, reverse, refl, sym, ap, ◌∙◌, add-one, append_assoc, arith}
+use Rattle.std.proofs.Common.{◌≡◌, ◌+◌, ◌-◌, ◌<◌, ◌≤◌, ◌^◌, ◌/◌, ◌%◌, drop-cons, ℕ, zero, suc, List, [], ◌∷◌, ◌++◌, length, get_or, take, drop, map, reverse, refl, sym, ap, ◌∙◌, add-one, append_assoc, arith}
 use Rattle.std.specs.Prelude.{Option}
 use Rattle.std.specs.Fmt.{decimal}
 use Rattle.std.proofs.lemmas.Fmt.{decimal_step, decimal_digit}
-use Rattle.std.proofs.lemmas.List.{append-nil, reverse-append}
+use Rattle.std.proofs.lemmas.List.{append-nil, take_all, reverse-append}
 use Rattle.hm_cert.specs.Certificate.{price_text, row_text, row_line, row_lines, more_prices}
 use Rattle.hm_cert.specs.Layout.{told}
 
@@ -49,15 +49,15 @@ turned_number n h l = ap reverse (decimal_step n h l) ∙ reverse-append (decima
 pub turned_digit : (n : ℕ) → n < 10 → reverse (decimal n) ≡ (48 + n) ∷ []
 turned_digit n h = ap reverse (decimal_digit n h)
 
-pub row_parts : (row : List ℕ) → 1 ≤ length row → row_text (map told row) ≡ price_text (told (get_or row 0 0)) ++ more_prices (map told (drop 1 row))
+pub row_parts : (row : List ℕ) → 1 ≤ length row → row_text (map told row) ≡ price_text (told (get_or row 0 0)) ++ more_prices (map told (take (length row - 1) (drop 1 row)))
 row_parts [] h = absurd (omega arith)
-row_parts (number ∷ row) h = row_text_cons (told number) (map told row)
+row_parts (number ∷ row) h = row_text_cons (told number) (map told row) ∙ ap (λ x. price_text (told number) ++ more_prices (map told x)) (sym (take_all (length (number ∷ row) - 1) row (omega arith)))
 
 -- a line, turned round
-pub turned_line : (row : List ℕ) → 1 ≤ length row → reverse (row_line (map told row)) ≡ 10 ∷ (reverse (more_prices (map told (drop 1 row))) ++ reverse (price_text (told (get_or row 0 0))))
+pub turned_line : (row : List ℕ) → 1 ≤ length row → reverse (row_line (map told row)) ≡ 10 ∷ (reverse (more_prices (map told (take (length row - 1) (drop 1 row)))) ++ reverse (price_text (told (get_or row 0 0))))
 turned_line row h =
     let price : List ℕ = price_text (told (get_or row 0 0)) in
-    let rest : List ℕ = more_prices (map told (drop 1 row)) in
+    let rest : List ℕ = more_prices (map told (take (length row - 1) (drop 1 row))) in
     ap (λ x. reverse (x ++ 10 ∷ [])) (row_parts row h)
     ∙ reverse-append (price ++ rest) (10 ∷ [])
     ∙ ap (λ x. 10 ∷ x) (reverse-append price rest)

@@ -35,10 +35,9 @@ impl Certificate {
 }
 
 /// Reads the rows of all lines that are left.
-fn read_rows(alloc: Global, lines: Lines<'_>) -> Result<Prices, CertificateFault>
+fn read_rows(alloc: Global, mut lines: Lines<'_>) -> Result<Prices, CertificateFault>
     ensures { RowsAre (rows_in lines.entry.number lines.entry.rest.now) result }
 {
-    let mut lines = lines;
     let mut prices = Prices::new(alloc);
     let mut row = Vec::new(alloc);
     while lines.next_row(&mut row)? {

@@ -1,8 +1,8 @@
 //! The lines of a certificate, read one after another.
-ghost use Rattle.std.specs.Prelude.{◌≡◌, ℕ, ◌+◌, ◌^◌, ◌<◌, ◌≤◌, ◌∷◌, [], Some, None, true, false, List, Option, length, map, option_map, MatchOption, IfSome, IfOk, IfErr, if◌then◌else◌};
+ghost use Rattle.std.specs.Prelude.{◌≡◌, ℕ, ◌+◌, ◌^◌, ◌<◌, ◌≤◌, ◌∷◌, [], Some, None, true, false, length, map, is_some, unwrap_or, option_map, ◌↔◌, IsTrue, MatchOption, IfSome, IfOk, IfErr, if◌then◌else◌};
 ghost use Rattle.hm_base.specs.Bytes.{strip};
 ghost use Rattle.hm_cert.specs.Layout.{told};
-ghost use Rattle.hm_cert.specs.Words.{IsNumber, TakesFlag};
+ghost use Rattle.hm_cert.specs.Words.{HasNumberForm, IsNumber};
 ghost use Rattle.hm_cert.specs.Reading.{IsBadHead, IsNext, given, line_format, line_row, line_rules, pieces, rows_in, with_head, word_price};
 
 use crate::prices::CLOSED;
@@ -101,8 +101,10 @@ fn cut(text: &[u8], mark: u8) -> Option<(&[u8], &[u8])>
     ensures pieces { MatchOption result (pieces mark text.now ≡ text.now ∷ []) (λ parts. pieces mark text.now ≡ parts.0.now ∷ pieces mark parts.1.now) }
     ensures shorter { IfSome result (λ parts. length parts.0.now + length parts.1.now + 1 ≡ length text.now) }
 {
-    let at = memchr(mark, text)?;
-    Some((&text[..at], &text[at + 1..]))
+    match memchr(mark, text) {
+        Some(at) => Some((&text[..at], &text[at + 1..])),
+        None => None,
+    }
 }
 
 /// The format whose text a line is.
@@ -142,7 +144,8 @@ fn read_rules(line: &[u8]) -> Option<SpellRules>
 
 /// Whether a text begins with a word, and what is left of it then.
 fn take_flag<'a>(text: &'a [u8], word: &[u8]) -> (bool, &'a [u8])
-    ensures { TakesFlag (strip word.now text.now) text.now result.0 result.1.now }
+    ensures flag { result.0 ≡ is_some (strip word.now text.now) }
+    ensures rest { result.1.now ≡ unwrap_or (strip word.now text.now) text.now }
 {
     match behind(text, word) {
         Some(rest) => (true, rest),
@@ -154,7 +157,11 @@ fn take_flag<'a>(text: &'a [u8], word: &[u8]) -> (bool, &'a [u8])
 fn behind<'a>(text: &'a [u8], word: &[u8]) -> Option<&'a [u8]>
     ensures { option_map (λ rest. rest.now) result ≡ strip word.now text.now }
 {
-    text.strip_prefix(word)
+    if text.starts_with(word) {
+        Some(&text[word.len()..])
+    } else {
+        None
+    }
 }
 
 /// Reads a row into a list, in place of what is there. Whether each word of the line is a price.
@@ -181,11 +188,22 @@ fn read_row(line: &[u8], into: &mut Vec<u64>) -> Result<bool, Memory>
 fn read_price(word: &[u8]) -> Option<u64>
     ensures { option_map told result ≡ word_price word.now }
 {
+    if word == b"-".as_slice() {
+        return Some(CLOSED);
+    }
+    if !has_number_form(word) {
+        return None;
+    }
+    read_number(word)
+}
+
+/// Whether a word has as many bytes as a number below 2^63, and `0` in front only if that is all.
+fn has_number_form(word: &[u8]) -> bool
+    ensures { IsTrue result ↔ HasNumberForm word.now }
+{
     match word {
-        [b'-'] => Some(CLOSED),
-        [] | [b'0', _, ..] => None,
-        _ if word.len() > 19 => None,
-        _ => read_number(word),
+        [] | [b'0', _, ..] => false,
+        _ => word.len() <= 19,
     }
 }
 

@@ -1,16 +1,17 @@
 -- A price and its text.
-use Rattle.std.proofs.Common.{◌≡◌, ◌<◌, ◌≤◌, ◌^◌, ◌+◌, ◌-◌, ◌*◌, take, length-take, ℕ, zero, suc, Bool, true, false, cond, ◌&&◌, List, [], ◌∷◌, get_or, length, refl, sym, ap, ◌∙◌, subst, arith}
+use Rattle.std.proofs.Common.{◌≡◌, ◌<◌, ◌≤◌, ◌^◌, ◌+◌, ◌-◌, ◌*◌, take, length-take, ℕ, zero, suc, Bool, true, false, cond, ◌&&◌, ◌==◌, List, [], ◌∷◌, get_or, length, refl, sym, ap, ◌∙◌, subst, arith}
 use Rattle.std.specs.Prelude.{Option, Some, None, option_map, bytes_eq, nat_lt}
 use Rattle.std.specs.Fmt.{decimal}
 use Rattle.std.specs.Str.Parse.{AllDigits, digits_value}
 use Rattle.std.proofs.lemmas.Bool.{false_from_ne_true}
-use Rattle.std.proofs.lemmas.Bool.Decides.{Decides-ltb, nat_tests}
+use Rattle.std.proofs.lemmas.Bool.Decides.{Decides-eqb, Decides-ltb, nat_tests}
 use Rattle.std.proofs.lemmas.Slice.Eq.{bytes_eq-Decides}
 use Rattle.std.proofs.lemmas.Fmt.{digits_decimal, digits_value-decimal, decimal_digit, decimal-digits_value, decimal_nonempty, first_decimal, length-decimal-le}
 use Rattle.std.specs.Char.{digit_value, is_ascii_digit}
 use Rattle.std.proofs.lemmas.Int.Digits.{digits_more, digits_value_more}
 use Rattle.std.proofs.lemmas.Str.Parse.{IsNumeralModel, digit_at, digits_value_short}
 use Rattle.hm_cert.specs.Certificate.{IsPrice, price_text}
+use Rattle.hm_cert.specs.Layout.{told}
 use Rattle.hm_cert.specs.Reading.{word_price}
 use Rattle.hm_cert.specs.Words.{HasNumberForm, IsNumber}
 
@@ -57,19 +58,26 @@ no_price word h = by_case (word_price word) refl
     by_case None e = refl
     by_case (Some price) e = let b = price_back word price e in absurd (h price b.1 b.0)
 
+pub told_number : (n : ℕ) → n < 2 ^ 63 → told n ≡ Some n
+told_number n h =
+    let other : (n == 18446744073709551615) ≡ false = false_from_ne_true _ (λ e. omega (arith, (Decides-eqb n 18446744073709551615).0 e)) in
+    rw other refl
+
 -- a word that hasn't the form of a number is no price, but for `-`
 pub no_form : (word : List ℕ) → (word ≡ 45 ∷ [] → ⊥) → (HasNumberForm word → ⊥) → word_price word ≡ None
-no_form word not_dash no = no_price word none
+no_form word not_dash other = no_price word none
   where
+    first : (n : ℕ) → n < 2 ^ 63 → get_or (decimal n) 0 0 ≡ 48 → length (decimal n) ≡ 1
+    first zero h e = ap length (decimal_digit 0 (omega arith))
+    first (suc n) h e = absurd (omega (arith, first_decimal (suc n) (omega arith) (omega arith)))
     form : (n : ℕ) → n < 2 ^ 63 → HasNumberForm (decimal n)
-    form zero h = ?
-    form (suc n) h = ?
+    form n h = (decimal_nonempty n (omega arith), length-decimal-le 19 n (omega arith) (omega arith) (omega arith), first n h)
     none : (price : Option ℕ) → IsPrice price → price_text price ≡ word → ⊥
     none None h e = not_dash (sym e)
-    none (Some n) h e = no (subst HasNumberForm e (form n h))
+    none (Some n) h e = other (subst HasNumberForm e (form n h))
 
 -- a word of that form, by the number that its digits write
-pub number_read : (word : List ℕ) (number : Option ℕ) → (word ≡ 45 ∷ [] → ⊥) → HasNumberForm word → IsNumber word number → option_map Some number ≡ word_price word
+pub number_read : (word : List ℕ) (number : Option ℕ) → (word ≡ 45 ∷ [] → ⊥) → HasNumberForm word → IsNumber word number → option_map told number ≡ word_price word
 number_read word None not_dash form h = sym (no_price word none)
   where
     none : (price : Option ℕ) → IsPrice price → price_text price ≡ word → ⊥
@@ -79,7 +87,7 @@ number_read word None not_dash form h = sym (no_price word none)
         omega (arith, h d.0, d.1)
 number_read word (Some n) not_dash form h =
     let text : decimal n ≡ word = ap decimal (sym h.1) ∙ decimal-digits_value own word h.0 form.0 form.2 (omega (arith, h.1, h.2)) in
-    sym (ap word_price (sym text) ∙ text_price (Some n) h.2)
+    ap Some (told_number n h.2) ∙ sym (ap word_price (sym text) ∙ text_price (Some n) h.2)
 
 -- a byte that is a digit, and one that is none
 digit_range : (b : ℕ) → true ≡ is_ascii_digit b → (48 ≤ b) × (b ≤ 57)
@@ -115,3 +123,6 @@ digit_more word i number digit h u e is =
       digits = digits_more 10 word i h u.digits (omega (arith, d, r.0, r.1));
       value = ap (λ n. n * 10 + digit) u.value ∙ ap (λ n. digits_value 10 (take i word) * 10 + n) (is ∙ sym d) ∙ sym (digits_value_more 10 word i h);
     })
+
+pub other_word : (word slice dash : List ℕ) → false ≡ bytes_eq word slice → slice ≡ dash → word ≡ dash → ⊥
+other_word word slice dash e f g = let h = (bytes_eq-Decides word slice).1 (g ∙ sym f) in cc

@@ -1,5 +1,5 @@
 -- The line of rules, read word by word.
-use Rattle.std.proofs.Common.{◌≡◌, ℕ, Bool, true, false, cond, ◌&&◌, ◌==◌, nat_eq, List, [], ◌∷◌, ◌++◌, length, drop, refl, sym, ap, ◌∙◌, append_assoc}
+use Rattle.std.proofs.Common.{◌≡◌, ℕ, Bool, true, false, cond, ◌&&◌, ◌==◌, nat_eq, List, [], ◌∷◌, ◌++◌, length, drop, refl, sym, ap, ◌∙◌, append_assoc, arith}
 use Rattle.std.specs.Prelude.{Option, Some, None, codes, bytes_eq, is_some, unwrap_or}
 use Rattle.std.specs.List.{starts_with}
 use Rattle.std.proofs.lemmas.Bool.{eqb-true}
@@ -146,3 +146,48 @@ flags_left line text h left = by_case (line_rules line) refl
         let is : strip (codes "rules") line ≡ Some (rules_back rules).text = ap (strip (codes "rules")) (line_back line rules e) ∙ (rules_back rules).front in
         let same : text ≡ (rules_back rules).text = cc in
         absurd (left (ap left5 same ∙ (rules_back rules).flags))
+
+-- what the reader has taken of a line: the flags in turn, and what is left behind each
+pub record Taken (line text : List ℕ) (rules : SpellRules) (rest1 rest2 rest3 rest4 rest5 : List ℕ) : Type 0 where
+  pub front : Some text ≡ strip (codes "rules") line
+  pub omit : rules.omit ≡ is_there (codes " omit") text
+  pub behind_omit : rest1 ≡ left (codes " omit") text
+  pub unquote : rules.unquote ≡ is_there (codes " unquote") rest1
+  pub behind_unquote : rest2 ≡ left (codes " unquote") rest1
+  pub tight : rules.tight ≡ is_there (codes " tight") rest2
+  pub behind_tight : rest3 ≡ left (codes " tight") rest2
+  pub ascii : rules.ascii ≡ is_there (codes " ascii") rest3
+  pub behind_ascii : rest4 ≡ left (codes " ascii") rest3
+  pub frame : rules.frame ≡ is_there (codes " frame") rest4
+  pub behind_frame : rest5 ≡ left (codes " frame") rest4
+
+taken_rest : (line text : List ℕ) (rules : SpellRules) (rest1 rest2 rest3 rest4 rest5 : List ℕ) → Taken line text rules rest1 rest2 rest3 rest4 rest5 → rest5 ≡ left5 text
+taken_rest line text rules rest1 rest2 rest3 rest4 rest5 t =
+    let two : rest2 ≡ left2 text = t.behind_unquote ∙ ap (left (codes " unquote")) t.behind_omit in
+    let three : rest3 ≡ left3 text = t.behind_tight ∙ ap (left (codes " tight")) two in
+    let four : rest4 ≡ left4 text = t.behind_ascii ∙ ap (left (codes " ascii")) three in
+    t.behind_frame ∙ ap (left (codes " frame")) four
+
+taken_rules : (line text : List ℕ) (rules : SpellRules) (rest1 rest2 rest3 rest4 rest5 : List ℕ) → Taken line text rules rest1 rest2 rest3 rest4 rest5 → flags_of text ≡ rules
+taken_rules line text rules rest1 rest2 rest3 rest4 rest5 t =
+    let two : rest2 ≡ left2 text = t.behind_unquote ∙ ap (left (codes " unquote")) t.behind_omit in
+    let three : rest3 ≡ left3 text = t.behind_tight ∙ ap (left (codes " tight")) two in
+    let four : rest4 ≡ left4 text = t.behind_ascii ∙ ap (left (codes " ascii")) three in
+    let omit : is_there (codes " omit") text ≡ rules.omit = sym t.omit in
+    let unquote : is_there (codes " unquote") (left1 text) ≡ rules.unquote = sym (t.unquote ∙ ap (is_there (codes " unquote")) t.behind_omit) in
+    let tight : is_there (codes " tight") (left2 text) ≡ rules.tight = sym (t.tight ∙ ap (is_there (codes " tight")) two) in
+    let ascii : is_there (codes " ascii") (left3 text) ≡ rules.ascii = sym (t.ascii ∙ ap (is_there (codes " ascii")) three) in
+    let frame : is_there (codes " frame") (left4 text) ≡ rules.frame = sym (t.frame ∙ ap (is_there (codes " frame")) four) in
+    λ i. record { omit = omit i; unquote = unquote i; tight = tight i; ascii = ascii i; frame = frame i }
+
+-- what the reader answers where nothing is left, and where something is
+pub taken_all : (line text : List ℕ) (rules : SpellRules) (rest1 rest2 rest3 rest4 rest5 : List ℕ) → Taken line text rules rest1 rest2 rest3 rest4 rest5 → true ≡ (length rest5 == 0) → Some rules ≡ line_rules line
+taken_all line text rules rest1 rest2 rest3 rest4 [] t e =
+    sym (flags_read line text (sym t.front) (sym (taken_rest line text rules rest1 rest2 rest3 rest4 [] t)) ∙ ap Some (taken_rules line text rules rest1 rest2 rest3 rest4 [] t))
+taken_all line text rules rest1 rest2 rest3 rest4 (b ∷ rest5) t e = absurd (omega (arith, eqb-true (length (b ∷ rest5)) 0 (sym e)))
+
+pub taken_part : (line text : List ℕ) (rules : SpellRules) (rest1 rest2 rest3 rest4 rest5 : List ℕ) → Taken line text rules rest1 rest2 rest3 rest4 rest5 → false ≡ (length rest5 == 0) → None ≡ line_rules line
+taken_part line text rules rest1 rest2 rest3 rest4 [] t e = absurd (cc)
+taken_part line text rules rest1 rest2 rest3 rest4 (b ∷ rest5) t e =
+    let rest : b ∷ rest5 ≡ left5 text = taken_rest line text rules rest1 rest2 rest3 rest4 (b ∷ rest5) t in
+    sym (flags_left line text (sym t.front) (λ none. let is : b ∷ rest5 ≡ [] = rest ∙ none in cc))

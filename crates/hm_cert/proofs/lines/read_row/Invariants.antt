@@ -5,7 +5,7 @@ use Rattle.hm_cert.proofs.LineRows.{behind}
 use Rattle.hm_cert.proofs.lines.read_row.Given as goal
 
 abbrev pub invariant-loop-word : goal.invariant-loop-word
-invariant-loop-word l = behind (map told l.into.items) (line_row l.rest.now) ≡ line_row l.line
+invariant-loop-word l = behind (map told l.into.items) (line_row l.rest) ≡ line_row l.line
 
 abbrev pub decreases-loop-word : goal.decreases-loop-word
-decreases-loop-word l = length l.rest.now
+decreases-loop-word l = length l.rest

@@ -34,6 +34,15 @@ rows_step number text line more cut =
     let next = one_piece 10 more in
     rw (cut, next.1.1) refl
 
+-- by whether the first line is a row
+pub bad_row : (number : ℕ) (text line more : List ℕ) (good : Bool) (row : Row) → pieces 10 text ≡ line ∷ pieces 10 more → line_row line ≡ cond good (Some row) None → good ≡ false → rows_in number text ≡ Err number
+bad_row number text line more good row cut is bad =
+    rows_step number text line more cut ∙ ap (λ r. with_row number r (rows_in (number + 1) more)) (is ∙ ap (λ b. cond b (Some row) None) bad)
+
+pub good_row : (number : ℕ) (text line more : List ℕ) (good : Bool) (row : Row) → pieces 10 text ≡ line ∷ pieces 10 more → line_row line ≡ cond good (Some row) None → good ≡ true → rows_in number text ≡ and_row row (rows_in (number + 1) more)
+good_row number text line more good row cut is well =
+    rows_step number text line more cut ∙ ap (λ r. with_row number r (rows_in (number + 1) more)) (is ∙ ap (λ b. cond b (Some row) None) well)
+
 -- a text without a line feed
 pub rows_end : (number : ℕ) (text : List ℕ) → pieces 10 text ≡ text ∷ [] → 0 < length text → rows_in number text ≡ Err number
 rows_end number [] cut h = absurd (omega arith)

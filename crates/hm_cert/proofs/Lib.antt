@@ -4,3 +4,5 @@ pub mod Pieces
 pub mod PriceTexts
 pub mod RuleLines
 pub mod LineRows
+pub mod Written
+pub mod Read

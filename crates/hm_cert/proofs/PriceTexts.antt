@@ -45,6 +45,7 @@ price_back word price h = by_closed (bytes_eq word (45 ∷ [])) refl h
         subst (λ p. (price_text p ≡ word) × IsPrice p) is (sym ((bytes_eq-Decides word (decimal (digits_value 10 word))).0 e), (Decides-ltb (digits_value 10 word) (2 ^ 63)).0 f)
     by_number true false e f g = absurd (cc)
     by_number false c e f g = absurd (cc)
+
     by_closed : (b : Bool) → bytes_eq word (45 ∷ []) ≡ b → cond b (Some None) (cond (bytes_eq word (decimal (digits_value 10 word)) && nat_lt (digits_value 10 word) (2 ^ 63)) (Some (Some (digits_value 10 word))) None) ≡ Some price → (price_text price ≡ word) × IsPrice price
     by_closed true e f =
         let is : None ≡ price = cc in
@@ -70,8 +71,10 @@ no_form word not_dash other = no_price word none
     first : (n : ℕ) → n < 2 ^ 63 → get_or (decimal n) 0 0 ≡ 48 → length (decimal n) ≡ 1
     first zero h e = ap length (decimal_digit 0 (omega arith))
     first (suc n) h e = absurd (omega (arith, first_decimal (suc n) (omega arith) (omega arith)))
+
     form : (n : ℕ) → n < 2 ^ 63 → HasNumberForm (decimal n)
     form n h = (decimal_nonempty n (omega arith), length-decimal-le 19 n (omega arith) (omega arith) (omega arith), first n h)
+
     none : (price : Option ℕ) → IsPrice price → price_text price ≡ word → ⊥
     none None h e = not_dash (sym e)
     none (Some n) h e = other (subst HasNumberForm e (form n h))
@@ -118,11 +121,13 @@ digit_small word i number h few u = rw u.value (digits_value_short own (take i w
 pub digit_more : (word : List ℕ) (i number digit : ℕ) → i < length word → UpTo word i number → true ≡ is_ascii_digit (get_or word i 0) → digit ≡ get_or word i 0 - 48 → (digit ≤ 9) × UpTo word (i + 1) (number * 10 + digit)
 digit_more word i number digit h u e is =
     let r = digit_range (get_or word i 0) e in
-    let d : digit_value (get_or word i 0) ≡ get_or word i 0 - 48 = digit_is (get_or word i 0) r.0 r.1 in
-    (omega (arith, is, r.0, r.1), record {
-      digits = digits_more 10 word i h u.digits (omega (arith, d, r.0, r.1));
-      value = ap (λ n. n * 10 + digit) u.value ∙ ap (λ n. digits_value 10 (take i word) * 10 + n) (is ∙ sym d) ∙ sym (digits_value_more 10 word i h);
-    })
+    let d : digit_value (get_or word i 0) ≡ get_or word i 0 - 48 = digit_is (get_or word i 0) r.0 r.1 in (
+      omega (arith, is, r.0, r.1),
+      record {
+        digits = digits_more 10 word i h u.digits (omega (arith, d, r.0, r.1));
+        value = ap (λ n. n * 10 + digit) u.value ∙ ap (λ n. digits_value 10 (take i word) * 10 + n) (is ∙ sym d) ∙ sym (digits_value_more 10 word i h);
+      },
+    )
 
 pub other_word : (word slice dash : List ℕ) → false ≡ bytes_eq word slice → slice ≡ dash → word ≡ dash → ⊥
 other_word word slice dash e f g = let h = (bytes_eq-Decides word slice).1 (g ∙ sym f) in cc

@@ -53,4 +53,4 @@ pushed numbers row more ends more_ends at h grown here ended =
     let same_ends : more_ends ≡ ends ++ length (numbers ++ row) ∷ [] = ended ∙ ap (λ k. ends ++ k ∷ []) (here ∙ ap length grown) in
     let P : List ℕ → List ℕ → Type 0 = λ ns es. EndsAscend 0 es (length ns) × (rows_from ns 0 es ≡ rows_from numbers 0 ends ++ map told row ∷ []) in
     subst (λ ns. P ns more_ends) (sym grown) (subst (P (numbers ++ row)) (sym same_ends)
-      (ascends_push 0 ends (length numbers) (length (numbers ++ row)) h (omega (arith, length-append numbers row)), rows_push numbers row 0 ends h))
+    (ascends_push 0 ends (length numbers) (length (numbers ++ row)) h (omega (arith, length-append numbers row)), rows_push numbers row 0 ends h))

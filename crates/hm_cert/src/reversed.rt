@@ -9,11 +9,7 @@ use crate::text::Format;
 use hm_base::{Memory, SpellRules};
 
 /// Appends the first two lines, the last byte first. Where memory is refused, a part may have been appended.
-pub fn put_head_reversed(
-    out: &mut Vec<u8>,
-    format: Format,
-    rules: SpellRules,
-) -> Result<(), Memory>
+pub fn put_head_reversed(out: &mut Vec<u8>, format: Format, rules: SpellRules) -> Result<(), Memory>
     ensures { OnOk result (out.new.items ≡ out.old.items ++ reverse (head_lines format rules)) }
 {
     out.push(b'\n')?;

@@ -28,8 +28,8 @@ returns c =
     let start : c.span_of-start.result.0 ≡ get_or (0 ∷ e) c.args.k 0 = c.span_of-start.ensures.start ∙ ap (λ x. get_or (0 ∷ x) c.args.k 0) c.deref.ensures.value in
     let end : c.span_of-start.result.1 ≡ get_or e c.args.k 0 = c.span_of-start.ensures.end ∙ ap (λ x. get_or x c.args.k 0) c.deref.ensures.value in
     let part : c.part_of.result.now ≡ slice_range n (get_or (0 ∷ e) c.args.k 0) (get_or e c.args.k 0) =
-      c.part_of.ensures
-      ∙ ap (λ x. slice_range x c.span_of-start.result.0 c.span_of-start.result.1) c.deref-2.ensures.value
-      ∙ ap (λ x. slice_range n x c.span_of-start.result.1) start
-      ∙ ap (λ x. slice_range n (get_or (0 ∷ e) c.args.k 0) x) end in
+    c.part_of.ensures
+    ∙ ap (λ x. slice_range x c.span_of-start.result.0 c.span_of-start.result.1) c.deref-2.ensures.value
+    ∙ ap (λ x. slice_range n x c.span_of-start.result.1) start
+    ∙ ap (λ x. slice_range n (get_or (0 ∷ e) c.args.k 0) x) end in
     ap (map told) part ∙ sym r.row ∙ ap (λ x. get_or x c.args.k []) c.self.view_is

@@ -10,7 +10,7 @@ mod text;
 
 pub use certificate::Certificate;
 pub use lines::{CertificateFault, Head, Lines, read_head};
-pub use prices::{CLOSED, Prices};
+pub use prices::{CLOSED, Prices, price_of};
 pub use reversed::{put_head_reversed, put_line_reversed};
 pub use text::{Format, write_certificate};
 

@@ -49,6 +49,21 @@ turned_number n h l = ap reverse (decimal_step n h l) ∙ reverse-append (decima
 pub turned_digit : (n : ℕ) → n < 10 → reverse (decimal n) ≡ (48 + n) ∷ []
 turned_digit n h = ap reverse (decimal_digit n h)
 
+-- the last two digits and those before them
+pub turned_pair : (n : ℕ) → 100 ≤ n → n < 2 ^ 64 → reverse (decimal n) ≡ (48 + n % 100 % 10) ∷ (48 + n % 100 / 10) ∷ reverse (decimal (n / 100))
+turned_pair n h l =
+    let last : n % 10 ≡ n % 100 % 10 = omega arith in
+    let next : n / 10 % 10 ≡ n % 100 / 10 = omega arith in
+    let rest : n / 10 / 10 ≡ n / 100 = omega arith in
+    turned_number n (omega arith) l
+    ∙ ap (λ x. (48 + n % 10) ∷ x) (turned_number (n / 10) (omega arith) (omega arith))
+    ∙ ap (λ x. (48 + x) ∷ (48 + n / 10 % 10) ∷ reverse (decimal (n / 10 / 10))) last
+    ∙ ap (λ x. (48 + n % 100 % 10) ∷ (48 + x) ∷ reverse (decimal (n / 10 / 10))) next
+    ∙ ap (λ x. (48 + n % 100 % 10) ∷ (48 + n % 100 / 10) ∷ reverse (decimal x)) rest
+
+pub turned_two : (n : ℕ) → 10 ≤ n → n < 100 → reverse (decimal n) ≡ (48 + n % 10) ∷ (48 + n / 10) ∷ []
+turned_two n h l = turned_number n h (omega arith) ∙ ap (λ x. (48 + n % 10) ∷ x) (turned_digit (n / 10) (omega arith))
+
 pub row_parts : (row : List ℕ) → 1 ≤ length row → row_text (map told row) ≡ price_text (told (get_or row 0 0)) ++ more_prices (map told (take (length row - 1) (drop 1 row)))
 row_parts [] h = absurd (omega arith)
 row_parts (number ∷ row) h = row_text_cons (told number) (map told row) ∙ ap (λ x. price_text (told number) ++ more_prices (map told x)) (sym (take_all (length (number ∷ row) - 1) row (omega arith)))

@@ -97,8 +97,8 @@ ReadsAs bytes (Err Memory) = ⊤
 
 -- why bytes have no first two lines
 abbrev pub IsBadHead : List ℕ → CertificateFault → Type 0
-IsBadHead bytes (BadLine line) = given bytes ≡ Err line
-IsBadHead bytes TooLong = ⊥
+IsBadHead bytes TooLong = CERTIFICATE_LIMIT < length bytes
+IsBadHead bytes (BadLine line) = (length bytes ≤ CERTIFICATE_LIMIT) × (given bytes ≡ Err line)
 IsBadHead bytes Memory = ⊥
 
 -- what is told of the rows that are left by an answer to whether there is one more, by that row and the rows behind it

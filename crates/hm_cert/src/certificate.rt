@@ -5,7 +5,7 @@ ghost use Rattle.hm_cert.specs.Reading.{ReadsAs, RowsAre, rows_in};
 use crate::lines::{CertificateFault, Lines, read_head};
 use crate::prices::Prices;
 use crate::text::Format;
-use hm_base::{CERTIFICATE_LIMIT, SpellRules};
+use hm_base::SpellRules;
 use std::alloc::Global;
 
 /// A certificate: its format, the rules that it is about, and the prices of the layers that are written.
@@ -21,9 +21,6 @@ impl Certificate {
     pub fn read(alloc: Global, bytes: &[u8]) -> Result<Certificate, CertificateFault>
         ensures { ReadsAs bytes.now result }
     {
-        if bytes.len() > CERTIFICATE_LIMIT as usize {
-            return Err(CertificateFault::TooLong);
-        }
         let head = read_head(bytes)?;
         let prices = read_rows(alloc, head.lines)?;
         Ok(Certificate {

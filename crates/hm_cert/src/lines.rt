@@ -7,7 +7,7 @@ ghost use Rattle.hm_cert.specs.Reading.{IsBadHead, IsNext, given, line_format, l
 
 use crate::prices::CLOSED;
 use crate::text::Format;
-use hm_base::{Memory, SpellRules};
+use hm_base::{CERTIFICATE_LIMIT, Memory, SpellRules};
 use memchr::memchr;
 
 /// Why bytes aren't a certificate.
@@ -50,12 +50,14 @@ pub struct Head<'a> {
     pub lines: Lines<'a>,
 }
 
-/// Reads the first two lines.
+/// Reads the first two lines of at most `CERTIFICATE_LIMIT` bytes.
 pub fn read_head(bytes: &[u8]) -> Result<Head<'_>, CertificateFault>
-    requires { length bytes.now < 2 ^ 31 }
-    ensures ok { IfOk result (λ head. given bytes.now ≡ with_head head.format head.rules (rows_in head.lines.number head.lines.rest.now)) }
+    ensures ok { IfOk result (λ head. (length bytes.now ≤ CERTIFICATE_LIMIT) × (given bytes.now ≡ with_head head.format head.rules (rows_in head.lines.number head.lines.rest.now))) }
     ensures err { IfErr result (IsBadHead bytes.now) }
 {
+    if bytes.len() > CERTIFICATE_LIMIT as usize {
+        return Err(CertificateFault::TooLong);
+    }
     let Some((first, rest)) = cut(bytes, b'\n') else {
         return Err(CertificateFault::BadLine { line: 1 });
     };

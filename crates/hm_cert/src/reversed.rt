@@ -1,5 +1,5 @@
 //! The text of a certificate, from its end, for a writer that has the prices of the last layer first.
-ghost use Rattle.std.specs.Prelude.{◌≡◌, ℕ, [], ◌∷◌, ◌++◌, map, reverse, OnOk};
+ghost use Rattle.std.specs.Prelude.{◌≡◌, ℕ, [], ◌∷◌, ◌++◌, ◌+◌, ◌/◌, ◌%◌, ◌<◌, map, reverse, OnOk};
 ghost use Rattle.std.specs.Fmt.{decimal};
 ghost use Rattle.hm_cert.specs.Certificate.{flag_text, head_lines, more_prices, price_text, row_line};
 ghost use Rattle.hm_cert.specs.Layout.{told};
@@ -61,11 +61,24 @@ fn put_number(out: &mut Vec<u8>, number: u64) -> Result<(), Memory>
     ensures { OnOk result (out.new.items ≡ out.old.items ++ reverse (decimal number)) }
 {
     let mut rest = number;
-    while rest >= 10 {
-        out.push(b'0' + (rest % 10) as u8)?;
-        rest /= 10;
+    while rest >= 100 {
+        put_pair(out, (rest % 100) as u8)?;
+        rest /= 100;
+    }
+    if rest >= 10 {
+        return put_pair(out, rest as u8);
     }
     out.push(b'0' + rest as u8)?;
+    Ok(())
+}
+
+/// Appends the two digits of a number below 100, the last first.
+fn put_pair(out: &mut Vec<u8>, pair: u8) -> Result<(), Memory>
+    requires { pair < 100 }
+    ensures { OnOk result (out.new.items ≡ out.old.items ++ (48 + pair % 10) ∷ (48 + pair / 10) ∷ []) }
+{
+    out.push(b'0' + pair % 10)?;
+    out.push(b'0' + pair / 10)?;
     Ok(())
 }
 

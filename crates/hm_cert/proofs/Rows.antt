@@ -1,8 +1,8 @@
 -- Rows that are kept in one list: how many there are, each of them, and one more.
-use Rattle.std.proofs.Common.{◌≡◌, ◌+◌, ◌-◌, ◌<◌, ◌≤◌, ℕ, zero, suc, List, [], ◌∷◌, ◌++◌, length, get_or, take, drop, map, refl, sym, ap, ◌∙◌, subst, arith, length-append, length-drop}
+use Rattle.std.proofs.Common.{◌≡◌, ◌-◌, ◌<◌, ◌≤◌, ℕ, zero, suc, List, [], ◌∷◌, ◌++◌, length, get_or, take, drop, map, refl, sym, ap, ◌∙◌, subst, arith, length-append, length-drop}
 use Rattle.std.proofs.Math.Seq.{drop-append_seam}
 use Rattle.std.proofs.lemmas.List.{take-append-le, take_all, drop-append-le}
-use Rattle.std.specs.Prelude.{Option, slice_range}
+use Rattle.std.specs.Prelude.{slice_range}
 use Rattle.hm_cert.specs.Layout.{told, rows_from, EndsAscend}
 
 pub length-rows_from : (numbers : List ℕ) (start : ℕ) (ends : List ℕ) → length (rows_from numbers start ends) ≡ length ends

@@ -1,7 +1,7 @@
 -- What was written is read back.
-use Rattle.std.proofs.Common.{◌≡◌, ◌+◌, ◌<◌, ◌≤◌, ℕ, zero, suc, Bool, true, false, cond, ◌&&◌, ◌==◌, not, List, [], ◌∷◌, ◌++◌, length, map, refl, sym, ap, ◌∙◌, subst, append_assoc, arith}
-use Rattle.std.specs.Prelude.{Option, Some, None, option_map, option_and_then, Result, Ok, Err, codes}
-use Rattle.std.specs.List.{slice_split, onto_first}
+use Rattle.std.proofs.Common.{◌≡◌, ◌+◌, ◌<◌, ℕ, Bool, true, false, ◌&&◌, ◌==◌, not, List, [], ◌∷◌, ◌++◌, length, map, refl, ap, ◌∙◌, append_assoc, arith}
+use Rattle.std.specs.Prelude.{Option, Some, None, Ok, codes}
+use Rattle.std.specs.List.{onto_first}
 use Rattle.std.specs.Fmt.{decimal}
 use Rattle.std.specs.Str.Parse.{AllDigits}
 use Rattle.std.proofs.lemmas.Bool.{false_from_ne_true}
@@ -11,9 +11,8 @@ use Rattle.std.proofs.lemmas.Str.Parse.{digit_at}
 use Rattle.hm_base.specs.declared.plain.SpellRules.{SpellRules}
 use Rattle.hm_cert.specs.declared.text.Format.{Format}
 use Rattle.hm_cert.specs.declared.text.Format.TheVariants.{One, Two}
-use Rattle.hm_cert.specs.declared.certificate.Certificate.{Certificate}
-use Rattle.hm_cert.specs.Certificate.{Row, IsPrice, ArePrices, AreRows, price_text, row_text, row_line, row_lines, format_text, flag_text, rules_text, head_lines, certificate_text}
-use Rattle.hm_cert.specs.Reading.{pieces, word_price, words_row, line_row, line_format, line_rules, and_row, with_row, rows_in, with_head, behind_rules, given}
+use Rattle.hm_cert.specs.Certificate.{Row, IsPrice, ArePrices, AreRows, price_text, row_text, row_lines, format_text, flag_text, rules_text, head_lines, certificate_text}
+use Rattle.hm_cert.specs.Reading.{pieces, words_row, line_row, line_format, and_row, with_row, rows_in, with_head, behind_rules, given}
 use Rattle.hm_cert.proofs.PriceTexts.{digits_of_decimal, text_price}
 use Rattle.hm_cert.proofs.RuleLines.{rules_back}
 use Rattle.hm_cert.proofs.LineRows.{rows_step, by_second}

@@ -1,5 +1,5 @@
 -- Texts of certificates and what they are texts of are one to one.
-use Rattle.std.specs.Prelude.{ℕ, ◌≡◌, List, Result, Ok, Err}
+use Rattle.std.specs.Prelude.{ℕ, ◌≡◌, List, Ok}
 use Rattle.hm_base.specs.declared.plain.SpellRules.{SpellRules}
 use Rattle.hm_cert.specs.declared.text.Format.{Format}
 use Rattle.hm_cert.specs.declared.certificate.Certificate.{Certificate}

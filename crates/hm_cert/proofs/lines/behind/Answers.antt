@@ -1,4 +1,4 @@
-use Rattle.std.proofs.Common.{◌≡◌, length, sym, ap, ◌∙◌, refl}
+use Rattle.std.proofs.Common.{length, sym, refl}
 use Rattle.std.proofs.lemmas.List.{take_rest}
 use Rattle.hm_cert.proofs.RuleLines.{strip_is}
 use Rattle.hm_cert.proofs.lines.behind.Goals as goal

@@ -1,6 +1,5 @@
-use Rattle.std.proofs.Common.{◌≡◌, ◌+◌, ◌∷◌, drop, length, sym, ap, ◌∙◌}
+use Rattle.std.proofs.Common.{◌+◌}
 use Rattle.std.proofs.lemmas.List.{take_rest}
-use Rattle.hm_cert.specs.Reading.{pieces}
 use Rattle.hm_cert.proofs.Pieces.{pieces_cut, pieces_whole}
 use Rattle.hm_cert.proofs.lines.cut.Goals as goal
 

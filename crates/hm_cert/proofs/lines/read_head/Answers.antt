@@ -1,4 +1,4 @@
-use Rattle.std.proofs.Common.{◌≡◌, sym, ap, ◌∙◌, arith}
+use Rattle.std.proofs.Common.{sym, ap, ◌∙◌, arith}
 use Rattle.hm_cert.specs.Reading.{pieces, behind_rules}
 use Rattle.hm_cert.proofs.LineRows.{by_second}
 use Rattle.hm_cert.proofs.lines.read_head.Goals as goal

@@ -1,5 +1,5 @@
-use Rattle.std.proofs.Common.{◌≡◌, ◌≤◌, ◌<◌, ◌^◌, length, get_or, arith}
-use Rattle.hm_cert.proofs.PriceTexts.{UpTo, digit_more, digit_small, other_byte}
+use Rattle.std.proofs.Common.{arith}
+use Rattle.hm_cert.proofs.PriceTexts.{digit_more, digit_small, other_byte}
 use Rattle.hm_cert.proofs.lines.read_number.Goals as goal
 
 pub returns-then-not-is_ascii_digit : goal.returns-then-not-is_ascii_digit

@@ -1,4 +1,4 @@
-use Rattle.std.proofs.Common.{◌≡◌, ◌∷◌, [], refl, sym}
+use Rattle.std.proofs.Common.{◌∷◌, [], refl, sym}
 use Rattle.hm_cert.proofs.PriceTexts.{no_form, number_read, other_word}
 use Rattle.hm_cert.proofs.lines.read_price.Goals as goal
 

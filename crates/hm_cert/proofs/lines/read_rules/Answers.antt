@@ -1,4 +1,3 @@
-use Rattle.std.proofs.Common.{◌≡◌, sym}
 use Rattle.hm_base.specs.declared.plain.SpellRules.{SpellRules}
 use Rattle.hm_cert.proofs.RuleLines.{Taken, taken_all, taken_part}
 use Rattle.hm_cert.proofs.lines.read_rules.Goals as goal

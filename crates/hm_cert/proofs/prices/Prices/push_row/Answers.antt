@@ -1,4 +1,4 @@
-use Rattle.std.proofs.Common.{◌≡◌, [], ◌∷◌, ◌++◌, map, ap, ◌∙◌, arith}
+use Rattle.std.proofs.Common.{[], ◌∷◌, ◌++◌, map, ap, ◌∙◌, arith}
 use Rattle.hm_cert.specs.Layout.{told}
 use Rattle.hm_cert.proofs.Rows.{pushed}
 use Rattle.hm_cert.proofs.prices.Prices.push_row.Goals as goal

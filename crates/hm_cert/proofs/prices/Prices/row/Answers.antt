@@ -1,7 +1,7 @@
-use Rattle.std.proofs.Common.{◌≡◌, ◌<◌, ◌≤◌, [], ◌∷◌, length, get_or, map, sym, ap, ◌∙◌, subst, arith}
+use Rattle.std.proofs.Common.{◌≡◌, ◌<◌, [], ◌∷◌, length, get_or, map, sym, ap, ◌∙◌, arith}
 use Rattle.std.specs.Prelude.{slice_range}
-use Rattle.hm_cert.specs.Layout.{told, rows_from}
-use Rattle.hm_cert.proofs.Rows.{RowAt, length-rows_from, row_at}
+use Rattle.hm_cert.specs.Layout.{told}
+use Rattle.hm_cert.proofs.Rows.{length-rows_from, row_at}
 use Rattle.hm_cert.proofs.prices.Prices.row.Goals as goal
 
 pub span_of-start-requires : goal.span_of-start-requires

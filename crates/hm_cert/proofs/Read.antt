@@ -4,12 +4,14 @@ use Rattle.std.specs.Prelude.{Option, Some, None, option_map, option_and_then, R
 use Rattle.std.specs.List.{join_with_byte}
 use Rattle.std.proofs.lemmas.List.Splits.{join_with_byte-slice_split}
 use Rattle.std.proofs.lemmas.Slice.Eq.{bytes_eq-Decides}
+use Rattle.std.proofs.lemmas.List.{length-map}
 use Rattle.hm_base.specs.declared.plain.SpellRules.{SpellRules}
 use Rattle.hm_cert.specs.declared.text.Format.{Format}
 use Rattle.hm_cert.specs.declared.text.Format.TheVariants.{One, Two}
 use Rattle.hm_cert.specs.declared.certificate.Certificate.{Certificate}
 use Rattle.hm_cert.specs.Certificate.{Row, ArePrices, AreRows, price_text, row_text, row_lines, format_text, rules_text, certificate_text}
-use Rattle.hm_cert.specs.Reading.{pieces, word_price, words_row, line_row, line_format, line_rules, and_row, with_row, lines_rows, with_head, behind_rules, behind_format, given_lines, given}
+use Rattle.hm_cert.specs.Layout.{told}
+use Rattle.hm_cert.specs.Reading.{pieces, word_price, words_row, line_row, line_format, line_rules, and_row, with_row, lines_rows, rows_in, with_head, behind_rules, behind_format, given_lines, given}
 use Rattle.hm_cert.proofs.Pieces.{one_piece}
 use Rattle.hm_cert.proofs.PriceTexts.{price_back}
 use Rattle.hm_cert.proofs.RuleLines as rule
@@ -44,6 +46,12 @@ line_back line row h =
     some_prices [] e = absurd (omega (arith, e))
     some_prices (price ∷ r) e = omega arith
 
+-- the numbers of a row that was read
+pub row_prices : (line numbers : List ℕ) (good : Bool) → line_row line ≡ cond good (Some (map told numbers)) None → good ≡ true → (0 < length numbers) × ArePrices (map told numbers)
+row_prices line numbers good is well =
+    let back = line_back line (map told numbers) (is ∙ ap (λ b. cond b (Some (map told numbers)) None) well) in
+    (omega (arith, back.1, length-map numbers told), back.2)
+
 -- lines and the rows whose text they are
 rows_back : (number : ℕ) (lines : List (List ℕ)) (rows : List Row) → lines_rows number lines ≡ Ok rows → (row_lines rows ≡ join_with_byte 10 lines) × AreRows rows
 rows_back number [] rows h = let is : [] ≡ rows = cc in subst (λ r. (row_lines r ≡ []) × AreRows r) is (refl, tt)
@@ -63,6 +71,10 @@ rows_back number (line ∷ next ∷ lines) rows h = by_row (line_row line) refl 
     by_row : (o : Option Row) → line_row line ≡ o → ((r : List Row) → lines_rows (number + 1) (next ∷ lines) ≡ Ok r → (row_lines r ≡ join_with_byte 10 (next ∷ lines)) × AreRows r) → with_row number o (lines_rows (number + 1) (next ∷ lines)) ≡ Ok rows → (row_lines rows ≡ line ++ 10 ∷ join_with_byte 10 (next ∷ lines)) × AreRows rows
     by_row None e g h = absurd (cc)
     by_row (Some row) e g h = by_rest row e (lines_rows (number + 1) (next ∷ lines)) refl g h
+
+-- rows that were read can be written
+pub rows_are : (number : ℕ) (text : List ℕ) (rows : List Row) → rows_in number text ≡ Ok rows → AreRows rows
+rows_are number text rows h = (rows_back number (pieces 10 text) rows h).1
 
 format_back : (line : List ℕ) (format : Format) → line_format line ≡ Some format → format_text format ≡ line
 format_back line format h = by_one (bytes_eq line (format_text One)) refl h

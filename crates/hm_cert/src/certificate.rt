@@ -1,5 +1,6 @@
 //! A certificate, read.
-ghost use Rattle.std.specs.Prelude.{◌≡◌};
+ghost use Rattle.std.specs.Prelude.{◌≡◌, IfOk};
+ghost use Rattle.hm_cert.specs.Certificate.{AreRows};
 ghost use Rattle.hm_cert.specs.Reading.{ReadsAs, RowsAre, rows_in};
 
 use crate::lines::{CertificateFault, Lines, read_head};
@@ -19,7 +20,8 @@ pub struct Certificate {
 impl Certificate {
     /// Reads the text of a certificate.
     pub fn read(alloc: Global, bytes: &[u8]) -> Result<Certificate, CertificateFault>
-        ensures { ReadsAs bytes.now result }
+        ensures read { ReadsAs bytes.now result }
+        ensures rows { IfOk result (λ certificate. AreRows certificate.prices) }
     {
         let head = read_head(bytes)?;
         let prices = read_rows(alloc, head.lines)?;

@@ -1,6 +1,7 @@
 //! The lines of a certificate, read one after another.
-ghost use Rattle.std.specs.Prelude.{◌≡◌, ℕ, ◌+◌, ◌^◌, ◌<◌, ◌≤◌, ◌∷◌, [], Some, None, true, false, length, map, is_some, unwrap_or, option_map, ◌↔◌, IsTrue, MatchOption, IfSome, IfOk, IfErr, if◌then◌else◌};
+ghost use Rattle.std.specs.Prelude.{◌≡◌, ℕ, ◌+◌, ◌^◌, ◌<◌, ◌≤◌, ◌∷◌, [], Some, None, true, false, length, map, is_some, unwrap_or, option_map, ◌↔◌, IsTrue, MatchOption, IfSome, IfOk, IfErr, OnErr, if◌then◌else◌};
 ghost use Rattle.hm_base.specs.Bytes.{strip};
+ghost use Rattle.hm_cert.specs.Certificate.{ArePrices};
 ghost use Rattle.hm_cert.specs.Layout.{told};
 ghost use Rattle.hm_cert.specs.Words.{HasNumberForm, IsNumber};
 ghost use Rattle.hm_cert.specs.Reading.{IsBadHead, IsNext, given, line_format, line_row, line_rules, pieces, rows_in, with_head, word_price};
@@ -78,9 +79,12 @@ pub fn read_head(bytes: &[u8]) -> Result<Head<'_>, CertificateFault>
 }
 
 impl<'a> Lines<'a> {
-    /// Reads the next row into a list, in place of what is there, a closed price as `CLOSED`. False at the end.
+    /// Reads the next row into a list, in place of what is there, a closed price as `CLOSED`. False at the end. After a
+    /// refusal the lines are as they were.
     pub fn next_row(&mut self, into: &mut Vec<u64>) -> Result<bool, CertificateFault>
         ensures row { IsNext (rows_in self.old.number self.old.rest.now) (map told into.new.items) (rows_in self.new.number self.new.rest.now) result }
+        ensures prices { IfOk result (λ more. more ≡ true → (0 < length into.new.items) × ArePrices (map told into.new.items)) }
+        ensures unchanged { OnErr result ((self.new.number ≡ self.old.number) × (self.new.rest.now ≡ self.old.rest.now)) }
         ensures shorter { IfOk result (λ more. more ≡ true → length self.new.rest.now < length self.old.rest.now) }
     {
         if self.rest.is_empty() {

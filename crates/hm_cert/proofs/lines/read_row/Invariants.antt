@@ -1,0 +1,11 @@
+use Rattle.std.proofs.Common.{◌≡◌, length, map}
+use Rattle.hm_cert.specs.Layout.{told}
+use Rattle.hm_cert.specs.Reading.{line_row}
+use Rattle.hm_cert.proofs.LineRows.{behind}
+use Rattle.hm_cert.proofs.lines.read_row.Given as goal
+
+abbrev pub invariant-loop-word : goal.invariant-loop-word
+invariant-loop-word l = behind (map told l.into.items) (line_row l.rest) ≡ line_row l.line
+
+abbrev pub decreases-loop-word : goal.decreases-loop-word
+decreases-loop-word l = length l.rest

@@ -1,0 +1,6 @@
+pub mod Certificate
+pub mod Layout
+pub mod Words
+pub mod Reading
+pub mod Laws
+pub mod Examples

@@ -1,0 +1,18 @@
+//! The text of a certificate: the prices of the layers that are written, and how they are written and read.
+#![tactic(auto)]
+
+mod certificate;
+pub mod laws;
+mod lines;
+mod prices;
+mod reversed;
+mod text;
+
+pub use certificate::Certificate;
+pub use lines::{CertificateFault, Head, Lines, read_head};
+pub use prices::{CLOSED, Prices, price_of};
+pub use reversed::{put_head_reversed, put_line_reversed};
+pub use text::{Format, write_certificate};
+
+#[cfg(test)]
+mod tests;

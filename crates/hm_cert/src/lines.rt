@@ -1,0 +1,229 @@
+//! The lines of a certificate, read one after another.
+ghost use Rattle.std.specs.Prelude.{◌≡◌, ℕ, ◌+◌, ◌^◌, ◌<◌, ◌≤◌, ◌∷◌, [], Some, None, true, false, length, map, is_some, unwrap_or, option_map, ◌↔◌, IsTrue, MatchOption, IfSome, IfOk, IfErr, OnErr, if◌then◌else◌};
+ghost use Rattle.hm_base.specs.Bytes.{strip};
+ghost use Rattle.hm_cert.specs.Certificate.{ArePrices};
+ghost use Rattle.hm_cert.specs.Layout.{told};
+ghost use Rattle.hm_cert.specs.Words.{HasNumberForm, IsNumber};
+ghost use Rattle.hm_cert.specs.Reading.{IsBadHead, IsNext, given, line_format, line_row, line_rules, pieces, rows_in, with_head, word_price};
+
+use crate::prices::CLOSED;
+use crate::text::Format;
+use hm_base::{CERTIFICATE_LIMIT, Memory, SpellRules};
+use memchr::memchr;
+
+/// Why bytes aren't a certificate.
+#[derive(Debug, Drop, PartialEq, Eq)]
+pub enum CertificateFault {
+    /// There are more bytes than the limit of certificates.
+    TooLong,
+    /// The first line that isn't as the format says, counted from 1.
+    BadLine { line: u32 },
+    /// Memory was refused.
+    Memory,
+}
+
+impl From<Memory> for CertificateFault {
+    ghost use Rattle.std.specs.Prelude.{◌≡◌};
+    ghost use Rattle.hm_cert.specs.declared.lines.CertificateFault.TheVariants as faults;
+
+    ghost from_gives = { λ _ fault. fault ≡ faults.Memory };
+
+    fn from(_memory: Memory) -> Self {
+        CertificateFault::Memory
+    }
+}
+
+/// The lines of a certificate that are left to read.
+#[derive(Drop)]
+pub struct Lines<'a> {
+    rest: &'a [u8],
+    // the number of the next line, counted from 1
+    number: u32,
+    ghost counted: { number + length rest.now < 2 ^ 32 },
+}
+
+/// The first two lines of a certificate, read.
+#[derive(Drop)]
+pub struct Head<'a> {
+    pub format: Format,
+    pub rules: SpellRules,
+    /// The lines of prices behind.
+    pub lines: Lines<'a>,
+}
+
+/// Reads the first two lines of at most `CERTIFICATE_LIMIT` bytes.
+pub fn read_head(bytes: &[u8]) -> Result<Head<'_>, CertificateFault>
+    ensures ok { IfOk result (λ head. (length bytes.now ≤ CERTIFICATE_LIMIT) × (given bytes.now ≡ with_head head.format head.rules (rows_in head.lines.number head.lines.rest.now))) }
+    ensures err { IfErr result (IsBadHead bytes.now) }
+{
+    if bytes.len() > CERTIFICATE_LIMIT as usize {
+        return Err(CertificateFault::TooLong);
+    }
+    let Some((first, rest)) = cut(bytes, b'\n') else {
+        return Err(CertificateFault::BadLine { line: 1 });
+    };
+    let Some(format) = read_format(first) else {
+        return Err(CertificateFault::BadLine { line: 1 });
+    };
+    let Some((second, rest)) = cut(rest, b'\n') else {
+        return Err(CertificateFault::BadLine { line: 2 });
+    };
+    let Some(rules) = read_rules(second) else {
+        return Err(CertificateFault::BadLine { line: 2 });
+    };
+    Ok(Head {
+        format,
+        rules,
+        lines: Lines { rest, number: 3 },
+    })
+}
+
+impl<'a> Lines<'a> {
+    /// Reads the next row into a list, in place of what is there, a closed price as `CLOSED`. False at the end. After a
+    /// refusal the lines are as they were.
+    pub fn next_row(&mut self, into: &mut Vec<u64>) -> Result<bool, CertificateFault>
+        ensures row { IsNext (rows_in self.old.number self.old.rest.now) (map told into.new.items) (rows_in self.new.number self.new.rest.now) result }
+        ensures prices { IfOk result (λ more. more ≡ true → (0 < length into.new.items) × ArePrices (map told into.new.items)) }
+        ensures unchanged { OnErr result ((self.new.number ≡ self.old.number) × (self.new.rest.now ≡ self.old.rest.now)) }
+        ensures shorter { IfOk result (λ more. more ≡ true → length self.new.rest.now < length self.old.rest.now) }
+    {
+        if self.rest.is_empty() {
+            return Ok(false);
+        }
+        let Some((line, rest)) = cut(self.rest, b'\n') else {
+            return Err(CertificateFault::BadLine { line: self.number });
+        };
+        if !read_row(line, into)? {
+            return Err(CertificateFault::BadLine { line: self.number });
+        }
+        self.rest = rest;
+        self.number += 1;
+        Ok(true)
+    }
+}
+
+/// The text before the first byte `mark` and the text behind it, where there is one.
+fn cut(text: &[u8], mark: u8) -> Option<(&[u8], &[u8])>
+    ensures pieces { MatchOption result (pieces mark text.now ≡ text.now ∷ []) (λ parts. pieces mark text.now ≡ parts.0.now ∷ pieces mark parts.1.now) }
+    ensures shorter { IfSome result (λ parts. length parts.0.now + length parts.1.now + 1 ≡ length text.now) }
+{
+    match memchr(mark, text) {
+        Some(at) => Some((&text[..at], &text[at + 1..])),
+        None => None,
+    }
+}
+
+/// The format whose text a line is.
+fn read_format(line: &[u8]) -> Option<Format>
+    ensures { result ≡ line_format line.now }
+{
+    if line == Format::One.text() {
+        Some(Format::One)
+    } else if line == Format::Two.text() {
+        Some(Format::Two)
+    } else {
+        None
+    }
+}
+
+/// The rules whose text a line is.
+fn read_rules(line: &[u8]) -> Option<SpellRules>
+    ensures { result ≡ line_rules line.now }
+{
+    let rest = behind(line, b"rules")?;
+    let (omit, rest) = take_flag(rest, b" omit");
+    let (unquote, rest) = take_flag(rest, b" unquote");
+    let (tight, rest) = take_flag(rest, b" tight");
+    let (ascii, rest) = take_flag(rest, b" ascii");
+    let (frame, rest) = take_flag(rest, b" frame");
+    if !rest.is_empty() {
+        return None;
+    }
+    Some(SpellRules {
+        omit,
+        unquote,
+        tight,
+        ascii,
+        frame,
+    })
+}
+
+/// Whether a text begins with a word, and what is left of it then.
+fn take_flag<'a>(text: &'a [u8], word: &[u8]) -> (bool, &'a [u8])
+    ensures flag { result.0 ≡ is_some (strip word.now text.now) }
+    ensures rest { result.1.now ≡ unwrap_or (strip word.now text.now) text.now }
+{
+    match behind(text, word) {
+        Some(rest) => (true, rest),
+        None => (false, text),
+    }
+}
+
+/// What follows a word, where the text begins with it.
+fn behind<'a>(text: &'a [u8], word: &[u8]) -> Option<&'a [u8]>
+    ensures { option_map (λ rest. rest.now) result ≡ strip word.now text.now }
+{
+    if text.starts_with(word) {
+        Some(&text[word.len()..])
+    } else {
+        None
+    }
+}
+
+/// Reads a row into a list, in place of what is there. Whether each word of the line is a price.
+fn read_row(line: &[u8], into: &mut Vec<u64>) -> Result<bool, Memory>
+    ensures { IfOk result (λ good. line_row line.now ≡ (if good then Some (map told into.new.items) else None)) }
+{
+    into.clear();
+    let mut rest = line;
+    while let Some((word, more)) = cut(rest, b' ') {
+        match read_price(word) {
+            Some(price) => into.push(price)?,
+            None => return Ok(false),
+        }
+        rest = more;
+    }
+    match read_price(rest) {
+        Some(price) => into.push(price)?,
+        None => return Ok(false),
+    }
+    Ok(true)
+}
+
+/// The price whose text a word is.
+fn read_price(word: &[u8]) -> Option<u64>
+    ensures { option_map told result ≡ word_price word.now }
+{
+    if word == b"-".as_slice() {
+        return Some(CLOSED);
+    }
+    if !has_number_form(word) {
+        return None;
+    }
+    read_number(word)
+}
+
+/// Whether a word has as many bytes as a number below 2^63, and `0` in front only if that is all.
+fn has_number_form(word: &[u8]) -> bool
+    ensures { IsTrue result ↔ HasNumberForm word.now }
+{
+    match word {
+        [] | [b'0', _, ..] => false,
+        _ => word.len() <= 19,
+    }
+}
+
+/// The number below 2^63 that digits write, of which there are at most 19.
+fn read_number(word: &[u8]) -> Option<u64>
+    requires { length word.now ≤ 19 }
+    ensures { IsNumber word.now result }
+{
+    let mut number: u64 = 0;
+    for byte in word {
+        if !byte.is_ascii_digit() {
+            return None;
+        }
+        number = number * 10 + u64::from(*byte - b'0');
+    }
+    if number < 1 << 63 { Some(number) } else { None }
+}

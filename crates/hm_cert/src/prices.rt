@@ -1,0 +1,119 @@
+//! The prices of the layers that a certificate writes.
+ghost use Rattle.std.specs.Prelude.{◌≡◌, ℕ, ◌<◌, ◌≤◌, [], ◌∷◌, ◌++◌, Some, length, map, slice_get, slice_index, slice_index_or, slice_range, OnOk, OnErr};
+ghost use Rattle.hm_cert.specs.Layout.{told};
+
+use hm_base::Memory;
+use std::alloc::Global;
+use std::marker::Model;
+
+/// The number that stands for a closed price, one without a bound.
+pub const CLOSED: u64 = u64::MAX;
+
+/// The price that a number stands for: none where it is closed.
+pub fn price_of(number: u64) -> Option<u64>
+    ensures { result ≡ told number }
+{
+    if number == CLOSED { None } else { Some(number) }
+}
+
+/// The prices of each layer that is written, in bytes. Contracts see the list of rows, each the list of its prices, in
+/// which a closed one is None.
+#[derive(Drop)]
+pub struct Prices {
+    // the rows, one behind the other
+    numbers: Vec<u64>,
+    // where each row ends
+    ends: Vec<usize>,
+}
+
+impl Model for Prices {
+    ghost use Rattle.std.specs.Prelude.{ℕ, List, Option, length};
+
+    ghost Value = { List (List (Option ℕ)) };
+
+    ghost use Rattle.hm_cert.specs.Layout.{rows_from, EndsAscend};
+
+    ghost view = { λ p. rows_from p.numbers.items 0 p.ends.items };
+
+    ghost invariant = { λ p. EndsAscend 0 p.ends.items (length p.numbers.items) };
+}
+
+impl Prices {
+    /// No rows. It allocates nothing until a row is added.
+    pub fn new(alloc: Global) -> Prices
+        ensures { result ≡ [] }
+    {
+        Prices {
+            numbers: Vec::new(alloc),
+            ends: Vec::new(alloc),
+        }
+    }
+
+    /// Adds a row behind the others: its prices, a closed one as `CLOSED`.
+    pub fn push_row(&mut self, row: &[u64]) -> Result<(), Memory>
+        ensures ok { OnOk result (self.new ≡ self.old ++ map told row.now ∷ []) }
+        ensures unchanged { OnErr result (self.new ≡ self.old) }
+    {
+        let start = self.numbers.len();
+        self.numbers.extend_from_slice(row)?;
+        match self.ends.push(self.numbers.len()) {
+            Ok(()) => Ok(()),
+            Err(_) => {
+                self.numbers.truncate(start);
+                Err(Memory)
+            }
+        }
+    }
+
+    /// How many rows there are.
+    pub fn rows(&self) -> usize
+        ensures { result ≡ length self.now }
+    {
+        self.ends.len()
+    }
+
+    /// The prices of row `k`, a closed one as `CLOSED`.
+    pub fn row(&self, k: usize) -> &[u64]
+        requires { k < length self.now }
+        ensures { map told result.now ≡ slice_index_or self.now k [] }
+    {
+        let (start, end) = span_of(&self.ends, k);
+        part_of(&self.numbers, start, end)
+    }
+
+    /// How many prices row `k` has.
+    pub fn width(&self, k: usize) -> usize
+        requires { k < length self.now }
+        ensures { result ≡ length (slice_index_or self.now k []) }
+    {
+        self.row(k).len()
+    }
+
+    /// Price `at` of row `k`, None where it is closed.
+    pub fn get(&self, k: usize, at: usize) -> Option<u64>
+        requires row { k < length self.now }
+        requires price { at < length (slice_index_or self.now k []) }
+        ensures { Some result ≡ slice_get (slice_index_or self.now k []) at }
+    {
+        price_of(self.row(k)[at])
+    }
+}
+
+/// Where row `k` begins and where it ends, by the ends of all rows.
+fn span_of(ends: &[usize], k: usize) -> (usize, usize)
+    requires { k < length ends.now }
+    ensures start { result.0 ≡ slice_index (0 ∷ ends.now) k }
+    ensures end { result.1 ≡ slice_index ends.now k }
+{
+    let start = if k == 0 { 0 } else { ends[k - 1] };
+    (start, ends[k])
+}
+
+/// The numbers from one place up to another.
+fn part_of(numbers: &[u64], start: usize, end: usize) -> &[u64]
+    requires order { start ≤ end }
+    requires inside { end ≤ length numbers.now }
+    ensures { result.now ≡ slice_range numbers.now start end }
+{
+    &numbers[start..end]
+}

@@ -1,0 +1,150 @@
+use super::*;
+use hm_base::{Memory, SpellRules};
+use std::alloc::Global;
+
+const RULES: SpellRules = SpellRules {
+    omit: true,
+    unquote: true,
+    tight: false,
+    ascii: false,
+    frame: false,
+};
+
+/// The certificate of `<!doctype html><p>a</p><p>b</p>`, with every layer and with those that have a choice.
+const EVERY_LAYER: &str =
+    "html-cert 1\nrules omit unquote\n23\n8\n8\n8\n8\n8\n5\n4\n4\n1\n0\n0\n0\n0\n";
+
+const CHOICES: &str = "html-cert 2\nrules omit unquote\n23\n8\n8\n8\n8\n4\n0\n0\n0\n0\n";
+
+const WIDE: &str = "html-cert 2\nrules omit unquote\n10 - 9223372036854775807\n- -\n0\n";
+
+/// The text of a certificate, written from its end and turned round.
+fn reversed(
+    alloc: Global,
+    format: Format,
+    rules: SpellRules,
+    prices: &Prices,
+) -> Result<Vec<u8>, Memory> {
+    let mut out = Vec::new(alloc);
+    for k in (0..prices.rows()).rev() {
+        put_line_reversed(&mut out, prices.row(k))?;
+    }
+    put_head_reversed(&mut out, format, rules)?;
+    out.reverse();
+    Ok(out)
+}
+
+#[test]
+fn written(rt: HostRuntime) -> Result<(), Memory> {
+    for (format, rows, want) in [
+        (
+            Format::One,
+            [23, 8, 8, 8, 8, 8, 5, 4, 4, 1, 0, 0, 0, 0].as_slice(),
+            EVERY_LAYER,
+        ),
+        (
+            Format::Two,
+            [23, 8, 8, 8, 8, 4, 0, 0, 0, 0].as_slice(),
+            CHOICES,
+        ),
+    ] {
+        let mut prices = Prices::new(rt.alloc());
+        for price in rows {
+            prices.push_row(&[*price])?;
+        }
+        let text = write_certificate(rt.alloc(), format, RULES, &prices)?;
+        assert!(rt; text.as_slice() == want.as_bytes(), "{want}");
+        let text = reversed(rt.alloc(), format, RULES, &prices)?;
+        assert!(rt; text.as_slice() == want.as_bytes(), "{want}");
+    }
+    Ok(())
+}
+
+#[test]
+fn wide_rows(rt: HostRuntime) -> Result<(), Memory> {
+    let mut prices = Prices::new(rt.alloc());
+    prices.push_row(&[10, CLOSED, 9_223_372_036_854_775_807])?;
+    prices.push_row(&[CLOSED, CLOSED])?;
+    prices.push_row(&[0])?;
+    let text = write_certificate(rt.alloc(), Format::Two, RULES, &prices)?;
+    assert!(rt; text.as_slice() == WIDE.as_bytes());
+    let text = reversed(rt.alloc(), Format::Two, RULES, &prices)?;
+    assert!(rt; text.as_slice() == WIDE.as_bytes());
+    Ok(())
+}
+
+#[test]
+fn read(rt: HostRuntime) -> Result<(), CertificateFault> {
+    let read = Certificate::read(rt.alloc(), WIDE.as_bytes())?;
+    assert!(rt; read.format == Format::Two && read.rules == RULES);
+    assert!(rt; read.prices.rows() == 3);
+    for (k, row) in [
+        [Some(10), None, Some(9_223_372_036_854_775_807)].as_slice(),
+        [None, None].as_slice(),
+        [Some(0)].as_slice(),
+    ]
+    .iter()
+    .enumerate()
+    {
+        assert!(rt; k < read.prices.rows() && read.prices.width(k) == row.len());
+        for (at, price) in row.iter().enumerate() {
+            assert!(rt; at < read.prices.width(k) && read.prices.get(k, at) == *price);
+        }
+    }
+    let read = Certificate::read(rt.alloc(), EVERY_LAYER.as_bytes())?;
+    assert!(rt; read.format == Format::One && read.rules == RULES && read.prices.rows() == 14);
+    let read = Certificate::read(rt.alloc(), b"html-cert 2\nrules tight ascii frame\n")?;
+    assert!(rt; read.rules.tight && read.rules.ascii && read.rules.frame);
+    assert!(rt; !read.rules.omit && !read.rules.unquote && read.prices.rows() == 0);
+    Ok(())
+}
+
+#[test]
+fn bad_lines(rt: HostRuntime) {
+    for (text, want) in [
+        ("", 1),
+        ("\n", 1),
+        ("html-cert 1", 1),
+        ("html-cert 3\nrules\n0\n", 1),
+        ("html-cert 1 \nrules\n0\n", 1),
+        ("html-cert 1\r\nrules\n0\n", 1),
+        ("html-cert 1\n", 2),
+        ("html-cert 1\nrules", 2),
+        ("html-cert 1\n\n0\n", 2),
+        ("html-cert 1\nrules \n0\n", 2),
+        ("html-cert 1\nrules omit omit\n0\n", 2),
+        ("html-cert 1\nrules frame omit\n0\n", 2),
+        ("html-cert 1\nrules  omit\n0\n", 2),
+        ("html-cert 1\nrulesomit\n0\n", 2),
+        ("html-cert 1\nrules\n\n", 3),
+        ("html-cert 1\nrules\n0", 3),
+        ("html-cert 1\nrules\n0\n0\n\n0\n", 5),
+        ("html-cert 1\nrules\n0\n0 \n", 4),
+        ("html-cert 1\nrules\n0\n 0\n", 4),
+        ("html-cert 1\nrules\n0\n0  0\n", 4),
+        ("html-cert 1\nrules\n0\n01\n", 4),
+        ("html-cert 1\nrules\n0\n00\n", 4),
+        ("html-cert 1\nrules\n0\n+1\n", 4),
+        ("html-cert 1\nrules\n0\n--\n", 4),
+        ("html-cert 1\nrules\n0\n-1\n", 4),
+        ("html-cert 1\nrules\n0\n1x\n", 4),
+        (
+            "html-cert 1\nrules\n9223372036854775807\n9223372036854775808\n",
+            4,
+        ),
+        ("html-cert 1\nrules\n0\n18446744073709551615\n", 4),
+        ("html-cert 1\nrules\n0\n18446744073709551616\n", 4),
+        (
+            "html-cert 1\nrules\n0\n10000000000000000000000000000000000000000\n",
+            4,
+        ),
+        ("html-cert 1\nrules\n0\n0\r\n", 4),
+        ("html-cert 1\nrules\n0\n1\t2\n", 4),
+    ] {
+        let line = match Certificate::read(rt.alloc(), text.as_bytes()) {
+            Err(CertificateFault::BadLine { line }) => line,
+            _ => 0,
+        };
+        assert!(rt; line == want, "{text}");
+    }
+}

@@ -1,0 +1,13 @@
+//! The edges of a unit from a state: states, units and pieces as a writer holds them, and what a byte does to what is pending.
+#![tactic(auto)]
+
+pub mod laws;
+mod pieces;
+mod states;
+mod steps;
+mod units;
+
+pub use pieces::{Edge, Form, Piece};
+pub use states::{Pending, Spot, State, Where};
+pub use steps::{may_end, step};
+pub use units::{TextKind, Unit};

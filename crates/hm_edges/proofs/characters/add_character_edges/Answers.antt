@@ -1,0 +1,24 @@
+use Rattle.std.proofs.Common.{◌≡◌, ◌∙◌, cond, ◌∷◌, [], ◌++◌, true, false, not, codes, map, refl, sym, ap, ap₂, encode_utf8}
+use Rattle.hm_edges.proofs.Adding.{adds_one, adds_if, adds_none, adds_then, adds_stopped, adds_as}
+use Rattle.hm_edges.proofs.SectionEdges.{opened, not_opened, foreign_more, foreign_true, next_for}
+use Rattle.hm_edges.specs.States.{where_of, spot_of, pending_of, state_of}
+use Rattle.hm_edges.specs.Units.{is_foreign_kind}
+use Rattle.hm_edges.specs.Characters.{rules_with}
+use Rattle.hm_text_spell.specs.CharacterEdges.{kept_at, choices}
+use Rattle.hm_units.specs.Units.{character, in_text}
+use Rattle.std.proofs.Common.{is_some, None}
+use Rattle.hm_edges.proofs.characters.add_character_edges.Goals as goal
+
+pub returns-then-is_in_section : goal.returns-then-is_in_section
+returns-then-is_in_section c = record {
+  known = (c.add_section_edges.ensures c.args.table.now (character in_text c.args.character.c None) (next_for c.args.character.more).0 refl (next_for c.args.character.more).1).known;
+  edges = λ u next own is meets.
+      rw (← c.is_in_section.ensures, c.if-is_in_section.true)
+      (c.add_section_edges.ensures c.args.table.now u next own (foreign_true _ _ _ (meets (sym c.is_in_section.ensures ∙ c.if-is_in_section.true)) is));
+}
+
+pub returns-else-is_in_section : goal.returns-else-is_in_section
+returns-else-is_in_section c = record {
+  known = c.add_outside_edges.ensures.known;
+  edges = λ u next own is meets. rw (← c.is_in_section.ensures, c.if-is_in_section.false) (c.add_outside_edges.ensures.edges u next own is);
+}

@@ -1,13 +1,11 @@
 -- The choices of a character, by what is pending and by whether a reference is one.
-use Rattle.std.proofs.Common.{◌≡◌, ◌∙◌, ℕ, Bool, true, false, cond, ◌&&◌, List, [], ◌∷◌, ◌++◌, map, Option, Some, None, is_some, is_none, option_to_list, refl, sym, ap}
+use Rattle.std.proofs.Common.{◌≡◌, ◌∙◌, ℕ, Bool, cond, ◌&&◌, List, [], ◌∷◌, ◌++◌, map, Option, Some, None, is_some, refl, sym, ap}
 use Rattle.std.proofs.lemmas.List.{map-append}
 use Rattle.std.specs.Option.{option_map}
-use Rattle.hm_edges.specs.Characters.{behind_by}
 use Rattle.hm_refs.specs.Names.{Entry}
 use Rattle.hm_refs.specs.Numbers.{best_number}
 use Rattle.hm_spellings.specs.Characters.{CharacterRules, Spot}
-use Rattle.hm_text_spell.specs.CharacterEdges.{Choice, choice, by_names, by_pairs, by_decimal, by_hexadecimal, by_references, behind_name, behind_half, choices_by, as_itself, kept_at}
-use Rattle.hm_units.specs.Edges.{Edge}
+use Rattle.hm_text_spell.specs.CharacterEdges.{choice, by_names, by_pairs, by_decimal, by_hexadecimal, by_references, behind_name, behind_half, choices_by, as_itself, kept_at}
 use Rattle.hm_units.specs.States.{Where, Pending}
 use Rattle.hm_units.specs.Steps.{step}
 

@@ -1,5 +1,5 @@
 -- The two references in hexadecimal, where they are shorter.
-use Rattle.std.proofs.Common.{◌≡◌, ℕ, Bool, true, false, cond, ◌&&◌, List, [], ◌∷◌, ◌++◌, nat_le, codes, map, refl}
+use Rattle.std.proofs.Common.{◌≡◌, ℕ, Bool, true, false, cond, ◌&&◌, [], ◌∷◌, ◌++◌, nat_le, codes, map, refl}
 use Rattle.std.specs.Fmt.{digits}
 use Rattle.hm_text_spell.specs.CharacterEdges.{kept_at, by_hexadecimal}
 use Rattle.hm_units.specs.Edges.{edge}

@@ -1,7 +1,6 @@
 -- States of a table that mean the same are equal.
 use Rattle.std.proofs.Common.{◌≡◌, ◌∙◌, ℕ, true, List, Option, Some, None, refl, sym, ap, ap₂}
-use Rattle.std.specs.Option.{option_map}
-use Rattle.hm_graph.proofs.States.{same_is, same_self}
+use Rattle.hm_graph.proofs.States.{same_is}
 use Rattle.hm_refs.specs.Tables.{TableView, IsNode, front_at}
 use Rattle.hm_units.specs.States as states
 use Rattle.hm_edges.specs.declared.states.Where.{Where}

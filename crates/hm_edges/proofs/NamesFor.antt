@@ -1,6 +1,6 @@
 -- The edges by names, by the places of the names that begin with a code point.
 use Rattle.std.proofs.lemmas.List.{map-append}
-use Rattle.std.proofs.Common.{◌≡◌, ◌∙◌, ℕ, zero, suc, ◌+◌, ◌<◌, ◌≤◌, Bool, true, false, cond, ◌==◌, List, [], ◌∷◌, ◌++◌, length, get_or, drop, drop-cons, refl, sym, ap, subst, arith, append_assoc, length-append, append-nil, map, Result, Ok, Err, IsErr, bytes_eq}
+use Rattle.std.proofs.Common.{◌≡◌, ◌∙◌, ℕ, zero, suc, ◌+◌, ◌<◌, ◌≤◌, Bool, true, false, cond, ◌==◌, List, [], ◌∷◌, ◌++◌, length, get_or, drop, refl, sym, ap, arith, append_assoc, length-append, append-nil, map, Result, Ok, Err, IsErr, bytes_eq}
 use Rattle.std.proofs.lemmas.List.{drop_all}
 use Rattle.std.proofs.Math.Seq.{get_or-append_seam}
 use Rattle.std.proofs.lemmas.Slice.Eq.{bytes_eq-Decides}
@@ -13,7 +13,6 @@ use Rattle.hm_units.specs.Edges as graph
 use Rattle.hm_units.specs.States.{Where, Pending}
 use Rattle.hm_units.specs.Units as units
 use Rattle.hm_edges.specs.declared.pieces.Edge.{Edge}
-use Rattle.hm_edges.specs.Characters.{behind_by}
 use Rattle.hm_edges.specs.Found.{Adds}
 use Rattle.hm_edges.proofs.Adding.{adds_none, adds_then, adds_stopped, adds_as}
 use Rattle.hm_refs.proofs.RunEnds.{rest_cons}

@@ -4,7 +4,7 @@ use Rattle.std.specs.List.{list_any}
 use Rattle.hm_refs.specs.Names.{Entry}
 use Rattle.hm_refs.specs.Numbers.{best_number}
 use Rattle.hm_spellings.specs.Characters.{CharacterRules, Spot}
-use Rattle.hm_text_spell.specs.CharacterEdges.{Choice, choice, by_names, by_pairs, by_decimal, by_hexadecimal, by_references, behind_name, behind_pair, behind_half, half_of, choices, choices_by, as_itself, character_edges, is_in_section, section_edges, opened_sections, kept_at, spot_at}
+use Rattle.hm_text_spell.specs.CharacterEdges.{choice, by_names, by_pairs, by_decimal, by_hexadecimal, behind_name, behind_pair, half_of, choices, choices_by, as_itself, character_edges, is_in_section, section_edges, opened_sections, kept_at, spot_at}
 use Rattle.hm_units.specs.States.{Pending, State}
 use Rattle.hm_units.specs.Units.{TextKind}
 use Rattle.hm_edges.specs.Characters.{edges_by_pair, rules_with}

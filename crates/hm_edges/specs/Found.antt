@@ -30,7 +30,7 @@ MayMeet unit from = Prim.Unit {0}
 abbrev pub AreEdges : TableView → SpellRules → Unit → State → List Edge → Type 0
 AreEdges v rules unit from es = (u : units.Unit) → StandsFor v.entries unit u → MayMeet unit from → edges_seen v u es ≡ edges_of (spelling v.entries rules) u (state_of v from)
 
--- they are a front of its edges
+-- for each of them these are a front of its edges
 abbrev pub AreFront : TableView → SpellRules → Unit → State → List Edge → Type 0
 AreFront v rules unit from es = (u : units.Unit) → StandsFor v.entries unit u → MayMeet unit from → (rest : List graph.Edge) × (edges_seen v u es ++ rest ≡ edges_of (spelling v.entries rules) u (state_of v from))
 

@@ -1,5 +1,5 @@
 -- What a piece writes for a unit, and the edge that an edge of the code is then.
-use Rattle.std.specs.Prelude.{ℕ, ◌<◌, Bool, true, false, List, [], ◌∷◌, ◌++◌, map, length, if◌then◌else◌, codes, encode_utf8}
+use Rattle.std.specs.Prelude.{ℕ, ◌<◌, Bool, false, List, [], ◌∷◌, ◌++◌, map, length, if◌then◌else◌, codes, encode_utf8}
 use Rattle.std.specs.Fmt.{decimal, digits}
 use Rattle.std.specs.List.{AllByRecursion}
 use Rattle.hm_refs.specs.Names.{Entry}

@@ -1,5 +1,5 @@
 -- What the states of the code mean: a node stands for the bytes that lead to it in the table.
-use Rattle.std.specs.Prelude.{◌≡◌, true, Option, Some, None}
+use Rattle.std.specs.Prelude.{◌≡◌, true, Some}
 use Rattle.std.specs.Option.{option_map}
 use Rattle.hm_refs.specs.Tables.{TableView, IsNode, front_at}
 use Rattle.hm_spellings.specs.Characters as spots

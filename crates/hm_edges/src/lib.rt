@@ -9,6 +9,8 @@ mod pieces;
 mod sections;
 mod states;
 mod steps;
+#[cfg(test)]
+mod tests;
 mod units;
 
 pub use edges::find_edges;

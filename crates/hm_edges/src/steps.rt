@@ -244,7 +244,7 @@ fn named_in_value(table: &Table, node: Node, byte: u8) -> Option<Pending>
 
 /// What is pending behind a byte more; None where the byte makes something else of what was written.
 ///
-/// In a section a byte is no matter for it, and while a code point is due none may stand.
+/// None as well while a code point is due, and behind brackets in a section, where it isn't asked.
 pub fn step(pending: Pending, table: &Table, spot: Spot, byte: u8) -> Option<Pending>
     requires { HasNodes table.now pending }
     ensures step { option_map (pending_of table.now) result ≡ steps.step table.now.entries (spot_of spot) (pending_of table.now pending) byte }

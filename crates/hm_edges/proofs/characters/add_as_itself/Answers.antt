@@ -1,9 +1,9 @@
-use Rattle.std.proofs.Common.{◌≡◌, ◌∙◌, cond, ◌∷◌, [], ◌++◌, true, false, not, codes, map, refl, sym, ap, ap₂, encode_utf8}
-use Rattle.hm_edges.proofs.Adding.{adds_one, adds_if, adds_none, adds_then, adds_stopped, adds_as}
+use Rattle.std.proofs.Common.{◌∙◌, ◌∷◌, [], map, refl, sym, ap, ap₂}
+use Rattle.hm_edges.proofs.Adding.{adds_one, adds_none, adds_as}
 use Rattle.hm_edges.proofs.RunningOn.{itself_barred, itself_broken, itself_stands}
 use Rattle.hm_edges.specs.Characters.{rules_with}
 use Rattle.hm_edges.specs.States.{where_of, spot_of, pending_of}
-use Rattle.hm_text_spell.specs.CharacterEdges.{kept_at, choice, itself_to}
+use Rattle.hm_text_spell.specs.CharacterEdges.{kept_at}
 use Rattle.hm_units.specs.Edges.{edge}
 use Rattle.hm_units.specs.Steps.{run}
 use Rattle.std.proofs.Common.{Some}

@@ -1,12 +1,7 @@
-use Rattle.std.proofs.Common.{◌≡◌, ◌∙◌, cond, ◌∷◌, [], ◌++◌, true, false, not, codes, map, refl, sym, ap, ap₂, encode_utf8}
-use Rattle.hm_edges.proofs.Adding.{adds_one, adds_if, adds_none, adds_then, adds_stopped, adds_as}
-use Rattle.hm_edges.proofs.SectionEdges.{opened, not_opened, foreign_more, foreign_true, next_for}
-use Rattle.hm_edges.specs.States.{where_of, spot_of, pending_of, state_of}
-use Rattle.hm_edges.specs.Units.{is_foreign_kind}
-use Rattle.hm_edges.specs.Characters.{rules_with}
-use Rattle.hm_text_spell.specs.CharacterEdges.{kept_at, choices}
+use Rattle.std.proofs.Common.{◌∙◌, refl, sym}
+use Rattle.hm_edges.proofs.SectionEdges.{foreign_true, next_for}
 use Rattle.hm_units.specs.Units.{character, in_text}
-use Rattle.std.proofs.Common.{is_some, None}
+use Rattle.std.proofs.Common.{None}
 use Rattle.hm_edges.proofs.characters.add_character_edges.Goals as goal
 
 pub returns-then-is_in_section : goal.returns-then-is_in_section

@@ -1,5 +1,4 @@
-use Rattle.std.proofs.Common.{◌≡◌, ◌∙◌, cond, ◌∷◌, [], ◌++◌, true, false, codes, refl, sym, ap}
-use Rattle.hm_edges.proofs.Adding.{adds_one, adds_if, adds_none, adds_then, adds_stopped, adds_as}
+use Rattle.hm_edges.proofs.Adding.{adds_if, adds_then, adds_stopped, adds_as}
 use Rattle.hm_edges.proofs.HexadecimalEdges.{two_are}
 use Rattle.hm_edges.specs.States.{where_of}
 use Rattle.hm_edges.proofs.characters.add_hexadecimals.Goals as goal

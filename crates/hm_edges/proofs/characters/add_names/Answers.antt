@@ -1,9 +1,7 @@
-use Rattle.std.proofs.Common.{◌≡◌, ◌∙◌, cond, ◌∷◌, [], ◌++◌, true, false, not, codes, map, refl, sym, ap, ap₂, encode_utf8}
-use Rattle.hm_edges.proofs.Adding.{adds_one, adds_if, adds_none, adds_then, adds_stopped, adds_as}
-use Rattle.hm_edges.proofs.NamesFor.{name_edge, names_begin, names_more, names_stopped, names_done, place_inside}
+use Rattle.std.proofs.Common.{◌∷◌}
+use Rattle.hm_edges.proofs.NamesFor.{names_begin, names_more, names_stopped, names_done, place_inside}
 use Rattle.hm_edges.specs.Characters.{behind_by}
 use Rattle.hm_edges.specs.States.{where_of}
-use Rattle.hm_refs.specs.Tables.{entry_at}
 use Rattle.std.proofs.Common.{is_some, option_to_list, length, ◌<◌, subst}
 use Rattle.std.proofs.lemmas.List.{get_or_read}
 use Rattle.hm_edges.proofs.characters.add_names.Goals as goal

@@ -1,9 +1,6 @@
-use Rattle.std.proofs.Common.{◌≡◌, ◌∙◌, cond, ◌∷◌, [], ◌++◌, true, false, not, codes, map, refl, sym, ap, ap₂, encode_utf8}
-use Rattle.hm_edges.proofs.Adding.{adds_one, adds_if, adds_none, adds_then, adds_stopped, adds_as}
-use Rattle.hm_edges.proofs.Choices.{references_are, due_choice, other_choices}
-use Rattle.hm_edges.specs.States.{where_of, spot_of, pending_of}
-use Rattle.hm_edges.specs.Characters.{rules_with}
-use Rattle.hm_text_spell.specs.CharacterEdges.{kept_at, half_of}
+use Rattle.hm_edges.proofs.Adding.{adds_then, adds_stopped, adds_as}
+use Rattle.hm_edges.proofs.Choices.{references_are}
+use Rattle.hm_edges.specs.States.{where_of}
 use Rattle.hm_edges.proofs.characters.add_references.Goals as goal
 
 pub returns-in_err-add_names : goal.returns-in_err-add_names

@@ -1,5 +1,4 @@
-use Rattle.std.proofs.Common.{◌≡◌, ◌∙◌, sym, ap, None, [], drop, length, refl}
-use Rattle.hm_units.specs.Steps.{run}
+use Rattle.std.proofs.Common.{◌∙◌, None}
 use Rattle.hm_edges.specs.States.{pending_of, spot_of}
 use Rattle.hm_edges.proofs.RunningOn.{run_on}
 use Rattle.hm_edges.proofs.characters.run.Goals as goal

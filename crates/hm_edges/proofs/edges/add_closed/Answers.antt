@@ -1,5 +1,4 @@
-use Rattle.std.proofs.Common.{◌≡◌, ◌∙◌, cond, ◌∷◌, [], ◌++◌, true, false, codes, refl, sym, ap}
-use Rattle.hm_edges.proofs.Adding.{adds_one, adds_if, adds_none, adds_then, adds_stopped, adds_as}
+use Rattle.hm_edges.proofs.Adding.{adds_one}
 use Rattle.hm_edges.proofs.edges.add_closed.Goals as goal
 
 pub returns-in-InUnquoted : goal.returns-in-InUnquoted

@@ -1,6 +1,6 @@
-use Rattle.std.proofs.Common.{◌≡◌, ◌∙◌, cond, ◌∷◌, [], ◌++◌, true, false, codes, refl, sym, ap}
-use Rattle.hm_edges.proofs.Adding.{adds_one, adds_if, adds_none, adds_then, adds_stopped, adds_as}
-use Rattle.hm_edges.proofs.TagBytes.{close_is, gap_is}
+use Rattle.std.proofs.Common.{cond, ◌∷◌, [], ◌++◌, codes, ap}
+use Rattle.hm_edges.proofs.Adding.{adds_one, adds_if, adds_then, adds_stopped, adds_as}
+use Rattle.hm_edges.proofs.TagBytes.{gap_is}
 use Rattle.hm_edges.specs.States.{where_of}
 use Rattle.hm_units.specs.Edges.{edge}
 use Rattle.hm_units.specs.States as states

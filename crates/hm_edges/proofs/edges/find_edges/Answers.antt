@@ -1,4 +1,4 @@
-use Rattle.std.proofs.Common.{◌≡◌, [], refl}
+use Rattle.std.proofs.Common.{[], refl}
 use Rattle.hm_edges.specs.declared.units.Unit.TheVariants as code
 use Rattle.hm_edges.specs.States.{state_of}
 use Rattle.hm_edges.specs.Units.{kind_of}

@@ -1,5 +1,4 @@
-use Rattle.std.proofs.Common.{arith}
-use Rattle.hm_edges.proofs.DigitCounts.{counting_begins, counting_goes_on, counting_ends, less_left}
+use Rattle.hm_edges.proofs.DigitCounts.{counting_begins, counting_goes_on, less_left}
 use Rattle.hm_edges.proofs.lengths.digit_count.Goals as goal
 
 pub loop-left-init : goal.loop-left-init

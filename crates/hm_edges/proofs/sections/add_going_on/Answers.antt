@@ -1,5 +1,5 @@
-use Rattle.std.proofs.Common.{◌≡◌, ◌∙◌, cond, ◌∷◌, [], ◌++◌, true, false, not, codes, map, refl, sym, ap, ap₂, encode_utf8}
-use Rattle.hm_edges.proofs.Adding.{adds_one, adds_if, adds_none, adds_then, adds_stopped, adds_as}
+use Rattle.std.proofs.Common.{cond, ◌∷◌, [], ◌++◌, codes, ap, ap₂}
+use Rattle.hm_edges.proofs.Adding.{adds_one, adds_if, adds_then, adds_stopped, adds_as}
 use Rattle.hm_edges.proofs.SectionEdges.{going_on}
 use Rattle.hm_edges.specs.States.{pending_of}
 use Rattle.hm_units.specs.Edges.{edge, edge_to}

@@ -1,0 +1,12 @@
+pub mod Children
+pub mod LikeStates
+pub mod Adding
+pub mod TagBytes
+pub mod HexadecimalEdges
+pub mod RunningOn
+pub mod NamesFor
+pub mod Pairs
+pub mod SectionEdges
+pub mod Choices
+pub mod Standing
+pub mod DigitCounts

@@ -1,0 +1,24 @@
+-- Words for the edges of a character.
+use Rattle.std.specs.Prelude.{ℕ, Bool, true, false, List, ◌++◌, map, Option, if◌then◌else◌}
+use Rattle.hm_exchange.specs.Laws.{needs_reference}
+use Rattle.hm_refs.specs.Names.{Entry}
+use Rattle.hm_spellings.specs.Characters.{CharacterRules}
+use Rattle.hm_text_spell.specs.CharacterEdges.{spot_at, behind_name, behind_pair, choices, section_edges, opened_sections, is_in_section, kept_at}
+use Rattle.hm_units.specs.Edges.{Edge}
+use Rattle.hm_units.specs.States.{Pending, State}
+use Rattle.hm_units.specs.Units.{TextKind}
+
+-- references only at characters that need them
+abbrev pub rules_with : List Entry → Bool → CharacterRules
+rules_with t ascii = record { ascii = ascii; refers = needs_reference t }
+
+-- what is pending behind a name for one code point, or for two
+abbrev pub behind_by : Bool → List ℕ → Pending
+behind_by false = behind_name
+behind_by true = behind_pair
+
+-- the edges of a character outside of sections, and in one; of the next code point the names ask for the pair alone
+abbrev pub edges_by_pair : List Entry → Bool → TextKind → ℕ → Option ℕ → Option ℕ → State → List Edge
+edges_by_pair t ascii kind c pair next s =
+    if is_in_section s.at then section_edges ascii c next s.pending
+    else map (kept_at s.at) (choices t (rules_with t ascii) (spot_at kind s.at) c pair s.pending) ++ opened_sections ascii (spot_at kind s.at) c next s

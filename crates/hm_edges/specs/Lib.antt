@@ -1,0 +1,5 @@
+pub mod States
+pub mod Units
+pub mod Pieces
+pub mod Found
+pub mod Characters

@@ -1,0 +1,357 @@
+//! The edges of a unit from a state.
+ghost use Rattle.std.specs.Prelude.{◌≡◌, ◌&&◌, ◌++◌, ◌∷◌, [], not, List, ℕ, OnOk, is_ok, if◌then◌else◌};
+ghost use Rattle.hm_attr_spell.specs.AttributeEdges as attributes;
+ghost use Rattle.hm_refs.specs.Tables.{TableView};
+ghost use Rattle.hm_spellings.specs.Characters as spots;
+ghost use Rattle.hm_tag_spell.specs.TagEdges as tags;
+ghost use Rattle.hm_units.specs.States as states;
+ghost use Rattle.hm_units.specs.Units as units;
+ghost use Rattle.hm_edges.specs.Found.{AreEdges, AreFront, Adds};
+ghost use Rattle.hm_edges.specs.Pieces.{AreOfTable};
+ghost use Rattle.hm_edges.specs.States.{HasNodes, spot_of, state_of, where_of};
+
+use crate::characters::{Character, add_character_edges};
+use crate::pieces::{Edge, Form, Piece};
+use crate::states::{Pending, Spot, State, Where};
+use crate::steps::may_end;
+use crate::units::Unit;
+use hm_base::{Memory, SpellRules};
+use hm_refs::Table;
+
+/// Adds an edge behind.
+pub(crate) fn add(
+    into: &mut Vec<Edge>,
+    piece: Piece,
+    at: Where,
+    pending: Pending,
+) -> Result<(), Memory>
+    ensures { into.new.items ≡ (if is_ok result then into.old.items ++ record { piece = piece; to = record { at = at; pending = pending } } ∷ [] else into.old.items) }
+{
+    let to = State { at, pending };
+    into.push(Edge { piece, to })?;
+    Ok(())
+}
+
+/// Adds an edge behind, where it is there.
+pub(crate) fn add_if(
+    there: bool,
+    into: &mut Vec<Edge>,
+    piece: Piece,
+    at: Where,
+    pending: Pending,
+) -> Result<(), Memory>
+    ensures { into.new.items ≡ (if is_ok result && there then into.old.items ++ record { piece = piece; to = record { at = at; pending = pending } } ∷ [] else into.old.items) }
+{
+    if there {
+        add(into, piece, at, pending)
+    } else {
+        Ok(())
+    }
+}
+
+fn is_loose(at: Where) -> bool
+    ensures { result ≡ tags.is_loose (where_of at) }
+{
+    match at {
+        Where::Loose => true,
+        _ => false,
+    }
+}
+
+fn unloosed(at: Where) -> Where
+    ensures { where_of result ≡ tags.unloosed (where_of at) }
+{
+    match at {
+        Where::Loose => Where::Outside,
+        _ => at,
+    }
+}
+
+/// Whether a start tag that may be left out is: not behind a loose end, where it is firm.
+fn may_fall(omits: bool, firm: bool, at: Where) -> bool
+    ensures { result ≡ (omits && not (firm && tags.is_loose (where_of at))) }
+{
+    omits && !(firm && is_loose(at))
+}
+
+/// A start tag: nothing, where it may be left out; the tag; the tag with a `/`.
+fn add_start_edges(
+    into: &mut Vec<Edge>,
+    omits: bool,
+    firm: bool,
+    closes: bool,
+    from: State,
+) -> Result<(), Memory>
+    ensures { (v : TableView) (n : List ℕ) → HasNodes v from.pending
+        → Adds result v (units.start_tag n omits firm closes) into.old.items into.new.items (tags.start_edges n omits firm closes (state_of v from)) }
+{
+    let falls = may_fall(omits, firm, from.at);
+    add_if(falls, into, Piece::Nothing, unloosed(from.at), from.pending)?;
+    add(
+        into,
+        Piece::StartTag { closes: false },
+        Where::Outside,
+        Pending::Nothing,
+    )?;
+    add_if(
+        closes,
+        into,
+        Piece::StartTag { closes: true },
+        Where::SelfClosed,
+        Pending::Nothing,
+    )
+}
+
+/// The state behind an end tag that is left out.
+fn behind_left_out(loosens: bool, from: State) -> State
+    ensures state { (v : TableView) → state_of v result ≡ tags.behind_left_out loosens (state_of v from) }
+    ensures nodes { (v : TableView) → HasNodes v from.pending → HasNodes v result.pending }
+{
+    if loosens {
+        State {
+            at: Where::Loose,
+            pending: Pending::Nothing,
+        }
+    } else {
+        from
+    }
+}
+
+fn is_self_closed(at: Where) -> bool
+    ensures { result ≡ tags.is_self_closed (where_of at) }
+{
+    match at {
+        Where::SelfClosed => true,
+        _ => false,
+    }
+}
+
+/// An end tag: nothing, behind a start tag that closed itself; else nothing, where it may be left out, and the tag.
+fn add_end_edges(
+    into: &mut Vec<Edge>,
+    omits: bool,
+    loosens: bool,
+    from: State,
+) -> Result<(), Memory>
+    ensures { (v : TableView) (n : List ℕ) → HasNodes v from.pending
+        → Adds result v (units.end_tag n omits loosens) into.old.items into.new.items (tags.end_edges n omits loosens (state_of v from)) }
+{
+    if is_self_closed(from.at) {
+        return add(into, Piece::Nothing, Where::Outside, Pending::Nothing);
+    }
+    let to = behind_left_out(loosens, from);
+    add_if(omits, into, Piece::Nothing, to.at, to.pending)?;
+    add(into, Piece::EndTag, Where::Outside, Pending::Nothing)
+}
+
+fn is_behind_quoted(at: Where) -> bool
+    ensures { result ≡ attributes.is_behind_quoted (where_of at) }
+{
+    match at {
+        Where::BehindQuoted => true,
+        _ => false,
+    }
+}
+
+/// Whether a space stands in front of an attribute: always but behind a quote where attributes may touch.
+fn has_gap(tight: bool, at: Where) -> bool
+    ensures { result ≡ not (tight && attributes.is_behind_quoted (where_of at)) }
+{
+    !(tight && is_behind_quoted(at))
+}
+
+/// An attribute with an empty value.
+fn add_bare_edges(into: &mut Vec<Edge>, tight: bool, from: State) -> Result<(), Memory>
+    ensures { (v : TableView) (n : List ℕ)
+        → Adds result v (units.bare_attribute n) into.old.items into.new.items (attributes.bare_edges tight n (state_of v from)) }
+{
+    let gap = has_gap(tight, from.at);
+    add(
+        into,
+        Piece::Attribute {
+            gap,
+            form: Form::Bare,
+        },
+        Where::BehindName,
+        Pending::Nothing,
+    )
+}
+
+/// The name of another one, its `=` and what opens its value.
+fn add_opening_edges(
+    into: &mut Vec<Edge>,
+    tight: bool,
+    unquote: bool,
+    from: State,
+) -> Result<(), Memory>
+    ensures { (v : TableView) (n : List ℕ)
+        → Adds result v (units.attribute_name n) into.old.items into.new.items (attributes.opening_edges tight unquote n (state_of v from)) }
+{
+    let gap = has_gap(tight, from.at);
+    add_if(
+        unquote,
+        into,
+        Piece::Attribute {
+            gap,
+            form: Form::Unquoted,
+        },
+        Where::InUnquoted,
+        Pending::Nothing,
+    )?;
+    add(
+        into,
+        Piece::Attribute {
+            gap,
+            form: Form::Double,
+        },
+        Where::InDouble,
+        Pending::Nothing,
+    )?;
+    add(
+        into,
+        Piece::Attribute {
+            gap,
+            form: Form::Single,
+        },
+        Where::InSingle,
+        Pending::Nothing,
+    )
+}
+
+/// The spot of the characters of a value.
+pub(crate) fn value_spot(at: Where) -> Spot
+    ensures { spot_of result ≡ states.value_spot (where_of at) }
+{
+    match at {
+        Where::InUnquoted => Spot::Unquoted,
+        Where::InSingle => Spot::Single,
+        _ => Spot::Double,
+    }
+}
+
+/// What closes a value.
+fn add_closed(into: &mut Vec<Edge>, at: Where) -> Result<(), Memory>
+    ensures { (v : TableView) → Adds result v units.attribute_end into.old.items into.new.items (attributes.closed_at (where_of at)) }
+{
+    match at {
+        Where::InUnquoted => add(
+            into,
+            Piece::Nothing,
+            Where::BehindUnquoted,
+            Pending::Nothing,
+        ),
+        Where::InDouble => add(
+            into,
+            Piece::Quote { double: true },
+            Where::BehindQuoted,
+            Pending::Nothing,
+        ),
+        Where::InSingle => add(
+            into,
+            Piece::Quote { double: false },
+            Where::BehindQuoted,
+            Pending::Nothing,
+        ),
+        _ => Ok(()),
+    }
+}
+
+/// What closes a value, where it may end.
+fn add_closing_edges(into: &mut Vec<Edge>, table: &Table, from: State) -> Result<(), Memory>
+    requires { HasNodes table.now from.pending }
+    ensures { Adds result table.now units.attribute_end into.old.items into.new.items (attributes.closing_edges table.now.entries (state_of table.now from)) }
+{
+    if may_end(from.pending, table, value_spot(from.at)) {
+        add_closed(into, from.at)
+    } else {
+        Ok(())
+    }
+}
+
+fn is_behind_unquoted(at: Where) -> bool
+    ensures { result ≡ attributes.is_behind_unquoted (where_of at) }
+{
+    match at {
+        Where::BehindUnquoted => true,
+        _ => false,
+    }
+}
+
+/// `>`, and where the tag may close itself `/>`, which stands apart from a value without quotes.
+fn add_close_edges(into: &mut Vec<Edge>, closes: bool, from: State) -> Result<(), Memory>
+    ensures { (v : TableView) → Adds result v (units.tag_close closes) into.old.items into.new.items (attributes.close_edges closes (state_of v from)) }
+{
+    add(
+        into,
+        Piece::TagClose {
+            space: false,
+            closes: false,
+        },
+        Where::Outside,
+        Pending::Nothing,
+    )?;
+    let space = is_behind_unquoted(from.at);
+    add_if(
+        closes,
+        into,
+        Piece::TagClose {
+            space,
+            closes: true,
+        },
+        Where::SelfClosed,
+        Pending::Nothing,
+    )
+}
+
+/// Gives the edges of a unit from a state, in their order and in place of what the buffer held.
+///
+/// A reference is an edge only for characters that aren't plain. Characters other than those of a text of SVG meet no state
+/// in a section, and nothing is said of the edges that they would have there. After an error the buffer holds a front of
+/// the edges.
+pub fn find_edges(
+    table: &Table,
+    rules: SpellRules,
+    unit: Unit,
+    from: State,
+    into: &mut Vec<Edge>,
+) -> Result<(), Memory>
+    requires { HasNodes table.now from.pending }
+    ensures edges { OnOk result (AreEdges table.now rules unit from into.new.items) }
+    ensures front { AreFront table.now rules unit from into.new.items }
+    ensures known { AreOfTable table.now into.new.items }
+{
+    into.clear();
+    match unit {
+        Unit::Fixed { len: _ } => add(into, Piece::Itself, Where::Outside, Pending::Nothing),
+        Unit::StartTag {
+            len: _,
+            omits,
+            firm,
+            closes,
+        } => add_start_edges(into, omits, firm, closes, from),
+        Unit::TagName { len: _ } => add(into, Piece::TagName, Where::BehindName, Pending::Nothing),
+        Unit::BareAttribute { len: _ } => add_bare_edges(into, rules.tight, from),
+        Unit::AttributeName { len: _ } => add_opening_edges(into, rules.tight, rules.unquote, from),
+        Unit::Character {
+            kind,
+            c,
+            pair,
+            more,
+        } => {
+            let character = Character {
+                kind,
+                c,
+                pair,
+                more,
+            };
+            add_character_edges(into, table, rules.ascii, character, from)
+        }
+        Unit::AttributeEnd => add_closing_edges(into, table, from),
+        Unit::TagClose { closes } => add_close_edges(into, closes, from),
+        Unit::EndTag {
+            len: _,
+            omits,
+            loosens,
+        } => add_end_edges(into, omits, loosens, from),
+    }
+}

@@ -1,0 +1,94 @@
+//! How many bytes a piece writes.
+ghost use Rattle.std.specs.Prelude.{◌≡◌, ◌≤◌, ◌<◌, ◌+◌, ◌^◌, ℕ, List, false, length};
+ghost use Rattle.std.specs.Fmt.{digits};
+ghost use Rattle.hm_refs.specs.Names.{Entry};
+ghost use Rattle.hm_units.specs.Units as units;
+ghost use Rattle.hm_edges.specs.Pieces.{HasName, own_bytes, piece_bytes, with_opening};
+ghost use Rattle.hm_edges.specs.Units.{StandsFor};
+
+use crate::pieces::{Form, Piece};
+use crate::units::Unit;
+use hm_refs::Table;
+
+/// How many bytes the unit's own are: of its name, of what has no choice, or of the character.
+fn own_len(unit: Unit) -> u64
+    ensures value { (t : List Entry) (u : units.Unit) → StandsFor t unit u → result ≡ length (own_bytes u) }
+    ensures few { result < 2 ^ 32 }
+{
+    match unit {
+        Unit::Fixed { len } => u64::from(len),
+        Unit::StartTag {
+            len,
+            omits: _,
+            firm: _,
+            closes: _,
+        } => u64::from(len),
+        Unit::TagName { len } => u64::from(len),
+        Unit::BareAttribute { len } => u64::from(len),
+        Unit::AttributeName { len } => u64::from(len),
+        Unit::Character {
+            kind: _,
+            c,
+            pair: _,
+            more: _,
+        } => c.len_utf8() as u64,
+        Unit::AttributeEnd => 0,
+        Unit::TagClose { closes: _ } => 0,
+        Unit::EndTag {
+            len,
+            omits: _,
+            loosens: _,
+        } => u64::from(len),
+    }
+}
+
+/// How many bytes open a value behind the name.
+fn opening_len(form: Form) -> u64
+    ensures value { (n : List ℕ) → length (with_opening form n) ≡ length n + result }
+    ensures few { result ≤ 2 }
+{
+    match form {
+        Form::Bare => 0,
+        Form::Unquoted => 1,
+        Form::Double => 2,
+        Form::Single => 2,
+    }
+}
+
+/// How many digits the number has in this base.
+fn digit_count(number: u32, base: u32) -> u64
+    requires low { 2 ≤ base }
+    ensures value { result ≡ length (digits base false number) }
+    ensures few { result ≤ 64 }
+{
+    let mut count = 1;
+    let mut left = number / base;
+    while left != 0 {
+        left /= base;
+        count += 1;
+    }
+    count
+}
+
+/// How many bytes the piece writes for the unit, which is one that `find_edges` gives for it.
+pub fn piece_len(unit: Unit, piece: Piece, table: &Table) -> u64
+    requires { HasName table.now.entries piece }
+    ensures { (u : units.Unit) → StandsFor table.now.entries unit u → result ≡ length (piece_bytes table.now.entries u piece) }
+{
+    match piece {
+        Piece::Nothing => 0,
+        Piece::Itself => own_len(unit),
+        Piece::StartTag { closes } => 2 + u64::from(closes) + own_len(unit),
+        Piece::TagName => 1 + own_len(unit),
+        Piece::Attribute { gap, form } => u64::from(gap) + own_len(unit) + opening_len(form),
+        Piece::Quote { double: _ } => 1,
+        Piece::TagClose { space, closes } => 1 + u64::from(space) + u64::from(closes),
+        Piece::EndTag => 3 + own_len(unit),
+        Piece::Name { id } => table.name(id).len() as u64,
+        Piece::Decimal { number, closed } => 2 + u64::from(closed) + digit_count(number, 10),
+        Piece::Hexadecimal { number, closed } => 3 + u64::from(closed) + digit_count(number, 16),
+        Piece::Section { opens, closes } => 9 * u64::from(opens)
+            + 3 * u64::from(closes)
+            + own_len(unit),
+    }
+}

@@ -1,0 +1,21 @@
+//! The edges of a unit from a state: states, units and pieces as a writer holds them, and what a byte does to what is pending.
+#![tactic(auto)]
+
+mod characters;
+mod edges;
+pub mod laws;
+mod lengths;
+mod pieces;
+mod sections;
+mod states;
+mod steps;
+#[cfg(test)]
+mod tests;
+mod units;
+
+pub use edges::find_edges;
+pub use lengths::piece_len;
+pub use pieces::{Edge, Form, Piece};
+pub use states::{Pending, Spot, State, Where};
+pub use steps::{may_end, step};
+pub use units::{TextKind, Unit};

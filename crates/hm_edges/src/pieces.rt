@@ -1,0 +1,47 @@
+//! What an edge writes, and where it leads. A piece holds neither name nor character, so that like edges of like units are
+//! equal.
+use crate::states::State;
+use hm_refs::NameId;
+
+/// How a value is written (HTML Standard, 13.1.2.3).
+#[derive(Clone, Copy, Debug, PartialEq, Eq)]
+pub enum Form {
+    Bare,
+    Unquoted,
+    Double,
+    Single,
+}
+
+/// What an edge writes of its unit.
+#[derive(Clone, Copy, Debug, PartialEq, Eq)]
+pub enum Piece {
+    Nothing,
+    /// The unit's own bytes: those without a choice, or the character.
+    Itself,
+    /// A start tag, with a `/` where it closes itself.
+    StartTag { closes: bool },
+    /// `<` and the name.
+    TagName,
+    /// An attribute, with a space in front of it, up to what opens its value.
+    Attribute { gap: bool, form: Form },
+    /// The quote that closes a value.
+    Quote { double: bool },
+    /// `>`, with a `/` in front of it where the tag closes itself, and a space where that has to stand apart.
+    TagClose { space: bool, closes: bool },
+    EndTag,
+    /// A character reference by name.
+    Name { id: NameId },
+    /// A decimal reference, with or without its `;`.
+    Decimal { number: u32, closed: bool },
+    /// A hexadecimal reference, with or without its `;`.
+    Hexadecimal { number: u32, closed: bool },
+    /// The character in a CDATA section, with what opens and what closes it.
+    Section { opens: bool, closes: bool },
+}
+
+/// An edge: what it writes, and the state behind it.
+#[derive(Clone, Copy, Debug, PartialEq, Eq)]
+pub struct Edge {
+    pub piece: Piece,
+    pub to: State,
+}

@@ -1,0 +1,73 @@
+//! The states between two units: where in the markup a spelling stands, and what its bytes leave pending.
+use hm_refs::Node;
+
+/// Where in the markup a spelling stands.
+#[derive(Clone, Copy, Debug, PartialEq, Eq)]
+pub enum Where {
+    /// Outside of tags.
+    Outside,
+    /// Outside of tags, behind an end tag of a table's section or of colgroup that was left out.
+    Loose,
+    /// Behind a start tag of SVG with a `/`, which stands for the end tag as well.
+    SelfClosed,
+    /// In a tag, behind its name or an attribute without value.
+    BehindName,
+    /// In a tag, behind a value without quotes.
+    BehindUnquoted,
+    /// In a tag, behind a value in quotes.
+    BehindQuoted,
+    /// In a value without quotes.
+    InUnquoted,
+    /// In a value in double quotes.
+    InDouble,
+    /// In a value in single quotes.
+    InSingle,
+    /// In a CDATA section.
+    InSection,
+}
+
+/// What the bytes that were written may become together with those that follow. A place in the names of references is a
+/// node of the table's trie.
+#[derive(Clone, Copy, Debug, PartialEq, Eq)]
+pub enum Pending {
+    Nothing,
+    /// Behind a `<` that stands as itself.
+    LessThan,
+    /// Behind `&#`, with the `&` as itself.
+    Hash,
+    /// Behind `&#x`, with the `&` as itself.
+    HashX,
+    /// Behind a decimal reference without `;`.
+    Decimal,
+    /// Behind a hexadecimal reference without `;`.
+    Hexadecimal,
+    /// Behind the bytes that lead to the node, with the `&` as itself.
+    Ampersand { node: Node },
+    /// Behind the bytes that lead to the node, which begin with a name without `;`.
+    Named { node: Node },
+    /// Behind a name for two code points, the second of which is due; the name, where it has no `;`.
+    Half { left: Option<Node> },
+    /// Behind `]` in a section.
+    OneBracket,
+    /// Behind `]]` in a section.
+    TwoBrackets,
+}
+
+/// Where a spelling stands, and what is pending there. Two states of a table that mean the same are equal.
+#[derive(Clone, Copy, Debug, PartialEq, Eq)]
+pub struct State {
+    pub at: Where,
+    pub pending: Pending,
+}
+
+/// Where characters are spelled: in ordinary text, in title or textarea, in an element of SVG, in a value without quotes,
+/// in double or in single quotes.
+#[derive(Clone, Copy, Debug, PartialEq, Eq)]
+pub enum Spot {
+    Text,
+    Rcdata,
+    Foreign,
+    Unquoted,
+    Double,
+    Single,
+}

@@ -1,11 +1,13 @@
--- What is pending, on examples: what the bytes that follow break, and what they keep.
-use Rattle.std.specs.Prelude.{◌≡◌, true, false, Some, codes, refl}
+-- What is pending: what the bytes that follow break, and what they keep; and which start tags may close themselves. On examples.
+use Rattle.std.specs.Prelude.{◌≡◌, true, false, Some, [], ◌∷◌, codes, refl}
 use Rattle.hm_base.specs.Bytes.{is_alnum, is_digit_of, is_letter}
+use Rattle.hm_base.specs.Walks.{end}
 use Rattle.hm_refs.specs.Examples.{seven}
 use Rattle.hm_refs.specs.Names.{is_name}
 use Rattle.hm_spellings.specs.Characters.{opens_text, text, double}
 use Rattle.hm_units.specs.States.{ampersand, decimal, less_than, named}
 use Rattle.hm_units.specs.Steps.{ampersand_in_value, is_root, named_in_text, onto, passes}
+use Rattle.hm_units.specs.Units.{may_close_itself}
 
 -- `&not` is broken by `in;`, since `&notin;` is a longer name, and kept by `in,`
 pub broken_by_longer : passes seven text (Some (named (codes "&not"))) (codes "in;") ≡ false
@@ -42,3 +44,10 @@ broken_by_letter = refl
 pub kept_by_space : passes seven text (Some less_than) (codes " ") ≡ true
 unfolding opens_text is_letter
 kept_by_space = refl
+
+-- an element of SVG may end at its '/', an element of HTML may not
+pub svg_closes_itself : may_close_itself true (end (codes "g") true ∷ []) ≡ true
+svg_closes_itself = refl
+
+pub html_never_closes_itself : may_close_itself false (end (codes "b") false ∷ []) ≡ false
+html_never_closes_itself = refl

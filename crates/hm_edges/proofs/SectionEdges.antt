@@ -51,14 +51,6 @@ opened ascii kind c next s h = rw (foreign_is kind s.at) (by_tests (is_foreign_k
     by_tests true true false e = absurd (cc)
     by_tests true true true e = refl
 
-pub foreign_more : (f a more : Bool) (n : Bool) → (f && a) ≡ true → more ≡ (f && n) → more ≡ n
-foreign_more true a more n h e = e
-foreign_more false a more n h e = absurd (cc)
-
-pub foreign_true : (f more n : Bool) → f ≡ true → more ≡ (f && n) → more ≡ n
-foreign_true true more n h e = e
-foreign_true false more n h e = absurd (cc)
-
 pub next_for : (more : Bool) → (next : Option ℕ) × (more ≡ is_some next)
 next_for true = (Some 0, refl)
 next_for false = (None, refl)

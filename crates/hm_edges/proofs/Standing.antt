@@ -1,5 +1,5 @@
 -- The units of a tree that a unit of the code stands for.
-use Rattle.std.proofs.Common.{◌≡◌, ◌∙◌, ℕ, Bool, ◌&&◌, List, [], ◌++◌, Option, is_some, Result, Ok, Err, OnOk, sym, ap, subst}
+use Rattle.std.proofs.Common.{◌≡◌, ◌∙◌, ℕ, Bool, List, [], ◌++◌, Option, is_some, Result, Ok, Err, OnOk, sym, ap, subst}
 use Rattle.hm_base.specs.declared.plain.SpellRules.{SpellRules}
 use Rattle.hm_graph.specs.UnitEdges.{edges_of}
 use Rattle.hm_refs.specs.Names.{Entry}
@@ -10,10 +10,10 @@ use Rattle.hm_edges.specs.declared.states.State.{State}
 use Rattle.hm_edges.specs.declared.units.TextKind.{TextKind}
 use Rattle.hm_edges.specs.declared.units.Unit.{Unit}
 use Rattle.hm_edges.specs.declared.units.Unit.TheVariants as code
-use Rattle.hm_edges.specs.Found.{spelling, MayMeet, AreEdges, AreFront, Adds}
+use Rattle.hm_edges.specs.Found.{spelling, AreEdges, AreFront, Adds}
 use Rattle.hm_edges.specs.Pieces.{edges_seen, AreOfTable}
 use Rattle.hm_edges.specs.States.{state_of}
-use Rattle.hm_edges.specs.Units.{StandsFor, fixed, start_tag, tag_name, bare_attribute, attribute_name, character, attribute_end, tag_close, end_tag, kind_of, is_foreign_kind, pair_of}
+use Rattle.hm_edges.specs.Units.{StandsFor, fixed, start_tag, tag_name, bare_attribute, attribute_name, character, attribute_end, tag_close, end_tag, kind_of, pair_of}
 
 pub of_fixed : (t : List Entry) (len : ℕ) (P : units.Unit → Type 0) → ((b : List ℕ) → P (units.fixed b)) → (u : units.Unit) → StandsFor t (code.Fixed len) u → P u
 of_fixed t len P f u (fixed b l e) = f b
@@ -31,7 +31,7 @@ pub of_attribute_name : (t : List Entry) (len : ℕ) (P : units.Unit → Type 0)
 of_attribute_name t len P f u (attribute_name n l e) = f n
 
 pub of_character : (t : List Entry) (kind : TextKind) (c : ℕ) (pair : Option ℕ) (more : Bool) (P : units.Unit → Type 0)
-    → ((next : Option ℕ) → pair ≡ pair_of t c next → more ≡ (is_foreign_kind kind && is_some next) → P (units.character (kind_of kind) c next))
+    → ((next : Option ℕ) → pair ≡ pair_of t c next → more ≡ is_some next → P (units.character (kind_of kind) c next))
     → (u : units.Unit) → StandsFor t (code.Character kind c pair more) u → P u
 of_character t kind c pair more P f u (character k d p next m e h) = f next e h
 
@@ -48,7 +48,7 @@ of_end_tag t len omits loosens P f u (end_tag n l o w e) = f n
 
 -- the edges of a unit of a tree are added
 abbrev pub AddsFor : {E : Type 0} → Result (Prim.Unit {0}) E → TableView → SpellRules → Unit → State → List Edge → List Edge → units.Unit → Type 0
-AddsFor r v rules unit from before now u = MayMeet unit from → Adds r v u before now (edges_of (spelling v.entries rules) u (state_of v from))
+AddsFor r v rules unit from before now u = Adds r v u before now (edges_of (spelling v.entries rules) u (state_of v from))
 
 -- for each that the unit stands for
 abbrev pub AddsAll : {E : Type 0} → Result (Prim.Unit {0}) E → TableView → SpellRules → Unit → State → List Edge → List Edge → Type 0
@@ -56,12 +56,12 @@ AddsAll r v rules unit from before now = (u : units.Unit) → StandsFor v.entrie
 
 are_edges : {E : Type 0} (r : Result (Prim.Unit {0}) E) (v : TableView) (rules : SpellRules) (unit : Unit) (from : State) (before now : List Edge) → before ≡ [] → AddsAll r v rules unit from before now → OnOk r (AreEdges v rules unit from now)
 are_edges (Err x) v rules unit from before now e all = tt
-are_edges (Ok x) v rules unit from before now e all = λ u stands may.
-    (all u stands may).edges ∙ ap (λ w. edges_seen v u w ++ edges_of (spelling v.entries rules) u (state_of v from)) e
+are_edges (Ok x) v rules unit from before now e all = λ u stands.
+    (all u stands).edges ∙ ap (λ w. edges_seen v u w ++ edges_of (spelling v.entries rules) u (state_of v from)) e
 
 are_front : {E : Type 0} (r : Result (Prim.Unit {0}) E) (v : TableView) (rules : SpellRules) (unit : Unit) (from : State) (before now : List Edge) → before ≡ [] → AddsAll r v rules unit from before now → AreFront v rules unit from now
-are_front r v rules unit from before now e all = λ u stands may.
-    let h : Adds r v u before now (edges_of (spelling v.entries rules) u (state_of v from)) = all u stands may in
+are_front r v rules unit from before now e all = λ u stands.
+    let h : Adds r v u before now (edges_of (spelling v.entries rules) u (state_of v from)) = all u stands in
     (h.front.0, h.front.1 ∙ ap (λ w. edges_seen v u w ++ edges_of (spelling v.entries rules) u (state_of v from)) e)
 
 are_known : (v : TableView) (before now : List Edge) → before ≡ [] → (AreOfTable v before → AreOfTable v now) → AreOfTable v now

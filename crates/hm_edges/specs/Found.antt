@@ -1,38 +1,31 @@
 -- What a search for edges finds.
-use Rattle.std.specs.Prelude.{◌≡◌, true, List, ◌++◌, Result, OnOk}
+use Rattle.std.specs.Prelude.{◌≡◌, List, ◌++◌, Result, OnOk}
 use Rattle.hm_base.specs.declared.plain.SpellRules.{SpellRules}
 use Rattle.hm_exchange.specs.Laws.{needs_reference}
 use Rattle.hm_graph.specs.UnitEdges.{edges_of}
 use Rattle.hm_refs.specs.Names.{Entry}
 use Rattle.hm_refs.specs.Tables.{TableView}
 use Rattle.hm_spellings.specs.Tags.{Spelling}
-use Rattle.hm_text_spell.specs.CharacterEdges.{is_in_section}
 use Rattle.hm_units.specs.Edges as graph
 use Rattle.hm_units.specs.Units as units
 use Rattle.hm_edges.specs.declared.pieces.Edge.{Edge}
 use Rattle.hm_edges.specs.declared.states.State.{State}
 use Rattle.hm_edges.specs.declared.units.Unit.{Unit}
-use Rattle.hm_edges.specs.declared.units.Unit.TheVariants as code
 use Rattle.hm_edges.specs.Pieces.{edges_seen, AreOfTable}
-use Rattle.hm_edges.specs.States.{where_of, state_of}
-use Rattle.hm_edges.specs.Units.{StandsFor, is_foreign_kind}
+use Rattle.hm_edges.specs.States.{state_of}
+use Rattle.hm_edges.specs.Units.{StandsFor}
 
 -- the edges by a table and these rules, with references only where a character needs them
 abbrev pub spelling : List Entry → SpellRules → Spelling
 spelling t rules = record { table = t; rules = rules; refers = needs_reference t }
 
--- in a section stand no characters but those of a text of SVG
-abbrev pub MayMeet : Unit → State → Type 0
-MayMeet (code.Character kind c pair more) from = is_in_section (where_of from.at) ≡ true → is_foreign_kind kind ≡ true
-MayMeet unit from = Prim.Unit {0}
-
 -- for each unit of a tree that this one stands for, these are its edges, in their order
 abbrev pub AreEdges : TableView → SpellRules → Unit → State → List Edge → Type 0
-AreEdges v rules unit from es = (u : units.Unit) → StandsFor v.entries unit u → MayMeet unit from → edges_seen v u es ≡ edges_of (spelling v.entries rules) u (state_of v from)
+AreEdges v rules unit from es = (u : units.Unit) → StandsFor v.entries unit u → edges_seen v u es ≡ edges_of (spelling v.entries rules) u (state_of v from)
 
 -- for each of them these are a front of its edges
 abbrev pub AreFront : TableView → SpellRules → Unit → State → List Edge → Type 0
-AreFront v rules unit from es = (u : units.Unit) → StandsFor v.entries unit u → MayMeet unit from → (rest : List graph.Edge) × (edges_seen v u es ++ rest ≡ edges_of (spelling v.entries rules) u (state_of v from))
+AreFront v rules unit from es = (u : units.Unit) → StandsFor v.entries unit u → (rest : List graph.Edge) × (edges_seen v u es ++ rest ≡ edges_of (spelling v.entries rules) u (state_of v from))
 
 -- The buffer has more edges behind those from before: these as edges of the unit, or, after an error, a front of them. They
 -- are of the table.

@@ -38,20 +38,24 @@ with_opening forms.Single n = n ++ codes "='"
 abbrev pub closed_by : Bool → List ℕ → List ℕ → List ℕ
 closed_by closed mark b = if closed then b ++ mark else b
 
+-- the bytes that a piece writes, by those of its unit
+abbrev pub piece_text : List Entry → List ℕ → Piece → List ℕ
+piece_text t own pieces.Nothing = []
+piece_text t own pieces.Itself = own
+piece_text t own (pieces.StartTag closes) = codes "<" ++ (own ++ (if closes then codes "/>" else codes ">"))
+piece_text t own pieces.TagName = 60 ∷ own
+piece_text t own (pieces.Attribute gap form) = with_gap gap (with_opening form (own))
+piece_text t own (pieces.Quote double) = if double then 34 ∷ [] else 39 ∷ []
+piece_text t own (pieces.TagClose space closes) = with_gap space (if closes then codes "/>" else codes ">")
+piece_text t own pieces.EndTag = codes "</" ++ (own ++ codes ">")
+piece_text t own (pieces.Name id) = (entry_at t id).name
+piece_text t own (pieces.Decimal number closed) = codes "&#" ++ closed_by closed (codes ";") (decimal number)
+piece_text t own (pieces.Hexadecimal number closed) = codes "&#x" ++ closed_by closed (codes ";") (digits 16 false number)
+piece_text t own (pieces.Section opens closes) = (if opens then codes "<![CDATA[" else []) ++ closed_by closes (codes "]]>") (own)
+
 -- the bytes that a piece writes for a unit
 abbrev pub piece_bytes : List Entry → units.Unit → Piece → List ℕ
-piece_bytes t u pieces.Nothing = []
-piece_bytes t u pieces.Itself = own_bytes u
-piece_bytes t u (pieces.StartTag closes) = codes "<" ++ (own_bytes u ++ (if closes then codes "/>" else codes ">"))
-piece_bytes t u pieces.TagName = 60 ∷ own_bytes u
-piece_bytes t u (pieces.Attribute gap form) = with_gap gap (with_opening form (own_bytes u))
-piece_bytes t u (pieces.Quote double) = if double then 34 ∷ [] else 39 ∷ []
-piece_bytes t u (pieces.TagClose space closes) = with_gap space (if closes then codes "/>" else codes ">")
-piece_bytes t u pieces.EndTag = codes "</" ++ (own_bytes u ++ codes ">")
-piece_bytes t u (pieces.Name id) = (entry_at t id).name
-piece_bytes t u (pieces.Decimal number closed) = codes "&#" ++ closed_by closed (codes ";") (decimal number)
-piece_bytes t u (pieces.Hexadecimal number closed) = codes "&#x" ++ closed_by closed (codes ";") (digits 16 false number)
-piece_bytes t u (pieces.Section opens closes) = (if opens then codes "<![CDATA[" else []) ++ closed_by closes (codes "]]>") (own_bytes u)
+piece_bytes t u piece = piece_text t (own_bytes u) piece
 
 -- a name in it is one of the table
 abbrev pub HasName : List Entry → Piece → Type 0

@@ -1,5 +1,5 @@
 -- Which units of a tree a unit of the code stands for.
-use Rattle.std.specs.Prelude.{◌≡◌, ℕ, Bool, true, false, ◌&&◌, List, [], ◌∷◌, Option, Some, None, is_some, if◌then◌else◌, length, bytes_eq}
+use Rattle.std.specs.Prelude.{◌≡◌, ℕ, Bool, true, false, List, [], ◌∷◌, Option, Some, None, is_some, if◌then◌else◌, length, bytes_eq}
 use Rattle.std.specs.List.{list_any}
 use Rattle.hm_refs.specs.Names.{Entry}
 use Rattle.hm_units.specs.Units as units
@@ -28,14 +28,14 @@ pair_of t c None = None
 pair_of t c (Some d) = if has_pair t c d then Some d else None
 
 -- The code's unit has what the edges of the tree's unit depend on: names by their length; of what is behind a character, the
--- code point that a name gives together with it, and in a text of SVG whether there is one.
+-- code point that a name gives together with it, and whether there is one.
 pub data StandsFor (t : List Entry) : Unit → units.Unit → Type 0 where
   fixed : (b : List ℕ) (len : ℕ) → length b ≡ len → StandsFor t (code.Fixed len) (units.fixed b)
   start_tag : (n : List ℕ) (len : ℕ) (omits firm closes : Bool) → length n ≡ len → StandsFor t (code.StartTag len omits firm closes) (units.start_tag n omits firm closes)
   tag_name : (n : List ℕ) (len : ℕ) → length n ≡ len → StandsFor t (code.TagName len) (units.tag_name n)
   bare_attribute : (n : List ℕ) (len : ℕ) → length n ≡ len → StandsFor t (code.BareAttribute len) (units.bare_attribute n)
   attribute_name : (n : List ℕ) (len : ℕ) → length n ≡ len → StandsFor t (code.AttributeName len) (units.attribute_name n)
-  character : (kind : TextKind) (c : ℕ) (pair next : Option ℕ) (more : Bool) → pair ≡ pair_of t c next → more ≡ (is_foreign_kind kind && is_some next)
+  character : (kind : TextKind) (c : ℕ) (pair next : Option ℕ) (more : Bool) → pair ≡ pair_of t c next → more ≡ is_some next
       → StandsFor t (code.Character kind c pair more) (units.character (kind_of kind) c next)
   attribute_end : StandsFor t code.AttributeEnd units.attribute_end
   tag_close : (closes : Bool) → StandsFor t (code.TagClose closes) (units.tag_close closes)

@@ -14,7 +14,7 @@ ghost use Rattle.hm_edges.specs.Characters.{behind_by, edges_by_pair, rules_with
 ghost use Rattle.hm_edges.specs.Found.{Adds};
 ghost use Rattle.hm_edges.specs.Pieces.{AreOfTable, own_bytes};
 ghost use Rattle.hm_edges.specs.States.{HasNodes, pending_of, spot_of, state_of, where_of};
-ghost use Rattle.hm_edges.specs.Units.{is_foreign_kind, kind_of};
+ghost use Rattle.hm_edges.specs.Units.{kind_of};
 
 use crate::edges::{add, add_if, value_spot};
 use crate::pieces::{Edge, Piece};
@@ -386,7 +386,7 @@ fn add_outside_edges(
 ) -> Result<(), Memory>
     requires { HasNodes table.now from.pending }
     ensures known { AreOfTable table.now into.old.items → AreOfTable table.now into.new.items }
-    ensures edges { (u : units.Unit) (next : Option ℕ) → own_bytes u ≡ encode_utf8 character.c → character.more ≡ (is_foreign_kind character.kind && is_some next)
+    ensures edges { (u : units.Unit) (next : Option ℕ) → own_bytes u ≡ encode_utf8 character.c → character.more ≡ is_some next
         → Adds result table.now u into.old.items into.new.items
         (map (characters.kept_at (where_of from.at)) (characters.choices table.now.entries (rules_with table.now.entries ascii) (characters.spot_at (kind_of character.kind) (where_of from.at)) character.c character.pair (pending_of table.now from.pending))
         ++ characters.opened_sections ascii (characters.spot_at (kind_of character.kind) (where_of from.at)) character.c next (state_of table.now from)) }
@@ -411,8 +411,7 @@ pub(crate) fn add_character_edges(
 ) -> Result<(), Memory>
     requires { HasNodes table.now from.pending }
     ensures known { AreOfTable table.now into.old.items → AreOfTable table.now into.new.items }
-    ensures edges { (u : units.Unit) (next : Option ℕ) → own_bytes u ≡ encode_utf8 character.c → character.more ≡ (is_foreign_kind character.kind && is_some next)
-        → (characters.is_in_section (where_of from.at) ≡ true → is_foreign_kind character.kind ≡ true)
+    ensures edges { (u : units.Unit) (next : Option ℕ) → own_bytes u ≡ encode_utf8 character.c → character.more ≡ is_some next
         → Adds result table.now u into.old.items into.new.items (edges_by_pair table.now.entries ascii (kind_of character.kind) character.c character.pair next (state_of table.now from)) }
 {
     if is_in_section(from.at) {

@@ -305,9 +305,7 @@ fn add_close_edges(into: &mut Vec<Edge>, closes: bool, from: State) -> Result<()
 
 /// Gives the edges of a unit from a state, in their order and in place of what the buffer held.
 ///
-/// A reference is an edge only for characters that aren't plain. Characters other than those of a text of SVG meet no state
-/// in a section, and nothing is said of the edges that they would have there. After an error the buffer holds a front of
-/// the edges.
+/// A reference is an edge only for characters that aren't plain. After an error the buffer holds a front of the edges.
 pub fn find_edges(
     table: &Table,
     rules: SpellRules,

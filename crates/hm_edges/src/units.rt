@@ -36,8 +36,8 @@ pub enum Unit {
     AttributeName {
         len: u32,
     },
-    /// A character. `pair` is the next one in the same text where some name stands for the two, else None. `more` tells, in
-    /// a text of SVG, whether there is a next one; elsewhere it is false.
+    /// A character. `pair` is the next one in the same text where some name stands for the two, else None. `more` tells
+    /// whether there is a next one.
     Character {
         kind: TextKind,
         c: char,

@@ -1,6 +1,6 @@
 use Rattle.std.proofs.Common.{◌∙◌, map, refl, sym, ap}
 use Rattle.hm_edges.proofs.Adding.{adds_none, adds_then, adds_stopped, adds_as}
-use Rattle.hm_edges.proofs.SectionEdges.{opened, not_opened, foreign_more, next_for}
+use Rattle.hm_edges.proofs.SectionEdges.{opened, not_opened, next_for}
 use Rattle.hm_edges.specs.States.{where_of, pending_of, state_of}
 use Rattle.hm_edges.specs.Characters.{rules_with}
 use Rattle.hm_text_spell.specs.CharacterEdges.{kept_at, choices}
@@ -25,7 +25,7 @@ returns-then-opens c = record {
       (adds_as _ _ _ _ _ _ _ (ap (λ w. map (kept_at (where_of c.args.from.at)) (choices c.args.table.now.entries (rules_with c.args.table.now.entries c.args.ascii) w c.args.character.c c.args.character.pair (pending_of c.args.table.now c.args.from.pending))) c.spot_at-spot.ensures)
       (c.add_choices.ensures u own))
       (adds_as _ _ _ _ _ _ _ (opened c.args.ascii c.args.character.kind c.args.character.c next (state_of c.args.table.now c.args.from) (sym (c.may_open-opens.ensures c.args.table.now) ∙ c.if-opens.true))
-      (c.add_opened_sections.ensures c.args.table.now u next own (foreign_more _ _ _ _ (sym (c.may_open-opens.ensures c.args.table.now) ∙ c.if-opens.true) is)));
+      (c.add_opened_sections.ensures c.args.table.now u next own is));
 }
 
 pub returns-else-opens : goal.returns-else-opens

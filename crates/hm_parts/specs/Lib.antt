@@ -1,0 +1,5 @@
+pub mod Adding
+pub mod Around
+pub mod Events
+pub mod Laws
+pub mod Parts

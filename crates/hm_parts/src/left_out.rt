@@ -1,0 +1,182 @@
+//! Which tags may be left out, by what stands around them (HTML Standard, 13.1.2.4).
+ghost use Rattle.std.specs.Prelude.{◌≡◌, ◌&&◌, not};
+ghost use Rattle.hm_base.specs.Bytes as bytes;
+ghost use Rattle.hm_base.specs.Bytes.{head_is};
+ghost use Rattle.hm_base.specs.Walks as walks;
+ghost use Rattle.hm_elements.specs.Names.{head};
+ghost use Rattle.hm_spellings.specs.Omission as spellings;
+ghost use Rattle.hm_units.specs.Units as units;
+ghost use Rattle.hm_parts.specs.Around.{previous_shown, shown};
+
+use crate::omission::{bars_start, goes_before, goes_up, head_takes, start_goes_before};
+use hm_base::{SpellRules, is_space};
+use hm_elements::same_name;
+use hm_tree::EventView;
+
+fn is_comment(next: Option<EventView<'_>>) -> bool
+    ensures { result ≡ walks.begins_comment (shown next.entry) }
+{
+    matches!(next, Some(EventView::Comment { .. }))
+}
+
+fn is_text(next: Option<EventView<'_>>) -> bool
+    ensures { result ≡ walks.begins_text (shown next.entry) }
+{
+    matches!(next, Some(EventView::Text { .. }))
+}
+
+fn is_start(next: Option<EventView<'_>>) -> bool
+    ensures { result ≡ walks.begins_start (shown next.entry) }
+{
+    matches!(next, Some(EventView::Start { .. }))
+}
+
+fn is_end(next: Option<EventView<'_>>) -> bool
+    ensures { result ≡ walks.begins_end (shown next.entry) }
+{
+    matches!(next, Some(EventView::End { .. }))
+}
+
+/// Whether the event is the end of `head`.
+fn is_end_of_head(next: Option<EventView<'_>>) -> bool
+    ensures { result ≡ walks.begins_end_of head (shown next.entry) }
+{
+    match next {
+        Some(EventView::End { name, foreign }) => !foreign && same_name(name, "head"),
+        _ => false,
+    }
+}
+
+fn begins_with_space(text: &[u8]) -> bool
+    ensures { result ≡ head_is bytes.is_space text.now }
+{
+    match text {
+        [first, ..] => is_space(char::from(*first)),
+        [] => false,
+    }
+}
+
+/// Whether the event is a text that begins with whitespace.
+fn is_space_first(next: Option<EventView<'_>>) -> bool
+    ensures { result ≡ spellings.begins_space (shown next.entry) }
+{
+    match next {
+        Some(EventView::Text { text, raw: _ }) => begins_with_space(text.as_bytes()),
+        _ => false,
+    }
+}
+
+/// Whether the event is the start of an element that is taken into `head` where no start tag of `body` stands before it.
+fn is_for_head(next: Option<EventView<'_>>) -> bool
+    ensures { result ≡ spellings.begins_for_head (shown next.entry) }
+{
+    match next {
+        Some(EventView::Start { name, foreign, .. }) => !foreign && head_takes(name),
+        _ => false,
+    }
+}
+
+/// Whether the event is the start of a child before which the start tag of this element may be left out.
+fn is_child_of(parent: &str, next: Option<EventView<'_>>) -> bool
+    ensures { result ≡ spellings.begins_child_of parent.now (shown next.entry) }
+{
+    match next {
+        Some(EventView::Start { name, foreign, .. }) => !foreign && start_goes_before(parent, name),
+        _ => false,
+    }
+}
+
+/// Whether the start tag of the HTML element without attributes may be left out in front of the event behind it.
+#[tactic(auto, unfolding(hm_spellings::specs::Omission::start_falls))]
+fn start_falls(frame: bool, name: &str, next: Option<EventView<'_>>) -> bool
+    ensures { result ≡ spellings.start_falls frame name.now (shown next.entry) }
+{
+    if same_name(name, "html") {
+        !is_comment(next)
+    } else if same_name(name, "head") {
+        is_end_of_head(next) || is_start(next)
+    } else if same_name(name, "body") {
+        !frame && !is_comment(next) && !is_space_first(next) && !is_for_head(next)
+    } else {
+        is_child_of(name, next)
+    }
+}
+
+/// Whether the end tag may be left out, by the tables of names: in front of the start of an HTML element, or at the end of
+/// the parent.
+fn end_goes(name: &str, parent: &str, next: Option<EventView<'_>>) -> bool
+    ensures { result ≡ spellings.end_goes name.now parent.now (shown next.entry) }
+{
+    match next {
+        Some(
+            EventView::Start {
+                name: following,
+                foreign,
+                ..
+            },
+        ) => !foreign && goes_before(name, following),
+        Some(EventView::End { .. }) => goes_up(name, parent),
+        _ => false,
+    }
+}
+
+/// Whether the end tag of the HTML element in this parent may be left out in front of the event behind it.
+#[tactic(auto, unfolding(hm_spellings::specs::Omission::end_falls))]
+fn end_falls(name: &str, parent: &str, next: Option<EventView<'_>>) -> bool
+    ensures { result ≡ spellings.end_falls name.now parent.now (shown next.entry) }
+{
+    if same_name(name, "html") || same_name(name, "body") {
+        !is_comment(next)
+    } else if same_name(name, "head") {
+        !is_text(next) && !is_comment(next)
+    } else {
+        end_goes(name, parent, next)
+    }
+}
+
+/// Whether the start tag isn't left out where the tag of the end directly before it was.
+pub(crate) fn is_firm(previous: Option<EventView<'_>>, name: &str) -> bool
+    ensures { result ≡ units.is_firm (previous_shown previous.entry) name.now }
+{
+    match previous {
+        Some(
+            EventView::End {
+                name: before,
+                foreign,
+            },
+        ) => !foreign && bars_start(before, name),
+        _ => false,
+    }
+}
+
+/// Whether the start tag of an element without attributes may be left out.
+pub(crate) fn may_omit_start(
+    rules: SpellRules,
+    name: &str,
+    foreign: bool,
+    next: Option<EventView<'_>>,
+) -> bool
+    ensures { result ≡ rules.omit && (not foreign && spellings.start_falls rules.frame name.now (shown next.entry)) }
+{
+    rules.omit && !foreign && start_falls(rules.frame, name, next)
+}
+
+/// Whether the end tag of an element in this parent may be left out.
+pub(crate) fn may_omit_end(
+    rules: SpellRules,
+    name: &str,
+    foreign: bool,
+    parent: &str,
+    next: Option<EventView<'_>>,
+) -> bool
+    ensures { result ≡ rules.omit && (not foreign && spellings.end_falls name.now parent.now (shown next.entry)) }
+{
+    rules.omit && !foreign && end_falls(name, parent, next)
+}
+
+/// Whether the element may close itself: one of SVG that ends at once.
+pub(crate) fn may_close_itself(foreign: bool, next: Option<EventView<'_>>) -> bool
+    ensures { result ≡ units.may_close_itself foreign (shown next.entry) }
+{
+    foreign && is_end(next)
+}

@@ -1,0 +1,13 @@
+//! A part of an event.
+use hm_edges::{TextKind, Unit};
+
+/// A part of an event: one unit, or the characters of a text or value.
+#[derive(Clone, Copy, Debug)]
+pub enum Part<'t> {
+    /// A unit that is no character, with its own bytes: its name, or its bytes without a choice.
+    One { unit: Unit, own: &'t str },
+    /// A comment, without the marks around it.
+    Comment { text: &'t str },
+    /// A unit for each character.
+    Chars { kind: TextKind, text: &'t str },
+}

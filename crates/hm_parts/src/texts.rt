@@ -1,0 +1,59 @@
+//! The characters of a text.
+ghost use Rattle.std.specs.Prelude.{◌≡◌, List, chars, if◌then◌else◌};
+ghost use Rattle.hm_base.specs.Bytes.{head_is};
+ghost use Rattle.hm_base.specs.Walks.{Element};
+ghost use Rattle.hm_edges.specs.Units.{kind_of};
+ghost use Rattle.hm_spellings.specs.Spellings as spellings;
+ghost use Rattle.hm_units.specs.Units as units;
+ghost use Rattle.hm_parts.specs.Around.{IsAround, previous_shown};
+
+use crate::neighbours::Around;
+use crate::omission::is_rcdata;
+use hm_edges::TextKind;
+use hm_elements::is_preformatted;
+use hm_tree::EventView;
+
+/// In what kind of text the characters stand directly in this element.
+pub(crate) fn text_kind(around: Around<'_>) -> TextKind
+    ensures { (path : List Element) → IsAround around.entry path → kind_of result ≡ units.kind_of path }
+{
+    if around.foreign {
+        TextKind::Foreign
+    } else if is_rcdata(around.name) {
+        TextKind::Rcdata
+    } else {
+        TextKind::Text
+    }
+}
+
+fn begins_with_line_feed(text: &str) -> bool
+    ensures { result ≡ head_is spellings.is_line_feed (chars text.now) }
+{
+    matches!(text.chars().next(), Some('\n'))
+}
+
+fn is_start(event: Option<EventView<'_>>) -> bool
+    ensures { result ≡ units.is_behind_start (previous_shown event.entry) }
+{
+    matches!(event, Some(EventView::Start { .. }))
+}
+
+/// Whether a line feed that comes first in this element is not read (HTML Standard, 13.1.2.5).
+#[tactic(auto, unfolding(hm_spellings::specs::Spellings::drops_first_line_feed))]
+fn drops_first_line_feed(around: Around<'_>) -> bool
+    ensures { (path : List Element) → IsAround around.entry path → result ≡ spellings.drops_first_line_feed path }
+{
+    !around.foreign && is_preformatted(around.name)
+}
+
+/// Whether one more line feed is due in front of the text: it comes first in such an element and begins with one.
+pub(crate) fn is_line_feed_due(
+    previous: Option<EventView<'_>>,
+    around: Around<'_>,
+    text: &str,
+) -> bool
+    ensures { (path : List Element) → IsAround around.entry path
+        → result ≡ spellings.wants_line_feed (if units.is_behind_start (previous_shown previous.entry) then spellings.opening else spellings.other) path (chars text.now) }
+{
+    is_start(previous) && drops_first_line_feed(around) && begins_with_line_feed(text)
+}

@@ -1,0 +1,5 @@
+pub mod Places
+pub mod Rows
+pub mod FirstWays
+pub mod Written
+pub mod Keeping

@@ -1,0 +1,5 @@
+pub mod Steps
+pub mod Prices
+pub mod Ways
+pub mod Fits
+pub mod Laws

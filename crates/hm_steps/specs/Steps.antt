@@ -1,0 +1,17 @@
+-- A step: the edges of a unit from each state of a layer, by numbers alone.
+use Rattle.std.specs.Prelude.{Bool, ◌&&◌, List}
+use Rattle.std.specs.List.{list_all}
+use Rattle.hm_graph.specs.Layers.{is_single}
+use Rattle.hm_steps.specs.declared.hops.Hop.{Hop}
+
+-- for each state in front, its hops in the order of its edges
+abbrev pub Step : Type 0
+Step = List (List Hop)
+
+-- each state has one hop, so that there is nothing to choose
+abbrev pub is_forced : Step → Bool
+is_forced step = list_all is_single step
+
+-- one state with one hop
+abbrev pub is_single_step : Step → Bool
+is_single_step step = is_single step && is_forced step

@@ -1,0 +1,11 @@
+//! An edge by numbers.
+use hm_edges::Piece;
+
+/// An edge of the graph: what it writes of its unit, how many bytes that is, and the place of the state that it leads to
+/// among the states behind.
+#[derive(Clone, Copy, Debug)]
+pub struct Hop {
+    pub piece: Piece,
+    pub len: u64,
+    pub to: usize,
+}

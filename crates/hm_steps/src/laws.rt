@@ -1,0 +1,27 @@
+//! Laws of steps. The functions do nothing.
+ghost use Rattle.hm_steps.specs.Laws.{FullRowsAgree, KeepingAgrees, RowsAreLeast, WayIsFirst, WrittenRowsAgree};
+
+/// The prices over steps are the least ones of their graph.
+pub fn rows_are_least()
+    ensures { RowsAreLeast }
+{}
+
+/// The way over steps is the first one of their graph.
+pub fn way_is_first()
+    ensures { WayIsFirst }
+{}
+
+/// The rows that are written are those of the graph.
+pub fn written_rows_agree()
+    ensures { WrittenRowsAgree }
+{}
+
+/// What written rows stand for is what they do in the graph.
+pub fn full_rows_agree()
+    ensures { FullRowsAgree }
+{}
+
+/// Prices keep the rules over steps exactly where they do in the graph.
+pub fn keeping_agrees()
+    ensures { KeepingAgrees }
+{}

@@ -1,0 +1,11 @@
+pub mod Numbers
+pub mod Places
+pub mod Placed
+pub mod Layers
+pub mod Lists
+pub mod PairNames
+pub mod Built
+pub mod Characters
+pub mod Parts
+pub mod Events
+pub mod Finished

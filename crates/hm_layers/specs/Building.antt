@@ -1,0 +1,64 @@
+-- What is built of a tree's graph: the steps so far, and the states behind them.
+use Rattle.std.specs.Prelude.{◌≡◌, ℕ, ◌<◌, ◌^◌, List, [], ◌∷◌, ◌++◌, length, map, Option, Some, None}
+use Rattle.std.specs.List.{All}
+use Rattle.hm_base.specs.declared.plain.SpellRules.{SpellRules}
+use Rattle.hm_graph.specs.Layers.{first_layer, states_behind}
+use Rattle.hm_graph.specs.UnitEdges.{edges_of}
+use Rattle.hm_graph.specs.Ways.{Edges}
+use Rattle.hm_refs.specs.Tables.{TableView}
+use Rattle.hm_units.specs.States as graph
+use Rattle.hm_units.specs.Units as units
+use Rattle.hm_edges.specs.Found.{spelling}
+use Rattle.hm_edges.specs.Pieces.{piece_bytes}
+use Rattle.hm_edges.specs.declared.pieces.Piece.{Piece}
+use Rattle.hm_edges.specs.declared.states.State.{State}
+use Rattle.hm_steps.specs.Fits.{StepFits}
+use Rattle.hm_steps.specs.Steps.{Step}
+use Rattle.hm_layers.specs.Graphs.{AreLow, AreNamed}
+use Rattle.hm_layers.specs.Layers.{states_of}
+use Rattle.hm_layers.specs.Met.{MetView, list_at, made_at}
+
+-- the steps so far, and the states of the layer behind them
+pub record BuildingView : Type 0 where
+  pub table : TableView
+  pub rules : SpellRules
+  pub steps : List Step
+  pub last : List State
+
+-- the steps of these numbers
+abbrev pub steps_at : MetView → List ℕ → List Step
+steps_at m numbers = map (λ n. (made_at m n).step) numbers
+
+abbrev pub building : MetView → List ℕ → ℕ → BuildingView
+building m numbers last = record { table = m.table; rules = m.rules; steps = steps_at m numbers; last = list_at m last }
+
+-- the numbers are those of steps, and the last list is there
+pub record IsBuilding (m : MetView) (numbers : List ℕ) (last : ℕ) : Type 0 where
+  pub numbers_there : All (λ n. n < length m.made) numbers
+  pub last_there : last < length m.lists
+  pub few : length numbers < 2 ^ 29
+  pub low : AreLow (steps_at m numbers)
+  pub named : AreNamed m.table.entries (steps_at m numbers)
+
+-- the steps of units lead from a layer with these states to one with those behind
+abbrev pub Lead : Edges → (units.Unit → Piece → List ℕ) → List units.Unit → List graph.State → List Step → List graph.State → Type 0
+Lead edges bytes [] states [] behind = states ≡ behind
+Lead edges bytes [] states (step ∷ steps) behind = ⊥
+Lead edges bytes (u ∷ us) states [] behind = ⊥
+Lead edges bytes (u ∷ us) states (step ∷ steps) behind =
+    StepFits (bytes u) (edges u) (states_behind edges u states) states step × Lead edges bytes us (states_behind edges u states) steps behind
+
+-- the steps so far are those of these units
+abbrev pub IsBuilt : BuildingView → List units.Unit → Type 0
+IsBuilt b us = Lead (edges_of (spelling b.table.entries b.rules)) (piece_bytes b.table.entries) us first_layer b.steps (states_of b.table b.last)
+
+-- the steps of more units are added behind
+pub record Adds (old new : BuildingView) (more : List units.Unit) : Type 0 where
+  pub table : new.table ≡ old.table
+  pub rules : new.rules ≡ old.rules
+  pub units : (us : List units.Unit) → IsBuilt old us → IsBuilt new (us ++ more)
+
+-- the unit of a character, where there is one, and the next one
+abbrev pub character_before : units.TextKind → Option ℕ → Option ℕ → List units.Unit
+character_before kind None next = []
+character_before kind (Some c) next = units.character kind c next ∷ []

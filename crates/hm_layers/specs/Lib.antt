@@ -1,0 +1,4 @@
+pub mod Graphs
+pub mod Layers
+pub mod Met
+pub mod Building

@@ -1,0 +1,149 @@
+//! A graph while it is built.
+ghost use Rattle.std.specs.Prelude.{◌≡◌, ◌<◌, ◌∷◌, [], length, IfOk, OnOk};
+ghost use Rattle.std.specs.Str.{chars};
+ghost use Rattle.hm_units.specs.Units as units;
+ghost use Rattle.hm_units.specs.Units.{character_units};
+ghost use Rattle.hm_edges.specs.Units.{StandsFor, kind_of};
+ghost use Rattle.hm_parts.specs.Parts.{AreParts, IsPart, part_units, parts_units};
+ghost use Rattle.hm_layers.specs.Graphs.{AreNamed};
+ghost use Rattle.hm_layers.specs.Building.{Adds, IsBuilt, character_before};
+
+use crate::graph::Graph;
+use crate::met::{LIMIT, Met};
+use crate::pairs::pair_of;
+use hm_base::{Memory, SpellRules};
+use hm_edges::{TextKind, Unit};
+use hm_parts::Part;
+use hm_refs::Table;
+use std::alloc::Global;
+use std::marker::Model;
+
+/// The steps so far, by their numbers, and the number of the list behind them.
+#[derive(Drop)]
+pub(crate) struct Building<'t> {
+    met: Met<'t>,
+    numbers: Vec<u32>,
+    last: u32,
+}
+
+impl<'t> Model for Building<'t> {
+    ghost use Rattle.hm_layers.specs.Building.{BuildingView};
+
+    ghost Value = { BuildingView };
+
+    ghost use Rattle.hm_layers.specs.Building.{IsBuilding, building};
+
+    ghost view = { λ b. building b.met b.numbers.items b.last };
+
+    ghost invariant = { λ b. IsBuilding b.met b.numbers.items b.last };
+}
+
+impl<'t> Building<'t> {
+    /// Nothing is built but the first layer.
+    pub(crate) fn new(
+        alloc: Global,
+        table: &'t Table,
+        rules: SpellRules,
+    ) -> Result<Building<'t>, Memory>
+        ensures table { IfOk result (λ building. building.table ≡ table.now) }
+        ensures rules { IfOk result (λ building. building.rules ≡ rules) }
+        ensures built { IfOk result (λ building. IsBuilt building []) }
+    {
+        Ok(Building {
+            met: Met::new(alloc, table, rules)?,
+            numbers: Vec::new(alloc),
+            last: 0,
+        })
+    }
+
+    /// Adds the step of a unit.
+    fn add(&mut self, unit: Unit) -> Result<(), Memory>
+        ensures { OnOk result ((u : units.Unit) → StandsFor self.old.table.entries unit u → Adds self.old self.new (u ∷ [])) }
+    {
+        if self.numbers.len() >= LIMIT - 1 {
+            return Err(Memory);
+        }
+        let number = self.met.step(self.last, unit)?;
+        self.numbers.push(number)?;
+        let last = self.met.behind(number);
+        self.last = last;
+        Ok(())
+    }
+
+    /// Adds the step of a character, behind which the next one stands in the same text.
+    fn add_character(&mut self, kind: TextKind, c: char, next: Option<char>) -> Result<(), Memory>
+        ensures { OnOk result (Adds self.old self.new (units.character (kind_of kind) c next ∷ [])) }
+    {
+        let pair = pair_of(self.met.table(), c, next);
+        self.add(Unit::Character {
+            kind,
+            c,
+            pair,
+            more: next.is_some(),
+        })
+    }
+
+    /// Adds the step of a character, where there is one.
+    fn add_before(
+        &mut self,
+        kind: TextKind,
+        before: Option<char>,
+        next: Option<char>,
+    ) -> Result<(), Memory>
+        ensures { OnOk result (Adds self.old self.new (character_before (kind_of kind) before next)) }
+    {
+        match before {
+            None => Ok(()),
+            Some(c) => self.add_character(kind, c, next),
+        }
+    }
+
+    /// Adds the steps of the characters of a text.
+    fn add_characters(&mut self, kind: TextKind, text: &str) -> Result<(), Memory>
+        ensures { OnOk result (Adds self.old self.new (character_units (kind_of kind) (chars text.now))) }
+    {
+        let mut before = None;
+        for c in text.chars() {
+            self.add_before(kind, before, Some(c))?;
+            before = Some(c);
+        }
+        self.add_before(kind, before, None)
+    }
+
+    /// Adds the steps of a part.
+    fn add_part(&mut self, part: &Part<'_>) -> Result<(), Memory>
+        requires { IsPart part.now }
+        ensures { OnOk result (Adds self.old self.new (part_units part.now)) }
+    {
+        match *part {
+            Part::One { unit, own: _ } => self.add(unit),
+            Part::Comment { text } => self.add(Unit::Fixed {
+                len: text.len() as u32 + 7,
+            }),
+            Part::Chars { kind, text } => self.add_characters(kind, text),
+        }
+    }
+
+    /// Adds the steps of these parts.
+    pub(crate) fn add_parts(&mut self, parts: &[Part<'_>]) -> Result<(), Memory>
+        requires { AreParts parts.now }
+        ensures { OnOk result (Adds self.old self.new (parts_units parts.now)) }
+    {
+        for part in parts {
+            self.add_part(part)?;
+        }
+        Ok(())
+    }
+
+    /// The graph of what is built.
+    pub(crate) fn into_graph(self) -> Result<Graph, Memory>
+        ensures steps { IfOk result (λ graph. graph.steps ≡ self.entry.steps) }
+        ensures last { IfOk result (λ graph. graph.last ≡ length self.entry.last) }
+        ensures named { AreNamed self.entry.table.entries self.entry.steps }
+    {
+        let Building { met, numbers, last } = self;
+        let last = met.list(last).len();
+        let steps = met.into_steps()?;
+        Ok(Graph::from_parts(steps, numbers, last))
+    }
+}

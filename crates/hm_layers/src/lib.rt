@@ -1,0 +1,16 @@
+//! The layered graph of a tree: the steps between its layers, each different one once.
+#![tactic(auto)]
+
+mod build;
+mod building;
+mod graph;
+mod layer;
+mod made;
+mod met;
+mod pairs;
+mod step;
+#[cfg(test)]
+mod tests;
+
+pub use graph::Graph;
+pub use step::Step;

@@ -1,0 +1,79 @@
+//! A step between two layers.
+ghost use Rattle.std.specs.Prelude.{◌≡◌, ◌<◌, [], length, map, slice_index_or};
+ghost use Rattle.hm_graph.specs.Layers.{is_single};
+ghost use Rattle.hm_steps.specs.Steps as steps;
+
+use hm_steps::Hop;
+use std::marker::Model;
+
+/// The hops of each state of a layer, in the order of its edges.
+#[derive(Drop)]
+pub struct Step {
+    lists: Vec<Vec<Hop>>,
+    forced: bool,
+}
+
+impl Model for Step {
+    ghost use Rattle.std.specs.Prelude.{◌≡◌, List, map};
+    ghost use Rattle.hm_steps.specs.Steps.{is_forced};
+    ghost use Rattle.hm_steps.specs.declared.hops.Hop.{Hop};
+
+    ghost Value = { List (List Hop) };
+
+    ghost view = { λ s. map (λ hops. hops.items) s.lists.items };
+
+    ghost invariant = { λ s. s.forced ≡ is_forced (map (λ hops. hops.items) s.lists.items) };
+}
+
+fn is_one(hops: &[Hop]) -> bool
+    ensures { result ≡ is_single hops.now }
+{
+    match hops {
+        [_] => true,
+        _ => false,
+    }
+}
+
+/// Whether each state has one hop.
+fn are_forced(lists: &[Vec<Hop>]) -> bool
+    ensures { result ≡ steps.is_forced (map (λ hops. hops.items) lists.now) }
+{
+    for hops in lists {
+        if !is_one(hops.as_slice()) {
+            return false;
+        }
+    }
+    true
+}
+
+impl Step {
+    /// The step with these hops of each state.
+    pub fn new(lists: Vec<Vec<Hop>>) -> Step
+        ensures { result ≡ map (λ hops. hops.items) lists.items }
+    {
+        let forced = are_forced(&lists);
+        Step { lists, forced }
+    }
+
+    /// How many states are in front of it.
+    pub fn width(&self) -> usize
+        ensures { result ≡ length self.now }
+    {
+        self.lists.len()
+    }
+
+    /// The hops of the state at this place, in the order of its edges.
+    pub fn hops(&self, place: usize) -> &[Hop]
+        requires { place < length self.now }
+        ensures { result.now ≡ slice_index_or self.now place [] }
+    {
+        self.lists[place].as_slice()
+    }
+
+    /// Whether each state has one hop, so that there is nothing to choose.
+    pub fn is_forced(&self) -> bool
+        ensures { result ≡ steps.is_forced self.now }
+    {
+        self.forced
+    }
+}

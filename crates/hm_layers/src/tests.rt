@@ -1,0 +1,128 @@
+#![tactic(auto, using(hm_tree::proofs::RoomLemmas::room))]
+
+ghost use Rattle.std.specs.Prelude.{◌+◌, ◌≤◌, length, IfOk};
+ghost use Rattle.hm_base.specs.Walks.{attributes_size};
+
+use crate::Graph;
+use hm_base::{Memory, SpellRules};
+use hm_refs::Table;
+use hm_tree::{Attrs, Tree};
+use std::alloc::Global;
+use std::test::Fail;
+
+const NONE: &str = "{}";
+
+/// A name for two code points.
+const TWO: &str = "{\"&ab;\":{\"codepoints\":[120,824]}}";
+
+const RULES: SpellRules = SpellRules {
+    omit: true,
+    unquote: true,
+    tight: true,
+    ascii: false,
+    frame: false,
+};
+
+/// A text outside of elements.
+fn text_alone(alloc: Global, text: &str) -> Result<Tree, Memory> {
+    if text.len() > 100 {
+        return Err(Memory);
+    }
+    let mut maker = Tree::maker(alloc);
+    maker.text(text, false)?;
+    if maker.depth() > 0 {
+        return Err(Memory);
+    }
+    Ok(maker.finish())
+}
+
+fn attributes(alloc: Global, name: &str, value: &str) -> Result<Attrs, Memory>
+    ensures { IfOk result (λ attrs. attributes_size attrs ≤ length name.now + length value.now) }
+{
+    let mut attrs = Attrs::new(alloc);
+    let name = String::from_str(alloc, name)?;
+    let value = String::from_str(alloc, value)?;
+    attrs.add(name, value)?;
+    Ok(attrs)
+}
+
+/// An empty element with an attribute.
+fn element_alone(alloc: Global, name: &str, attr: &str, value: &str) -> Result<Tree, Memory> {
+    if name.len() > 100 || attr.len() > 100 || value.len() > 100 {
+        return Err(Memory);
+    }
+    let mut maker = Tree::maker(alloc);
+    let attrs = attributes(alloc, attr, value)?;
+    maker.start(name, false, attrs)?;
+    if maker.depth() == 0 {
+        return Err(Memory);
+    }
+    maker.end()?;
+    if maker.depth() > 0 {
+        return Err(Memory);
+    }
+    Ok(maker.finish())
+}
+
+/// A step: how many states are in front of it, how many hops the first of them has, and whether each has one.
+type Shown = (usize, usize, bool);
+
+/// Whether the graph has these steps, and so many states behind them.
+fn is_like(graph: &Graph, wanted: &[Shown], last: usize) -> bool {
+    if graph.len() != wanted.len() || graph.last() != last {
+        return false;
+    }
+    for k in 0..wanted.len() {
+        let step = graph.step(k);
+        let (width, first, forced) = wanted[k];
+        if width == 0 || step.width() != width {
+            return false;
+        }
+        if step.hops(0).len() != first || step.is_forced() != forced {
+            return false;
+        }
+    }
+    true
+}
+
+/// `a<b`: behind the `<` as itself no letter may stand.
+#[test]
+fn less_than(rt: HostRuntime) -> Result<(), Fail> {
+    let table = Table::read(rt.alloc(), NONE.as_bytes())?;
+    let tree = text_alone(rt.alloc(), "a<b")?;
+    let graph = Graph::of(rt.alloc(), &tree, &table, RULES)?;
+    let wanted = [(1, 1, true), (1, 3, false), (3, 0, false)];
+    assert!(rt; is_like(&graph, &wanted, 1));
+    Ok(())
+}
+
+/// `<p id=x></p>`: three ways to write the value. Behind either quote the state is the same.
+#[test]
+fn value(rt: HostRuntime) -> Result<(), Fail> {
+    let table = Table::read(rt.alloc(), NONE.as_bytes())?;
+    let tree = element_alone(rt.alloc(), "p", "id", "x")?;
+    let graph = Graph::of(rt.alloc(), &tree, &table, RULES)?;
+    let wanted = [
+        (1, 1, true),
+        (1, 3, false),
+        (3, 1, true),
+        (3, 1, true),
+        (2, 1, true),
+        (1, 1, true),
+    ];
+    assert!(rt; is_like(&graph, &wanted, 1));
+    Ok(())
+}
+
+/// A name for two code points is a way where they stand together, and only there.
+#[test]
+fn pair(rt: HostRuntime) -> Result<(), Fail> {
+    let table = Table::read(rt.alloc(), TWO.as_bytes())?;
+    let tree = text_alone(rt.alloc(), "x\u{338}")?;
+    let graph = Graph::of(rt.alloc(), &tree, &table, RULES)?;
+    assert!(rt; is_like(&graph, &[(1, 4, false), (3, 3, false)], 2));
+    let tree = text_alone(rt.alloc(), "xx")?;
+    let graph = Graph::of(rt.alloc(), &tree, &table, RULES)?;
+    assert!(rt; is_like(&graph, &[(1, 3, false), (2, 3, false)], 2));
+    Ok(())
+}

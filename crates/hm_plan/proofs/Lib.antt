@@ -1,0 +1,4 @@
+pub mod Hexadecimal
+pub mod Prices
+pub mod FromLast
+pub mod FirstWay

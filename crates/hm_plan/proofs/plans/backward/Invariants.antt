@@ -1,0 +1,7 @@
+use Rattle.std.proofs.Common.{map}
+use Rattle.hm_cert.specs.Layout.{told}
+use Rattle.hm_plan.proofs.FromLast.{IsBack}
+use Rattle.hm_plan.proofs.plans.backward.Given as goal
+
+abbrev pub invariant-loop-k : goal.invariant-loop-k
+invariant-loop-k l = IsBack l.graph l.k l.back.text.items l.back.choices.items (map told l.back.row.items)

@@ -1,0 +1,7 @@
+use Rattle.hm_layers.specs.Graphs.{AreLowHops}
+use Rattle.std.proofs.Common.{sym, subst}
+use Rattle.hm_plan.proofs.Prices.{low_hops}
+use Rattle.hm_plan.proofs.plans.find_row.Goals as goal
+
+pub find_best-best-requires-clause-low : goal.find_best-best-requires-clause-low
+find_best-best-requires-clause-low c = subst AreLowHops (sym c.hops.ensures) (low_hops c.args.step.now c.loop-place.place c.requires.low)

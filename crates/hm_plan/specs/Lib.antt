@@ -1,0 +1,4 @@
+pub mod Own
+pub mod Paths
+pub mod Plans
+pub mod Rows

@@ -1,0 +1,204 @@
+//! Least prices, from the last layer on: the certificate that tells them, and what the first way chooses.
+ghost use Rattle.std.specs.Prelude.{◌≡◌, ◌++◌, ◌∷◌, [], ◌<◌, ◌^◌, map, reverse, true, if◌then◌else◌, None, IfOk, OnOk, slice_index_or};
+ghost use Rattle.hm_cert.specs.Certificate.{head_lines, row_line};
+ghost use Rattle.hm_cert.specs.Layout.{told};
+ghost use Rattle.hm_layers.specs.Graphs.{AreLowHops, IsLowStep};
+ghost use Rattle.hm_steps.specs.Prices.{best_price, row_over, zeros};
+ghost use Rattle.hm_steps.specs.Prices as prices;
+ghost use Rattle.hm_steps.specs.Ways.{choice, step_choices};
+ghost use Rattle.hm_plan.specs.Plans.{IsPlan};
+ghost use Rattle.hm_plan.specs.Rows.{AreBelow};
+
+use hm_base::{Memory, SpellRules};
+use hm_cert::{CLOSED, Format, put_head_reversed, put_line_reversed};
+use hm_layers::{Graph, Step};
+use hm_steps::Hop;
+use std::alloc::Global;
+use std::mem;
+
+/// What is known when the prices of all layers were found: the text of the certificate, which writes those of the layers that
+/// aren't single, the choices of the first way, those of the last layer first, and the first price, in bytes.
+#[derive(Drop)]
+pub struct Plan {
+    pub certificate: Vec<u8>,
+    pub choices: Vec<u32>,
+    /// `hm_cert::CLOSED` where there is no way.
+    pub first: u64,
+}
+
+/// The least price over some hops, and the place of the first hop over which it comes.
+#[derive(Clone, Copy)]
+struct Best {
+    price: u64,
+    place: usize,
+}
+
+/// The price over a hop, by the prices of the layer behind.
+fn price_over(hop: Hop, behind: &[u64]) -> u64
+    requires below { AreBelow (2 ^ 62) (map told behind.now) }
+    requires low { hop.len < 2 ^ 33 }
+    ensures { told result ≡ prices.price_over (map told behind.now) hop }
+{
+    match behind.get(hop.to) {
+        Some(price) => hop.len.saturating_add(*price),
+        None => CLOSED,
+    }
+}
+
+/// The least price over these hops, by the prices of the layer behind.
+fn find_best(hops: &[Hop], behind: &[u64]) -> Best
+    requires below { AreBelow (2 ^ 62) (map told behind.now) }
+    requires low { AreLowHops hops.now }
+    ensures price { told result.price ≡ best_price (map told behind.now) hops.now }
+    ensures place { result.place ≡ choice (map told behind.now) hops.now }
+{
+    let mut best = Best {
+        price: CLOSED,
+        place: hops.len(),
+    };
+    for place in (0..hops.len()).rev() {
+        let price = price_over(hops[place], behind);
+        if price <= best.price {
+            best = Best { price, place };
+        }
+    }
+    best
+}
+
+/// Appends a choice, where there is something to choose. A place that does not fit in 32 bits is refused as memory is.
+fn put_choice(choices: &mut Vec<u32>, forced: bool, place: usize) -> Result<(), Memory>
+    ensures { OnOk result (choices.new.items ≡ choices.old.items ++ (if forced then [] else place ∷ [])) }
+{
+    if !forced {
+        match u32::try_from(place) {
+            Ok(place) => choices.push(place)?,
+            Err(_) => return Err(Memory),
+        }
+    }
+    Ok(())
+}
+
+/// Finds the prices in front of a step by those behind it, in place of what the row held, and appends the choices.
+fn find_row(
+    step: &Step,
+    behind: &[u64],
+    row: &mut Vec<u64>,
+    choices: &mut Vec<u32>,
+) -> Result<(), Memory>
+    requires below { AreBelow (2 ^ 62) (map told behind.now) }
+    requires low { IsLowStep step.now }
+    ensures row { OnOk result (map told row.new.items ≡ row_over (map told behind.now) step.now) }
+    ensures choices { OnOk result (choices.new.items ≡ choices.old.items ++ step_choices (map told behind.now) step.now) }
+{
+    row.clear();
+    let forced = step.is_forced();
+    for place in 0..step.width() {
+        let best = find_best(step.hops(place), behind);
+        row.push(best.price)?;
+        put_choice(choices, forced, best.place)?;
+    }
+    Ok(())
+}
+
+/// The prices of the last layer.
+fn zero_row(alloc: Global, last: usize) -> Result<Vec<u64>, Memory>
+    ensures { IfOk result (λ row. map told row.items ≡ zeros last) }
+{
+    let mut row = Vec::new(alloc);
+    for _place in 0..last {
+        row.push(0)?;
+    }
+    Ok(row)
+}
+
+/// Whether the certificate leaves out layer `k`.
+fn is_left_out(k: usize, step: &Step) -> bool
+    ensures { result ≡ prices.is_left_out true k step.now }
+{
+    k != 0 && step.width() == 1 && step.is_forced()
+}
+
+/// Appends the line of a row, the last byte first, where it isn't left out.
+fn put_line(out: &mut Vec<u8>, left_out: bool, row: &[u64]) -> Result<(), Memory>
+    ensures { OnOk result (out.new.items ≡ out.old.items ++ (if left_out then [] else reverse (row_line (map told row.now)))) }
+{
+    if left_out {
+        Ok(())
+    } else {
+        put_line_reversed(out, row)
+    }
+}
+
+/// What was found from a layer on: the lines of the certificate, from their end, the choices and the prices of the layer.
+#[derive(Drop)]
+struct Back {
+    text: Vec<u8>,
+    choices: Vec<u32>,
+    row: Vec<u64>,
+    spare: Vec<u64>,
+}
+
+impl Back {
+    /// From the last layer on.
+    fn new(alloc: Global, last: usize) -> Result<Back, Memory>
+        ensures text { IfOk result (λ back. back.text.items ≡ reverse (row_line (zeros last))) }
+        ensures choices { IfOk result (λ back. back.choices.items ≡ []) }
+        ensures row { IfOk result (λ back. map told back.row.items ≡ zeros last) }
+    {
+        let mut text = Vec::new(alloc);
+        let row = zero_row(alloc, last)?;
+        put_line_reversed(&mut text, &row)?;
+        Ok(Back {
+            text,
+            choices: Vec::new(alloc),
+            row,
+            spare: Vec::new(alloc),
+        })
+    }
+
+    /// Goes to layer `k`, the one in front of this step.
+    fn go_over(&mut self, k: usize, step: &Step) -> Result<(), Memory>
+        requires below { AreBelow (2 ^ 62) (map told self.old.row.items) }
+        requires low { IsLowStep step.now }
+        ensures text { OnOk result (self.new.text.items ≡ self.old.text.items
+            ++ (if prices.is_left_out true k step.now then [] else reverse (row_line (row_over (map told self.old.row.items) step.now)))) }
+        ensures choices { OnOk result (self.new.choices.items ≡ self.old.choices.items ++ step_choices (map told self.old.row.items) step.now) }
+        ensures row { OnOk result (map told self.new.row.items ≡ row_over (map told self.old.row.items) step.now) }
+    {
+        find_row(step, &self.row, &mut self.spare, &mut self.choices)?;
+        mem::swap(&mut self.row, &mut self.spare);
+        put_line(&mut self.text, is_left_out(k, step), &self.row)
+    }
+
+    /// The plan, when the first layer is reached.
+    fn finish(self, rules: SpellRules) -> Result<Plan, Memory>
+        ensures certificate { IfOk result (λ plan. plan.certificate.items ≡ reverse (self.text.items ++ reverse (head_lines Format.Two rules))) }
+        ensures choices { IfOk result (λ plan. plan.choices ≡ self.choices) }
+        ensures first { IfOk result (λ plan. told plan.first ≡ slice_index_or (map told self.row.items) 0 None) }
+    {
+        let first = match self.row.first() {
+            Some(price) => *price,
+            None => CLOSED,
+        };
+        let mut text = self.text;
+        put_head_reversed(&mut text, Format::Two, rules)?;
+        text.reverse();
+        Ok(Plan {
+            certificate: text,
+            choices: self.choices,
+            first,
+        })
+    }
+}
+
+/// Finds the least prices of a graph, and writes them as a certificate under these rules.
+pub fn backward(alloc: Global, graph: &Graph, rules: SpellRules) -> Result<Plan, Memory>
+    ensures { IfOk result (IsPlan graph.now rules) }
+{
+    graph.is_small();
+    let mut back = Back::new(alloc, graph.last())?;
+    for k in (0..graph.len()).rev() {
+        back.go_over(k, graph.step(k))?;
+    }
+    back.finish(rules)
+}

@@ -1,0 +1,3 @@
+pub mod Shortest
+pub mod Minified
+pub mod Laws

@@ -1,0 +1,119 @@
+-- What the parts of a check find is its verdict.
+use Rattle.std.proofs.Common.{◌≡◌, ◌≤◌, ◌<◌, ℕ, Bool, true, false, List, length, nat_lt, Option, Some, None, refl, sym, ap, ◌∙◌, subst}
+use Rattle.std.specs.Option.{option_map, MatchOption}
+use Rattle.std.specs.declared.result.Result.{Result}
+use Rattle.std.specs.declared.result.Result.TheVariants.{Ok, Err}
+use Rattle.std.specs.Result.{IfOk, IfErr}
+use Rattle.std.proofs.lemmas.Bool.{lt-ltb, le-ltb}
+use Rattle.hm_base.specs.Faults.{HasText}
+use Rattle.hm_base.specs.Source.{refusal_at, Source, source_of, text_fault}
+use Rattle.hm_base.specs.Walks.{Event}
+use Rattle.hm_base.specs.declared.limits.TheConstants.{OUTPUT_LIMIT}
+use Rattle.hm_base.specs.declared.plain.SpellRules.{SpellRules}
+use Rattle.hm_base.specs.declared.rules.Refused.{Refused}
+use Rattle.hm_base.specs.declared.rules.Rule.{Rule}
+use Rattle.hm_base.specs.declared.rules.Rule.TheVariants as rules
+use Rattle.hm_build.specs.Parsing.{IsRefusedAs}
+use Rattle.hm_cert.specs.declared.certificate.Certificate.{Certificate}
+use Rattle.hm_construction.specs.Trees.{Outcome, built, refused_by, page_tree, tree_of_source}
+use Rattle.hm_edges.specs.Found.{spelling}
+use Rattle.hm_edges.specs.declared.pieces.Piece.{Piece}
+use Rattle.hm_graph.specs.Layers.{first_layer}
+use Rattle.hm_graph.specs.Prices.{Row}
+use Rattle.hm_graph.specs.UnitEdges.{edges_of}
+use Rattle.hm_graph.specs.Ways.{Edges}
+use Rattle.hm_layers.specs.Graphs.{GraphView}
+use Rattle.hm_refs.specs.Names.{Entry}
+use Rattle.hm_steps.specs.Fits.{StepsFit}
+use Rattle.hm_steps.specs.Laws.{follows_by}
+use Rattle.hm_tree.specs.Trees.{DifferFirstAt}
+use Rattle.hm_units.specs.Units.{Unit, units_of}
+use Rattle.hm_check.specs.Differences.{first_difference}
+use Rattle.hm_check.specs.Steps.{by_rows_over}
+use Rattle.hm_check.specs.Trees.{tree_why}
+use Rattle.hm_check.specs.Verdicts.{same_rules, leaves_singles_out, out_outcome, by_rows, by_difference, by_outcome, verdict}
+use Rattle.hm_check.specs.declared.verdicts.Verdict.{Verdict}
+use Rattle.hm_check.specs.declared.verdicts.Verdict.TheVariants.{No}
+use Rattle.hm_check.specs.declared.verdicts.Why.{Why}
+use Rattle.hm_check.specs.declared.verdicts.Why.TheVariants.{RulesDiffer, TreesDiffer}
+use Rattle.hm_check.proofs.OverSteps.{rows_found}
+use Rattle.hm_check.proofs.SameTrees.{no_difference, difference_at}
+
+pub if_ok : {T E : Type 0} (r : Result T E) {P Q : T → Type 0} → ((x : T) → P x → Q x) → IfOk r P → IfOk r Q
+if_ok (Ok x) f p = f x p
+if_ok (Err e) f p = tt
+
+pub if_err : {T E : Type 0} (r : Result T E) {P Q : E → Type 0} → ((e : E) → P e → Q e) → IfErr r P → IfErr r Q
+if_err (Ok x) f p = tt
+if_err (Err e) f p = f e p
+
+-- ---- The text
+
+-- a text that is too long
+pub long_out : (t : List Entry) (out : List ℕ) → OUTPUT_LIMIT < length out → out_outcome t out ≡ refused_by rules.TooLong OUTPUT_LIMIT
+unfolding out_outcome
+long_out t out h = let long : nat_lt OUTPUT_LIMIT (length out) ≡ true = lt-ltb OUTPUT_LIMIT (length out) h in rw long refl
+
+-- one that is none
+pub faulty_out : (t : List Entry) (out : List ℕ) (rule : Rule) (at : ℕ) → length out ≤ OUTPUT_LIMIT → text_fault out ≡ Some (refusal_at rule at) → out_outcome t out ≡ refused_by rule at
+unfolding out_outcome page_tree
+faulty_out t out rule at h e = let short : nat_lt OUTPUT_LIMIT (length out) ≡ false = le-ltb OUTPUT_LIMIT (length out) h in rw (short, e) refl
+
+-- and one that is read
+pub read_outcome : (t : List Entry) (out : List ℕ) (text : Source) (o : Outcome) → HasText OUTPUT_LIMIT out → text ≡ source_of out → tree_of_source t text ≡ o → out_outcome t out ≡ o
+unfolding out_outcome page_tree
+read_outcome t out text o h is e =
+    let short : nat_lt OUTPUT_LIMIT (length out) ≡ false = le-ltb OUTPUT_LIMIT (length out) h.short in
+    rw (short, h.sound) (ap (tree_of_source t) (sym is) ∙ e)
+
+pub read_refused : (t : List Entry) (out : List ℕ) (text : Source) (refused : Refused) → HasText OUTPUT_LIMIT out → text ≡ source_of out → IsRefusedAs (tree_of_source t text) refused → IsRefusedAs (out_outcome t out) refused
+read_refused t out text refused h is r = subst (λ o. IsRefusedAs o refused) (sym (read_outcome t out text (tree_of_source t text) h is refl)) r
+
+-- ---- Its tree
+
+pub difference_is : (w v : List Event) (found : Option ℕ) → MatchOption found (w ≡ v) (DifferFirstAt w v) → found ≡ first_difference w v
+difference_is w v None same = sym (subst (λ x. first_difference w x ≡ None) same (no_difference w))
+difference_is w v (Some i) differs = sym (difference_at w v i differs)
+
+-- ---- The rows
+
+pub certificate_found : (edges : Edges) (bytes : Unit → Piece → List ℕ) (units : List Unit) (g : GraphView) (singles by : Bool) (n : ℕ) (rows : List Row) (found : Verdict) → StepsFit edges bytes units first_layer g.steps g.last
+    → singles ≡ by → found ≡ by_rows_over singles g.last g.steps n rows → found ≡ by_rows edges (follows_by by edges) n units rows
+certificate_found edges bytes units g singles by n rows found fits is e = e ∙ ap (λ s. by_rows_over s g.last g.steps n rows) is ∙ rows_found edges bytes units g.steps g.last by n rows fits
+
+-- ---- The verdict
+
+pub rules_other : (t : List Entry) (r : SpellRules) (w : List Event) (out : List ℕ) (c : Certificate) → same_rules c.rules r ≡ false → No RulesDiffer ≡ verdict t r w out c
+unfolding verdict
+rules_other t r w out c e = rw e refl
+
+rules_are : (t : List Entry) (r : SpellRules) (w : List Event) (out : List ℕ) (c : Certificate) → same_rules c.rules r ≡ true → verdict t r w out c ≡ by_outcome t r w (length out) c (out_outcome t out)
+unfolding verdict
+rules_are t r w out c e = rw e refl
+
+outcome_other : (t : List Entry) (r : SpellRules) (w : List Event) (n : ℕ) (c : Certificate) (o : Outcome) (why : Why) → Some why ≡ tree_why w o → No why ≡ by_outcome t r w n c o
+outcome_other t r w n c (refused_by rule at) why e = ap No (cc)
+outcome_other t r w n c (built v) why e = by_case (first_difference v w) e
+  where
+    by_case : (d : Option ℕ) → Some why ≡ option_map (λ i. TreesDiffer i) d → No why ≡ by_difference t r w n c d
+    by_case None k = absurd (cc)
+    by_case (Some i) k = ap No (cc)
+
+outcome_right : (t : List Entry) (r : SpellRules) (w : List Event) (n : ℕ) (c : Certificate) (o : Outcome) → None ≡ tree_why w o
+    → by_outcome t r w n c o ≡ by_rows (edges_of (spelling t r)) (follows_by (leaves_singles_out c.format) (edges_of (spelling t r))) n (units_of r w) c.prices
+outcome_right t r w n c (refused_by rule at) e = absurd (cc)
+outcome_right t r w n c (built v) e = by_case (first_difference v w) e
+  where
+    by_case : (d : Option ℕ) → None ≡ option_map (λ i. TreesDiffer i) d
+        → by_difference t r w n c d ≡ by_rows (edges_of (spelling t r)) (follows_by (leaves_singles_out c.format) (edges_of (spelling t r))) n (units_of r w) c.prices
+    by_case None k = refl
+    by_case (Some i) k = absurd (cc)
+
+pub tree_other : (t : List Entry) (r : SpellRules) (w : List Event) (out : List ℕ) (c : Certificate) (why : Why) → same_rules c.rules r ≡ true → Some why ≡ tree_why w (out_outcome t out) → No why ≡ verdict t r w out c
+tree_other t r w out c why same e = outcome_other t r w (length out) c (out_outcome t out) why e ∙ sym (rules_are t r w out c same)
+
+pub tree_right : (t : List Entry) (r : SpellRules) (w : List Event) (out : List ℕ) (c : Certificate) (n : ℕ) (found : Verdict) → same_rules c.rules r ≡ true → None ≡ tree_why w (out_outcome t out) → n ≡ length out
+    → found ≡ by_rows (edges_of (spelling t r)) (follows_by (leaves_singles_out c.format) (edges_of (spelling t r))) n (units_of r w) c.prices → found ≡ verdict t r w out c
+tree_right t r w out c n found same e len is =
+    is ∙ ap (λ m. by_rows (edges_of (spelling t r)) (follows_by (leaves_singles_out c.format) (edges_of (spelling t r))) m (units_of r w) c.prices) len
+    ∙ sym (rules_are t r w out c same ∙ outcome_right t r w (length out) c (out_outcome t out) e)

@@ -1,0 +1,10 @@
+pub mod LayerSteps
+pub mod OverSteps
+pub mod Sums
+pub mod Counting
+pub mod Sweeping
+pub mod SameTrees
+pub mod Feasible
+pub mod Accepted
+pub mod Shown
+pub mod Checking

@@ -1,0 +1,11 @@
+use Rattle.std.proofs.Common.{◌≡◌, ◌≤◌, drop, map}
+use Rattle.hm_cert.specs.Layout.{told}
+use Rattle.hm_graph.specs.Ways.{lesser}
+use Rattle.hm_steps.specs.Prices.{best_price}
+use Rattle.hm_check.proofs.bounds.best_price.Given as goal
+
+abbrev pub invariant-loop-hop : goal.invariant-loop-hop
+invariant-loop-hop l = record {
+  fits : l.best ≤ 18446744073709551615;
+  best : lesser (told l.best) (best_price (map told l.behind) (drop l.hop-index l.hops)) ≡ best_price (map told l.behind) l.hops;
+}

@@ -1,0 +1,9 @@
+use Rattle.std.proofs.Common.{◌≡◌, ◌+◌, ◌≤◌, drop}
+use Rattle.hm_check.specs.Steps.{count_over}
+use Rattle.hm_check.proofs.layers.count_layers.Given as goal
+
+abbrev pub invariant-loop-k : goal.invariant-loop-k
+invariant-loop-k l = record {
+  few : l.count ≤ l.k;
+  counted : l.count + count_over l.singles l.k (drop l.k l.graph.steps) ≡ count_over l.singles 0 l.graph.steps;
+}

@@ -1,0 +1,11 @@
+use Rattle.std.proofs.Common.{◌∷◌, map, ap, ◌∙◌}
+use Rattle.hm_cert.specs.Layout.{told}
+use Rattle.hm_graph.specs.Prices.{first_price}
+use Rattle.hm_check.proofs.Sweeping.{none_swept}
+use Rattle.hm_check.proofs.rows.by_prices.Goals as goal
+
+pub returns : goal.returns
+returns c =
+    c.by_first.ensures
+    ∙ none_swept c.args.singles c.args.graph.now c.args.prices.now c.args.length c.in_ok-swept.swept c.first_of.result c.requires c.in_ok-swept.ensures c.in-None.is
+    (c.first_of.ensures c.in_ok-swept.ensures.more ∙ ap (λ items. first_price (map told items ∷ c.in_ok-swept.ensures.more)) c.as_slice.ensures.value)

@@ -1,0 +1,82 @@
+//! The bounds of prices, and the first price of a layer above its bound.
+ghost use Rattle.std.specs.Prelude.{◌≡◌, ◌<◌, ◌+◌, ◌^◌, length, map, option_map};
+ghost use Rattle.hm_cert.specs.Layout.{told};
+ghost use Rattle.hm_layers.specs.Graphs.{AreLowHops, IsLowStep};
+ghost use Rattle.hm_steps.specs.Prices as steps;
+ghost use Rattle.hm_check.specs.Rows as rows;
+ghost use Rattle.hm_check.specs.Sweeps.{AreBelow, high_why};
+
+use crate::Why;
+use hm_cert::{CLOSED, price_of};
+use hm_layers::Step;
+use hm_steps::Hop;
+
+/// The price over a hop, by the prices of the layer behind.
+fn price_over(behind: &[u64], hop: Hop) -> u64
+    requires below { AreBelow (2 ^ 63 + 2 ^ 62) (map told behind.now) }
+    requires low { hop.len < 2 ^ 33 }
+    ensures { told result ≡ steps.price_over (map told behind.now) hop }
+{
+    match behind.get(hop.to) {
+        Some(price) if *price != CLOSED => *price + hop.len,
+        _ => CLOSED,
+    }
+}
+
+/// The least price over these hops, by the prices of the layer behind.
+pub(crate) fn best_price(behind: &[u64], hops: &[Hop]) -> u64
+    requires below { AreBelow (2 ^ 63 + 2 ^ 62) (map told behind.now) }
+    requires low { AreLowHops hops.now }
+    ensures { told result ≡ steps.best_price (map told behind.now) hops.now }
+{
+    let mut best = CLOSED;
+    for hop in hops {
+        best = best.min(price_over(behind, *hop));
+    }
+    best
+}
+
+/// Whether a price is above its bound. A closed one is the greatest.
+fn is_above(price: u64, bound: u64) -> bool
+    ensures { result ≡ rows.is_above (told price) (told bound) }
+{
+    price > bound
+}
+
+/// The first price of layer `k` above its bound, by the prices of the layer behind.
+pub(crate) fn find_high(k: u64, row: &[u64], behind: &[u64], step: &Step) -> Option<Why>
+    requires below { AreBelow (2 ^ 63 + 2 ^ 62) (map told behind.now) }
+    requires low { IsLowStep step.now }
+    requires width { length row.now ≡ length step.now }
+    ensures { result ≡ option_map high_why (rows.high_in k 0 (map told row.now) (steps.row_over (map told behind.now) step.now)) }
+{
+    for state in 0..row.len() {
+        let bound = best_price(behind, step.hops(state));
+        if is_above(row[state], bound) {
+            return Some(Why::TooHigh {
+                layer: k,
+                state: state as u64,
+                price: price_of(row[state]),
+                bound: price_of(bound),
+            });
+        }
+    }
+    None
+}
+
+/// The first price of the last layer, layer `k`, that isn't 0.
+pub(crate) fn find_high_at_end(k: u64, row: &[u64]) -> Option<Why>
+    ensures { result ≡ option_map high_why (rows.high_at_end k 0 (map told row.now)) }
+{
+    for state in 0..row.len() {
+        if row[state] != 0 {
+            return Some(Why::TooHigh {
+                layer: k,
+                state: state as u64,
+                price: price_of(row[state]),
+                bound: Some(0),
+            });
+        }
+    }
+    None
+}

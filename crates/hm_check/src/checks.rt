@@ -1,0 +1,90 @@
+//! The check of a text and a certificate.
+ghost use Rattle.std.specs.Prelude.{◌≡◌, IfOk};
+ghost use Rattle.hm_cert.specs.Certificate.{AreRows};
+ghost use Rattle.hm_edges.specs.Found.{spelling};
+ghost use Rattle.hm_graph.specs.UnitEdges.{edges_of};
+ghost use Rattle.hm_steps.specs.Laws.{follows_by};
+ghost use Rattle.hm_units.specs.Units.{units_of};
+ghost use Rattle.hm_check.specs.Verdicts as verdicts;
+ghost use Rattle.hm_check.specs.Verdicts.{verdict};
+
+use crate::rows::by_rows;
+use crate::trees::find_difference;
+use crate::{Verdict, Why};
+use hm_base::{Memory, SpellRules};
+use hm_cert::{Certificate, Format};
+use hm_layers::Graph;
+use hm_refs::Table;
+use hm_tree::Tree;
+use std::alloc::Global;
+
+/// Whether the rules are the same.
+fn same_rules(left: SpellRules, right: SpellRules) -> bool
+    ensures { result ≡ verdicts.same_rules left right }
+{
+    left.omit == right.omit
+        && left.unquote == right.unquote
+        && left.tight == right.tight
+        && left.ascii == right.ascii
+        && left.frame == right.frame
+}
+
+/// Whether a format leaves out the layers of one state with one edge.
+fn leaves_singles_out(format: Format) -> bool
+    ensures { result ≡ verdicts.leaves_singles_out format }
+{
+    match format {
+        Format::One => false,
+        Format::Two => true,
+    }
+}
+
+/// What is found of the rows of a certificate, for a text of so many bytes.
+fn by_certificate(
+    alloc: Global,
+    table: &Table,
+    wanted: &Tree,
+    certificate: &Certificate,
+    rules: SpellRules,
+    length: u64,
+) -> Result<Verdict, Memory>
+    requires { AreRows certificate.now.prices }
+    ensures { IfOk result (λ found. found ≡ verdicts.by_rows (edges_of (spelling table.now.entries rules))
+        (follows_by (verdicts.leaves_singles_out certificate.now.format) (edges_of (spelling table.now.entries rules))) length (units_of rules wanted.now) certificate.now.prices) }
+{
+    let graph = Graph::of(alloc, wanted, table, rules)?;
+    by_rows(
+        alloc,
+        &graph,
+        &certificate.prices,
+        leaves_singles_out(certificate.format),
+        length,
+    )
+}
+
+/// Checks whether a certificate shows that a text is the shortest of a tree, by a table of names and these rules. The
+/// prices of a certificate that was read can be written.
+///
+/// The time is linear in the text, the tree and the certificate, and two layers of prices are kept.
+pub fn check(
+    alloc: Global,
+    table: &Table,
+    wanted: &Tree,
+    out: &[u8],
+    certificate: &Certificate,
+    rules: SpellRules,
+) -> Result<Verdict, Memory>
+    requires { AreRows certificate.now.prices }
+    ensures { IfOk result (λ found. found ≡ verdict table.now.entries rules wanted.now out.now certificate.now) }
+{
+    if !same_rules(certificate.rules, rules) {
+        return Ok(Verdict::No {
+            why: Why::RulesDiffer,
+        });
+    }
+    match find_difference(alloc, table, wanted, out) {
+        Ok(None) => by_certificate(alloc, table, wanted, certificate, rules, out.len() as u64),
+        Ok(Some(why)) => Ok(Verdict::No { why }),
+        Err(Memory) => Err(Memory),
+    }
+}

@@ -1,0 +1,17 @@
+//! What a check's answer is worth. The functions do nothing.
+ghost use Rattle.hm_check.specs.Laws.{MinifiedIsAccepted, SpellingsAreAccepted, YesShows};
+
+/// A yes shows that the text parses to the tree and that no spelling of it is shorter, whoever made text and prices.
+pub fn yes_shows()
+    ensures { YesShows }
+{}
+
+/// A spelling of the tree within the limit is neither refused, nor does its tree differ.
+pub fn spellings_are_accepted()
+    ensures { SpellingsAreAccepted }
+{}
+
+/// The text of the first way, with the least prices, is accepted within the limit.
+pub fn minified_is_accepted()
+    ensures { MinifiedIsAccepted }
+{}

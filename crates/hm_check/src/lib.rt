@@ -1,0 +1,17 @@
+//! The checker: whether a certificate shows that a text is the shortest of a tree, whoever made the two.
+#![tactic(auto)]
+
+mod bounds;
+mod checks;
+pub mod laws;
+mod layers;
+mod rows;
+mod sweep;
+mod trees;
+mod verdicts;
+
+pub use checks::check;
+pub use verdicts::{Verdict, Why};
+
+#[cfg(test)]
+mod tests;

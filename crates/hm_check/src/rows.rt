@@ -1,0 +1,103 @@
+//! What is found of the rows of a certificate.
+ghost use Rattle.std.specs.Prelude.{◌≡◌, ◌∷◌, List, map, IfOk};
+ghost use Rattle.hm_cert.specs.Certificate.{AreRows};
+ghost use Rattle.hm_cert.specs.Layout.{told};
+ghost use Rattle.hm_graph.specs.Prices.{Row, first_price};
+ghost use Rattle.hm_steps.specs.Prices.{full_rows};
+ghost use Rattle.hm_check.specs.Steps.{by_full_over, by_rows_over};
+ghost use Rattle.hm_check.specs.Sweeps.{AreInPlace, IsSwept};
+ghost use Rattle.hm_check.specs.Verdicts as verdicts;
+
+use crate::layers::{count_layers, find_other_width};
+use crate::sweep::Sweep;
+use crate::{Verdict, Why};
+use hm_base::Memory;
+use hm_cert::{Prices, price_of};
+use hm_layers::Graph;
+use std::alloc::Global;
+
+/// What is known at the first layer.
+fn sweep(alloc: Global, graph: &Graph, prices: &Prices, singles: bool) -> Result<Sweep, Memory>
+    requires { AreInPlace singles graph.now prices.now }
+    ensures { IfOk result (IsSwept singles graph.now prices.now 0) }
+{
+    let mut sweep = Sweep::at_end(alloc, graph, prices, singles)?;
+    for k in (0..graph.len()).rev() {
+        sweep.take_layer(graph, prices, singles, k)?;
+    }
+    Ok(sweep)
+}
+
+/// The first price of the first layer, by the prices of that layer.
+fn first_of(row: &[u64]) -> Option<u64>
+    ensures { (more : List Row) → result ≡ first_price (map told row.now ∷ more) }
+{
+    match row {
+        [first, ..] => price_of(*first),
+        [] => None,
+    }
+}
+
+/// What is found by the first price, of a text of so many bytes.
+fn by_first(length: u64, first: Option<u64>) -> Verdict
+    ensures { result ≡ verdicts.by_first length first }
+{
+    match first {
+        None => Verdict::No {
+            why: Why::TooLong { length, first: 0 },
+        },
+        Some(first) => {
+            if length > first {
+                Verdict::No {
+                    why: Why::TooLong { length, first },
+                }
+            } else {
+                Verdict::Yes { length }
+            }
+        }
+    }
+}
+
+/// What is found by all prices, of a text of so many bytes.
+fn by_prices(
+    alloc: Global,
+    graph: &Graph,
+    prices: &Prices,
+    singles: bool,
+    length: u64,
+) -> Result<Verdict, Memory>
+    requires { AreInPlace singles graph.now prices.now }
+    ensures { IfOk result (λ found. found ≡ by_full_over length graph.now.steps (full_rows singles 0 graph.now.last graph.now.steps prices.now)) }
+{
+    let swept = sweep(alloc, graph, prices, singles)?;
+    match swept.found {
+        Some(why) => Ok(Verdict::No { why }),
+        None => Ok(by_first(length, first_of(swept.behind.as_slice()))),
+    }
+}
+
+/// What is found of the rows of a certificate, for a text of so many bytes.
+pub(crate) fn by_rows(
+    alloc: Global,
+    graph: &Graph,
+    prices: &Prices,
+    singles: bool,
+    length: u64,
+) -> Result<Verdict, Memory>
+    requires { AreRows prices.now }
+    ensures { IfOk result (λ found. found ≡ by_rows_over singles graph.now.last graph.now.steps length prices.now) }
+{
+    let want = count_layers(graph, singles);
+    if prices.rows() != want {
+        return Ok(Verdict::No {
+            why: Why::WrongLayers {
+                got: prices.rows() as u64,
+                want: want as u64,
+            },
+        });
+    }
+    match find_other_width(graph, prices, singles) {
+        Some(why) => Ok(Verdict::No { why }),
+        None => by_prices(alloc, graph, prices, singles, length),
+    }
+}

@@ -1,0 +1,91 @@
+//! The prices of all layers, from the last layer on.
+ghost use Rattle.std.specs.Prelude.{◌≡◌, ◌<◌, ◌+◌, ◌^◌, true, length, map, IfOk, OnOk};
+ghost use Rattle.hm_cert.specs.Layout.{told};
+ghost use Rattle.hm_layers.specs.Graphs.{IsLowStep};
+ghost use Rattle.hm_steps.specs.Prices.{row_over};
+ghost use Rattle.hm_steps.specs.Steps.{is_single_step};
+ghost use Rattle.hm_check.specs.Sweeps.{AreBelow, AreInPlace, IsSwept};
+
+use crate::Why;
+use crate::bounds::{best_price, find_high, find_high_at_end};
+use crate::layers::is_left_out;
+use hm_base::Memory;
+use hm_cert::Prices;
+use hm_layers::{Graph, Step};
+use std::alloc::Global;
+
+/// What is known from a layer on.
+#[derive(Drop)]
+pub(crate) struct Sweep {
+    /// How many rows of the certificate are in front.
+    pub(crate) at: usize,
+    /// The prices of the layer.
+    pub(crate) behind: Vec<u64>,
+    /// The first price above its bound.
+    pub(crate) found: Option<Why>,
+}
+
+/// Puts the prices of a layer that is left out in place of those behind it.
+fn follow(behind: &mut Vec<u64>, step: &Step) -> Result<(), Memory>
+    requires single { is_single_step step.now ≡ true }
+    requires below { AreBelow (2 ^ 63 + 2 ^ 62) (map told behind.old.items) }
+    requires low { IsLowStep step.now }
+    ensures { OnOk result (map told behind.new.items ≡ row_over (map told behind.old.items) step.now) }
+{
+    let price = best_price(behind.as_slice(), step.hops(0));
+    behind.clear();
+    behind.push(price)?;
+    Ok(())
+}
+
+/// Puts a row in place of the one behind it.
+fn replace(behind: &mut Vec<u64>, row: &[u64]) -> Result<(), Memory>
+    ensures { OnOk result (behind.new.items ≡ row.now) }
+{
+    behind.clear();
+    behind.extend_from_slice(row)?;
+    Ok(())
+}
+
+impl Sweep {
+    /// What is known at the last layer.
+    pub(crate) fn at_end(
+        alloc: Global,
+        graph: &Graph,
+        prices: &Prices,
+        singles: bool,
+    ) -> Result<Sweep, Memory>
+        requires { AreInPlace singles graph.now prices.now }
+        ensures { IfOk result (IsSwept singles graph.now prices.now (length graph.now.steps)) }
+    {
+        let at = prices.rows() - 1;
+        let row = prices.row(at);
+        let found = find_high_at_end(graph.len() as u64, row);
+        let behind = Vec::from_slice(alloc, row)?;
+        Ok(Sweep { at, behind, found })
+    }
+
+    /// Goes on to layer `k`, the one in front.
+    pub(crate) fn take_layer(
+        &mut self,
+        graph: &Graph,
+        prices: &Prices,
+        singles: bool,
+        k: usize,
+    ) -> Result<(), Memory>
+        requires place { AreInPlace singles graph.now prices.now }
+        requires layer { k < length graph.now.steps }
+        requires swept { IsSwept singles graph.now prices.now (k + 1) self.old }
+        ensures { OnOk result (IsSwept singles graph.now prices.now k self.new) }
+    {
+        graph.is_small();
+        let step = graph.step(k);
+        if is_left_out(singles, k, step) {
+            return follow(&mut self.behind, step);
+        }
+        self.at -= 1;
+        let row = prices.row(self.at);
+        self.found = find_high(k as u64, row, self.behind.as_slice(), step).or(self.found);
+        replace(&mut self.behind, row)
+    }
+}

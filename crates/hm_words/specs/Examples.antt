@@ -1,21 +1,42 @@
 -- What words ask for, on examples.
-use Rattle.std.specs.Prelude.{◌≡◌, true, [], ◌∷◌, Some, None, codes, refl}
+use Rattle.std.specs.Prelude.{◌≡◌, true, false, [], ◌∷◌, Some, None, codes, refl}
+use Rattle.hm_base.specs.declared.plain.SpellRules.{SpellRules}
+use Rattle.hm_base.specs.declared.plain.TreeOptions.{TreeOptions}
 use Rattle.hm_elements.specs.Names.{words}
-use Rattle.hm_words.specs.Words.{asked, asks, minify, tree, no_rewrites, omit_and_unquote, no_rules, tree_flags, options_of}
+use Rattle.hm_words.specs.Words.{asked, asks, minify, check, tree, flags, options_of, rules_of}
 
-requests : (asked (words "minify none page out cert --omit --unquote") ≡ Some (asks (minify (codes "none") (codes "page") (codes "out") (codes "cert")) no_rewrites omit_and_unquote))
+abbrev pub no_rewrites : TreeOptions
+no_rewrites = record { doctype = false; comments = false; booleans = false; empty = false; redundant = false; space = false; conservative = false }
+
+abbrev no_rules : SpellRules
+no_rules = record { omit = false; unquote = false; tight = false; ascii = false; frame = false }
+
+abbrev all_rules : SpellRules
+all_rules = record { omit = true; unquote = true; tight = true; ascii = true; frame = false }
+
+requests : (asked (words "minify none page out cert --omit --unquote") ≡ Some (asks (minify (codes "none") (codes "page") (codes "out") (codes "cert")) no_rewrites (record no_rules { omit = true; unquote = true })))
+    × (asked (words "--ascii minify --unquote table page --tight out cert --omit --comments") ≡ Some (asks (minify (codes "table") (codes "page") (codes "out") (codes "cert")) (record no_rewrites { comments = true }) all_rules))
+    × (asked (words "check none page out cert --tight") ≡ Some (asks (check (codes "none") (codes "page") (codes "out") (codes "cert")) no_rewrites (record no_rules { tight = true })))
     × (asked (words "tree none none") ≡ Some (asks (tree (codes "none") (codes "none")) no_rewrites no_rules))
     × (asked (words "--space tree none --conservative page") ≡ Some (asks (tree (codes "none") (codes "page")) (record no_rewrites { space = true; conservative = true }) no_rules))
+    × (asked (words "--omit tree none page") ≡ Some (asks (tree (codes "none") (codes "page")) no_rewrites (record no_rules { omit = true })))
     × (asked (words "tree none page --conservative") ≡ None)
+    × (asked (words "minify none page out cert --conservative") ≡ None)
     × (asked (words "tree none page --space --space") ≡ None)
-    × (asked (words "tree none page --omit") ≡ None)
+    × (asked (words "minify none page out cert --omit --omit") ≡ None)
+    × (asked (words "minify none page out cert --omit=1") ≡ None)
+    × (asked (words "minify none -- page out cert") ≡ None)
+    × (asked (words "check none page out") ≡ None)
+    × (asked (words "tree none -h") ≡ None)
     × (asked (words "tree none page -") ≡ None)
     × (asked (words "tree none") ≡ None)
     × (asked (words "tree page page") ≡ None)
     × (asked (words "tree none page more") ≡ None)
+    × (asked (words "minify none page out") ≡ None)
     × (asked (codes "tree" ∷ [] ∷ codes "page" ∷ []) ≡ None)
-    × (asked (words "minify none page out out --omit --unquote") ≡ None)
-    × (asked (words "minify none page out cert --unquote --omit") ≡ None)
+    × (asked (codes "minify" ∷ codes "none" ∷ codes "page" ∷ [] ∷ codes "cert" ∷ []) ≡ None)
+    × (asked (words "minify none page out out") ≡ None)
+    × (asked (words "minify out page out cert") ≡ None)
     × (asked [] ≡ None)
-unfolding asked tree_flags options_of
-requests = (refl, refl, refl, refl, refl, refl, refl, refl, refl, refl, refl, refl, refl, refl)
+unfolding asked flags options_of rules_of
+requests = (refl, refl, refl, refl, refl, refl, refl, refl, refl, refl, refl, refl, refl, refl, refl, refl, refl, refl, refl, refl, refl, refl, refl, refl)

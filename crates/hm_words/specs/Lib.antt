@@ -1,3 +1,4 @@
 pub mod Words
 pub mod Answers
+pub mod Matches
 pub mod Examples

@@ -1,5 +1,5 @@
 -- What the words of a call ask for.
-use Rattle.std.specs.Prelude.{ℕ, Bool, true, false, not, ◌&&◌, ◌||◌, ◌==◌, List, [], ◌∷◌, Option, Some, None, if◌then◌else◌, codes, bytes_eq, nat_le, filter, count_by}
+use Rattle.std.specs.Prelude.{ℕ, Bool, false, not, ◌&&◌, ◌||◌, ◌==◌, List, [], ◌∷◌, Option, Some, None, if◌then◌else◌, codes, bytes_eq, nat_le, filter, count_by}
 use Rattle.std.specs.List.{list_any, list_all}
 use Rattle.hm_base.specs.Bytes.{is_null}
 use Rattle.hm_base.specs.declared.plain.SpellRules.{SpellRules}
@@ -9,6 +9,7 @@ use Rattle.hm_elements.specs.Names.{words}
 -- what is done, with the names of its files
 pub data Command : Type 0 where
   minify : List ℕ → List ℕ → List ℕ → List ℕ → Command  -- TABLE, PAGE, OUT, CERT
+  check : List ℕ → List ℕ → List ℕ → List ℕ → Command  -- TABLE, PAGE, OUT, CERT
   tree : List ℕ → List ℕ → Command  -- TABLE, PAGE
 
 -- a request: a command, the rewrites of the tree that it works on, and the spellings that are allowed
@@ -24,37 +25,7 @@ asks command options rules = record { command = command; options = options; rule
 abbrev pub are_apart : List ℕ → List ℕ → Bool
 are_apart table page = bytes_eq table (codes "none") || not (bytes_eq table page)
 
--- ---- minify none PAGE OUT CERT --omit --unquote
-
--- a word that names a file: neither empty nor beginning with `-`
-abbrev pub is_name : List ℕ → Bool
-is_name [] = false
-is_name (c ∷ s) = not (c == 45)
-
--- three names that differ from each other
-abbrev pub are_distinct : List ℕ → List ℕ → List ℕ → Bool
-are_distinct page out cert = not (bytes_eq page out) && (not (bytes_eq page cert) && not (bytes_eq out cert))
-
-abbrev pub are_names : List ℕ → List ℕ → List ℕ → Bool
-are_names page out cert = is_name page && (is_name out && (is_name cert && are_distinct page out cert))
-
--- the words that stand fast: the command, the table `none`, and the two flags
-abbrev pub are_fixed : List ℕ → List ℕ → List ℕ → List ℕ → Bool
-are_fixed command table first second = bytes_eq command (codes "minify") && (bytes_eq table (codes "none") && (bytes_eq first (codes "--omit") && bytes_eq second (codes "--unquote")))
-
-abbrev pub no_rewrites : TreeOptions
-no_rewrites = record { doctype = false; comments = false; booleans = false; empty = false; redundant = false; space = false; conservative = false }
-
--- the rules of the flags `--omit` and `--unquote`
-abbrev pub omit_and_unquote : SpellRules
-omit_and_unquote = record { omit = true; unquote = true; tight = false; ascii = false; frame = false }
-
-abbrev pub asked_minify : List (List ℕ) → Option Asked
-asked_minify (command ∷ table ∷ page ∷ out ∷ cert ∷ first ∷ second ∷ []) =
-    if are_fixed command table first second && are_names page out cert then Some (asks (minify table page out cert) no_rewrites omit_and_unquote) else None
-asked_minify ws = None
-
--- ---- tree TABLE PAGE, with flags anywhere
+-- ---- Flags, anywhere among the words
 
 abbrev pub is_flag : List ℕ → Bool
 is_flag [] = false
@@ -64,8 +35,9 @@ is_flag (c ∷ s) = c == 45
 abbrev pub names_in : List (List ℕ) → List (List ℕ)
 names_in ws = filter (λ w. not (is_flag w)) ws
 
-unfoldable pub tree_flags : List (List ℕ)
-tree_flags = words "--doctype --comments --booleans --empty --redundant --space --conservative"
+-- the flags of every command
+unfoldable pub flags : List (List ℕ)
+flags = words "--comments --booleans --empty --redundant --doctype --space --conservative --omit --unquote --tight --ascii"
 
 -- the word is one of these
 abbrev pub has : List (List ℕ) → List ℕ → Bool
@@ -73,7 +45,7 @@ has ws word = list_any (λ w. bytes_eq w word) ws
 
 -- each flag is one of these
 abbrev pub are_known : List (List ℕ) → List (List ℕ) → Bool
-are_known flags ws = list_all (λ w. not (is_flag w) || has flags w) ws
+are_known known ws = list_all (λ w. not (is_flag w) || has known w) ws
 
 -- the word stands at most once
 abbrev pub is_single : List (List ℕ) → List ℕ → Bool
@@ -81,11 +53,11 @@ is_single ws word = nat_le (count_by (λ w. bytes_eq w word) ws) 1
 
 -- each of these stands at most once
 abbrev pub are_single : List (List ℕ) → List (List ℕ) → Bool
-are_single flags ws = list_all (is_single ws) flags
+are_single known ws = list_all (is_single ws) known
 
--- flags of this command, each at most once, and `--conservative` only beside `--space`
-abbrev pub are_tree_flags : List (List ℕ) → Bool
-are_tree_flags ws = are_known tree_flags ws && (are_single tree_flags ws && (not (has ws (codes "--conservative")) || has ws (codes "--space")))
+-- known flags, each at most once, and `--conservative` only beside `--space`
+abbrev pub are_flags : List (List ℕ) → Bool
+are_flags ws = are_known flags ws && (are_single flags ws && (not (has ws (codes "--conservative")) || has ws (codes "--space")))
 
 -- the rewrites whose flags are among the words
 unfoldable pub options_of : List (List ℕ) → TreeOptions
@@ -99,26 +71,67 @@ options_of ws = record {
   conservative = has ws (codes "--conservative");
 }
 
--- the rules where no flag of theirs is there
-abbrev pub no_rules : SpellRules
-no_rules = record { omit = false; unquote = false; tight = false; ascii = false; frame = false }
+-- the rules of spelling whose flags are among the words; the start tag of body may always be left out
+unfoldable pub rules_of : List (List ℕ) → SpellRules
+rules_of ws = record {
+  omit = has ws (codes "--omit");
+  unquote = has ws (codes "--unquote");
+  tight = has ws (codes "--tight");
+  ascii = has ws (codes "--ascii");
+  frame = false;
+}
 
-abbrev pub asked_tree : List (List ℕ) → List (List ℕ) → Option Asked
-asked_tree (command ∷ table ∷ page ∷ []) ws =
-    if bytes_eq command (codes "tree") && (not (is_null table) && (not (is_null page) && (are_apart table page && are_tree_flags ws))) then Some (asks (tree table page) (options_of ws) no_rules) else None
-asked_tree names ws = None
+-- ---- The names of a command's files
 
--- ---- all commands
+-- three names that differ from each other
+abbrev pub are_distinct : List ℕ → List ℕ → List ℕ → Bool
+are_distinct page out cert = not (bytes_eq page out) && (not (bytes_eq page cert) && not (bytes_eq out cert))
 
--- the names of a command's files differ, where the table `none` is no name
+abbrev pub are_four_apart : List ℕ → List ℕ → List ℕ → List ℕ → Bool
+are_four_apart table page out cert = are_apart table page && (are_apart table out && (are_apart table cert && are_distinct page out cert))
+
+-- The names differ, where the table `none` is no name.
 abbrev pub is_apart : Command → Bool
-is_apart (minify table page out cert) = are_apart table page && (are_apart table out && (are_apart table cert && are_distinct page out cert))
+is_apart (minify table page out cert) = are_four_apart table page out cert
+is_apart (check table page out cert) = are_four_apart table page out cert
 is_apart (tree table page) = are_apart table page
 
-abbrev pub or_else : Option Asked → Option Asked → Option Asked
+abbrev pub are_four_filled : List ℕ → List ℕ → List ℕ → List ℕ → Bool
+are_four_filled table page out cert = not (is_null table) && (not (is_null page) && (not (is_null out) && not (is_null cert)))
+
+-- no name is empty
+abbrev pub is_filled : Command → Bool
+is_filled (minify table page out cert) = are_four_filled table page out cert
+is_filled (check table page out cert) = are_four_filled table page out cert
+is_filled (tree table page) = not (is_null table) && not (is_null page)
+
+-- ---- Commands
+
+-- minify TABLE PAGE OUT CERT, and check with the same names
+abbrev pub four_of : List (List ℕ) → Option Command
+four_of (command ∷ table ∷ page ∷ out ∷ cert ∷ []) =
+    if bytes_eq command (codes "minify") then Some (minify table page out cert)
+    else if bytes_eq command (codes "check") then Some (check table page out cert)
+    else None
+four_of names = None
+
+-- tree TABLE PAGE
+abbrev pub tree_of : List (List ℕ) → Option Command
+tree_of (command ∷ table ∷ page ∷ []) = if bytes_eq command (codes "tree") then Some (tree table page) else None
+tree_of names = None
+
+abbrev pub or_else : Option Command → Option Command → Option Command
 or_else None b = b
 or_else (Some a) b = Some a
 
+-- the command of the words that are no flags
+abbrev pub command_in : List (List ℕ) → Option Command
+command_in names = or_else (four_of names) (tree_of names)
+
+abbrev pub with_flags : List (List ℕ) → Option Command → Option Asked
+with_flags ws None = None
+with_flags ws (Some command) = if is_filled command && is_apart command then Some (asks command (options_of ws) (rules_of ws)) else None
+
 -- what the words ask for, where they have a meaning
 unfoldable pub asked : List (List ℕ) → Option Asked
-asked ws = or_else (asked_minify ws) (asked_tree (names_in ws) ws)
+asked ws = if are_flags ws then with_flags ws (command_in (names_in ws)) else None

@@ -1,26 +1,29 @@
 //! The words of a call.
-ghost use Rattle.std.specs.Prelude.{◌≡◌, ◌≢◌, ◌<◌, ◌∷◌, ℕ, List, IfSome, IfNone, Some, None, length, slice_index_or, [], true};
+ghost use Rattle.std.specs.Prelude.{◌≡◌, ℕ, List, [], ◌∷◌, IfOk, IfSome, IfNone, Some, None, Err, true, false, option_map};
+ghost use Rattle.clap.specs.Walk.{texts};
 ghost use Rattle.hm_words.specs.Words as spec;
 ghost use Rattle.hm_words.specs.Answers as answers;
 ghost use Rattle.hm_words.specs.Answers.{command_of, request_of};
+ghost use Rattle.hm_words.specs.Matches.{IsRead};
 
-use hm_base::{SpellRules, TreeOptions, Word};
-
-const TREE_FLAGS: [&str; 7] = [
-    "--doctype",
-    "--comments",
-    "--booleans",
-    "--empty",
-    "--redundant",
-    "--space",
-    "--conservative",
-];
+use crate::flags::are_readable;
+use crate::line::{is_given, names_of, parse};
+use clap::ArgMatches;
+use hm_base::{Memory, SpellRules, TreeOptions, Word};
+use std::alloc::Global;
 
 /// What is done, with the names of its files.
 #[derive(Clone, Copy, Debug)]
 pub enum Command<'w> {
     /// A page is written shortest, with its certificate.
     Minify {
+        table: &'w str,
+        page: &'w str,
+        out: &'w str,
+        cert: &'w str,
+    },
+    /// A text and its certificate are checked.
+    Check {
         table: &'w str,
         page: &'w str,
         out: &'w str,
@@ -41,50 +44,22 @@ pub struct Asked<'w> {
     pub rules: SpellRules,
 }
 
-const NO_REWRITES: TreeOptions = TreeOptions {
-    doctype: false,
-    comments: false,
-    booleans: false,
-    empty: false,
-    redundant: false,
-    space: false,
-    conservative: false,
-};
-
-/// The rules of the flags `--omit` and `--unquote`.
-const OMIT_AND_UNQUOTE: SpellRules = SpellRules {
-    omit: true,
-    unquote: true,
-    tight: false,
-    ascii: false,
-    frame: false,
-};
-
-/// The rules where no flag of theirs is there.
-const NO_RULES: SpellRules = SpellRules {
-    omit: false,
-    unquote: false,
-    tight: false,
-    ascii: false,
-    frame: false,
-};
-
-/// The text of a word.
-fn text_at(words: &[Word], at: usize) -> &str
-    requires { at < length words.now }
-    ensures { result.now ≡ slice_index_or words.now at [] }
-{
-    let word = &words[at];
-    word.text.as_str()
+/// Why words give no request.
+#[derive(Clone, Copy, Debug, PartialEq, Eq)]
+pub enum WordsFault {
+    /// The words have no meaning.
+    Usage,
+    /// Memory was refused.
+    Memory,
 }
 
-/// Whether a word names a file: it is neither empty nor begins with `-`.
-fn is_name(word: &str) -> bool
-    ensures { result ≡ spec.is_name word.now }
-{
-    match word.as_bytes() {
-        [] => false,
-        [first, ..] => *first != b'-',
+impl From<Memory> for WordsFault {
+    ghost use Rattle.hm_words.specs.declared.words.WordsFault.TheVariants as faults;
+
+    ghost from_gives = { λ _ fault. fault ≡ faults.Memory };
+
+    fn from(_error: Memory) -> Self {
+        WordsFault::Memory
     }
 }
 
@@ -95,201 +70,199 @@ fn are_distinct(page: &str, out: &str, cert: &str) -> bool
     page != out && page != cert && out != cert
 }
 
-/// Whether three words name three files.
-fn are_names(page: &str, out: &str, cert: &str) -> bool
-    ensures { result ≡ spec.are_names page.now out.now cert.now }
-{
-    is_name(page) && is_name(out) && is_name(cert) && are_distinct(page, out, cert)
-}
-
-/// Whether the command, the table and the flags are those that have a meaning.
-fn are_fixed(command: &str, table: &str, first: &str, second: &str) -> bool
-    ensures { result ≡ spec.are_fixed command.now table.now first.now second.now }
-{
-    command == "minify" && table == "none" && first == "--omit" && second == "--unquote"
-}
-
-/// What the words ask for, if it is that a page is minified.
-fn asked_minify(words: &[Word]) -> Option<Asked<'_>>
-    ensures some { IfSome result (λ a. spec.asked_minify words.now ≡ Some (request_of a)) }
-    ensures apart { IfSome result (λ a. spec.is_apart (command_of a.command) ≡ true) }
-    ensures none { IfNone result (spec.asked_minify words.now ≡ None) }
-{
-    if words.len() != 7 {
-        return None;
-    }
-    let table = text_at(words, 1);
-    if !are_fixed(
-        text_at(words, 0),
-        table,
-        text_at(words, 5),
-        text_at(words, 6),
-    ) {
-        return None;
-    }
-    let page = text_at(words, 2);
-    let out = text_at(words, 3);
-    let cert = text_at(words, 4);
-    if are_names(page, out, cert) {
-        Some(Asked {
-            command: Command::Minify {
-                table,
-                page,
-                out,
-                cert,
-            },
-            options: NO_REWRITES,
-            rules: OMIT_AND_UNQUOTE,
-        })
-    } else {
-        None
-    }
-}
-
-/// Whether a word begins with `-`.
-fn is_flag(word: &str) -> bool
-    ensures { result ≡ spec.is_flag word.now }
-{
-    match word.as_bytes() {
-        [] => false,
-        [first, ..] => *first == b'-',
-    }
-}
-
-/// Whether a word is one of these flags.
-fn is_one_of(word: &str, flags: &[&str]) -> bool
-    ensures { result ≡ answers.is_one_of flags.now word.now }
-{
-    flags.iter().any(|flag| *flag == word)
-}
-
-/// Whether this word is there.
-fn has(words: &[Word], text: &str) -> bool
-    ensures { result ≡ spec.has words.now text.now }
-{
-    words.iter().any(|word| word.text.as_str() == text)
-}
-
-/// Whether each flag is one of these.
-fn are_known(words: &[Word], flags: &[&str]) -> bool
-    ensures { result ≡ answers.are_known flags.now words.now }
-{
-    words.iter().all(|word| !is_flag(word.text.as_str()) || is_one_of(word.text.as_str(), flags))
-}
-
-/// Whether this word stands at most once.
-fn is_single(words: &[Word], text: &str) -> bool
-    ensures { result ≡ spec.is_single words.now text.now }
-{
-    words
-        .iter()
-        .filter(|word| word.text.as_str() == text)
-        .count()
-        <= 1
-}
-
-/// Whether each of these stands at most once.
-fn are_single(words: &[Word], flags: &[&str]) -> bool
-    ensures { result ≡ answers.are_single flags.now words.now }
-{
-    flags.iter().all(|flag| is_single(words, flag))
-}
-
-/// Whether the flags are those of the command `tree`, each at most once.
-#[tactic(auto, unfolding(crate::specs::Words::tree_flags))]
-fn are_tree_flags(words: &[Word]) -> bool
-    ensures { result ≡ spec.are_tree_flags words.now }
-{
-    are_known(words, &TREE_FLAGS)
-        && are_single(words, &TREE_FLAGS)
-        && (!has(words, "--conservative") || has(words, "--space"))
-}
-
-/// The rewrites whose flags are there.
-#[tactic(auto, unfolding(crate::specs::Words::options_of))]
-fn options_of(words: &[Word]) -> TreeOptions
-    ensures { result ≡ spec.options_of words.now }
-{
-    TreeOptions {
-        doctype: has(words, "--doctype"),
-        comments: has(words, "--comments"),
-        booleans: has(words, "--booleans"),
-        empty: has(words, "--empty"),
-        redundant: has(words, "--redundant"),
-        space: has(words, "--space"),
-        conservative: has(words, "--conservative"),
-    }
-}
-
-/// The first word that is no flag, and the words behind it.
-fn next_name(words: &[Word]) -> Option<(&str, &[Word])>
-    ensures some { IfSome result (λ r. spec.names_in words.now ≡ r.0.now ∷ spec.names_in r.1.now) }
-    ensures none { IfNone result (spec.names_in words.now ≡ []) }
-{
-    for i in 0..words.len() {
-        let text = text_at(words, i);
-        if !is_flag(text) {
-            return Some((text, &words[i + 1..]));
-        }
-    }
-    None
-}
-
-/// The words that are no flags, where there are three.
-fn three_names(words: &[Word]) -> Option<(&str, &str, &str)>
-    ensures some { IfSome result (λ r. spec.names_in words.now ≡ r.0.now ∷ r.1.now ∷ r.2.now ∷ []) }
-    ensures none { IfNone result ((a b c : List ℕ) → spec.names_in words.now ≢ a ∷ b ∷ c ∷ []) }
-{
-    let (first, behind_first) = next_name(words)?;
-    let (second, behind_second) = next_name(behind_first)?;
-    let (third, behind_third) = next_name(behind_second)?;
-    match next_name(behind_third) {
-        Some(_) => None,
-        None => Some((first, second, third)),
-    }
-}
-
-/// Whether the names of table and page differ, where `none` is none.
+/// Whether two names differ, where the table `none` is none.
 fn are_apart(table: &str, page: &str) -> bool
     ensures { result ≡ spec.are_apart table.now page.now }
 {
     table == "none" || table != page
 }
 
-/// What the words ask for, if it is that a tree is shown.
-fn asked_tree(words: &[Word]) -> Option<Asked<'_>>
-    ensures some { IfSome result (λ a. spec.asked_tree (spec.names_in words.now) words.now ≡ Some (request_of a)) }
-    ensures apart { IfSome result (λ a. spec.is_apart (command_of a.command) ≡ true) }
-    ensures none { IfNone result (spec.asked_tree (spec.names_in words.now) words.now ≡ None) }
+fn are_four_apart(table: &str, page: &str, out: &str, cert: &str) -> bool
+    ensures { result ≡ spec.are_four_apart table.now page.now out.now cert.now }
 {
-    let (command, table, page) = three_names(words)?;
-    if command == "tree"
-        && !table.is_empty()
-        && !page.is_empty()
-        && are_apart(table, page)
-        && are_tree_flags(words)
-    {
-        Some(Asked {
-            command: Command::Tree { table, page },
-            options: options_of(words),
-            rules: NO_RULES,
-        })
-    } else {
-        None
+    are_apart(table, page)
+        && are_apart(table, out)
+        && are_apart(table, cert)
+        && are_distinct(page, out, cert)
+}
+
+/// Whether the names of a command's files differ, where the table `none` is none.
+fn is_apart(command: &Command<'_>) -> bool
+    ensures { result ≡ spec.is_apart (command_of command.now) }
+{
+    match *command {
+        Command::Minify {
+            table,
+            page,
+            out,
+            cert,
+        } => are_four_apart(table, page, out, cert),
+        Command::Check {
+            table,
+            page,
+            out,
+            cert,
+        } => are_four_apart(table, page, out, cert),
+        Command::Tree { table, page } => are_apart(table, page),
     }
 }
 
-impl<'w> Asked<'w> {
-    /// What the words ask for, if they have a meaning.
-    #[tactic(auto, unfolding(crate::specs::Words::asked))]
-    pub fn read(words: &'w [Word]) -> Option<Asked<'w>>
-        ensures some { IfSome result (λ a. spec.asked words.now ≡ Some (request_of a)) }
-        ensures apart { IfSome result (λ a. spec.is_apart (command_of a.command) ≡ true) }
-        ensures none { IfNone result (spec.asked words.now ≡ None) }
-    {
-        match asked_minify(words) {
-            Some(minify) => Some(minify),
-            None => asked_tree(words),
+/// The rewrites whose flags are given.
+#[tactic(auto, unfolding(crate::specs::Words::options_of, crate::specs::Words::flags))]
+fn options_of(matches: &ArgMatches<'_>) -> TreeOptions
+    ensures { (words : List (List ℕ)) → IsRead words matches.now → result ≡ spec.options_of words }
+{
+    TreeOptions {
+        doctype: is_given(matches, "doctype"),
+        comments: is_given(matches, "comments"),
+        booleans: is_given(matches, "booleans"),
+        empty: is_given(matches, "empty"),
+        redundant: is_given(matches, "redundant"),
+        space: is_given(matches, "space"),
+        conservative: is_given(matches, "conservative"),
+    }
+}
+
+/// The rules of spelling whose flags are given.
+#[tactic(auto, unfolding(crate::specs::Words::rules_of, crate::specs::Words::flags))]
+fn rules_of(matches: &ArgMatches<'_>) -> SpellRules
+    ensures { (words : List (List ℕ)) → IsRead words matches.now → result ≡ spec.rules_of words }
+{
+    SpellRules {
+        omit: is_given(matches, "omit"),
+        unquote: is_given(matches, "unquote"),
+        tight: is_given(matches, "tight"),
+        ascii: is_given(matches, "ascii"),
+        frame: false,
+    }
+}
+
+/// The texts of the words.
+fn texts_of<'w>(alloc: Global, words: &'w [Word]) -> Result<Vec<&'w str>, Memory>
+    ensures { IfOk result (λ list. texts list.items ≡ words.now) }
+{
+    let mut list = Vec::new(alloc);
+    for word in words {
+        list.push(word.text.as_str())?;
+    }
+    Ok(list)
+}
+
+/// The word with this text. It is the caller's, and outlives what clap has read.
+fn lent<'w>(words: &'w [Word], text: &str) -> &'w str
+    requires there { spec.has words.now text.now ≡ true }
+    ensures { result.now ≡ text.now }
+{
+    for word in words {
+        if word.text.as_str() == text {
+            return word.text.as_str();
         }
+    }
+    unreachable!()
+}
+
+/// The command `minify` or `check` with these names.
+fn four_command<'w>(
+    words: &'w [Word],
+    command: &str,
+    table: &str,
+    page: &str,
+    out: &str,
+    cert: &str,
+) -> Option<Command<'w>>
+    requires table { spec.has words.now table.now ≡ true }
+    requires page { spec.has words.now page.now ≡ true }
+    requires out { spec.has words.now out.now ≡ true }
+    requires cert { spec.has words.now cert.now ≡ true }
+    ensures { option_map command_of result ≡ spec.command_in (command.now ∷ table.now ∷ page.now ∷ out.now ∷ cert.now ∷ []) }
+{
+    if command == "minify" {
+        return Some(Command::Minify {
+            table: lent(words, table),
+            page: lent(words, page),
+            out: lent(words, out),
+            cert: lent(words, cert),
+        });
+    }
+    if command == "check" {
+        return Some(Command::Check {
+            table: lent(words, table),
+            page: lent(words, page),
+            out: lent(words, out),
+            cert: lent(words, cert),
+        });
+    }
+    None
+}
+
+/// The command of the words that are no flags.
+#[tactic(auto, using(crate::proofs::Names::is_word))]
+fn command_in<'w>(words: &'w [Word], names: &[&str]) -> Option<Command<'w>>
+    requires names { texts names.now ≡ spec.names_in words.now }
+    ensures { option_map command_of result ≡ spec.command_in (texts names.now) }
+{
+    match names {
+        [command, table, page, out, cert] => {
+            four_command(words, command, table, page, out, cert)
+        }
+        [command, table, page] => {
+            if *command == "tree" {
+                return Some(Command::Tree {
+                    table: lent(words, table),
+                    page: lent(words, page),
+                });
+            }
+            None
+        }
+        _ => None,
+    }
+}
+
+/// Whether `--conservative` is given only beside `--space`.
+#[tactic(auto, unfolding(crate::specs::Words::flags))]
+fn is_guarded(matches: &ArgMatches<'_>) -> bool
+    ensures { (words : List (List ℕ)) → IsRead words matches.now → result ≡ answers.is_guarded words }
+{
+    !is_given(matches, "conservative") || is_given(matches, "space")
+}
+
+/// What the words of these matches ask for, if they have a meaning.
+#[tactic(auto, using(crate::proofs::Meanings::asked_is))]
+fn asked_in<'w>(words: &'w [Word], matches: &ArgMatches<'_>) -> Option<Asked<'w>>
+    requires readable { answers.are_readable words.now ≡ true }
+    requires read { IsRead words.now matches.now }
+    ensures asked { option_map request_of result ≡ spec.asked words.now }
+    ensures apart { IfSome result (λ a. spec.is_apart (command_of a.command) ≡ true) }
+{
+    if !is_guarded(matches) {
+        return None;
+    }
+    let command = command_in(words, names_of(matches)?)?;
+    if !is_apart(&command) {
+        return None;
+    }
+    Some(Asked {
+        command,
+        options: options_of(matches),
+        rules: rules_of(matches),
+    })
+}
+
+impl<'w> Asked<'w> {
+    /// What the words ask for. Memory may be refused before the words are found to have no meaning.
+    #[tactic(auto, using(crate::proofs::Meanings::not_asked))]
+    pub fn read(alloc: Global, words: &'w [Word]) -> Result<Asked<'w>, WordsFault>
+        ensures ok { IfOk result (λ a. spec.asked words.now ≡ Some (request_of a)) }
+        ensures apart { IfOk result (λ a. spec.is_apart (command_of a.command) ≡ true) }
+        ensures usage { result ≡ Err WordsFault.Usage → spec.asked words.now ≡ None }
+    {
+        if !are_readable(words) {
+            return Err(WordsFault::Usage);
+        }
+        let list = texts_of(alloc, words)?;
+        let Ok(matches) = parse(alloc, list.as_slice()) else {
+            return Err(WordsFault::Memory);
+        };
+        asked_in(words, &matches).ok_or(WordsFault::Usage)
     }
 }

@@ -1,0 +1,8 @@
+pub mod Rows
+pub mod Walks
+pub mod Ends
+pub mod Defaults
+pub mod Parsed
+pub mod Passes
+pub mod Names
+pub mod Meanings

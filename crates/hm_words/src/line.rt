@@ -1,0 +1,74 @@
+//! The command line: its flags, and then names.
+ghost use Rattle.std.specs.Prelude.{◌≡◌, ℕ, List, [], IfOk, IfErr, IfSome, IfNone, true, false};
+ghost use Rattle.clap.specs.Words.{app_of, rule_of};
+ghost use Rattle.clap.specs.Walk.{texts};
+ghost use Rattle.clap.specs.Values.{kind_of};
+ghost use Rattle.hm_words.specs.Answers as answers;
+ghost use Rattle.hm_words.specs.Matches as spec;
+ghost use Rattle.hm_words.specs.Matches.{IsRead, dashed};
+ghost use Rattle.hm_words.specs.Words.{flags, has, names_in};
+
+use clap::error::ErrorKind;
+use clap::{Arg, ArgAction, ArgMatches, Command, Error};
+use std::alloc::{AllocError, Global};
+
+/// A flag of this name.
+fn flag<'t>(alloc: Global, name: &'t str) -> Arg<'t>
+    ensures rule { rule_of result ≡ spec.flag_rule name.now }
+    ensures local { result.global ≡ false }
+{
+    Arg::new(alloc, name).long(name).action(ArgAction::SetTrue)
+}
+
+/// A command without arguments. It has no help and no version, and its words begin with no program's name.
+fn bare_line<'t>(alloc: Global) -> Command<'t>
+    ensures { app_of result ≡ spec.bare_line }
+{
+    Command::new(alloc, "hminify")
+        .no_binary_name(true)
+        .disable_help_flag(true)
+        .disable_version_flag(true)
+}
+
+/// The command line: each flag, and any number of names.
+fn line<'t>(alloc: Global) -> Result<Command<'t>, AllocError>
+    ensures { IfOk result (λ command. app_of command ≡ spec.line) }
+{
+    bare_line(alloc)
+        .arg(flag(alloc, "comments"))?
+        .arg(flag(alloc, "booleans"))?
+        .arg(flag(alloc, "empty"))?
+        .arg(flag(alloc, "redundant"))?
+        .arg(flag(alloc, "doctype"))?
+        .arg(flag(alloc, "space"))?
+        .arg(flag(alloc, "conservative"))?
+        .arg(flag(alloc, "omit"))?
+        .arg(flag(alloc, "unquote"))?
+        .arg(flag(alloc, "tight"))?
+        .arg(flag(alloc, "ascii"))?
+        .arg(Arg::new(alloc, "names").action(ArgAction::Append))
+}
+
+/// What clap finds in words that can be read. The only error is want of memory.
+pub fn parse<'t>(alloc: Global, words: &'t [&'t str]) -> Result<ArgMatches<'t>, Error>
+    requires readable { answers.are_readable (texts words.now) ≡ true }
+    ensures ok { IfOk result (IsRead (texts words.now)) }
+    ensures memory { IfErr result (λ error. kind_of error ≡ ErrorKind.OutOfMemory) }
+{
+    line(alloc)?.try_get_matches_from(words)
+}
+
+/// Whether the flag of this name is among the words.
+pub fn is_given(matches: &ArgMatches<'_>, name: &str) -> bool
+    ensures { (words : List (List ℕ)) → IsRead words matches.now → has flags (dashed name.now) ≡ true → result ≡ has words (dashed name.now) }
+{
+    matches.get_flag(name)
+}
+
+/// The words that are no flags, in their order, if there are any.
+pub fn names_of<'m, 't>(matches: &'m ArgMatches<'t>) -> Option<&'m [&'t str]>
+    ensures some { (words : List (List ℕ)) → IsRead words matches.now → IfSome result (λ names. texts names.now ≡ names_in words) }
+    ensures none { (words : List (List ℕ)) → IsRead words matches.now → IfNone result (names_in words ≡ []) }
+{
+    matches.get_strs("names")
+}

@@ -14,6 +14,8 @@ pub struct Case {
     store: MemStore,
     status: u8,
     wanted: Vec<u8>,
+    out: Option<Vec<u8>>,
+    cert: Option<Vec<u8>>,
 }
 
 /// How a run ended.
@@ -23,11 +25,22 @@ pub enum Verdict {
     /// Its exit status is this one.
     OtherStatus(u8),
     OtherOutput,
+    /// The file `out` or `cert` is another one, or isn't there.
+    OtherFile,
 }
 
 /// The error of a call for which memory was refused.
 pub fn no_memory(_memory: Memory) -> io::Error {
     io::Error::from(ErrorKind::OutOfMemory)
+}
+
+/// Whether a file has the wanted bytes, or isn't there where none are wanted.
+fn holds(store: &MemStore, name: &str, wanted: &Option<Vec<u8>>) -> bool {
+    match (store.file(name), wanted) {
+        (Some(bytes), Some(wanted)) => bytes == wanted.as_slice(),
+        (None, None) => true,
+        _ => false,
+    }
 }
 
 impl Case {
@@ -39,6 +52,8 @@ impl Case {
             store: MemStore::new(alloc),
             status: 0,
             wanted: Vec::new(alloc),
+            out: None,
+            cert: None,
         }
     }
 
@@ -90,6 +105,14 @@ impl Case {
                 Err(_) => Err(io::Error::from(ErrorKind::InvalidData)),
             },
             "|" => self.take_line(rest),
+            "out" => {
+                self.out = Some(bytes_of(alloc, rest)?);
+                Ok(())
+            }
+            "cert" => {
+                self.cert = Some(bytes_of(alloc, rest)?);
+                Ok(())
+            }
             _ => Err(io::Error::from(ErrorKind::InvalidData)),
         }
     }
@@ -102,6 +125,8 @@ impl Case {
             Verdict::OtherStatus(status)
         } else if sink.bytes() != self.wanted.as_slice() {
             Verdict::OtherOutput
+        } else if !holds(&self.store, "out", &self.out) || !holds(&self.store, "cert", &self.cert) {
+            Verdict::OtherFile
         } else {
             Verdict::Agrees
         }

@@ -24,6 +24,11 @@ fn differs(rt: &impl Print, alloc: Global, case: &mut Case) -> io::Result<bool> 
             println!(rt; "{name}: other output")?;
             Ok(true)
         }
+        Verdict::OtherFile => {
+            let name = case.name();
+            println!(rt; "{name}: other file")?;
+            Ok(true)
+        }
     }
 }
 

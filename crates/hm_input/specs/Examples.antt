@@ -1,7 +1,8 @@
 -- What files give, on examples.
 use Rattle.std.specs.Prelude.{◌≡◌, Some, None, codes, refl, Err}
 use Rattle.hm_refs.specs.declared.fault.TableFault.TheVariants.{NotJson}
-use Rattle.hm_words.specs.Words.{tree, minify, no_rewrites}
+use Rattle.hm_words.specs.Words.{tree, minify}
+use Rattle.hm_words.specs.Examples.{no_rewrites}
 use Rattle.hm_input.specs.Inputs.{input_of, input_from, missing, bad_table}
 
 -- a file that isn't there; a page that isn't there says nothing where the table is refused

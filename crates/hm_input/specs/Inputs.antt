@@ -12,7 +12,7 @@ use Rattle.hm_refs.specs.Names.{Entry}
 use Rattle.hm_refs.specs.declared.fault.TableFault.{TableFault}
 use Rattle.hm_construction.specs.Trees.{Outcome, built, refused_by, page_tree}
 use Rattle.hm_options.specs.Rewrites.{rewrite}
-use Rattle.hm_words.specs.Words.{Command, minify, tree as show_tree}
+use Rattle.hm_words.specs.Words.{Command, minify, check, tree as show_tree}
 
 pub data Input : Type 0 where
   missing : Input  -- a file isn't there
@@ -60,6 +60,7 @@ page_with_table table page o seen = input_from o (table_names (is_none table) (s
 -- what the files of a command give
 abbrev pub input_of : Command → TreeOptions → Contents → Input
 input_of (minify table page out cert) o seen = page_with_table table page o seen
+input_of (check table page out cert) o seen = page_with_table table page o seen
 input_of (show_tree table page) o seen = page_with_table table page o seen
 
 -- A table and a page give this, as far as the store tells its files.

@@ -1,21 +1,77 @@
--- The shortest text of a tree and the certificate of its least prices are what the headline asks for.
-use Rattle.std.proofs.Common.{refl}
-use Rattle.std.specs.Prelude.{List}
+-- The tree that the files of a run give is one of which the headline holds.
+use Rattle.std.proofs.Common.{◌≡◌, ℕ, Bool, true, false, cond, List, [], length, Some, None, Result, Ok, Err, refl, sym, ◌∙◌, subst}
+use Rattle.std.specs.declared.option.Option.{Option}
+use Rattle.std.specs.Bool.{nat_lt}
 use Rattle.hm_base.specs.Walks.{Event}
-use Rattle.hm_first_path.specs.Page.{IsFirstForm}
-use Rattle.hm_first_path.specs.Graph.{shortest_text, prices_of, tree_units, first_layer}
-use Rattle.hm_first_path.specs.Certificate.{certificate_text}
-use Rattle.hm_first_path.proofs.Shortest.{shortest_spells, shortest_is_shortest, shortest_is_read}
-use Rattle.hm_first_path.proofs.LeastPrices.{least_feasible, first_price_is_length}
-use Rattle.hm_minify.specs.Runs.{IsMinified}
+use Rattle.hm_base.specs.declared.limits.TheConstants.{PAGE_LIMIT}
+use Rattle.hm_base.specs.declared.plain.SpellRules.{SpellRules}
+use Rattle.hm_base.specs.declared.plain.TreeOptions.{TreeOptions}
+use Rattle.hm_base.specs.declared.rules.Rule.TheVariants.{TooLong}
+use Rattle.hm_construction.proofs.Pages.{pages_are_settled}
+use Rattle.hm_construction.specs.Trees.{Outcome, built, refused_by, page_tree}
+use Rattle.hm_elements.specs.Settled.{Settled}
+use Rattle.hm_input.specs.Inputs.{tree as tree_input, input_of, input_from, is_none, page_input, page_outcome, rewritten_input, table_names}
+use Rattle.hm_options.specs.Rewrites.{rewrite}
+use Rattle.hm_options.proofs.InOrder.{rewrite_settled}
+use Rattle.hm_refs.proofs.Gathered.{no_table}
+use Rattle.hm_refs.proofs.Members.{names_table}
+use Rattle.hm_refs.specs.Json.{names}
+use Rattle.hm_refs.specs.Names.{Entry}
+use Rattle.hm_refs.specs.Tables.{IsTable}
+use Rattle.hm_refs.specs.declared.fault.TableFault.{TableFault}
+use Rattle.hm_shortest.proofs.Headline.{shortest_is_certified}
+use Rattle.hm_shortest.specs.Shortest.{IsShortest, certificate_of, shortest_text}
+use Rattle.hm_store.specs.Contents.{Contents}
+use Rattle.hm_tokens.proofs.TextPieces.{names_of_table}
+use Rattle.hm_words.specs.Words.{Command, minify, check, tree}
 
-pub is_minified : (tree : List Event) → IsFirstForm tree → IsMinified tree (shortest_text tree) (certificate_text (prices_of tree))
-is_minified tree form = record {
-  parses = shortest_is_read tree form;
-  spells = shortest_spells tree form;
-  shortest = shortest_is_shortest tree form;
-  prices = prices_of tree;
-  certificate = refl;
-  feasible = least_feasible (tree_units tree) first_layer;
-  bound = first_price_is_length (tree_units tree);
-}
+-- a table of names, and a settled tree
+pub record IsSound (t : List Entry) (w : List Event) : Type 0 where
+  pub table : IsTable t
+  pub settled : Settled w
+
+-- ---- The table
+
+content_is_table : (o : Option (Result (List Entry) TableFault)) (t : List Entry) (content : Option (List ℕ)) → o ≡ table_names false content → o ≡ Some (Ok t) → IsTable t
+content_is_table o t None is e = let h : None ≡ Some (Ok t) = sym is ∙ e in cc
+content_is_table o t (Some bytes) is e = names_table bytes t (let h : Some (names bytes) ≡ Some (Ok t) = sym is ∙ e in cc)
+
+table_is : (none : Bool) (content : Option (List ℕ)) (t : List Entry) → table_names none content ≡ Some (Ok t) → IsTable t
+table_is true content t e = let h : [] ≡ t = cc in subst IsTable h no_table
+table_is false content t e = content_is_table (table_names false content) t content refl e
+
+-- ---- The tree
+
+outcome_settled : (t : List Entry) → IsTable t → (page : List ℕ) (w : List Event) → page_outcome t page ≡ built w → Settled w
+unfolding page_outcome
+outcome_settled t k page w e = by_length (nat_lt PAGE_LIMIT (length page)) e
+  where
+    by_length : (long : Bool) → cond long (refused_by TooLong PAGE_LIMIT) (page_tree t page) ≡ built w → Settled w
+    by_length true e = cc
+    by_length false e = pages_are_settled t page w (names_of_table t k) e
+
+rewritten_sound : (t u : List Entry) (o : TreeOptions) (w : List Event) (page : List ℕ) (x : Outcome) → IsTable t → page_outcome t page ≡ x → rewritten_input t o x ≡ tree_input u w → IsSound u w
+rewritten_sound t u o w page (built v) k reads e =
+    let names : t ≡ u = cc in
+    let walk : rewrite o v ≡ w = cc in
+    record { table = subst IsTable names k; settled = subst Settled walk (rewrite_settled o v (outcome_settled t k page v reads)) }
+rewritten_sound t u o w page (refused_by rule at) k reads e = cc
+
+page_sound : (t u : List Entry) (o : TreeOptions) (w : List Event) (content : Option (List ℕ)) → IsTable t → page_input o t content ≡ tree_input u w → IsSound u w
+page_sound t u o w None k e = cc
+page_sound t u o w (Some page) k e = rewritten_sound t u o w page (page_outcome t page) k refl e
+
+input_sound : (o : TreeOptions) (u : List Entry) (w : List Event) (none : Bool) (content page : Option (List ℕ)) (names : Option (Result (List Entry) TableFault)) → table_names none content ≡ names → input_from o names page ≡ tree_input u w → IsSound u w
+input_sound o u w none content page None is e = cc
+input_sound o u w none content page (Some (Err fault)) is e = cc
+input_sound o u w none content page (Some (Ok t)) is e = page_sound t u o w page (table_is none content t is) e
+
+pub command_sound : (c : Command) (o : TreeOptions) (seen : Contents) (t : List Entry) (w : List Event) → input_of c o seen ≡ tree_input t w → IsSound t w
+command_sound (minify table page out cert) o seen t w e = input_sound o t w (is_none table) (seen table) (seen page) (table_names (is_none table) (seen table)) refl e
+command_sound (check table page out cert) o seen t w e = input_sound o t w (is_none table) (seen table) (seen page) (table_names (is_none table) (seen table)) refl e
+command_sound (tree table page) o seen t w e = input_sound o t w (is_none table) (seen table) (seen page) (table_names (is_none table) (seen table)) refl e
+
+-- ---- The headline
+
+pub input_is_shortest : (c : Command) (o : TreeOptions) (r : SpellRules) (seen : Contents) (t : List Entry) (w : List Event) → input_of c o seen ≡ tree_input t w → IsShortest t r w (shortest_text t r w) (certificate_of t r w)
+input_is_shortest c o r seen t w e = let s = command_sound c o seen t w e in shortest_is_certified t s.table r w s.settled

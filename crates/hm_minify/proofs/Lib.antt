@@ -1,5 +1,8 @@
-pub mod Loaded
+pub mod Joined
 pub mod Headline
+pub mod Seen
+pub mod Found
+pub mod Answered
 pub mod Courses
 pub mod Steps
 pub mod Others

@@ -1,47 +1,41 @@
 -- What the ending of a run says of its command.
-use Rattle.std.proofs.Common.{◌≡◌, ℕ, ◌⊎◌, inl, inr, false, List, Some, None, refl, sym, ap, ◌∙◌, subst}
+use Rattle.std.proofs.Common.{◌≡◌, ℕ, ◌⊎◌, inl, inr, true, false, List, Some, None, refl, sym, ap, ◌∙◌, subst}
 use Rattle.std.specs.declared.option.Option.{Option}
 use Rattle.std.specs.Io.KnownBytes.{append_known}
+use Rattle.hm_base.specs.Walks.{Event}
 use Rattle.hm_base.specs.declared.plain.SpellRules.{SpellRules}
 use Rattle.hm_base.specs.declared.plain.TreeOptions.{TreeOptions}
+use Rattle.hm_refs.specs.Names.{Entry}
 use Rattle.hm_store.specs.Contents.{Contents, Sees}
 use Rattle.hm_store.specs.Files.{FileMap}
-use Rattle.hm_first_path.specs.Page.{Outcome, built, refused, page_outcome}
-use Rattle.hm_first_path.specs.Graph.{shortest_text, prices_of}
-use Rattle.hm_first_path.specs.Certificate.{certificate_text}
 use Rattle.hm_input.specs.Inputs.{Input, missing, bad_table, bad_page, tree as tree_input, input_of}
-use Rattle.hm_words.specs.Words.{Command, Asked, asks, minify, tree, asked}
-use Rattle.hm_minify.specs.Endings.{is_fault, minified_ending, page_ending, shown_ending, command_ending, asked_ending, request_ending, ending}
+use Rattle.hm_shortest.specs.Shortest.{certificate_of, shortest_text}
+use Rattle.hm_words.specs.Words.{Command, Asked, asks, minify, check, tree, asked}
+use Rattle.hm_minify.specs.Endings.{is_fault, with_tree, tree_ending, check_ending, asked_ending, request_ending, ending}
 use Rattle.hm_minify.specs.Lines.{usage_line}
-use Rattle.hm_minify.specs.Runs.{EndsAs, Puts, HasMinified, HasRefused, HasShown, HasRefusedPage, HasRefusedTable}
+use Rattle.hm_minify.specs.Runs.{EndsAs, Puts, HasMinified, HasChecked, HasDenied, IsDenied, HasShown, HasRefusedPage, HasRefusedTable}
+use Rattle.hm_minify.specs.Writes.{after_writes}
 use Rattle.hm_minify.specs.declared.status.Status.{Status}
 use Rattle.hm_minify.specs.declared.status.Status.TheVariants as status
-use Rattle.hm_minify.proofs.Headline.{is_minified}
-use Rattle.hm_minify.proofs.Loaded.{form_of_outcome}
+use Rattle.hm_minify.proofs.Found.{check_other, check_writes, checked_yes}
+use Rattle.hm_minify.proofs.Headline.{command_sound, input_is_shortest}
 
 -- ---- words without a meaning
 
-minified_is_asked : (out cert : List ℕ) (x : Outcome) → (minified_ending out cert x).status ≡ status.Usage → ⊥
-minified_is_asked out cert (refused rule at) e = cc
-minified_is_asked out cert (built w) e = cc
+tree_is_asked : (c : Command) (r : SpellRules) (seen : Contents) (t : List Entry) (w : List Event) → (tree_ending c r seen t w).status ≡ status.Usage → ⊥
+tree_is_asked (minify table page out cert) r seen t w e = cc
+tree_is_asked (check table page out cert) r seen t w e = let h : false ≡ true = check_other r t w (seen out) (seen cert) status.Usage e in cc
+tree_is_asked (tree table page) r seen t w e = cc
 
-page_is_asked : (out cert : List ℕ) (x : Option (List ℕ)) → (page_ending out cert x).status ≡ status.Usage → ⊥
-page_is_asked out cert None e = cc
-page_is_asked out cert (Some page) e = minified_is_asked out cert (page_outcome page) e
-
-shown_is_asked : (x : Input) → (shown_ending x).status ≡ status.Usage → ⊥
-shown_is_asked missing e = cc
-shown_is_asked (bad_table fault) e = cc
-shown_is_asked (bad_page rule at) e = cc
-shown_is_asked (tree_input t w) e = cc
-
-command_is_asked : (c : Command) (o : TreeOptions) (r : SpellRules) (seen : Contents) → (command_ending c o r seen).status ≡ status.Usage → ⊥
-command_is_asked (minify table page out cert) o r seen e = page_is_asked out cert (seen page) e
-command_is_asked (tree table page) o r seen e = shown_is_asked (input_of (tree table page) o seen) e
+input_is_asked : (c : Command) (r : SpellRules) (seen : Contents) (x : Input) → (with_tree x (tree_ending c r seen)).status ≡ status.Usage → ⊥
+input_is_asked c r seen missing e = cc
+input_is_asked c r seen (bad_table fault) e = cc
+input_is_asked c r seen (bad_page rule at) e = cc
+input_is_asked c r seen (tree_input t w) e = tree_is_asked c r seen t w e
 
 unasked : (a : Option Asked) (seen : Contents) → (request_ending a seen).status ≡ status.Usage → a ≡ None
 unasked None seen e = refl
-unasked (Some a) seen e = absurd (command_is_asked a.command a.options a.rules seen e)
+unasked (Some a) seen e = absurd (input_is_asked a.command a.rules seen (input_of a.command a.options seen) e)
 
 pub usage_answers : (r : Status) → r ≡ status.Usage → is_fault r ≡ false
 usage_answers r e = ap is_fault e
@@ -51,9 +45,13 @@ usage_unasked words r o n s s_new w is =
     let none : asked words ≡ None = unasked (asked words) w.seen (sym w.holds.status ∙ is) in
     (none, w.holds.sink ∙ ap (λ a. append_known s (request_ending a w.seen).line) none)
 
-pub usage_or_sink : (k k_new : ℕ) (s s_new : Option (List ℕ)) (line : List ℕ) (r : Status) → Puts k k_new s s_new line status.Usage r → (r ≡ status.Usage) ⊎ (r ≡ status.SinkFault)
+usage_or_sink : (k k_new : ℕ) (s s_new : Option (List ℕ)) (line : List ℕ) (r : Status) → Puts k k_new s s_new line status.Usage r → (r ≡ status.Usage) ⊎ ((r ≡ status.SinkFault) ⊎ (r ≡ status.Memory))
 usage_or_sink k k_new s s_new line r (inl p) = inl p.0
-usage_or_sink k k_new s s_new line r (inr p) = inr p.0
+usage_or_sink k k_new s s_new line r (inr p) = inr (inl p.0)
+
+pub usage_or_fault : (k k_new : ℕ) (s s_new : Option (List ℕ)) (line : List ℕ) (r : Status) → Puts k k_new s s_new line status.Usage r ⊎ (r ≡ status.Memory) → (r ≡ status.Usage) ⊎ ((r ≡ status.SinkFault) ⊎ (r ≡ status.Memory))
+usage_or_fault k k_new s s_new line r (inl p) = usage_or_sink k k_new s s_new line r p
+usage_or_fault k k_new s s_new line r (inr m) = inr (inr m)
 
 -- ---- the ending of what was asked
 
@@ -62,90 +60,159 @@ of_asked words a r o n s s_new seen e w = subst (λ x. EndsAs (request_ending x 
 
 -- ---- minify
 
-minified_of : (page_name page out cert : List ℕ) (r : Status) (o n : Option FileMap) (s s_new : Option (List ℕ)) (seen : Contents) (x : Outcome) → seen page_name ≡ Some page → page_outcome page ≡ x → EndsAs (minified_ending out cert x) r o n s s_new → r ≡ status.Done
-    → HasMinified page_name out cert o n s s_new seen
-minified_of page_name page out cert r o n s s_new seen (refused rule at) there reads w is = let e : status.PageRefused ≡ status.Done = sym w.status ∙ is in cc
-minified_of page_name page out cert r o n s s_new seen (built walk) there reads w is = record {
-  page = page;
-  there = there;
-  tree = walk;
+minified_of : (c : Command) (options : TreeOptions) (rules : SpellRules) (table page out cert : List ℕ) (r : Status) (o n : Option FileMap) (s s_new : Option (List ℕ)) (seen : Contents) (x : Input) → input_of c options seen ≡ x
+    → EndsAs (with_tree x (tree_ending (minify table page out cert) rules seen)) r o n s s_new → r ≡ status.Done → HasMinified c options rules out cert o n s s_new seen
+minified_of c options rules table page out cert r o n s s_new seen missing reads w is = let e : status.StoreFault ≡ status.Done = sym w.status ∙ is in cc
+minified_of c options rules table page out cert r o n s s_new seen (bad_table fault) reads w is = let e : status.TableRefused ≡ status.Done = sym w.status ∙ is in cc
+minified_of c options rules table page out cert r o n s s_new seen (bad_page rule at) reads w is = let e : status.PageRefused ≡ status.Done = sym w.status ∙ is in cc
+minified_of c options rules table page out cert r o n s s_new seen (tree_input t v) reads w is = record {
+  table = t;
+  tree = v;
   reads = reads;
-  out = shortest_text walk;
-  cert = certificate_text (prices_of walk);
-  minified = is_minified walk (form_of_outcome page walk reads);
+  out = shortest_text t rules v;
+  cert = certificate_of t rules v;
+  shortest = input_is_shortest c options rules seen t v reads;
   files = w.files;
   line = w.sink;
 }
 
-minified_by : (page_name out cert : List ℕ) (r : Status) (o n : Option FileMap) (s s_new : Option (List ℕ)) (seen : Contents) (x : Option (List ℕ)) → seen page_name ≡ x → EndsAs (page_ending out cert x) r o n s s_new → r ≡ status.Done → HasMinified page_name out cert o n s s_new seen
-minified_by page_name out cert r o n s s_new seen None there w is = let e : status.StoreFault ≡ status.Done = sym w.status ∙ is in cc
-minified_by page_name out cert r o n s s_new seen (Some page) there w is = minified_of page_name page out cert r o n s s_new seen (page_outcome page) there refl w is
-
 pub minified : (words : List (List ℕ)) (table page out cert : List ℕ) (options : TreeOptions) (rules : SpellRules) (r : Status) (o n : Option FileMap) (s s_new : Option (List ℕ)) → asked words ≡ Some (asks (minify table page out cert) options rules)
-    → Sees o (λ seen. EndsAs (ending words seen) r o n s s_new) → r ≡ status.Done → Sees o (HasMinified page out cert o n s s_new)
+    → Sees o (λ seen. EndsAs (ending words seen) r o n s s_new) → r ≡ status.Done → Sees o (HasMinified (minify table page out cert) options rules out cert o n s s_new)
 minified words table page out cert options rules r o n s s_new e w is = record {
   seen = w.seen;
   are_told = w.are_told;
-  holds = minified_by page out cert r o n s s_new w.seen (w.seen page) refl (of_asked words (asks (minify table page out cert) options rules) r o n s s_new w.seen e w.holds) is;
+  holds = minified_of (minify table page out cert) options rules table page out cert r o n s s_new w.seen (input_of (minify table page out cert) options w.seen) refl (of_asked words (asks (minify table page out cert) options rules) r o n s s_new w.seen e w.holds) is;
 }
 
-refused_of : (page_name page out cert : List ℕ) (r : Status) (o n : Option FileMap) (s s_new : Option (List ℕ)) (seen : Contents) (x : Outcome) → seen page_name ≡ Some page → page_outcome page ≡ x → EndsAs (minified_ending out cert x) r o n s s_new → r ≡ status.PageRefused
-    → HasRefused page_name o n s s_new seen
-refused_of page_name page out cert r o n s s_new seen (refused rule at) there reads w is = record { page = page; there = there; rule = rule; at = at; reads = reads; files = w.files; line = w.sink }
-refused_of page_name page out cert r o n s s_new seen (built walk) there reads w is = let e : status.Done ≡ status.PageRefused = sym w.status ∙ is in cc
+-- ---- check
 
-refused_by : (page_name out cert : List ℕ) (r : Status) (o n : Option FileMap) (s s_new : Option (List ℕ)) (seen : Contents) (x : Option (List ℕ)) → seen page_name ≡ x → EndsAs (page_ending out cert x) r o n s s_new → r ≡ status.PageRefused → HasRefused page_name o n s s_new seen
-refused_by page_name out cert r o n s s_new seen None there w is = let e : status.StoreFault ≡ status.PageRefused = sym w.status ∙ is in cc
-refused_by page_name out cert r o n s s_new seen (Some page) there w is = refused_of page_name page out cert r o n s s_new seen (page_outcome page) there refl w is
+checked_of : (c : Command) (options : TreeOptions) (rules : SpellRules) (name : List ℕ) (r : Status) (o n : Option FileMap) (s s_new : Option (List ℕ)) (seen : Contents) (t : List Entry) (v : List Event) (out cert : Option (List ℕ)) → input_of c options seen ≡ tree_input t v → seen name ≡ out
+    → EndsAs (check_ending rules t v out cert) r o n s s_new → r ≡ status.Done → HasChecked c options rules name o n s s_new seen
+checked_of c options rules name r o n s s_new seen t v None cert reads there w is = let e : status.StoreFault ≡ status.Done = sym w.status ∙ is in cc
+checked_of c options rules name r o n s s_new seen t v (Some out) None reads there w is = let e : status.StoreFault ≡ status.Done = sym w.status ∙ is in cc
+checked_of c options rules name r o n s s_new seen t v (Some out) (Some cert) reads there w is =
+    let sound = command_sound c options seen t v reads in
+    let yes = checked_yes t sound.table rules v sound.settled out cert (sym w.status ∙ is) in
+    record {
+      table = t;
+      tree = v;
+      reads = reads;
+      out = out;
+      there = there;
+      parses = yes.parses;
+      shortest = yes.shortest;
+      files = w.files ∙ ap (after_writes o) (check_writes rules t v (Some out) (Some cert));
+      line = w.sink ∙ ap (append_known s) yes.line;
+    }
 
-pub refuses : (words : List (List ℕ)) (table page out cert : List ℕ) (options : TreeOptions) (rules : SpellRules) (r : Status) (o n : Option FileMap) (s s_new : Option (List ℕ)) → asked words ≡ Some (asks (minify table page out cert) options rules)
-    → Sees o (λ seen. EndsAs (ending words seen) r o n s s_new) → r ≡ status.PageRefused → Sees o (HasRefused page o n s s_new)
-refuses words table page out cert options rules r o n s s_new e w is = record {
+checked_input : (table page out cert : List ℕ) (options : TreeOptions) (rules : SpellRules) (r : Status) (o n : Option FileMap) (s s_new : Option (List ℕ)) (seen : Contents) (x : Input) → input_of (check table page out cert) options seen ≡ x
+    → EndsAs (with_tree x (tree_ending (check table page out cert) rules seen)) r o n s s_new → r ≡ status.Done → HasChecked (check table page out cert) options rules out o n s s_new seen
+checked_input table page out cert options rules r o n s s_new seen missing reads w is = let e : status.StoreFault ≡ status.Done = sym w.status ∙ is in cc
+checked_input table page out cert options rules r o n s s_new seen (bad_table fault) reads w is = let e : status.TableRefused ≡ status.Done = sym w.status ∙ is in cc
+checked_input table page out cert options rules r o n s s_new seen (bad_page rule at) reads w is = let e : status.PageRefused ≡ status.Done = sym w.status ∙ is in cc
+checked_input table page out cert options rules r o n s s_new seen (tree_input t v) reads w is = checked_of (check table page out cert) options rules out r o n s s_new seen t v (seen out) (seen cert) reads refl w is
+
+pub checks : (words : List (List ℕ)) (table page out cert : List ℕ) (options : TreeOptions) (rules : SpellRules) (r : Status) (o n : Option FileMap) (s s_new : Option (List ℕ)) → asked words ≡ Some (asks (check table page out cert) options rules)
+    → Sees o (λ seen. EndsAs (ending words seen) r o n s s_new) → r ≡ status.Done → Sees o (HasChecked (check table page out cert) options rules out o n s s_new)
+checks words table page out cert options rules r o n s s_new e w is = record {
   seen = w.seen;
   are_told = w.are_told;
-  holds = refused_by page out cert r o n s s_new w.seen (w.seen page) refl (of_asked words (asks (minify table page out cert) options rules) r o n s s_new w.seen e w.holds) is;
+  holds = checked_input table page out cert options rules r o n s s_new w.seen (input_of (check table page out cert) options w.seen) refl (of_asked words (asks (check table page out cert) options rules) r o n s s_new w.seen e w.holds) is;
+}
+
+denied_of : (c : Command) (options : TreeOptions) (rules : SpellRules) (name lines : List ℕ) (r : Status) (o n : Option FileMap) (s s_new : Option (List ℕ)) (seen : Contents) (t : List Entry) (v : List Event) (out cert : Option (List ℕ)) → input_of c options seen ≡ tree_input t v → seen name ≡ out → seen lines ≡ cert
+    → EndsAs (check_ending rules t v out cert) r o n s s_new → r ≡ status.No → HasDenied c options rules name lines o n s s_new seen
+denied_of c options rules name lines r o n s s_new seen t v None cert reads out_there cert_there w is = let e : status.StoreFault ≡ status.No = sym w.status ∙ is in cc
+denied_of c options rules name lines r o n s s_new seen t v (Some out) None reads out_there cert_there w is = let e : status.StoreFault ≡ status.No = sym w.status ∙ is in cc
+denied_of c options rules name lines r o n s s_new seen t v (Some out) (Some cert) reads out_there cert_there w is = record {
+  table = t;
+  tree = v;
+  reads = reads;
+  out = out;
+  out_there = out_there;
+  cert = cert;
+  cert_there = cert_there;
+  denies = sym w.status ∙ is;
+  files = w.files ∙ ap (after_writes o) (check_writes rules t v (Some out) (Some cert));
+  line = w.sink;
+}
+
+denied_tree : (c : Command) (options : TreeOptions) (rules : SpellRules) (r : Status) (o n : Option FileMap) (s s_new : Option (List ℕ)) (seen : Contents) (t : List Entry) (v : List Event) → input_of c options seen ≡ tree_input t v
+    → EndsAs (tree_ending c rules seen t v) r o n s s_new → r ≡ status.No → IsDenied c options rules o n s s_new seen
+denied_tree (minify table page out cert) options rules r o n s s_new seen t v reads w is = let e : status.Done ≡ status.No = sym w.status ∙ is in cc
+denied_tree (check table page out cert) options rules r o n s s_new seen t v reads w is = denied_of (check table page out cert) options rules out cert r o n s s_new seen t v (seen out) (seen cert) reads refl refl w is
+denied_tree (tree table page) options rules r o n s s_new seen t v reads w is = let e : status.Done ≡ status.No = sym w.status ∙ is in cc
+
+denied_input : (c : Command) (options : TreeOptions) (rules : SpellRules) (r : Status) (o n : Option FileMap) (s s_new : Option (List ℕ)) (seen : Contents) (x : Input) → input_of c options seen ≡ x
+    → EndsAs (with_tree x (tree_ending c rules seen)) r o n s s_new → r ≡ status.No → IsDenied c options rules o n s s_new seen
+denied_input c options rules r o n s s_new seen missing reads w is = let e : status.StoreFault ≡ status.No = sym w.status ∙ is in cc
+denied_input c options rules r o n s s_new seen (bad_table fault) reads w is = let e : status.TableRefused ≡ status.No = sym w.status ∙ is in cc
+denied_input c options rules r o n s s_new seen (bad_page rule at) reads w is = let e : status.PageRefused ≡ status.No = sym w.status ∙ is in cc
+denied_input c options rules r o n s s_new seen (tree_input t v) reads w is = denied_tree c options rules r o n s s_new seen t v reads w is
+
+pub denies : (words : List (List ℕ)) (c : Command) (options : TreeOptions) (rules : SpellRules) (r : Status) (o n : Option FileMap) (s s_new : Option (List ℕ)) → asked words ≡ Some (asks c options rules)
+    → Sees o (λ seen. EndsAs (ending words seen) r o n s s_new) → r ≡ status.No → Sees o (IsDenied c options rules o n s s_new)
+denies words c options rules r o n s s_new e w is = record {
+  seen = w.seen;
+  are_told = w.are_told;
+  holds = denied_input c options rules r o n s s_new w.seen (input_of c options w.seen) refl (of_asked words (asks c options rules) r o n s s_new w.seen e w.holds) is;
 }
 
 -- ---- tree
 
-shown_of : (c : Command) (options : TreeOptions) (r : Status) (o n : Option FileMap) (s s_new : Option (List ℕ)) (seen : Contents) (x : Input) → input_of c options seen ≡ x → EndsAs (shown_ending x) r o n s s_new → r ≡ status.Done → HasShown c options o n s s_new seen
-shown_of c options r o n s s_new seen missing reads w is = let e : status.StoreFault ≡ status.Done = sym w.status ∙ is in cc
-shown_of c options r o n s s_new seen (bad_table fault) reads w is = let e : status.TableRefused ≡ status.Done = sym w.status ∙ is in cc
-shown_of c options r o n s s_new seen (bad_page rule at) reads w is = let e : status.PageRefused ≡ status.Done = sym w.status ∙ is in cc
-shown_of c options r o n s s_new seen (tree_input t v) reads w is = record { table = t; tree = v; reads = reads; files = w.files; lines = w.sink }
+shown_of : (table page : List ℕ) (options : TreeOptions) (rules : SpellRules) (r : Status) (o n : Option FileMap) (s s_new : Option (List ℕ)) (seen : Contents) (x : Input) → input_of (tree table page) options seen ≡ x
+    → EndsAs (with_tree x (tree_ending (tree table page) rules seen)) r o n s s_new → r ≡ status.Done → HasShown (tree table page) options o n s s_new seen
+shown_of table page options rules r o n s s_new seen missing reads w is = let e : status.StoreFault ≡ status.Done = sym w.status ∙ is in cc
+shown_of table page options rules r o n s s_new seen (bad_table fault) reads w is = let e : status.TableRefused ≡ status.Done = sym w.status ∙ is in cc
+shown_of table page options rules r o n s s_new seen (bad_page rule at) reads w is = let e : status.PageRefused ≡ status.Done = sym w.status ∙ is in cc
+shown_of table page options rules r o n s s_new seen (tree_input t v) reads w is = record { table = t; tree = v; reads = reads; files = w.files; lines = w.sink }
 
 pub shows : (words : List (List ℕ)) (table page : List ℕ) (options : TreeOptions) (rules : SpellRules) (r : Status) (o n : Option FileMap) (s s_new : Option (List ℕ)) → asked words ≡ Some (asks (tree table page) options rules)
     → Sees o (λ seen. EndsAs (ending words seen) r o n s s_new) → r ≡ status.Done → Sees o (HasShown (tree table page) options o n s s_new)
 shows words table page options rules r o n s s_new e w is = record {
   seen = w.seen;
   are_told = w.are_told;
-  holds = shown_of (tree table page) options r o n s s_new w.seen (input_of (tree table page) options w.seen) refl (of_asked words (asks (tree table page) options rules) r o n s s_new w.seen e w.holds) is;
+  holds = shown_of table page options rules r o n s s_new w.seen (input_of (tree table page) options w.seen) refl (of_asked words (asks (tree table page) options rules) r o n s s_new w.seen e w.holds) is;
 }
 
-page_of : (c : Command) (options : TreeOptions) (r : Status) (o n : Option FileMap) (s s_new : Option (List ℕ)) (seen : Contents) (x : Input) → input_of c options seen ≡ x → EndsAs (shown_ending x) r o n s s_new → r ≡ status.PageRefused → HasRefusedPage c options o n s s_new seen
-page_of c options r o n s s_new seen missing reads w is = let e : status.StoreFault ≡ status.PageRefused = sym w.status ∙ is in cc
-page_of c options r o n s s_new seen (bad_table fault) reads w is = let e : status.TableRefused ≡ status.PageRefused = sym w.status ∙ is in cc
-page_of c options r o n s s_new seen (bad_page rule at) reads w is = record { rule = rule; at = at; reads = reads; files = w.files; line = w.sink }
-page_of c options r o n s s_new seen (tree_input t v) reads w is = let e : status.Done ≡ status.PageRefused = sym w.status ∙ is in cc
+-- ---- every command
 
-pub refuses_page : (words : List (List ℕ)) (table page : List ℕ) (options : TreeOptions) (rules : SpellRules) (r : Status) (o n : Option FileMap) (s s_new : Option (List ℕ)) → asked words ≡ Some (asks (tree table page) options rules)
-    → Sees o (λ seen. EndsAs (ending words seen) r o n s s_new) → r ≡ status.PageRefused → Sees o (HasRefusedPage (tree table page) options o n s s_new)
-refuses_page words table page options rules r o n s s_new e w is = record {
+refuses_no_page : (c : Command) (rules : SpellRules) (seen : Contents) (t : List Entry) (v : List Event) → (tree_ending c rules seen t v).status ≡ status.PageRefused → ⊥
+refuses_no_page (minify table page out cert) rules seen t v e = cc
+refuses_no_page (check table page out cert) rules seen t v e = let h : false ≡ true = check_other rules t v (seen out) (seen cert) status.PageRefused e in cc
+refuses_no_page (tree table page) rules seen t v e = cc
+
+refuses_no_table : (c : Command) (rules : SpellRules) (seen : Contents) (t : List Entry) (v : List Event) → (tree_ending c rules seen t v).status ≡ status.TableRefused → ⊥
+refuses_no_table (minify table page out cert) rules seen t v e = cc
+refuses_no_table (check table page out cert) rules seen t v e = let h : false ≡ true = check_other rules t v (seen out) (seen cert) status.TableRefused e in cc
+refuses_no_table (tree table page) rules seen t v e = cc
+
+page_of : (c : Command) (options : TreeOptions) (rules : SpellRules) (r : Status) (o n : Option FileMap) (s s_new : Option (List ℕ)) (seen : Contents) (x : Input) → input_of c options seen ≡ x → EndsAs (with_tree x (tree_ending c rules seen)) r o n s s_new → r ≡ status.PageRefused
+    → HasRefusedPage c options o n s s_new seen
+page_of c options rules r o n s s_new seen missing reads w is = let e : status.StoreFault ≡ status.PageRefused = sym w.status ∙ is in cc
+page_of c options rules r o n s s_new seen (bad_table fault) reads w is = let e : status.TableRefused ≡ status.PageRefused = sym w.status ∙ is in cc
+page_of c options rules r o n s s_new seen (bad_page rule at) reads w is = record { rule = rule; at = at; reads = reads; files = w.files; line = w.sink }
+page_of c options rules r o n s s_new seen (tree_input t v) reads w is = absurd (refuses_no_page c rules seen t v (sym w.status ∙ is))
+
+pub refuses_page : (words : List (List ℕ)) (c : Command) (options : TreeOptions) (rules : SpellRules) (r : Status) (o n : Option FileMap) (s s_new : Option (List ℕ)) → asked words ≡ Some (asks c options rules)
+    → Sees o (λ seen. EndsAs (ending words seen) r o n s s_new) → r ≡ status.PageRefused → Sees o (HasRefusedPage c options o n s s_new)
+refuses_page words c options rules r o n s s_new e w is = record {
   seen = w.seen;
   are_told = w.are_told;
-  holds = page_of (tree table page) options r o n s s_new w.seen (input_of (tree table page) options w.seen) refl (of_asked words (asks (tree table page) options rules) r o n s s_new w.seen e w.holds) is;
+  holds = page_of c options rules r o n s s_new w.seen (input_of c options w.seen) refl (of_asked words (asks c options rules) r o n s s_new w.seen e w.holds) is;
 }
 
-table_of : (c : Command) (options : TreeOptions) (r : Status) (o n : Option FileMap) (s s_new : Option (List ℕ)) (seen : Contents) (x : Input) → input_of c options seen ≡ x → EndsAs (shown_ending x) r o n s s_new → r ≡ status.TableRefused → HasRefusedTable c options o n s s_new seen
-table_of c options r o n s s_new seen missing reads w is = let e : status.StoreFault ≡ status.TableRefused = sym w.status ∙ is in cc
-table_of c options r o n s s_new seen (bad_table fault) reads w is = record { fault = fault; reads = reads; files = w.files; line = w.sink }
-table_of c options r o n s s_new seen (bad_page rule at) reads w is = let e : status.PageRefused ≡ status.TableRefused = sym w.status ∙ is in cc
-table_of c options r o n s s_new seen (tree_input t v) reads w is = let e : status.Done ≡ status.TableRefused = sym w.status ∙ is in cc
+table_of : (c : Command) (options : TreeOptions) (rules : SpellRules) (r : Status) (o n : Option FileMap) (s s_new : Option (List ℕ)) (seen : Contents) (x : Input) → input_of c options seen ≡ x → EndsAs (with_tree x (tree_ending c rules seen)) r o n s s_new → r ≡ status.TableRefused
+    → HasRefusedTable c options o n s s_new seen
+table_of c options rules r o n s s_new seen missing reads w is = let e : status.StoreFault ≡ status.TableRefused = sym w.status ∙ is in cc
+table_of c options rules r o n s s_new seen (bad_table fault) reads w is = record { fault = fault; reads = reads; files = w.files; line = w.sink }
+table_of c options rules r o n s s_new seen (bad_page rule at) reads w is = let e : status.PageRefused ≡ status.TableRefused = sym w.status ∙ is in cc
+table_of c options rules r o n s s_new seen (tree_input t v) reads w is = absurd (refuses_no_table c rules seen t v (sym w.status ∙ is))
 
-pub refuses_table : (words : List (List ℕ)) (table page : List ℕ) (options : TreeOptions) (rules : SpellRules) (r : Status) (o n : Option FileMap) (s s_new : Option (List ℕ)) → asked words ≡ Some (asks (tree table page) options rules)
-    → Sees o (λ seen. EndsAs (ending words seen) r o n s s_new) → r ≡ status.TableRefused → Sees o (HasRefusedTable (tree table page) options o n s s_new)
-refuses_table words table page options rules r o n s s_new e w is = record {
+pub refuses_table : (words : List (List ℕ)) (c : Command) (options : TreeOptions) (rules : SpellRules) (r : Status) (o n : Option FileMap) (s s_new : Option (List ℕ)) → asked words ≡ Some (asks c options rules)
+    → Sees o (λ seen. EndsAs (ending words seen) r o n s s_new) → r ≡ status.TableRefused → Sees o (HasRefusedTable c options o n s s_new)
+refuses_table words c options rules r o n s s_new e w is = record {
   seen = w.seen;
   are_told = w.are_told;
-  holds = table_of (tree table page) options r o n s s_new w.seen (input_of (tree table page) options w.seen) refl (of_asked words (asks (tree table page) options rules) r o n s s_new w.seen e w.holds) is;
+  holds = table_of c options rules r o n s s_new w.seen (input_of c options w.seen) refl (of_asked words (asks c options rules) r o n s s_new w.seen e w.holds) is;
 }

@@ -6,13 +6,16 @@ use Rattle.std.specs.Cmp.Lexicographic.{nat_list_cmp_total}
 use Rattle.std.specs.FinMap.{get, get-insert}
 use Rattle.std.proofs.lemmas.Map.Text.{is_eq-slice_cmp}
 use Rattle.hm_refs.proofs.Places.{same_bytes, other_bytes}
+use Rattle.hm_base.specs.Walks.{Event}
+use Rattle.hm_base.specs.declared.plain.SpellRules.{SpellRules}
+use Rattle.hm_refs.specs.Names.{Entry}
 use Rattle.hm_store.specs.Contents.{Contents, Sees}
 use Rattle.hm_store.specs.Files.{FileMap, file_of, with_file, HasFront}
-use Rattle.hm_first_path.specs.Page.{Outcome, built, refused, page_outcome}
 use Rattle.hm_input.specs.Inputs.{Input, missing, bad_table, bad_page, tree as tree_input, input_of}
-use Rattle.hm_words.specs.Words.{Command, Asked, minify, tree, asked, has}
-use Rattle.hm_minify.specs.Endings.{minified_ending, page_ending, shown_ending, command_ending, request_ending, ending, outputs, asked_outputs}
+use Rattle.hm_words.specs.Words.{Command, Asked, minify, check, tree, asked, has}
+use Rattle.hm_minify.specs.Endings.{with_tree, tree_ending, request_ending, ending, outputs, asked_outputs}
 use Rattle.hm_minify.specs.Writes.{Write, IsLeft}
+use Rattle.hm_minify.proofs.Found.{check_writes}
 
 abbrev names_of : List Write → List (List ℕ)
 names_of [] = []
@@ -48,27 +51,20 @@ left_other old (w ∷ ws) new name h (inr (inr l)) =
 
 -- ---- what is written
 
-minified_names : (out cert name : List ℕ) (x : Outcome) → has (out ∷ cert ∷ []) name ≡ false → has (names_of (minified_ending out cert x).writes) name ≡ false
-minified_names out cert name (refused rule at) h = refl
-minified_names out cert name (built w) h = h
+tree_names : (c : Command) (r : SpellRules) (seen : Contents) (t : List Entry) (w : List Event) (name : List ℕ) → has (outputs c) name ≡ false → has (names_of (tree_ending c r seen t w).writes) name ≡ false
+tree_names (minify table page out cert) r seen t w name h = h
+tree_names (check table page out cert) r seen t w name h = ap (λ ws. has (names_of ws) name) (check_writes r t w (seen out) (seen cert))
+tree_names (tree table page) r seen t w name h = refl
 
-page_names : (out cert name : List ℕ) (x : Option (List ℕ)) → has (out ∷ cert ∷ []) name ≡ false → has (names_of (page_ending out cert x).writes) name ≡ false
-page_names out cert name None h = refl
-page_names out cert name (Some page) h = minified_names out cert name (page_outcome page) h
-
-shown_names : (name : List ℕ) (x : Input) → has (names_of (shown_ending x).writes) name ≡ false
-shown_names name missing = refl
-shown_names name (bad_table fault) = refl
-shown_names name (bad_page rule at) = refl
-shown_names name (tree_input t w) = refl
+input_names : (c : Command) (r : SpellRules) (seen : Contents) (x : Input) (name : List ℕ) → has (outputs c) name ≡ false → has (names_of (with_tree x (tree_ending c r seen)).writes) name ≡ false
+input_names c r seen missing name h = refl
+input_names c r seen (bad_table fault) name h = refl
+input_names c r seen (bad_page rule at) name h = refl
+input_names c r seen (tree_input t w) name h = tree_names c r seen t w name h
 
 request_names : (a : Option Asked) (seen : Contents) (name : List ℕ) → has (asked_outputs a) name ≡ false → has (names_of (request_ending a seen).writes) name ≡ false
 request_names None seen name h = refl
-request_names (Some a) seen name h = by_command a.command h
-  where
-    by_command : (c : Command) → has (outputs c) name ≡ false → has (names_of (command_ending c a.options a.rules seen).writes) name ≡ false
-    by_command (minify table page out cert) h = page_names out cert name (seen page) h
-    by_command (tree table page) h = shown_names name (input_of (tree table page) a.options seen)
+request_names (Some a) seen name h = input_names a.command a.rules seen (input_of a.command a.options seen) name h
 
 pub others : (words : List (List ℕ)) (old new : Option FileMap) (name : List ℕ) → Sees old (λ seen. IsLeft old (ending words seen).writes new) → has (asked_outputs (asked words)) name ≡ false → file_of new name ≡ file_of old name
 others words old new name l h = left_other old (ending words l.seen).writes new name (request_names (asked words) l.seen name h) l.holds

@@ -1,10 +1,11 @@
 -- The number of each status.
 use Rattle.std.specs.Prelude.{ℕ}
 use Rattle.hm_minify.specs.declared.status.Status.{Status}
-use Rattle.hm_minify.specs.declared.status.Status.TheVariants.{Done, Usage, PageRefused, TableRefused, StoreFault, SinkFault, Memory}
+use Rattle.hm_minify.specs.declared.status.Status.TheVariants.{Done, No, Usage, PageRefused, TableRefused, StoreFault, SinkFault, Memory}
 
 abbrev pub code_of : Status → ℕ
 code_of Done = 0
+code_of No = 1
 code_of Usage = 2
 code_of PageRefused = 3
 code_of TableRefused = 4

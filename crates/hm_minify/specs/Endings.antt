@@ -1,15 +1,21 @@
 -- How a run ends, by its words and by what the files hold.
-use Rattle.std.specs.Prelude.{ℕ, Bool, true, false, List, [], ◌∷◌, length, Option, Some, None}
+use Rattle.std.specs.Prelude.{ℕ, Bool, true, false, List, [], ◌∷◌, length, nat_lt, Option, Some, None, Result, Ok, Err, if◌then◌else◌}
 use Rattle.hm_base.specs.declared.plain.SpellRules.{SpellRules}
 use Rattle.hm_base.specs.declared.plain.TreeOptions.{TreeOptions}
+use Rattle.hm_base.specs.declared.limits.TheConstants.{CERTIFICATE_LIMIT}
+use Rattle.hm_cert.specs.Reading.{given}
+use Rattle.hm_cert.specs.declared.certificate.Certificate.{Certificate}
+use Rattle.hm_check.specs.Verdicts.{verdict}
+use Rattle.hm_check.specs.declared.verdicts.Verdict.{Verdict}
+use Rattle.hm_check.specs.declared.verdicts.Verdict.TheVariants.{Yes, No}
 use Rattle.hm_store.specs.Contents.{Contents}
-use Rattle.hm_first_path.specs.Page.{Outcome, built, refused, page_outcome}
-use Rattle.hm_first_path.specs.Graph.{prices_of, shortest_text}
-use Rattle.hm_first_path.specs.Certificate.{certificate_text}
+use Rattle.hm_base.specs.Walks.{Event}
+use Rattle.hm_refs.specs.Names.{Entry}
+use Rattle.hm_shortest.specs.Shortest.{certificate_of, shortest_text}
 use Rattle.hm_tree.specs.Dump.{dump_of}
 use Rattle.hm_input.specs.Inputs.{Input, missing, bad_table, bad_page, tree as tree_input, input_of}
-use Rattle.hm_words.specs.Words.{Command, Asked, minify, tree, asked}
-use Rattle.hm_minify.specs.Lines.{length_line, refused_line, table_line, usage_line, store_line}
+use Rattle.hm_words.specs.Words.{Command, Asked, minify, check, tree, asked}
+use Rattle.hm_minify.specs.Lines.{length_line, refused_line, table_line, usage_line, store_line, yes_line, too_long_line, bad_line_line, why_line}
 use Rattle.hm_minify.specs.Writes.{Write, write}
 use Rattle.hm_minify.specs.declared.status.Status.{Status}
 use Rattle.hm_minify.specs.declared.status.Status.TheVariants as status
@@ -35,35 +41,52 @@ is_fault status.SinkFault = true
 is_fault status.Memory = true
 is_fault answer = false
 
--- ---- minify
+-- ---- What an input gives
 
--- a page of the first form is written shortest, with its certificate
-abbrev pub minified_ending : List ℕ → List ℕ → Outcome → Ending
-minified_ending out cert (refused rule at) = says status.PageRefused (refused_line rule at)
-minified_ending out cert (built w) = record {
+-- a tree is worked on by its table of names; else the first reason why there is none is said
+abbrev pub with_tree : Input → (List Entry → List Event → Ending) → Ending
+with_tree missing work = store_fault
+with_tree (bad_table fault) work = says status.TableRefused (table_line fault)
+with_tree (bad_page rule at) work = says status.PageRefused (refused_line rule at)
+with_tree (tree_input t w) work = work t w
+
+-- a tree is written shortest, with its certificate
+abbrev pub minified_ending : SpellRules → List ℕ → List ℕ → List Entry → List Event → Ending
+minified_ending r out cert t w = record {
   status = status.Done;
-  line = length_line (length (shortest_text w));
-  writes = write out (shortest_text w) ∷ write cert (certificate_text (prices_of w)) ∷ [];
+  line = length_line (length (shortest_text t r w));
+  writes = write out (shortest_text t r w) ∷ write cert (certificate_of t r w) ∷ [];
 }
 
-abbrev pub page_ending : List ℕ → List ℕ → Option (List ℕ) → Ending
-page_ending out cert None = store_fault
-page_ending out cert (Some page) = minified_ending out cert (page_outcome page)
+-- what a check finds is said
+abbrev pub verdict_ending : Verdict → Ending
+verdict_ending (Yes n) = says status.Done (yes_line n)
+verdict_ending (No why) = says status.No (why_line why)
 
--- ---- tree
+abbrev pub certificate_ending : (Certificate → Verdict) → Result Certificate ℕ → Ending
+certificate_ending find (Err line) = says status.No (bad_line_line line)
+certificate_ending find (Ok c) = verdict_ending (find c)
 
--- a tree is shown
-abbrev pub shown_ending : Input → Ending
-shown_ending missing = store_fault
-shown_ending (bad_table fault) = says status.TableRefused (table_line fault)
-shown_ending (bad_page rule at) = says status.PageRefused (refused_line rule at)
-shown_ending (tree_input t w) = says status.Done (dump_of w)
+-- a text and the bytes of a certificate are checked
+abbrev pub checked_ending : SpellRules → List Entry → List Event → List ℕ → List ℕ → Ending
+checked_ending r t w out cert = if nat_lt CERTIFICATE_LIMIT (length cert) then says status.No too_long_line else certificate_ending (verdict t r w out) (given cert)
 
--- ---- all commands
+-- both are there, or one isn't
+abbrev pub check_ending : SpellRules → List Entry → List Event → Option (List ℕ) → Option (List ℕ) → Ending
+check_ending r t w None cert = store_fault
+check_ending r t w (Some out) None = store_fault
+check_ending r t w (Some out) (Some cert) = checked_ending r t w out cert
+
+-- what a command makes of a tree, by what further files hold
+abbrev pub tree_ending : Command → SpellRules → Contents → List Entry → List Event → Ending
+tree_ending (minify table page out cert) r seen t w = minified_ending r out cert t w
+tree_ending (check table page out cert) r seen t w = check_ending r t w (seen out) (seen cert)
+tree_ending (tree table page) r seen t w = says status.Done (dump_of w)
+
+-- ---- All commands
 
 abbrev pub command_ending : Command → TreeOptions → SpellRules → Contents → Ending
-command_ending (minify table page out cert) options rules seen = page_ending out cert (seen page)
-command_ending (tree table page) options rules seen = shown_ending (input_of (tree table page) options seen)
+command_ending c options r seen = with_tree (input_of c options seen) (tree_ending c r seen)
 
 abbrev pub asked_ending : Asked → Contents → Ending
 asked_ending a seen = command_ending a.command a.options a.rules seen
@@ -79,6 +102,7 @@ ending words seen = request_ending (asked words) seen
 -- the names of the files that a command writes
 abbrev pub outputs : Command → List (List ℕ)
 outputs (minify table page out cert) = out ∷ cert ∷ []
+outputs (check table page out cert) = []
 outputs (tree table page) = []
 
 abbrev pub asked_outputs : Option Asked → List (List ℕ)

@@ -1,6 +1,7 @@
 pub mod Codes
 pub mod Lines
 pub mod Writes
+pub mod Stops
 pub mod Endings
 pub mod Runs
 pub mod Examples

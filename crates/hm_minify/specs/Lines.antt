@@ -1,8 +1,10 @@
 -- The line that a run puts to its sink.
-use Rattle.std.specs.Prelude.{ℕ, List, [], ◌∷◌, ◌++◌, codes}
+use Rattle.std.specs.Prelude.{ℕ, List, [], ◌∷◌, ◌++◌, Option, Some, None, codes}
 use Rattle.std.specs.Fmt.{decimal}
 use Rattle.hm_base.specs.Rules.{name_of}
 use Rattle.hm_base.specs.declared.rules.Rule.{Rule}
+use Rattle.hm_check.specs.declared.verdicts.Why.{Why}
+use Rattle.hm_check.specs.declared.verdicts.Why.TheVariants as whys
 use Rattle.hm_refs.specs.Faults.{fault_name}
 use Rattle.hm_refs.specs.declared.fault.TableFault.{TableFault}
 use Rattle.hm_refs.specs.declared.fault.TableFault.TheVariants as faults
@@ -22,6 +24,36 @@ fault_about (faults.BadPoints key) = 32 ∷ key
 fault_about (faults.TooManyFor point) = 32 ∷ decimal point
 fault_about (faults.Lone key) = 32 ∷ key
 fault_about fault = []
+
+-- ---- check
+
+-- the text is shown to be the shortest, with so many bytes
+abbrev pub yes_line : ℕ → List ℕ
+yes_line n = codes "yes " ++ decimal n ++ 10 ∷ []
+
+abbrev pub too_long_line : List ℕ
+too_long_line = codes "no 0 certificate too long" ++ 10 ∷ []
+
+-- a line of the certificate is bad
+abbrev pub bad_line_line : ℕ → List ℕ
+bad_line_line n = codes "no 0 certificate line " ++ decimal n ++ 10 ∷ []
+
+-- a price or a bound; `-` where there is none
+abbrev pub price_word : Option ℕ → List ℕ
+price_word None = codes "-"
+price_word (Some n) = decimal n
+
+-- the first condition that fails
+abbrev pub why_line : Why → List ℕ
+why_line whys.RulesDiffer = codes "no 1 rules differ" ++ 10 ∷ []
+why_line (whys.OutRefused rule at) = codes "no 2 output refused: " ++ name_of rule ++ codes " at " ++ decimal at ++ 10 ∷ []
+why_line (whys.TreesDiffer event) = codes "no 3 trees differ at event " ++ decimal event ++ 10 ∷ []
+why_line (whys.WrongLayers got want) = codes "no 4 layers " ++ decimal got ++ codes ", wanted " ++ decimal want ++ 10 ∷ []
+why_line (whys.WrongWidth layer got want) = codes "no 5 layer " ++ decimal layer ++ codes ": prices " ++ decimal got ++ codes ", wanted " ++ decimal want ++ 10 ∷ []
+why_line (whys.TooHigh layer state price bound) = codes "no 6 layer " ++ decimal layer ++ codes " state " ++ decimal state ++ codes ": price " ++ price_word price ++ codes " above " ++ price_word bound ++ 10 ∷ []
+why_line (whys.TooLong length first) = codes "no 7 output " ++ decimal length ++ codes " bytes, first price " ++ decimal first ++ 10 ∷ []
+
+-- ---- tables and the rest
 
 -- a table is refused for this fault
 abbrev pub table_line : TableFault → List ℕ

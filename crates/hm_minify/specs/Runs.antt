@@ -7,17 +7,17 @@ use Rattle.hm_base.specs.declared.rules.Rule.{Rule}
 use Rattle.hm_store.specs.Causes.{Rose}
 use Rattle.hm_store.specs.Contents.{Contents, Sees, Tells}
 use Rattle.hm_store.specs.Files.{FileMap, AppendsFront}
-use Rattle.hm_first_path.specs.Page.{built, refused, page_tree, page_outcome}
-use Rattle.hm_first_path.specs.Spellings.{SpellsTree, Shortest}
-use Rattle.hm_first_path.specs.Graph.{FeasibleFor, first_price}
-use Rattle.hm_first_path.specs.Certificate.{certificate_text}
+use Rattle.hm_base.specs.declared.plain.SpellRules.{SpellRules}
 use Rattle.hm_refs.specs.Names.{Entry}
 use Rattle.hm_refs.specs.declared.fault.TableFault.{TableFault}
+use Rattle.hm_construction.specs.Trees.{built, page_tree}
+use Rattle.hm_shortest.specs.Shortest.{IsShortest}
+use Rattle.hm_spellings.specs.Spellings.{Shortest}
 use Rattle.hm_tree.specs.Dump.{dump_of}
 use Rattle.hm_input.specs.Inputs.{bad_table, bad_page, tree as tree_input, input_of}
-use Rattle.hm_words.specs.Words.{Command}
-use Rattle.hm_minify.specs.Endings.{Ending, store_fault, is_fault}
-use Rattle.hm_minify.specs.Lines.{length_line, refused_line, table_line, store_line}
+use Rattle.hm_words.specs.Words.{Command, check}
+use Rattle.hm_minify.specs.Endings.{Ending, store_fault, is_fault, checked_ending}
+use Rattle.hm_minify.specs.Lines.{length_line, yes_line, refused_line, table_line, store_line}
 use Rattle.hm_minify.specs.Writes.{write, after_writes, IsLeft}
 use Rattle.hm_minify.specs.declared.status.Status.{Status}
 use Rattle.hm_minify.specs.declared.status.Status.TheVariants as status
@@ -51,40 +51,50 @@ pub data Course (e : Contents → Ending) (old new : Option FileMap) (faults_old
   -- memory was refused
   unready : ended ≡ status.Memory → new ≡ old → sink_new ≡ sink_old → Course e old new faults_old faults_new sink_old sink_new sink_faults_old sink_faults_new ended
 
--- ---- minify, over pages of the first form
+-- ---- minify
 
--- the output parses to the tree, is a spelling of it, and no spelling is shorter; and the certificate shows that by
--- its prices alone
-pub record IsMinified (tree : List Event) (out cert : List ℕ) : Type 0 where
-  pub parses : page_tree out ≡ built tree
-  pub spells : SpellsTree tree out
-  pub shortest : Shortest tree (length out)
-  pub prices : List (List (Option ℕ))
-  pub certificate : cert ≡ certificate_text prices
-  pub feasible : FeasibleFor tree prices
-  pub bound : first_price prices ≡ Some (length out)
-
--- the page was read as a tree, OUT and CERT hold it minified, and the line says its length
-pub record HasMinified (page_name out_name cert_name : List ℕ) (old new : Option FileMap) (sink_old sink_new : Option (List ℕ)) (seen : Contents) : Type 0 where
-  pub page : List ℕ
-  pub there : seen page_name ≡ Some page
+-- The files give a table and a tree; OUT and CERT hold it shortest and certified, and the line says the length.
+pub record HasMinified (command : Command) (options : TreeOptions) (rules : SpellRules) (out_name cert_name : List ℕ) (old new : Option FileMap) (sink_old sink_new : Option (List ℕ)) (seen : Contents) : Type 0 where
+  pub table : List Entry
   pub tree : List Event
-  pub reads : page_outcome page ≡ built tree
+  pub reads : input_of command options seen ≡ tree_input table tree
   pub out : List ℕ
   pub cert : List ℕ
-  pub minified : IsMinified tree out cert
+  pub shortest : IsShortest table rules tree out cert
   pub files : new ≡ after_writes old (write out_name out ∷ write cert_name cert ∷ [])
   pub line : sink_new ≡ append_known sink_old (length_line (length out))
 
--- the page isn't of the form that is read, and the line says by which rule and where
-pub record HasRefused (page_name : List ℕ) (old new : Option FileMap) (sink_old sink_new : Option (List ℕ)) (seen : Contents) : Type 0 where
-  pub page : List ℕ
-  pub there : seen page_name ≡ Some page
-  pub rule : Rule
-  pub at : ℕ
-  pub reads : page_outcome page ≡ refused rule at
+-- ---- check
+
+-- The files give a table, a tree and a text that parses to it, no spelling is shorter, and the line says the length.
+pub record HasChecked (command : Command) (options : TreeOptions) (rules : SpellRules) (out_name : List ℕ) (old new : Option FileMap) (sink_old sink_new : Option (List ℕ)) (seen : Contents) : Type 0 where
+  pub table : List Entry
+  pub tree : List Event
+  pub reads : input_of command options seen ≡ tree_input table tree
+  pub out : List ℕ
+  pub there : seen out_name ≡ Some out
+  pub parses : page_tree table out ≡ built tree
+  pub shortest : Shortest table rules tree (length out)
   pub files : new ≡ old
-  pub line : sink_new ≡ append_known sink_old (refused_line rule at)
+  pub line : sink_new ≡ append_known sink_old (yes_line (length out))
+
+-- The files give a table, a tree, a text and the bytes of a certificate, and the line says the first condition that fails.
+pub record HasDenied (command : Command) (options : TreeOptions) (rules : SpellRules) (out_name cert_name : List ℕ) (old new : Option FileMap) (sink_old sink_new : Option (List ℕ)) (seen : Contents) : Type 0 where
+  pub table : List Entry
+  pub tree : List Event
+  pub reads : input_of command options seen ≡ tree_input table tree
+  pub out : List ℕ
+  pub out_there : seen out_name ≡ Some out
+  pub cert : List ℕ
+  pub cert_there : seen cert_name ≡ Some cert
+  pub denies : (checked_ending rules table tree out cert).status ≡ status.No
+  pub files : new ≡ old
+  pub line : sink_new ≡ append_known sink_old (checked_ending rules table tree out cert).line
+
+-- only a check is denied
+abbrev pub IsDenied : Command → TreeOptions → SpellRules → Option FileMap → Option FileMap → Option (List ℕ) → Option (List ℕ) → Contents → Type 0
+IsDenied (check table page out cert) options rules old new sink_old sink_new seen = HasDenied (check table page out cert) options rules out cert old new sink_old sink_new seen
+IsDenied command options rules old new sink_old sink_new seen = ⊥
 
 -- ---- tree
 
@@ -95,6 +105,8 @@ pub record HasShown (command : Command) (options : TreeOptions) (old new : Optio
   pub reads : input_of command options seen ≡ tree_input table tree
   pub files : new ≡ old
   pub lines : sink_new ≡ append_known sink_old (dump_of tree)
+
+-- ---- every command
 
 -- the files give a page that is refused, and the line says by which rule and where
 pub record HasRefusedPage (command : Command) (options : TreeOptions) (old new : Option FileMap) (sink_old sink_new : Option (List ℕ)) (seen : Contents) : Type 0 where

@@ -1,9 +1,11 @@
 //! What a run is to end with, made in memory.
-ghost use Rattle.std.specs.Prelude.{◌≡◌};
+ghost use Rattle.std.specs.Prelude.{◌≡◌, string_bytes};
+ghost use Rattle.hm_minify.specs.Endings as spec;
 
 use crate::Status;
 use hm_base::Memory;
-use std::alloc::{AllocError, AllocFailed};
+use hm_store::LoadFault;
+use std::alloc::{AllocError, AllocFailed, Global};
 use std::marker::Model;
 
 /// A file that is to be written, with its bytes.
@@ -45,6 +47,17 @@ impl<'w> Model for Ended<'w> {
     } };
 }
 
+/// A line is put, and nothing is written.
+pub fn says<'w>(alloc: Global, status: Status, line: String) -> Ended<'w>
+    ensures { result ≡ spec.says status (string_bytes line) }
+{
+    Ended {
+        status,
+        line,
+        outputs: Vec::new(alloc),
+    }
+}
+
 /// Why a run can't come to its ending.
 #[derive(Clone, Copy, Debug, PartialEq, Eq)]
 pub enum Stop {
@@ -84,5 +97,19 @@ impl From<Memory> for Stop {
 
     fn from(_error: Memory) -> Self {
         Stop::Memory
+    }
+}
+
+impl From<LoadFault> for Stop {
+    ghost use Rattle.std.specs.Prelude.{◌≡◌};
+    ghost use Rattle.hm_minify.specs.Stops.{stop_of};
+
+    ghost from_gives = { λ fault stop. stop ≡ stop_of fault };
+
+    fn from(fault: LoadFault) -> Self {
+        match fault {
+            LoadFault::Store => Stop::Store,
+            LoadFault::Memory => Stop::Memory,
+        }
     }
 }

@@ -1,14 +1,13 @@
 //! hminify's top call: what the words ask for, from files to files.
 #![tactic(auto)]
 
+mod checked;
 mod ended;
 mod lines;
-mod minified;
 mod saved;
-mod shown;
 mod status;
 mod top;
+mod work;
 
-pub use hm_first_path::laws;
 pub use status::Status;
 pub use top::run;

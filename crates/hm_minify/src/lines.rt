@@ -3,6 +3,7 @@ ghost use Rattle.std.specs.Prelude.{◌≡◌, IfOk, string_bytes};
 ghost use Rattle.hm_minify.specs.Lines as spec;
 
 use hm_base::Rule;
+use hm_check::Why;
 use hm_refs::TableFault;
 use std::alloc::{AllocError, Global};
 
@@ -26,6 +27,80 @@ pub fn refused_line(alloc: Global, rule: Rule, at: u32) -> Result<String, AllocE
 {
     let name = rule.name();
     format!(in alloc; "page refused: {name} at {at}\n")
+}
+
+/// The line of a text of so many bytes that is shown to be the shortest.
+pub fn yes_line(alloc: Global, length: u64) -> Result<String, AllocError>
+    ensures { IfOk result (λ line. string_bytes line ≡ spec.yes_line length) }
+{
+    format!(in alloc; "yes {length}\n")
+}
+
+/// The line of a certificate with more bytes than the limit.
+pub fn too_long_line(alloc: Global) -> Result<String, AllocError>
+    ensures { IfOk result (λ line. string_bytes line ≡ spec.too_long_line) }
+{
+    String::from_str(alloc, "no 0 certificate too long\n")
+}
+
+/// The line of a certificate of which a line is bad, counted from 1.
+pub fn bad_line_line(alloc: Global, number: u32) -> Result<String, AllocError>
+    ensures { IfOk result (λ line. string_bytes line ≡ spec.bad_line_line number) }
+{
+    format!(in alloc; "no 0 certificate line {number}\n")
+}
+
+/// A price or a bound; `-` where there is none.
+fn price_word(alloc: Global, price: Option<u64>) -> Result<String, AllocError>
+    ensures { IfOk result (λ word. string_bytes word ≡ spec.price_word price) }
+{
+    match price {
+        None => String::from_str(alloc, "-"),
+        Some(price) => format!(in alloc; "{price}"),
+    }
+}
+
+/// The line of a price above its bound.
+fn too_high_line(
+    alloc: Global,
+    layer: u64,
+    state: u64,
+    price: Option<u64>,
+    bound: Option<u64>,
+) -> Result<String, AllocError>
+    ensures { IfOk result (λ line. string_bytes line ≡ spec.why_line (Why.TooHigh layer state price bound)) }
+{
+    let price = price_word(alloc, price)?;
+    let bound = price_word(alloc, bound)?;
+    let (price, bound) = (price.as_str(), bound.as_str());
+    format!(in alloc; "no 6 layer {layer} state {state}: price {price} above {bound}\n")
+}
+
+/// The line of the first condition that fails.
+pub fn why_line(alloc: Global, why: Why) -> Result<String, AllocError>
+    ensures { IfOk result (λ line. string_bytes line ≡ spec.why_line why) }
+{
+    match why {
+        Why::RulesDiffer => String::from_str(alloc, "no 1 rules differ\n"),
+        Why::OutRefused { rule, at } => {
+            let name = rule.name();
+            format!(in alloc; "no 2 output refused: {name} at {at}\n")
+        }
+        Why::TreesDiffer { event } => format!(in alloc; "no 3 trees differ at event {event}\n"),
+        Why::WrongLayers { got, want } => format!(in alloc; "no 4 layers {got}, wanted {want}\n"),
+        Why::WrongWidth { layer, got, want } => {
+            format!(in alloc; "no 5 layer {layer}: prices {got}, wanted {want}\n")
+        }
+        Why::TooHigh {
+            layer,
+            state,
+            price,
+            bound,
+        } => too_high_line(alloc, layer, state, price, bound),
+        Why::TooLong { length, first } => {
+            format!(in alloc; "no 7 output {length} bytes, first price {first}\n")
+        }
+    }
 }
 
 /// The line of a table that is refused.

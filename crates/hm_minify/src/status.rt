@@ -7,6 +7,8 @@ ghost use Rattle.hm_minify.specs.Codes.{code_of};
 pub enum Status {
     /// What the words ask for is done.
     Done,
+    /// The certificate doesn't show that the text is the shortest.
+    No,
     /// The words have no meaning.
     Usage,
     /// The page is refused.
@@ -28,6 +30,7 @@ impl Status {
     {
         match self {
             Status::Done => 0,
+            Status::No => 1,
             Status::Usage => 2,
             Status::PageRefused => 3,
             Status::TableRefused => 4,

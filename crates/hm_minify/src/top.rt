@@ -6,7 +6,6 @@ ghost use Rattle.hm_base.specs.declared.plain.TreeOptions.{TreeOptions};
 ghost use Rattle.hm_store.specs.Causes.{Rose};
 ghost use Rattle.hm_store.specs.Contents.{Sees, Tells};
 ghost use Rattle.hm_store.specs.Files.{AppendsFront, file_of};
-ghost use Rattle.hm_words.specs.Answers.{command_of, request_of};
 ghost use Rattle.hm_words.specs.Words as request;
 ghost use Rattle.hm_words.specs.Words.{asked as asked_by, asks};
 ghost use Rattle.hm_minify.specs.Endings as endings;
@@ -18,34 +17,12 @@ ghost use Rattle.hm_minify.specs.Writes.{after_writes, IsLeft};
 use crate::Status;
 use crate::ended::{Ended, Stop};
 use crate::lines::{STORE_FAULT, USAGE};
-use crate::minified::minify;
 use crate::saved::save;
-use crate::shown::show;
+use crate::work::work;
 use hm_base::Word;
 use hm_store::{Failed, Sink, Store};
-use hm_words::{Asked, Command};
+use hm_words::{Asked, WordsFault};
 use std::alloc::Global;
-
-/// What a request ends with. Files are read, and none is written yet.
-fn work<'w, S: Store>(alloc: Global, asked: &Asked<'w>, store: &mut S) -> Result<Ended<'w>, Stop>
-    requires apart { request.is_apart (command_of asked.now.command) ≡ true }
-    ensures ended { IfOk result (λ ended. Sees (S.files store.old) (λ seen. ended ≡ endings.asked_ending (request_of asked.now) seen)) }
-    ensures answers { IfOk result (λ ended. is_fault ended.status ≡ false) }
-    ensures same { S.files store.new ≡ S.files store.old }
-    ensures writing { S.is_writing store.new ≡ S.is_writing store.old }
-    ensures later { S.faults store.old ≤ S.faults store.new }
-    ensures store { result ≡ Err Stop.Store → Rose (S.faults store.old) (S.faults store.new) ⊎ Tells (S.files store.old) (λ seen. endings.asked_ending (request_of asked.now) seen ≡ endings.store_fault) }
-{
-    match asked.command {
-        Command::Minify {
-            table: _,
-            page,
-            out,
-            cert,
-        } => minify(alloc, store, page, out, cert),
-        Command::Tree { table, page } => show(alloc, store, table, page, &asked.options),
-    }
-}
 
 /// Puts a line: the status that it says, or that the sink has failed.
 fn put_line<O: Sink>(out: &mut O, line: &[u8], status: Status) -> Status
@@ -69,13 +46,14 @@ fn finish<S: Store, O: Sink>(store: &mut S, out: &mut O, ended: &Ended<'_>) -> S
 
 /// Does what the words ask for, step by step.
 fn perform<S: Store, O: Sink>(alloc: Global, words: &[Word], store: &mut S, out: &mut O) -> Status
-    ensures unasked { asked_by words.now ≡ None → (store.new ≡ store.old) × spec.Puts (O.faults out.old) (O.faults out.new) (O.contents out.old) (O.contents out.new) usage_line Status.Usage result }
+    ensures unasked { asked_by words.now ≡ None → (store.new ≡ store.old) × (spec.Puts (O.faults out.old) (O.faults out.new) (O.contents out.old) (O.contents out.new) usage_line Status.Usage result ⊎ (result ≡ Status.Memory)) }
     ensures course { spec.Course (ending words.now) (S.files store.old) (S.files store.new) (S.faults store.old) (S.faults store.new) (O.contents out.old) (O.contents out.new) (O.faults out.old) (O.faults out.new) result }
     ensures writing { result ≡ Status.Memory → S.is_writing store.new ≡ S.is_writing store.old }
 {
-    match Asked::read(words) {
-        None => put_line(out, USAGE, Status::Usage),
-        Some(asked) => match work(alloc, &asked, store) {
+    match Asked::read(alloc, words) {
+        Err(WordsFault::Usage) => put_line(out, USAGE, Status::Usage),
+        Err(WordsFault::Memory) => Status::Memory,
+        Ok(asked) => match work(alloc, &asked, store) {
             Ok(ended) => finish(store, out, &ended),
             Err(Stop::Store) => put_line(out, STORE_FAULT, Status::StoreFault),
             Err(Stop::Memory) => Status::Memory,
@@ -85,9 +63,9 @@ fn perform<S: Store, O: Sink>(alloc: Global, words: &[Word], store: &mut S, out:
 
 /// Does what the words ask for, and puts one line to the sink, or the lines of a tree.
 pub fn run<S: Store, O: Sink>(alloc: Global, words: &[Word], store: &mut S, out: &mut O) -> Status
-    // The words alone decide whether they have a meaning. Without one, nothing is asked of the store.
+    // The words alone decide whether they have a meaning. Without one, nothing is asked of the store; memory may be refused first.
     ensures usage { result ≡ Status.Usage → (asked_by words.now ≡ None) × (store.new ≡ store.old) × (O.contents out.new ≡ append_known (O.contents out.old) usage_line) }
-    ensures no_meaning { asked_by words.now ≡ None → (store.new ≡ store.old) × ((result ≡ Status.Usage) ⊎ (result ≡ Status.SinkFault)) }
+    ensures no_meaning { asked_by words.now ≡ None → (store.new ≡ store.old) × ((result ≡ Status.Usage) ⊎ ((result ≡ Status.SinkFault) ⊎ (result ≡ Status.Memory))) }
 
     // An answer is the ending that words and files give. Where no call has failed, there is nothing else but want of memory.
     ensures answer { is_fault result ≡ false → Sees (S.files store.old) (λ seen. spec.EndsAs (ending words.now seen) result (S.files store.old) (S.files store.new) (O.contents out.old) (O.contents out.new)) }
@@ -111,19 +89,25 @@ pub fn run<S: Store, O: Sink>(alloc: Global, words: &[Word], store: &mut S, out:
     // Memory is refused only before a file is opened for writing.
     ensures memory { result ≡ Status.Memory → (S.files store.new ≡ S.files store.old) × (O.contents out.new ≡ O.contents out.old) × (S.is_writing store.new ≡ S.is_writing store.old) }
 
-    // The headline: a page is written shortest and certified, or refused at its first offending place with its rule.
+    // The headline: a page's tree after the options is written shortest and certified.
     ensures minified { (table page output cert : List ℕ) (options : TreeOptions) (rules : SpellRules) → asked_by words.now ≡ Some (asks (request.minify table page output cert) options rules) → result ≡ Status.Done
-        → Sees (S.files store.old) (spec.HasMinified page output cert (S.files store.old) (S.files store.new) (O.contents out.old) (O.contents out.new)) }
-    ensures refused { (table page output cert : List ℕ) (options : TreeOptions) (rules : SpellRules) → asked_by words.now ≡ Some (asks (request.minify table page output cert) options rules) → result ≡ Status.PageRefused
-        → Sees (S.files store.old) (spec.HasRefused page (S.files store.old) (S.files store.new) (O.contents out.old) (O.contents out.new)) }
+        → Sees (S.files store.old) (spec.HasMinified (request.minify table page output cert) options rules output cert (S.files store.old) (S.files store.new) (O.contents out.old) (O.contents out.new)) }
 
-    // A tree is shown as the options define it, or table or page is refused.
+    // The checker's yes implies the bound, whoever made text and prices; a no comes with the first condition that fails.
+    ensures checked { (table page output cert : List ℕ) (options : TreeOptions) (rules : SpellRules) → asked_by words.now ≡ Some (asks (request.check table page output cert) options rules) → result ≡ Status.Done
+        → Sees (S.files store.old) (spec.HasChecked (request.check table page output cert) options rules output (S.files store.old) (S.files store.new) (O.contents out.old) (O.contents out.new)) }
+    ensures denied { (command : request.Command) (options : TreeOptions) (rules : SpellRules) → asked_by words.now ≡ Some (asks command options rules) → result ≡ Status.No
+        → Sees (S.files store.old) (spec.IsDenied command options rules (S.files store.old) (S.files store.new) (O.contents out.old) (O.contents out.new)) }
+
+    // A tree is shown as the options define it.
     ensures shown { (table page : List ℕ) (options : TreeOptions) (rules : SpellRules) → asked_by words.now ≡ Some (asks (request.tree table page) options rules) → result ≡ Status.Done
         → Sees (S.files store.old) (spec.HasShown (request.tree table page) options (S.files store.old) (S.files store.new) (O.contents out.old) (O.contents out.new)) }
-    ensures refused_page { (table page : List ℕ) (options : TreeOptions) (rules : SpellRules) → asked_by words.now ≡ Some (asks (request.tree table page) options rules) → result ≡ Status.PageRefused
-        → Sees (S.files store.old) (spec.HasRefusedPage (request.tree table page) options (S.files store.old) (S.files store.new) (O.contents out.old) (O.contents out.new)) }
-    ensures refused_table { (table page : List ℕ) (options : TreeOptions) (rules : SpellRules) → asked_by words.now ≡ Some (asks (request.tree table page) options rules) → result ≡ Status.TableRefused
-        → Sees (S.files store.old) (spec.HasRefusedTable (request.tree table page) options (S.files store.old) (S.files store.new) (O.contents out.old) (O.contents out.new)) }
+
+    // Whatever the command, a page is refused at its first offending place with its rule, and a table for its first fault.
+    ensures refused_page { (command : request.Command) (options : TreeOptions) (rules : SpellRules) → asked_by words.now ≡ Some (asks command options rules) → result ≡ Status.PageRefused
+        → Sees (S.files store.old) (spec.HasRefusedPage command options (S.files store.old) (S.files store.new) (O.contents out.old) (O.contents out.new)) }
+    ensures refused_table { (command : request.Command) (options : TreeOptions) (rules : SpellRules) → asked_by words.now ≡ Some (asks command options rules) → result ≡ Status.TableRefused
+        → Sees (S.files store.old) (spec.HasRefusedTable command options (S.files store.old) (S.files store.new) (O.contents out.old) (O.contents out.new)) }
 {
     perform(alloc, words, store, out)
 }

@@ -1,4 +1,4 @@
-//! The program: `hminify tree TABLE PAGE` and `hminify minify none PAGE OUT CERT --omit --unquote`.
+//! The program: `hminify minify TABLE PAGE OUT CERT`, `check` with the same names, and `tree TABLE PAGE`, with flags.
 #![tactic(auto)]
 
 use hm_base::Word;

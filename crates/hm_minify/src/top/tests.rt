@@ -115,13 +115,13 @@ fn pages_are_minified(rt: HostRuntime) -> Result<(), Fail> {
             "<!doctype html><p>a</p><p>b</p>",
             "<!doctype html><p>a<p>b",
             "length 23\n",
-            "html-cert 1\nrules omit unquote\n23\n8\n8\n8\n8\n8\n5\n4 4\n4 4\n1\n0 0\n0 0\n0 0\n0 0\n",
+            "html-cert 2\nrules omit unquote\n23\n8\n8\n8\n8\n4\n0\n0\n0\n0\n",
         ),
         (
             "<!doctype html>",
             "<!doctype html>",
             "length 15\n",
-            "html-cert 1\nrules omit unquote\n15\n0\n0\n0\n0\n0\n0\n0\n",
+            "html-cert 2\nrules omit unquote\n15\n0\n0\n0\n0\n0\n0\n0\n",
         ),
     ] {
         let left = ran(rt.alloc(), &minifying(page))?;
@@ -136,9 +136,8 @@ fn pages_are_minified(rt: HostRuntime) -> Result<(), Fail> {
 #[test]
 fn pages_are_refused(rt: HostRuntime) -> Result<(), Fail> {
     for (page, line) in [
-        ("", "page refused: NotYet at 0\n"),
-        ("<!doctype html> x", "page refused: NotYet at 15\n"),
-        ("<!doctype html>a<b>", "page refused: NotYet at 16\n"),
+        ("", "page refused: NoDoctype at 0\n"),
+        ("<!doctype html>a<b>", "page refused: Unclosed at 19\n"),
         ("<!doctype html></p>", "page refused: StrayEnd at 15\n"),
     ] {
         let left = ran(rt.alloc(), &minifying(page))?;
@@ -180,7 +179,7 @@ fn words_without_a_meaning_call_nothing(rt: HostRuntime) -> Result<(), Fail> {
             "page",
             "out",
             "cert",
-            "--tight",
+            "--unquote",
             "--unquote",
         ],
     ] {
@@ -234,5 +233,103 @@ fn a_full_sink(rt: HostRuntime) -> Result<(), Fail> {
     let left = ran(rt.alloc(), &given)?;
     assert!(rt; left.status == Status::SinkFault && left.sink.bytes().is_empty());
     assert!(rt; holds(&left.store, "out", Some("<!doctype html>")));
+    Ok(())
+}
+
+/// The page that is checked.
+const PAGE: &str = "<!doctype html><p>a</p><p>b</p>";
+
+/// The words of a check, with or without the flags.
+const CHECK: [&str; 7] = [
+    "check",
+    "none",
+    "page",
+    "out",
+    "cert",
+    "--omit",
+    "--unquote",
+];
+
+/// The certificate of the least prices of the page that is checked.
+const LEAST: &str = "html-cert 2\nrules omit unquote\n23\n8\n8\n8\n8\n4\n0\n0\n0\n0\n";
+
+/// Runs a check of a text and a certificate.
+fn checked(alloc: Global, has_flags: bool, out: &str, cert: &str) -> Result<Left, Fail> {
+    let mut store = store_of(alloc, &minifying(PAGE))?;
+    store.add("out", out.as_bytes())?;
+    store.add("cert", cert.as_bytes())?;
+    let mut sink = MemSink::new(alloc);
+    let words = worded(alloc, if has_flags { &CHECK } else { &CHECK[..5] })?;
+    let status = run(alloc, words.as_slice(), &mut store, &mut sink);
+    Ok(Left {
+        status,
+        sink,
+        store,
+    })
+}
+
+#[test]
+fn texts_are_checked(rt: HostRuntime) -> Result<(), Fail> {
+    for (has_flags, out, cert, line) in [
+        (true, "<!doctype html><p>a<p>b", LEAST, "yes 23\n"),
+        (
+            true,
+            "<!doctype html><p>a<p>b",
+            "html-cert 3\nrules omit unquote\n23\n8\n8\n8\n8\n4\n0\n0\n0\n0\n",
+            "no 0 certificate line 1\n",
+        ),
+        (
+            false,
+            "<!doctype html><p>a<p>b",
+            LEAST,
+            "no 1 rules differ\n",
+        ),
+        (true, "<p>", LEAST, "no 2 output refused: NoDoctype at 0\n"),
+        (
+            true,
+            "<!doctype html><p>a<p>c",
+            LEAST,
+            "no 3 trees differ at event 9\n",
+        ),
+        (
+            true,
+            "<!doctype html><p>a<p>b",
+            "html-cert 2\nrules omit unquote\n23\n",
+            "no 4 layers 1, wanted 10\n",
+        ),
+        (
+            true,
+            "<!doctype html><p>a<p>b",
+            "html-cert 2\nrules omit unquote\n23\n8\n8\n8\n8\n4 4\n0\n0\n0\n0\n",
+            "no 5 layer 7: prices 2, wanted 1\n",
+        ),
+        (
+            true,
+            "<!doctype html><p>a<p>b",
+            "html-cert 2\nrules omit unquote\n23\n8\n8\n8\n8\n5\n0\n0\n0\n0\n",
+            "no 6 layer 7 state 0: price 5 above 4\n",
+        ),
+        (
+            true,
+            "<!doctype html><p>a<p>b",
+            "html-cert 2\nrules omit unquote\n23\n8\n8\n8\n8\n3\n0\n0\n0\n0\n",
+            "no 6 layer 4 state 0: price 8 above 7\n",
+        ),
+        (
+            true,
+            "<!doctype html><p>a<p>b",
+            "html-cert 2\nrules omit unquote\n23\n8\n8\n8\n8\n-\n0\n0\n0\n0\n",
+            "no 6 layer 7 state 0: price - above 4\n",
+        ),
+        (true, PAGE, LEAST, "no 7 output 31 bytes, first price 23\n"),
+    ] {
+        let left = checked(rt.alloc(), has_flags, out, cert)?;
+        let status = if line == "yes 23\n" {
+            Status::Done
+        } else {
+            Status::No
+        };
+        assert!(rt; is_left(&left, status, line, Some(out), Some(cert)));
+    }
     Ok(())
 }

@@ -2,7 +2,7 @@ use Rattle.std.proofs.Common.{ap}
 use Rattle.hm_minify.specs.Endings.{ending, is_fault}
 use Rattle.hm_minify.specs.Lines.{usage_line}
 use Rattle.hm_minify.proofs.Courses.{answer, complete, whole, left, store_cause, store_said, sink_cause, sink_front, memory}
-use Rattle.hm_minify.proofs.Meanings.{usage_answers, usage_unasked, usage_or_sink, minified, refuses, shows, refuses_page, refuses_table}
+use Rattle.hm_minify.proofs.Meanings.{usage_answers, usage_unasked, usage_or_fault, minified, checks, denies, shows, refuses_page, refuses_table}
 use Rattle.hm_minify.proofs.Others.{others}
 use Rattle.hm_minify.proofs.top.run.Goals as goal
 
@@ -14,7 +14,7 @@ returns-clause-usage g c = λ is.
 pub returns-clause-no_meaning : goal.returns-clause-no_meaning
 returns-clause-no_meaning g c = λ none.
     let p = c.perform.ensures.unasked none in
-    (p.0, usage_or_sink (g.O.Sink.faults c.args.out.now) (g.O.Sink.faults c.perform.new.out) (g.O.Sink.contents c.args.out.now) (g.O.Sink.contents c.perform.new.out) usage_line c.perform.result p.1)
+    (p.0, usage_or_fault (g.O.Sink.faults c.args.out.now) (g.O.Sink.faults c.perform.new.out) (g.O.Sink.contents c.args.out.now) (g.O.Sink.contents c.perform.new.out) usage_line c.perform.result p.1)
 
 pub returns-clause-answer : goal.returns-clause-answer
 returns-clause-answer g c = λ a. answer (ending c.args.words.now) (g.S.Store.files c.args.store.now) (g.S.Store.files c.perform.new.store) (g.S.Store.faults c.args.store.now) (g.S.Store.faults c.perform.new.store) (g.O.Sink.contents c.args.out.now) (g.O.Sink.contents c.perform.new.out) (g.O.Sink.faults c.args.out.now) (g.O.Sink.faults c.perform.new.out) c.perform.result c.perform.ensures.course a
@@ -51,14 +51,17 @@ returns-clause-memory g c = λ is.
 pub returns-clause-minified : goal.returns-clause-minified
 returns-clause-minified g c = λ table page output cert options rules e is. minified c.args.words.now table page output cert options rules c.perform.result (g.S.Store.files c.args.store.now) (g.S.Store.files c.perform.new.store) (g.O.Sink.contents c.args.out.now) (g.O.Sink.contents c.perform.new.out) e (answer (ending c.args.words.now) (g.S.Store.files c.args.store.now) (g.S.Store.files c.perform.new.store) (g.S.Store.faults c.args.store.now) (g.S.Store.faults c.perform.new.store) (g.O.Sink.contents c.args.out.now) (g.O.Sink.contents c.perform.new.out) (g.O.Sink.faults c.args.out.now) (g.O.Sink.faults c.perform.new.out) c.perform.result c.perform.ensures.course (ap is_fault is)) is
 
-pub returns-clause-refused : goal.returns-clause-refused
-returns-clause-refused g c = λ table page output cert options rules e is. refuses c.args.words.now table page output cert options rules c.perform.result (g.S.Store.files c.args.store.now) (g.S.Store.files c.perform.new.store) (g.O.Sink.contents c.args.out.now) (g.O.Sink.contents c.perform.new.out) e (answer (ending c.args.words.now) (g.S.Store.files c.args.store.now) (g.S.Store.files c.perform.new.store) (g.S.Store.faults c.args.store.now) (g.S.Store.faults c.perform.new.store) (g.O.Sink.contents c.args.out.now) (g.O.Sink.contents c.perform.new.out) (g.O.Sink.faults c.args.out.now) (g.O.Sink.faults c.perform.new.out) c.perform.result c.perform.ensures.course (ap is_fault is)) is
+pub returns-clause-checked : goal.returns-clause-checked
+returns-clause-checked g c = λ table page output cert options rules e is. checks c.args.words.now table page output cert options rules c.perform.result (g.S.Store.files c.args.store.now) (g.S.Store.files c.perform.new.store) (g.O.Sink.contents c.args.out.now) (g.O.Sink.contents c.perform.new.out) e (answer (ending c.args.words.now) (g.S.Store.files c.args.store.now) (g.S.Store.files c.perform.new.store) (g.S.Store.faults c.args.store.now) (g.S.Store.faults c.perform.new.store) (g.O.Sink.contents c.args.out.now) (g.O.Sink.contents c.perform.new.out) (g.O.Sink.faults c.args.out.now) (g.O.Sink.faults c.perform.new.out) c.perform.result c.perform.ensures.course (ap is_fault is)) is
+
+pub returns-clause-denied : goal.returns-clause-denied
+returns-clause-denied g c = λ command options rules e is. denies c.args.words.now command options rules c.perform.result (g.S.Store.files c.args.store.now) (g.S.Store.files c.perform.new.store) (g.O.Sink.contents c.args.out.now) (g.O.Sink.contents c.perform.new.out) e (answer (ending c.args.words.now) (g.S.Store.files c.args.store.now) (g.S.Store.files c.perform.new.store) (g.S.Store.faults c.args.store.now) (g.S.Store.faults c.perform.new.store) (g.O.Sink.contents c.args.out.now) (g.O.Sink.contents c.perform.new.out) (g.O.Sink.faults c.args.out.now) (g.O.Sink.faults c.perform.new.out) c.perform.result c.perform.ensures.course (ap is_fault is)) is
 
 pub returns-clause-shown : goal.returns-clause-shown
 returns-clause-shown g c = λ table page options rules e is. shows c.args.words.now table page options rules c.perform.result (g.S.Store.files c.args.store.now) (g.S.Store.files c.perform.new.store) (g.O.Sink.contents c.args.out.now) (g.O.Sink.contents c.perform.new.out) e (answer (ending c.args.words.now) (g.S.Store.files c.args.store.now) (g.S.Store.files c.perform.new.store) (g.S.Store.faults c.args.store.now) (g.S.Store.faults c.perform.new.store) (g.O.Sink.contents c.args.out.now) (g.O.Sink.contents c.perform.new.out) (g.O.Sink.faults c.args.out.now) (g.O.Sink.faults c.perform.new.out) c.perform.result c.perform.ensures.course (ap is_fault is)) is
 
 pub returns-clause-refused_page : goal.returns-clause-refused_page
-returns-clause-refused_page g c = λ table page options rules e is. refuses_page c.args.words.now table page options rules c.perform.result (g.S.Store.files c.args.store.now) (g.S.Store.files c.perform.new.store) (g.O.Sink.contents c.args.out.now) (g.O.Sink.contents c.perform.new.out) e (answer (ending c.args.words.now) (g.S.Store.files c.args.store.now) (g.S.Store.files c.perform.new.store) (g.S.Store.faults c.args.store.now) (g.S.Store.faults c.perform.new.store) (g.O.Sink.contents c.args.out.now) (g.O.Sink.contents c.perform.new.out) (g.O.Sink.faults c.args.out.now) (g.O.Sink.faults c.perform.new.out) c.perform.result c.perform.ensures.course (ap is_fault is)) is
+returns-clause-refused_page g c = λ command options rules e is. refuses_page c.args.words.now command options rules c.perform.result (g.S.Store.files c.args.store.now) (g.S.Store.files c.perform.new.store) (g.O.Sink.contents c.args.out.now) (g.O.Sink.contents c.perform.new.out) e (answer (ending c.args.words.now) (g.S.Store.files c.args.store.now) (g.S.Store.files c.perform.new.store) (g.S.Store.faults c.args.store.now) (g.S.Store.faults c.perform.new.store) (g.O.Sink.contents c.args.out.now) (g.O.Sink.contents c.perform.new.out) (g.O.Sink.faults c.args.out.now) (g.O.Sink.faults c.perform.new.out) c.perform.result c.perform.ensures.course (ap is_fault is)) is
 
 pub returns-clause-refused_table : goal.returns-clause-refused_table
-returns-clause-refused_table g c = λ table page options rules e is. refuses_table c.args.words.now table page options rules c.perform.result (g.S.Store.files c.args.store.now) (g.S.Store.files c.perform.new.store) (g.O.Sink.contents c.args.out.now) (g.O.Sink.contents c.perform.new.out) e (answer (ending c.args.words.now) (g.S.Store.files c.args.store.now) (g.S.Store.files c.perform.new.store) (g.S.Store.faults c.args.store.now) (g.S.Store.faults c.perform.new.store) (g.O.Sink.contents c.args.out.now) (g.O.Sink.contents c.perform.new.out) (g.O.Sink.faults c.args.out.now) (g.O.Sink.faults c.perform.new.out) c.perform.result c.perform.ensures.course (ap is_fault is)) is
+returns-clause-refused_table g c = λ command options rules e is. refuses_table c.args.words.now command options rules c.perform.result (g.S.Store.files c.args.store.now) (g.S.Store.files c.perform.new.store) (g.O.Sink.contents c.args.out.now) (g.O.Sink.contents c.perform.new.out) e (answer (ending c.args.words.now) (g.S.Store.files c.args.store.now) (g.S.Store.files c.perform.new.store) (g.S.Store.faults c.args.store.now) (g.S.Store.faults c.perform.new.store) (g.O.Sink.contents c.args.out.now) (g.O.Sink.contents c.perform.new.out) (g.O.Sink.faults c.args.out.now) (g.O.Sink.faults c.perform.new.out) c.perform.result c.perform.ensures.course (ap is_fault is)) is

@@ -1,8 +1,0 @@
-pub mod Page
-pub mod Reading
-pub mod Spellings
-pub mod Graph
-pub mod Units
-pub mod Certificate
-pub mod Laws
-pub mod Examples

@@ -1,0 +1,51 @@
+-- Contents that can be those of a store's files, of which two statements hold.
+use Rattle.std.proofs.Common.{◌≡◌, ℕ, Bool, true, false, cond, ◌||◌, not, List, Some, None, IsSome, refl, ap, ◌∙◌}
+use Rattle.std.specs.declared.option.Option.{Option}
+use Rattle.std.specs.Str.{bytes_eq}
+use Rattle.hm_base.specs.declared.plain.TreeOptions.{TreeOptions}
+use Rattle.hm_input.specs.Inputs.{input_from, is_none, page_with_table, table_names}
+use Rattle.hm_refs.proofs.Places.{same_bytes}
+use Rattle.hm_store.specs.Contents.{Contents, Sees}
+use Rattle.hm_store.specs.Files.{FileMap, file_of}
+
+-- contents, of which those of some names are taken from others
+abbrev pub mixed : (List ℕ → Bool) → Contents → Contents → Contents
+mixed theirs seen more name = cond (theirs name) (more name) (seen name)
+
+either_told : (b : Bool) (x y z : Option (List ℕ)) → x ≡ z → y ≡ z → cond b x y ≡ z
+either_told true x y z p q = p
+either_told false x y z p q = q
+
+-- two statements hold at once where one doesn't depend on the names on which the other depends alone
+pub sees_both : (told : Option FileMap) (theirs : List ℕ → Bool) (P Q : Contents → Type 0) → ((seen more : Contents) → P seen → P (mixed theirs seen more)) → ((seen more : Contents) → Q more → Q (mixed theirs seen more))
+    → Sees told P → Sees told Q → Sees told (λ seen. P seen × Q seen)
+sees_both told theirs P Q stays comes p q = record {
+  seen = mixed theirs p.seen q.seen;
+  are_told = λ i name. either_told (theirs name) (q.seen name) (p.seen name) (file_of told name) (q.are_told i name) (p.are_told i name);
+  holds = (stays p.seen q.seen p.holds, comes p.seen q.seen q.holds);
+}
+
+-- ---- files
+
+file_seen : (told : Option FileMap) (name content : List ℕ) → (IsSome told → file_of told name ≡ Some content) → Sees told (λ seen. seen name ≡ Some content)
+file_seen (Some files) name content there = record { seen = file_of (Some files); are_told = λ _ _. refl; holds = there refl }
+file_seen None name content there = record { seen = λ _. Some content; are_told = λ h. cc; holds = refl }
+
+pub files_seen : (told : Option FileMap) (out cert text lines : List ℕ) → bytes_eq out cert ≡ false → (IsSome told → file_of told out ≡ Some text) → (IsSome told → file_of told cert ≡ Some lines)
+    → Sees told (λ seen. (seen out ≡ Some text) × (seen cert ≡ Some lines))
+files_seen told out cert text lines apart is_out is_cert = sees_both told (λ name. bytes_eq name cert) (λ seen. seen out ≡ Some text) (λ seen. seen cert ≡ Some lines)
+    (λ seen more h. ap (λ b. cond b (more out) (seen out)) apart ∙ h)
+    (λ seen more h. ap (λ b. cond b (more cert) (seen cert)) (same_bytes cert) ∙ h)
+    (file_seen told out text is_out) (file_seen told cert lines is_cert)
+
+-- ---- a page with its table
+
+names_stay : (none theirs : Bool) (content more : Option (List ℕ)) → (none || not theirs) ≡ true → table_names none (cond theirs more content) ≡ table_names none content
+names_stay true theirs content more apart = refl
+names_stay false true content more apart = cc
+names_stay false false content more apart = refl
+
+pub page_stays : (theirs : List ℕ → Bool) (table page : List ℕ) (o : TreeOptions) (seen more : Contents) → (is_none table || not (theirs table)) ≡ true → theirs page ≡ false → page_with_table table page o (mixed theirs seen more) ≡ page_with_table table page o seen
+page_stays theirs table page o seen more apart other =
+    ap (λ t. input_from o t (mixed theirs seen more page)) (names_stay (is_none table) (theirs table) (seen table) (more table) apart)
+    ∙ ap (λ b. input_from o (table_names (is_none table) (seen table)) (cond b (more page) (seen page))) other

@@ -9,8 +9,7 @@ const PAGE: &[u8] = b"<!doctype html><p>a</p><p>b</p>";
 
 const OUT: &[u8] = b"<!doctype html><p>a<p>b";
 
-const CERT: &[u8] =
-    b"html-cert 1\nrules omit unquote\n23\n8\n8\n8\n8\n8\n5\n4 4\n4 4\n1\n0 0\n0 0\n0 0\n0 0\n";
+const CERT: &[u8] = b"html-cert 2\nrules omit unquote\n23\n8\n8\n8\n8\n4\n0\n0\n0\n0\n";
 
 fn word(alloc: Global, text: &str) -> Result<Word, AllocError> {
     Ok(Word {

@@ -1,10 +1,9 @@
 -- The number and the printed name of each rule.
 use Rattle.std.specs.Prelude.{ℕ, List, codes}
 use Rattle.hm_base.specs.declared.rules.Rule.{Rule}
-use Rattle.hm_base.specs.declared.rules.Rule.TheVariants.{NotYet, TooLong, NotUtf8, Nul, Cut, BadName, TooManyAttributes, BadDoctype, NoDoctype, SecondDoctype, RefusedName, SecondRoot, StrayEnd, NotCurrent, BlockInParagraph, Nested, WrongParent, TextHere, AfterHead, AfterBody, Unclosed, TooDeep, ForeignName}
+use Rattle.hm_base.specs.declared.rules.Rule.TheVariants.{TooLong, NotUtf8, Nul, Cut, BadName, TooManyAttributes, BadDoctype, NoDoctype, SecondDoctype, RefusedName, SecondRoot, StrayEnd, NotCurrent, BlockInParagraph, Nested, WrongParent, TextHere, AfterHead, AfterBody, Unclosed, TooDeep, ForeignName}
 
 abbrev pub number_of : Rule → ℕ
-number_of NotYet = 0
 number_of TooLong = 1
 number_of NotUtf8 = 2
 number_of Nul = 3
@@ -29,7 +28,6 @@ number_of TooDeep = 21
 number_of ForeignName = 22
 
 abbrev pub name_of : Rule → List ℕ
-name_of NotYet = codes "NotYet"
 name_of TooLong = codes "TooLong"
 name_of NotUtf8 = codes "NotUtf8"
 name_of Nul = codes "Nul"

@@ -1,7 +1,7 @@
 //! The limits of what is read and written, each in one place: code and definitions cite these.
 
 /// The most bytes of a page.
-pub const PAGE_LIMIT: u32 = 4_194_304;
+pub const PAGE_LIMIT: u32 = 16_777_216;
 
 /// The most bytes of a table of named character references.
 pub const TABLE_LIMIT: u32 = 1_048_576;

@@ -3,6 +3,7 @@ ghost use Rattle.std.specs.Prelude.{◌≡◌};
 ghost use Rattle.hm_base.specs.Bytes as bytes;
 
 use std::alloc::{AllocError, AllocFailed};
+use std::convert::AsStr;
 use std::marker::Model;
 
 /// Memory was refused: the error of each call whose only refusal is want of memory.
@@ -33,6 +34,14 @@ impl Model for Word {
     ghost Value = { List ℕ };
 
     ghost view = { λ word. string_bytes word.text };
+}
+
+impl AsStr for Word {
+    ghost text = { λ word. word };
+
+    fn as_str(&self) -> &str {
+        self.text.as_str()
+    }
 }
 
 /// The one or two code points that a name of a character reference stands for.

@@ -7,8 +7,6 @@ ghost use Rattle.hm_base.specs.Rules.{number_of, name_of};
 /// The rules of tokens are of the HTML Standard, 13.2.5, those of nesting of 13.2.6.
 #[derive(Clone, Copy, Debug, PartialEq, Eq)]
 pub enum Rule {
-    /// A form of input that this stage of the program doesn't read.
-    NotYet,
     /// The page has more bytes than its limit.
     TooLong,
     /// The bytes aren't UTF-8.
@@ -61,7 +59,6 @@ impl Rule {
         ensures { result ≡ number_of self.now }
     {
         match self {
-            Rule::NotYet => 0,
             Rule::TooLong => 1,
             Rule::NotUtf8 => 2,
             Rule::Nul => 3,
@@ -92,7 +89,6 @@ impl Rule {
         ensures { result.now ≡ name_of self.now }
     {
         match self {
-            Rule::NotYet => "NotYet",
             Rule::TooLong => "TooLong",
             Rule::NotUtf8 => "NotUtf8",
             Rule::Nul => "Nul",

@@ -4,5 +4,5 @@ pub mod Ends
 pub mod Defaults
 pub mod Parsed
 pub mod Passes
-pub mod Names
 pub mod Meanings
+pub mod Decimals

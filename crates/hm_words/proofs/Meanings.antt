@@ -4,7 +4,7 @@ use Rattle.std.specs.Str.{bytes_eq}
 use Rattle.hm_base.specs.Bytes.{is_null}
 use Rattle.hm_base.proofs.Bytes.{both_true, first_true, second_true}
 use Rattle.hm_elements.proofs.TableTools.{same_bytes}
-use Rattle.hm_words.specs.Words.{Command, Asked, minify, check, tree, asks, asked, flags, is_apart, is_flag, names_in, are_known, are_single, or_else, command_in, with_flags, options_of, rules_of}
+use Rattle.hm_words.specs.Words.{Command, Asked, minify, check, tree, measure, asks, asked, flags, is_apart, is_flag, names_in, are_known, are_single, or_else, measured, number_in, command_in, with_flags, options_of, rules_of}
 use Rattle.hm_words.specs.Answers.{are_filled, are_readable, is_guarded}
 
 -- what a command asks for whose names aren't empty
@@ -34,7 +34,15 @@ command_filled ws (c ∷ t ∷ p ∷ []) e =
         → with_flags ws (cond b (Some (tree t p)) None) ≡ with_command ws (cond b (Some (tree t p)) None)
     by_test true tf pf = rw (tf, pf) refl
     by_test false tf pf = refl
-command_filled ws (c ∷ t ∷ p ∷ o ∷ []) e = refl
+command_filled ws (c ∷ t ∷ n ∷ s ∷ []) e = by_test (bytes_eq c (codes "measure")) (number_in 0 4294967295 n) (number_in 1 20000 s) (first_true _ _ (second_true _ _ e))
+  where
+    by_test : (b : Bool) (number size : Option ℕ) → not (is_null t) ≡ true
+        → with_flags ws (or_else (cond b (measured t number size) None) None) ≡ with_command ws (or_else (cond b (measured t number size) None) None)
+    by_test true (Some number) (Some size) tf = rw tf refl
+    by_test true (Some number) None tf = refl
+    by_test true None (Some size) tf = refl
+    by_test true None None tf = refl
+    by_test false number size tf = refl
 command_filled ws (c ∷ t ∷ p ∷ o ∷ k ∷ []) e =
     let t_on = second_true _ _ e in
     let p_on = second_true _ _ t_on in
@@ -57,6 +65,10 @@ asked_is ws e =
     rw (known, single) (ap (λ x. cond (is_guarded ws) x None) (command_filled ws (names_in ws) (names_filled ws (first_true _ _ e))))
 
 -- ---- words that may not be read
+
+one_false : (a r : Bool) → a && true ≡ false → a && r ≡ false
+one_false true r e = absurd (true≢false e)
+one_false false r e = refl
 
 two_false : (a b r : Bool) → a && (b && true) ≡ false → (a && b) && r ≡ false
 two_false true true r e = absurd (true≢false e)
@@ -92,7 +104,26 @@ no_command ws (c ∷ t ∷ p ∷ []) e = by_test (bytes_eq c (codes "tree")) ref
         ap (λ x. not (is_null x) && (not (is_null t) && (not (is_null p) && true))) (sym (same_bytes c (codes "tree") same)) ∙ e in
         rw (two_false (not (is_null t)) (not (is_null p)) (is_apart (tree t p)) rest) refl
     by_test false same = refl
-no_command ws (c ∷ t ∷ p ∷ o ∷ []) e = refl
+no_command ws (c ∷ t ∷ n ∷ s ∷ []) e = by_test (bytes_eq c (codes "measure")) refl
+  where
+    -- an empty word is no number
+    by_words : (number size : List ℕ) → not (is_null t) && (not (is_null number) && (not (is_null size) && true)) ≡ false → with_flags ws (or_else (measured t (number_in 0 4294967295 number) (number_in 1 20000 size)) None) ≡ None
+    by_words [] size h = refl
+    by_words (x ∷ number) [] h = by_number (number_in 0 4294967295 (x ∷ number))
+      where
+        by_number : (o : Option ℕ) → with_flags ws (or_else (measured t o None) None) ≡ None
+        by_number None = refl
+        by_number (Some n) = refl
+    by_words (x ∷ number) (y ∷ size) h = by_numbers (number_in 0 4294967295 (x ∷ number)) (number_in 1 20000 (y ∷ size))
+      where
+        by_numbers : (a b : Option ℕ) → with_flags ws (or_else (measured t a b) None) ≡ None
+        by_numbers None b = refl
+        by_numbers (Some a) None = refl
+        by_numbers (Some a) (Some b) = rw (one_false (not (is_null t)) (is_apart (measure t a b)) h) refl
+
+    by_test : (b : Bool) → bytes_eq c (codes "measure") ≡ b → with_flags ws (or_else (cond b (measured t (number_in 0 4294967295 n) (number_in 1 20000 s)) None) None) ≡ None
+    by_test true same = by_words n s (ap (λ x. not (is_null x) && (not (is_null t) && (not (is_null n) && (not (is_null s) && true)))) (sym (same_bytes c (codes "measure") same)) ∙ e)
+    by_test false same = refl
 no_command ws (c ∷ t ∷ p ∷ o ∷ k ∷ []) e = by_test (bytes_eq c (codes "minify")) (bytes_eq c (codes "check")) refl refl
   where
     rest_of : (word : List ℕ) → is_null word ≡ false → bytes_eq c word ≡ true → not (is_null t) && (not (is_null p) && (not (is_null o) && (not (is_null k) && true))) ≡ false

@@ -12,6 +12,7 @@ abbrev pub command_of : Command → words.Command
 command_of (commands.Minify table page out cert) = words.minify table.now page.now out.now cert.now
 command_of (commands.Check table page out cert) = words.check table.now page.now out.now cert.now
 command_of (commands.Tree table page) = words.tree table.now page.now
+command_of (commands.Measure table number size) = words.measure table.now number size
 
 abbrev pub request_of : Asked → words.Asked
 request_of asked = record { command = command_of asked.command; options = asked.options; rules = asked.rules }

@@ -3,7 +3,7 @@ use Rattle.std.specs.Prelude.{◌≡◌, true, false, [], ◌∷◌, Some, None,
 use Rattle.hm_base.specs.declared.plain.SpellRules.{SpellRules}
 use Rattle.hm_base.specs.declared.plain.TreeOptions.{TreeOptions}
 use Rattle.hm_elements.specs.Names.{words}
-use Rattle.hm_words.specs.Words.{asked, asks, minify, check, tree, flags, options_of, rules_of}
+use Rattle.hm_words.specs.Words.{asked, asks, minify, check, tree, measure, flags, options_of, rules_of}
 
 abbrev pub no_rewrites : TreeOptions
 no_rewrites = record { doctype = false; comments = false; booleans = false; empty = false; redundant = false; space = false; conservative = false }
@@ -20,6 +20,8 @@ requests : (asked (words "minify none page out cert --omit --unquote") ≡ Some 
     × (asked (words "tree none none") ≡ Some (asks (tree (codes "none") (codes "none")) no_rewrites no_rules))
     × (asked (words "--space tree none --conservative page") ≡ Some (asks (tree (codes "none") (codes "page")) (record no_rewrites { space = true; conservative = true }) no_rules))
     × (asked (words "--omit tree none page") ≡ Some (asks (tree (codes "none") (codes "page")) no_rewrites (record no_rules { omit = true })))
+    × (asked (words "measure none 0 1") ≡ Some (asks (measure (codes "none") 0 1) no_rewrites no_rules))
+    × (asked (words "measure 4294967295 --omit 4294967295 20000") ≡ Some (asks (measure (codes "4294967295") 4294967295 20000) no_rewrites (record no_rules { omit = true })))
     × (asked (words "tree none page --conservative") ≡ None)
     × (asked (words "minify none page out cert --conservative") ≡ None)
     × (asked (words "tree none page --space --space") ≡ None)
@@ -37,6 +39,13 @@ requests : (asked (words "minify none page out cert --omit --unquote") ≡ Some 
     × (asked (codes "minify" ∷ codes "none" ∷ codes "page" ∷ [] ∷ codes "cert" ∷ []) ≡ None)
     × (asked (words "minify none page out out") ≡ None)
     × (asked (words "minify out page out cert") ≡ None)
+    × (asked (words "measure none 01 1") ≡ None)
+    × (asked (words "measure none 0 0") ≡ None)
+    × (asked (words "measure none 0 20001") ≡ None)
+    × (asked (words "measure none 4294967296 1") ≡ None)
+    × (asked (words "measure none +1 1") ≡ None)
+    × (asked (codes "measure" ∷ codes "none" ∷ codes "0" ∷ [] ∷ []) ≡ None)
+    × (asked (codes "measure" ∷ [] ∷ codes "0" ∷ codes "1" ∷ []) ≡ None)
     × (asked [] ≡ None)
 unfolding asked flags options_of rules_of
-requests = (refl, refl, refl, refl, refl, refl, refl, refl, refl, refl, refl, refl, refl, refl, refl, refl, refl, refl, refl, refl, refl, refl, refl, refl)
+requests = (refl, refl, refl, refl, refl, refl, refl, refl, refl, refl, refl, refl, refl, refl, refl, refl, refl, refl, refl, refl, refl, refl, refl, refl, refl, refl, refl, refl, refl, refl, refl, refl, refl)

@@ -1,16 +1,19 @@
 -- What the words of a call ask for.
-use Rattle.std.specs.Prelude.{ℕ, Bool, false, not, ◌&&◌, ◌||◌, ◌==◌, List, [], ◌∷◌, Option, Some, None, if◌then◌else◌, codes, bytes_eq, nat_le, filter, count_by}
+use Rattle.std.specs.Prelude.{ℕ, Bool, true, false, not, ◌&&◌, ◌||◌, ◌==◌, List, [], ◌∷◌, Option, Some, None, if◌then◌else◌, codes, bytes_eq, nat_le, filter, count_by}
+use Rattle.std.specs.Char.{is_ascii_digit}
 use Rattle.std.specs.List.{list_any, list_all}
+use Rattle.std.specs.Str.Parse.{digits_value}
 use Rattle.hm_base.specs.Bytes.{is_null}
 use Rattle.hm_base.specs.declared.plain.SpellRules.{SpellRules}
 use Rattle.hm_base.specs.declared.plain.TreeOptions.{TreeOptions}
 use Rattle.hm_elements.specs.Names.{words}
 
--- what is done, with the names of its files
+-- what is done, with the names of its files, or with the number and the blocks of a page that is made
 pub data Command : Type 0 where
   minify : List ℕ → List ℕ → List ℕ → List ℕ → Command  -- TABLE, PAGE, OUT, CERT
   check : List ℕ → List ℕ → List ℕ → List ℕ → Command  -- TABLE, PAGE, OUT, CERT
   tree : List ℕ → List ℕ → Command  -- TABLE, PAGE
+  measure : List ℕ → ℕ → ℕ → Command  -- TABLE, NUMBER, SIZE
 
 -- a request: a command, the rewrites of the tree that it works on, and the spellings that are allowed
 pub record Asked : Type 0 where
@@ -95,6 +98,7 @@ abbrev pub is_apart : Command → Bool
 is_apart (minify table page out cert) = are_four_apart table page out cert
 is_apart (check table page out cert) = are_four_apart table page out cert
 is_apart (tree table page) = are_apart table page
+is_apart (measure table number size) = true
 
 abbrev pub are_four_filled : List ℕ → List ℕ → List ℕ → List ℕ → Bool
 are_four_filled table page out cert = not (is_null table) && (not (is_null page) && (not (is_null out) && not (is_null cert)))
@@ -104,6 +108,22 @@ abbrev pub is_filled : Command → Bool
 is_filled (minify table page out cert) = are_four_filled table page out cert
 is_filled (check table page out cert) = are_four_filled table page out cert
 is_filled (tree table page) = not (is_null table) && not (is_null page)
+is_filled (measure table number size) = not (is_null table)
+
+-- ---- Numbers
+
+-- something, in which `0` stands first only where it stands alone
+abbrev pub has_no_zero : List ℕ → Bool
+has_no_zero [] = false
+has_no_zero (c ∷ s) = not (c == 48) || is_null s
+
+-- decimal digits without leading zeros; `0` itself is one
+abbrev pub is_number : List ℕ → Bool
+is_number word = list_all is_ascii_digit word && has_no_zero word
+
+-- the number of a word, from the least to the most that it may be
+abbrev pub number_in : ℕ → ℕ → List ℕ → Option ℕ
+number_in least most word = if is_number word && (nat_le least (digits_value 10 word) && nat_le (digits_value 10 word) most) then Some (digits_value 10 word) else None
 
 -- ---- Commands
 
@@ -120,13 +140,22 @@ abbrev pub tree_of : List (List ℕ) → Option Command
 tree_of (command ∷ table ∷ page ∷ []) = if bytes_eq command (codes "tree") then Some (tree table page) else None
 tree_of names = None
 
+abbrev pub measured : List ℕ → Option ℕ → Option ℕ → Option Command
+measured table (Some number) (Some size) = Some (measure table number size)
+measured table number size = None
+
+-- measure TABLE NUMBER SIZE: a number of 32 bits, and from 1 to 20,000 blocks
+abbrev pub measure_of : List (List ℕ) → Option Command
+measure_of (command ∷ table ∷ number ∷ size ∷ []) = if bytes_eq command (codes "measure") then measured table (number_in 0 4294967295 number) (number_in 1 20000 size) else None
+measure_of names = None
+
 abbrev pub or_else : Option Command → Option Command → Option Command
 or_else None b = b
 or_else (Some a) b = Some a
 
 -- the command of the words that are no flags
 abbrev pub command_in : List (List ℕ) → Option Command
-command_in names = or_else (four_of names) (tree_of names)
+command_in names = or_else (four_of names) (or_else (measure_of names) (tree_of names))
 
 abbrev pub with_flags : List (List ℕ) → Option Command → Option Asked
 with_flags ws None = None

@@ -3,6 +3,7 @@
 
 mod flags;
 mod line;
+mod numbers;
 #[cfg(test)]
 mod tests;
 mod words;

@@ -10,6 +10,7 @@ ghost use Rattle.hm_words.specs.Words.{flags, has, names_in};
 
 use clap::error::ErrorKind;
 use clap::{Arg, ArgAction, ArgMatches, Command, Error};
+use hm_base::Word;
 use std::alloc::{AllocError, Global};
 
 /// A flag of this name.
@@ -50,9 +51,9 @@ fn line<'t>(alloc: Global) -> Result<Command<'t>, AllocError>
 }
 
 /// What clap finds in words that can be read. The only error is want of memory.
-pub fn parse<'t>(alloc: Global, words: &'t [&'t str]) -> Result<ArgMatches<'t>, Error>
-    requires readable { answers.are_readable (texts words.now) ≡ true }
-    ensures ok { IfOk result (IsRead (texts words.now)) }
+pub fn parse<'w>(alloc: Global, words: &'w [Word]) -> Result<ArgMatches<'w>, Error>
+    requires readable { answers.are_readable words.now ≡ true }
+    ensures ok { IfOk result (IsRead words.now) }
     ensures memory { IfErr result (λ error. kind_of error ≡ ErrorKind.OutOfMemory) }
 {
     line(alloc)?.try_get_matches_from(words)

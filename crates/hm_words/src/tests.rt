@@ -48,6 +48,13 @@ fn is_command(command: &Command<'_>, wanted: &[&str]) -> bool {
             cert,
         } => wanted == ["check", table, page, out, cert].as_slice(),
         Command::Tree { table, page } => wanted == ["tree", table, page].as_slice(),
+        Command::Measure {
+            table,
+            number,
+            size,
+        } => {
+            wanted == ["measure", table].as_slice() && number == 4_294_967_295 && size == 20_000
+        }
     }
 }
 
@@ -128,6 +135,15 @@ fn requests(rt: HostRuntime) -> Result<(), Fail> {
             NO_RULES,
         )?
     );
+    assert!(rt;
+        asks(
+            alloc,
+            "measure 0 --comments 4294967295 20000",
+            &["measure", "0"],
+            commented,
+            NO_RULES,
+        )?
+    );
     let omitted = SpellRules {
         omit: true,
         ..NO_RULES
@@ -166,6 +182,19 @@ fn no_requests(rt: HostRuntime) -> Result<(), Fail> {
         "minify none page  cert",
         "minify none page out out",
         "minify out page out cert",
+        "measure none 01 1",
+        "measure none 0 01",
+        "measure none 00 1",
+        "measure none 0 0",
+        "measure none 0 20001",
+        "measure none 4294967296 1",
+        "measure none 18446744073709551616 1",
+        "measure none +1 1",
+        "measure none 1 x",
+        "measure none 1 1_0",
+        "measure none  1",
+        "measure none 0 1 1",
+        "measure none 0",
         "",
     ] {
         let words = worded(rt.alloc(), text)?;

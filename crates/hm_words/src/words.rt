@@ -8,11 +8,15 @@ ghost use Rattle.hm_words.specs.Matches.{IsRead};
 
 use crate::flags::are_readable;
 use crate::line::{is_given, names_of, parse};
+use crate::numbers::number_in;
 use clap::ArgMatches;
-use hm_base::{Memory, SpellRules, TreeOptions, Word};
+use hm_base::{SpellRules, TreeOptions, Word};
 use std::alloc::Global;
 
-/// What is done, with the names of its files.
+/// The most blocks of a page that is made.
+const MOST_BLOCKS: u32 = 20_000;
+
+/// What is done, with the names of its files, or with the number and the blocks of a page that is made.
 #[derive(Clone, Copy, Debug)]
 pub enum Command<'w> {
     /// A page is written shortest, with its certificate.
@@ -34,6 +38,12 @@ pub enum Command<'w> {
         table: &'w str,
         page: &'w str,
     },
+    /// A page that is made of a number, with so many blocks, is written shortest and checked.
+    Measure {
+        table: &'w str,
+        number: u32,
+        size: u32,
+    },
 }
 
 /// A request: a command, the rewrites of the tree that it works on, and the spellings that are allowed.
@@ -51,16 +61,6 @@ pub enum WordsFault {
     Usage,
     /// Memory was refused.
     Memory,
-}
-
-impl From<Memory> for WordsFault {
-    ghost use Rattle.hm_words.specs.declared.words.WordsFault.TheVariants as faults;
-
-    ghost from_gives = { λ _ fault. fault ≡ faults.Memory };
-
-    fn from(_error: Memory) -> Self {
-        WordsFault::Memory
-    }
 }
 
 /// Whether three names differ from each other.
@@ -104,6 +104,11 @@ fn is_apart(command: &Command<'_>) -> bool
             cert,
         } => are_four_apart(table, page, out, cert),
         Command::Tree { table, page } => are_apart(table, page),
+        Command::Measure {
+            table: _,
+            number: _,
+            size: _,
+        } => true,
     }
 }
 
@@ -137,85 +142,91 @@ fn rules_of(matches: &ArgMatches<'_>) -> SpellRules
     }
 }
 
-/// The texts of the words.
-fn texts_of<'w>(alloc: Global, words: &'w [Word]) -> Result<Vec<&'w str>, Memory>
-    ensures { IfOk result (λ list. texts list.items ≡ words.now) }
-{
-    let mut list = Vec::new(alloc);
-    for word in words {
-        list.push(word.text.as_str())?;
-    }
-    Ok(list)
-}
-
-/// The word with this text. It is the caller's, and outlives what clap has read.
-fn lent<'w>(words: &'w [Word], text: &str) -> &'w str
-    requires there { spec.has words.now text.now ≡ true }
-    ensures { result.now ≡ text.now }
-{
-    for word in words {
-        if word.text.as_str() == text {
-            return word.text.as_str();
-        }
-    }
-    unreachable!()
-}
-
-/// The command `minify` or `check` with these names.
-fn four_command<'w>(
-    words: &'w [Word],
-    command: &str,
-    table: &str,
-    page: &str,
-    out: &str,
-    cert: &str,
-) -> Option<Command<'w>>
-    requires table { spec.has words.now table.now ≡ true }
-    requires page { spec.has words.now page.now ≡ true }
-    requires out { spec.has words.now out.now ≡ true }
-    requires cert { spec.has words.now cert.now ≡ true }
-    ensures { option_map command_of result ≡ spec.command_in (command.now ∷ table.now ∷ page.now ∷ out.now ∷ cert.now ∷ []) }
-{
-    if command == "minify" {
-        return Some(Command::Minify {
-            table: lent(words, table),
-            page: lent(words, page),
-            out: lent(words, out),
-            cert: lent(words, cert),
-        });
-    }
-    if command == "check" {
-        return Some(Command::Check {
-            table: lent(words, table),
-            page: lent(words, page),
-            out: lent(words, out),
-            cert: lent(words, cert),
-        });
-    }
-    None
-}
-
-/// The command of the words that are no flags.
-#[tactic(auto, using(crate::proofs::Names::is_word))]
-fn command_in<'w>(words: &'w [Word], names: &[&str]) -> Option<Command<'w>>
-    requires names { texts names.now ≡ spec.names_in words.now }
-    ensures { option_map command_of result ≡ spec.command_in (texts names.now) }
+/// The command `minify` or `check`, of its name and four others.
+fn four_of<'w>(names: &[&'w str]) -> Option<Command<'w>>
+    ensures { option_map command_of result ≡ spec.four_of (texts names.now) }
 {
     match names {
         [command, table, page, out, cert] => {
-            four_command(words, command, table, page, out, cert)
-        }
-        [command, table, page] => {
-            if *command == "tree" {
-                return Some(Command::Tree {
-                    table: lent(words, table),
-                    page: lent(words, page),
+            if *command == "minify" {
+                return Some(Command::Minify {
+                    table,
+                    page,
+                    out,
+                    cert,
+                });
+            }
+            if *command == "check" {
+                return Some(Command::Check {
+                    table,
+                    page,
+                    out,
+                    cert,
                 });
             }
             None
         }
         _ => None,
     }
+}
+
+/// The command `measure` with this table, where the two words are numbers that it takes.
+fn measure_command<'w>(
+    command: &str,
+    table: &'w str,
+    number: &str,
+    size: &str,
+) -> Option<Command<'w>>
+    ensures { option_map command_of result ≡ spec.measure_of (command.now ∷ table.now ∷ number.now ∷ size.now ∷ []) }
+{
+    if command != "measure" {
+        return None;
+    }
+    let number = number_in(number, 0, u32::MAX)?;
+    let size = number_in(size, 1, MOST_BLOCKS)?;
+    Some(Command::Measure {
+        table,
+        number,
+        size,
+    })
+}
+
+/// The command `measure`, of its name, a table and two numbers that it takes.
+fn measure_of<'w>(names: &[&'w str]) -> Option<Command<'w>>
+    ensures { option_map command_of result ≡ spec.measure_of (texts names.now) }
+{
+    match names {
+        [command, table, number, size] => measure_command(command, table, number, size),
+        _ => None,
+    }
+}
+
+/// The command `tree`, of its name and two others.
+fn tree_of<'w>(names: &[&'w str]) -> Option<Command<'w>>
+    ensures { option_map command_of result ≡ spec.tree_of (texts names.now) }
+{
+    match names {
+        [command, table, page] => {
+            if *command != "tree" {
+                return None;
+            }
+            Some(Command::Tree { table, page })
+        }
+        _ => None,
+    }
+}
+
+/// The command of the words that are no flags.
+fn command_in<'w>(names: &[&'w str]) -> Option<Command<'w>>
+    ensures { option_map command_of result ≡ spec.command_in (texts names.now) }
+{
+    if let Some(command) = four_of(names) {
+        return Some(command);
+    }
+    if let Some(command) = measure_of(names) {
+        return Some(command);
+    }
+    tree_of(names)
 }
 
 /// Whether `--conservative` is given only beside `--space`.
@@ -228,16 +239,14 @@ fn is_guarded(matches: &ArgMatches<'_>) -> bool
 
 /// What the words of these matches ask for, if they have a meaning.
 #[tactic(auto, using(crate::proofs::Meanings::asked_is))]
-fn asked_in<'w>(words: &'w [Word], matches: &ArgMatches<'_>) -> Option<Asked<'w>>
-    requires readable { answers.are_readable words.now ≡ true }
-    requires read { IsRead words.now matches.now }
-    ensures asked { option_map request_of result ≡ spec.asked words.now }
+fn asked_in<'w>(matches: &ArgMatches<'w>) -> Option<Asked<'w>>
+    ensures asked { (words : List (List ℕ)) → answers.are_readable words ≡ true → IsRead words matches.now → option_map request_of result ≡ spec.asked words }
     ensures apart { IfSome result (λ a. spec.is_apart (command_of a.command) ≡ true) }
 {
     if !is_guarded(matches) {
         return None;
     }
-    let command = command_in(words, names_of(matches)?)?;
+    let command = command_in(names_of(matches)?)?;
     if !is_apart(&command) {
         return None;
     }
@@ -259,10 +268,9 @@ impl<'w> Asked<'w> {
         if !are_readable(words) {
             return Err(WordsFault::Usage);
         }
-        let list = texts_of(alloc, words)?;
-        let Ok(matches) = parse(alloc, list.as_slice()) else {
+        let Ok(matches) = parse(alloc, words) else {
             return Err(WordsFault::Memory);
         };
-        asked_in(words, &matches).ok_or(WordsFault::Usage)
+        asked_in(&matches).ok_or(WordsFault::Usage)
     }
 }

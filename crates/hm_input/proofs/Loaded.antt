@@ -23,7 +23,7 @@ use Rattle.hm_refs.specs.declared.fault.TableFault.TheVariants.{TooLong}
 use Rattle.hm_construction.specs.Trees.{Outcome, built, refused_by, page_tree, tree_of_source}
 use Rattle.hm_words.specs.Words.{are_apart}
 use Rattle.hm_input.specs.Inputs.{Input, IsInput, tree, bad_table, bad_page, is_none, table_names, page_outcome, rewritten_input, input_from}
-use Rattle.hm_input.specs.Loads.{IsLoaded, IsTableOf, IsTextOf, IsRefusedPage, IsTreeRead, NoTable, NoText, NoTreeRead, NoInput}
+use Rattle.hm_input.specs.Loads.{IsLoaded, IsTableOf, IsTextIn, IsTextOf, IsRefusedPage, IsTreeRead, NoTable, NoText, NoTextIn, NoTreeRead, NoInput}
 use Rattle.hm_input.specs.declared.unread.Unread.{Unread}
 use Rattle.hm_input.specs.declared.unread.Unread.TheVariants as reasons
 
@@ -69,7 +69,7 @@ table_of_none told name t none e = record {
 
 -- ---- a page
 
-long_page : (t : List Entry) (content : List ℕ) → PAGE_LIMIT < length content → page_outcome t content ≡ refused_by rules.TooLong PAGE_LIMIT
+pub long_page : (t : List Entry) (content : List ℕ) → PAGE_LIMIT < length content → page_outcome t content ≡ refused_by rules.TooLong PAGE_LIMIT
 unfolding page_outcome
 long_page t content h =
     let long : nat_lt PAGE_LIMIT (length content) ≡ true = grind (arith, nat_tests) in
@@ -95,29 +95,42 @@ whole_content told name bytes l h =
     let all : length l.content ≤ PAGE_LIMIT = whole l.content PAGE_LIMIT cut in
     (l.front ∙ take_all (PAGE_LIMIT + 1) l.content (within_one PAGE_LIMIT (length l.content) all), short_test PAGE_LIMIT (length l.content) all)
 
-pub text_of_bytes : (told : Option FileMap) (name bytes : List ℕ) (text : Source) → IsLoaded told name PAGE_LIMIT bytes → HasText PAGE_LIMIT bytes → text ≡ source_of bytes → IsTextOf told name text
-text_of_bytes told name bytes text l h e =
-    let w = whole_content told name bytes l h.short in
-    record { page = l.content; there = l.there; short = w.1; sound = subst (λ x. text_fault x ≡ None) w.0 h.sound; is = e ∙ ap source_of w.0 }
+short_by_limit : (n m : ℕ) → nat_lt n m ≡ false → m ≤ n
+short_by_limit n m e = grind (arith, nat_tests)
 
-pub long_of_bytes : (told : Option FileMap) (name bytes : List ℕ) → IsLoaded told name PAGE_LIMIT bytes → PAGE_LIMIT < length bytes → IsRefusedPage told name rules.TooLong PAGE_LIMIT
-long_of_bytes told name bytes l h =
-    record { page = l.content; there = l.there; refused = λ t. long_page t l.content (longer l.content PAGE_LIMIT (subst (λ x. PAGE_LIMIT < length x) l.front h)) }
+pub text_in : (page : List ℕ) (text : Source) → HasText PAGE_LIMIT page → text ≡ source_of page → IsTextIn page text
+text_in page text h e = record { short = short_test PAGE_LIMIT (length page) h.short; sound = h.sound; is = e }
+
+pub faulty_text : (page : List ℕ) (r : Refusal) → length page ≤ PAGE_LIMIT → text_fault page ≡ Some r → (t : List Entry) → page_outcome t page ≡ refused_by r.rule r.at
+faulty_text page r h e t = faulty_page t page r (short_test PAGE_LIMIT (length page) h) e
+
+-- what is found of the front that is loaded is found of the page
+page_front : (t : List Entry) (content : List ℕ) → page_outcome t (take (PAGE_LIMIT + 1) content) ≡ page_outcome t content
+page_front t content = by_length (nat_lt PAGE_LIMIT (length content)) refl
   where
-    longer : (content : List ℕ) (n : ℕ) → n < length (take (n + 1) content) → n < length content
-    longer content n h = grind (arith, common_steps)
+    by_length : (long : Bool) → nat_lt PAGE_LIMIT (length content) ≡ long → page_outcome t (take (PAGE_LIMIT + 1) content) ≡ page_outcome t content
+    by_length true e =
+        let h : PAGE_LIMIT < length content = long_by_test PAGE_LIMIT (length content) e in
+        long_page t (take (PAGE_LIMIT + 1) content) (still_long content PAGE_LIMIT h) ∙ sym (long_page t content h)
+    by_length false e = ap (page_outcome t) (take_all (PAGE_LIMIT + 1) content (short_by_test PAGE_LIMIT (length content) e))
 
-pub fault_of_bytes : (told : Option FileMap) (name bytes : List ℕ) (r : Refusal) → IsLoaded told name PAGE_LIMIT bytes → length bytes ≤ PAGE_LIMIT → text_fault bytes ≡ Some r → IsRefusedPage told name r.rule r.at
-fault_of_bytes told name bytes r l h e =
-    let w = whole_content told name bytes l h in
-    record { page = l.content; there = l.there; refused = λ t. faulty_page t l.content r w.1 (subst (λ x. text_fault x ≡ Some r) w.0 e) }
+pub text_of_bytes : (told : Option FileMap) (name bytes : List ℕ) (text : Source) → IsLoaded told name PAGE_LIMIT bytes → IsTextIn bytes text → IsTextOf told name text
+text_of_bytes told name bytes text l r =
+    let w = whole_content told name bytes l (short_by_limit PAGE_LIMIT (length bytes) r.short) in
+    record { page = l.content; there = l.there; read = subst (λ x. IsTextIn x text) w.0 r }
+
+pub no_text_of_bytes : (told : Option FileMap) (name bytes : List ℕ) (unread : Unread) → IsLoaded told name PAGE_LIMIT bytes → NoTextIn bytes unread → NoText told name unread
+no_text_of_bytes told name bytes (reasons.Table fault) l n = absurd n
+no_text_of_bytes told name bytes (reasons.Page rule at) l n = record { page = l.content; there = l.there; refused = λ t. sym (page_front t l.content) ∙ ap (page_outcome t) (sym l.front) ∙ n t }
+no_text_of_bytes told name bytes reasons.Store l n = absurd n
+no_text_of_bytes told name bytes reasons.Memory l n = tt
 
 -- ---- both
 
 -- the tree of a page is that of its text
-page_read : (t : List Entry) (text : Source) (page : List ℕ) (outcome : Outcome) → nat_lt PAGE_LIMIT (length page) ≡ false → text_fault page ≡ None → text ≡ source_of page → tree_of_source t text ≡ outcome → page_outcome t page ≡ outcome
+pub page_read : (t : List Entry) (text : Source) (page : List ℕ) (outcome : Outcome) → IsTextIn page text → tree_of_source t text ≡ outcome → page_outcome t page ≡ outcome
 unfolding page_outcome page_tree
-page_read t text page outcome short sound is e = rw (short, sound) (ap (tree_of_source t) (sym is) ∙ e)
+page_read t text page outcome r e = rw (r.short, r.sound) (ap (tree_of_source t) (sym r.is) ∙ e)
 
 -- contents of two files that differ, or of a page alone, are contents that can be those of all files
 pub seen_input : (told : Option FileMap) (table page : List ℕ) (o : TreeOptions) (table_content page_content : Option (List ℕ)) (input : Input) → are_apart table page ≡ true
@@ -151,11 +164,11 @@ seen_input None table page o table_content page_content input apart is_table is_
 
 pub input_of_tree : (told : Option FileMap) (table page : List ℕ) (o : TreeOptions) (t : List Entry) (text : Source) (w : List Event) → are_apart table page ≡ true → IsTableOf told table (Ok t) → IsTextOf told page text → IsTreeRead t text o w → IsInput told table page o (tree t w)
 input_of_tree told table page o t text w apart a b r = seen_input told table page o a.content (Some b.page) (tree t w) apart a.there b.there
-    (ap (λ x. input_from o x (Some b.page)) a.is ∙ ap (rewritten_input t o) (page_read t text b.page (built r.walk) b.short b.sound b.is r.reads) ∙ ap (tree t) (sym r.is))
+    (ap (λ x. input_from o x (Some b.page)) a.is ∙ ap (rewritten_input t o) (page_read t text b.page (built r.walk) b.read r.reads) ∙ ap (tree t) (sym r.is))
 
 pub input_of_no_tree : (told : Option FileMap) (table page : List ℕ) (o : TreeOptions) (t : List Entry) (text : Source) (rule : Rule) (at : ℕ) → are_apart table page ≡ true → IsTableOf told table (Ok t) → IsTextOf told page text → tree_of_source t text ≡ refused_by rule at → IsInput told table page o (bad_page rule at)
 input_of_no_tree told table page o t text rule at apart a b e = seen_input told table page o a.content (Some b.page) (bad_page rule at) apart a.there b.there
-    (ap (λ x. input_from o x (Some b.page)) a.is ∙ ap (rewritten_input t o) (page_read t text b.page (refused_by rule at) b.short b.sound b.is e))
+    (ap (λ x. input_from o x (Some b.page)) a.is ∙ ap (rewritten_input t o) (page_read t text b.page (refused_by rule at) b.read e))
 
 pub input_of_page : (told : Option FileMap) (table page : List ℕ) (o : TreeOptions) (t : List Entry) (rule : Rule) (at : ℕ) → are_apart table page ≡ true → IsTableOf told table (Ok t) → IsRefusedPage told page rule at → IsInput told table page o (bad_page rule at)
 input_of_page told table page o t rule at apart a b = seen_input told table page o a.content (Some b.page) (bad_page rule at) apart a.there b.there

@@ -11,8 +11,9 @@ use Rattle.hm_refs.specs.Json.{names}
 use Rattle.hm_refs.specs.Names.{Entry}
 use Rattle.hm_refs.specs.declared.fault.TableFault.{TableFault}
 use Rattle.hm_construction.specs.Trees.{Outcome, built, refused_by, page_tree}
+use Rattle.hm_gen.specs.Pages.{page as made_page}
 use Rattle.hm_options.specs.Rewrites.{rewrite}
-use Rattle.hm_words.specs.Words.{Command, minify, check, tree as show_tree}
+use Rattle.hm_words.specs.Words.{Command, minify, check, tree as show_tree, measure}
 
 pub data Input : Type 0 where
   missing : Input  -- a file isn't there
@@ -57,12 +58,21 @@ input_from o (Some (Ok t)) page = page_input o t page
 abbrev pub page_with_table : List ℕ → List ℕ → TreeOptions → Contents → Input
 page_with_table table page o seen = input_from o (table_names (is_none table) (seen table)) (seen page)
 
+-- what a table gives with the page that is made of a number, with so many blocks
+abbrev pub made_with_table : List ℕ → ℕ → ℕ → TreeOptions → Contents → Input
+made_with_table table number size o seen = input_from o (table_names (is_none table) (seen table)) (Some (made_page number size))
+
 -- what the files of a command give
 abbrev pub input_of : Command → TreeOptions → Contents → Input
 input_of (minify table page out cert) o seen = page_with_table table page o seen
 input_of (check table page out cert) o seen = page_with_table table page o seen
 input_of (show_tree table page) o seen = page_with_table table page o seen
+input_of (measure table number size) o seen = made_with_table table number size o seen
 
 -- A table and a page give this, as far as the store tells its files.
 abbrev pub IsInput : Option FileMap → List ℕ → List ℕ → TreeOptions → Input → Type 0
 IsInput told table page o input = Sees told (λ seen. page_with_table table page o seen ≡ input)
+
+-- So does a table with the page of a number.
+abbrev pub IsMadeInput : Option FileMap → List ℕ → ℕ → ℕ → TreeOptions → Input → Type 0
+IsMadeInput told table number size o input = Sees told (λ seen. made_with_table table number size o seen ≡ input)

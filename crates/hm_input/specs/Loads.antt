@@ -10,7 +10,7 @@ use Rattle.hm_refs.specs.Names.{Entry}
 use Rattle.hm_refs.specs.declared.fault.TableFault.{TableFault}
 use Rattle.hm_construction.specs.Trees.{built, refused_by, tree_of_source}
 use Rattle.hm_options.specs.Rewrites.{rewrite}
-use Rattle.hm_input.specs.Inputs.{IsInput, bad_table, bad_page, is_none, table_names, page_outcome}
+use Rattle.hm_input.specs.Inputs.{Input, IsInput, IsMadeInput, bad_table, bad_page, is_none, table_names, page_outcome}
 use Rattle.hm_input.specs.declared.unread.Unread.{Unread}
 use Rattle.hm_input.specs.declared.unread.Unread.TheVariants as reasons
 
@@ -27,12 +27,21 @@ pub record IsTableOf (told : Option FileMap) (name : List ℕ) (read : Result (L
   pub is : table_names (is_none name) content ≡ Some read
 
 -- the text of a page within the limit
-pub record IsTextOf (told : Option FileMap) (name : List ℕ) (text : Source) : Type 0 where
-  pub page : List ℕ
-  pub there : IsSome told → file_of told name ≡ Some page
+pub record IsTextIn (page : List ℕ) (text : Source) : Type 0 where
   pub short : nat_lt PAGE_LIMIT (length page) ≡ false
   pub sound : text_fault page ≡ None
   pub is : text ≡ source_of page
+
+-- the text of the page that a file holds
+pub record IsTextOf (told : Option FileMap) (name : List ℕ) (text : Source) : Type 0 where
+  pub page : List ℕ
+  pub there : IsSome told → file_of told name ≡ Some page
+  pub read : IsTextIn page text
+
+-- the text of the page that is made of a number, with how many bytes the page has
+pub record IsMadeText (page : List ℕ) (text : Source) (bytes : ℕ) : Type 0 where
+  pub read : IsTextIn page text
+  pub all : bytes ≡ length page
 
 -- a page is refused, whatever the names of references
 pub record IsRefusedPage (told : Option FileMap) (name : List ℕ) (rule : Rule) (at : ℕ) : Type 0 where
@@ -69,16 +78,29 @@ NoTable told name (reasons.Page rule at) = ⊥
 NoTable told name reasons.Store = Unit {0}
 NoTable told name reasons.Memory = Unit {0}
 
--- why there is no text
+-- why a page has no text, whatever the names of references
+abbrev pub NoTextIn : List ℕ → Unread → Type 0
+NoTextIn page (reasons.Table fault) = ⊥
+NoTextIn page (reasons.Page rule at) = (t : List Entry) → page_outcome t page ≡ refused_by rule at
+NoTextIn page reasons.Store = ⊥
+NoTextIn page reasons.Memory = Unit {0}
+
+-- why there is no text in a file
 abbrev pub NoText : Option FileMap → List ℕ → Unread → Type 0
 NoText told name (reasons.Table fault) = ⊥
 NoText told name (reasons.Page rule at) = IsRefusedPage told name rule at
 NoText told name reasons.Store = Unit {0}
 NoText told name reasons.Memory = Unit {0}
 
--- why there is no tree
+-- why there is no tree, by what is said of an input
+abbrev pub NoInputWhere : (Input → Type 0) → Unread → Type 0
+NoInputWhere Is (reasons.Table fault) = Is (bad_table fault)
+NoInputWhere Is (reasons.Page rule at) = Is (bad_page rule at)
+NoInputWhere Is reasons.Store = Unit {0}
+NoInputWhere Is reasons.Memory = Unit {0}
+
 abbrev pub NoInput : Option FileMap → List ℕ → List ℕ → TreeOptions → Unread → Type 0
-NoInput told table page o (reasons.Table fault) = IsInput told table page o (bad_table fault)
-NoInput told table page o (reasons.Page rule at) = IsInput told table page o (bad_page rule at)
-NoInput told table page o reasons.Store = Unit {0}
-NoInput told table page o reasons.Memory = Unit {0}
+NoInput told table page o unread = NoInputWhere (IsInput told table page o) unread
+
+abbrev pub NoMadeInput : Option FileMap → List ℕ → ℕ → ℕ → TreeOptions → Unread → Type 0
+NoMadeInput told table number size o unread = NoInputWhere (IsMadeInput told table number size o) unread

@@ -1,14 +1,17 @@
 //! The tree that a run works on.
-ghost use Rattle.std.specs.Prelude.{◌≡◌, ◌⊎◌, ◌≤◌, IfOk, IfErr, Err, true};
+ghost use Rattle.std.specs.Prelude.{◌≡◌, ◌⊎◌, ◌≤◌, IfOk, IfErr, Err, true, false, length};
 ghost use Rattle.hm_elements.specs.Settled.{Settled};
 ghost use Rattle.hm_store.specs.Causes.{Rose};
 ghost use Rattle.hm_words.specs.Words.{are_apart};
+ghost use Rattle.hm_gen.specs.Pages.{page as made_page};
+ghost use Rattle.hm_store.specs.Files.{IsMissing};
 ghost use Rattle.hm_input.specs.Inputs as inputs;
-ghost use Rattle.hm_input.specs.Inputs.{IsInput};
-ghost use Rattle.hm_input.specs.Loads.{IsFileMissing, IsTreeRead, NoInput, NoTreeRead};
+ghost use Rattle.hm_input.specs.Inputs.{IsInput, IsMadeInput, is_none};
+ghost use Rattle.hm_input.specs.Loads.{IsFileMissing, IsTreeRead, NoInput, NoMadeInput, NoTreeRead};
 
 use crate::Unread;
 use crate::loads::{load_table, load_text};
+use crate::made::make_text;
 use hm_base::{Memory, Refused, SourceText, TreeOptions};
 use hm_build::parse;
 use hm_options::rewrite;
@@ -73,6 +76,50 @@ pub fn load_tree<S: Store>(
     };
     match read_tree(alloc, &text, &table, options) {
         Ok(tree) => Ok(Input { table, tree }),
+        Err(unread) => Err(unread),
+    }
+}
+
+/// What a table and a page that is made give.
+#[derive(Drop)]
+pub struct Made {
+    pub input: Input,
+    /// How many bytes the page has.
+    pub bytes: usize,
+}
+
+/// Loads a table and makes the page of a number, with so many blocks, and gives the table with the page's tree after the
+/// rewrites that are asked for. The table `none` has no names and is no file.
+pub fn make_tree<S: Store>(
+    alloc: Global,
+    store: &mut S,
+    table: &str,
+    number: u32,
+    size: u32,
+    options: &TreeOptions,
+) -> Result<Made, Unread>
+    ensures ok { IfOk result (λ made. IsMadeInput (S.files store.old) table.now number size options.now (inputs.tree made.input.table.entries made.input.tree)) }
+    ensures bytes { IfOk result (λ made. made.bytes ≡ length (made_page number size)) }
+    ensures settled { IfOk result (λ made. Settled made.input.tree) }
+    ensures err { IfErr result (NoMadeInput (S.files store.old) table.now number size options.now) }
+    ensures same { S.files store.new ≡ S.files store.old }
+    ensures writing { S.is_writing store.new ≡ S.is_writing store.old }
+    ensures later { S.faults store.old ≤ S.faults store.new }
+    ensures store { result ≡ Err Unread.Store → Rose (S.faults store.old) (S.faults store.new) ⊎ (is_none table.now ≡ false) × IsMissing (S.files store.old) table.now }
+{
+    let table = match load_table(alloc, store, table) {
+        Ok(table) => table,
+        Err(unread) => return Err(unread),
+    };
+    let (text, bytes) = match make_text(alloc, number, size) {
+        Ok(made) => made,
+        Err(unread) => return Err(unread),
+    };
+    match read_tree(alloc, &text, &table, options) {
+        Ok(tree) => Ok(Made {
+            input: Input { table, tree },
+            bytes,
+        }),
         Err(unread) => Err(unread),
     }
 }

@@ -3,8 +3,9 @@
 
 mod input;
 mod loads;
+mod made;
 mod unread;
 
-pub use input::{Input, load_tree};
+pub use input::{Input, Made, load_tree, make_tree};
 pub use loads::load_bytes;
 pub use unread::Unread;

@@ -5,7 +5,7 @@ ghost use Rattle.hm_base.specs.Source.{source_of};
 ghost use Rattle.hm_store.specs.Causes.{Rose};
 ghost use Rattle.hm_store.specs.Files.{FileMap, IsMissing};
 ghost use Rattle.hm_input.specs.Inputs.{is_none};
-ghost use Rattle.hm_input.specs.Loads.{IsLoaded, IsTableOf, IsTextOf, NoTable, NoText};
+ghost use Rattle.hm_input.specs.Loads.{IsLoaded, IsTableOf, IsTextIn, IsTextOf, NoTable, NoText, NoTextIn};
 
 use crate::Unread;
 use hm_base::{Memory, PAGE_LIMIT, Rule, SourceText, TABLE_LIMIT, TextFault};
@@ -78,21 +78,12 @@ fn read_page(alloc: Global, bytes: &[u8]) -> Result<SourceText, TextFault>
     SourceText::read(alloc, bytes, PAGE_LIMIT)
 }
 
-/// The text of the page of that name.
-pub fn load_text<S: Store>(alloc: Global, store: &mut S, name: &str) -> Result<SourceText, Unread>
-    ensures same { S.files store.new ≡ S.files store.old }
-    ensures writing { S.is_writing store.new ≡ S.is_writing store.old }
-    ensures ok { IfOk result (λ text. IsTextOf (S.files store.old) name.now text) }
-    ensures err { IfErr result (NoText (S.files store.old) name.now) }
-    ensures later { S.faults store.old ≤ S.faults store.new }
-    ensures store { result ≡ Err Unread.Store → Rose (S.faults store.old) (S.faults store.new) ⊎ IsMissing (S.files store.old) name.now }
+/// The text of a page, or why it is refused.
+pub fn text_of(alloc: Global, page: &[u8]) -> Result<SourceText, Unread>
+    ensures ok { IfOk result (IsTextIn page.now) }
+    ensures err { IfErr result (NoTextIn page.now) }
 {
-    let bytes = match load_bytes(alloc, store, name, PAGE_LIMIT) {
-        Ok(bytes) => bytes,
-        Err(LoadFault::Store) => return Err(Unread::Store),
-        Err(LoadFault::Memory) => return Err(Unread::Memory),
-    };
-    match read_page(alloc, bytes.as_slice()) {
+    match read_page(alloc, page) {
         Ok(text) => Ok(text),
         Err(TextFault::TooLong) => Err(Unread::Page {
             rule: Rule::TooLong,
@@ -108,4 +99,21 @@ pub fn load_text<S: Store>(alloc: Global, store: &mut S, name: &str) -> Result<S
         }),
         Err(TextFault::Memory) => Err(Unread::Memory),
     }
+}
+
+/// The text of the page of that name.
+pub fn load_text<S: Store>(alloc: Global, store: &mut S, name: &str) -> Result<SourceText, Unread>
+    ensures same { S.files store.new ≡ S.files store.old }
+    ensures writing { S.is_writing store.new ≡ S.is_writing store.old }
+    ensures ok { IfOk result (λ text. IsTextOf (S.files store.old) name.now text) }
+    ensures err { IfErr result (NoText (S.files store.old) name.now) }
+    ensures later { S.faults store.old ≤ S.faults store.new }
+    ensures store { result ≡ Err Unread.Store → Rose (S.faults store.old) (S.faults store.new) ⊎ IsMissing (S.files store.old) name.now }
+{
+    let bytes = match load_bytes(alloc, store, name, PAGE_LIMIT) {
+        Ok(bytes) => bytes,
+        Err(LoadFault::Store) => return Err(Unread::Store),
+        Err(LoadFault::Memory) => return Err(Unread::Memory),
+    };
+    text_of(alloc, bytes.as_slice())
 }

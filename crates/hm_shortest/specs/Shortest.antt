@@ -1,5 +1,5 @@
 -- The shortest text of a tree, the certificate of its least prices, and what the two show.
-use Rattle.std.specs.Prelude.{◌≡◌, ℕ, List, length, Some}
+use Rattle.std.specs.Prelude.{◌≡◌, ℕ, ◌+◌, List, length, Some}
 use Rattle.hm_base.specs.Walks.{Event}
 use Rattle.hm_base.specs.declared.plain.SpellRules.{SpellRules}
 use Rattle.hm_cert.specs.Certificate.{certificate_text}
@@ -13,7 +13,7 @@ use Rattle.hm_graph.specs.Ways.{Edges, first_way}
 use Rattle.hm_refs.specs.Names.{Entry}
 use Rattle.hm_spellings.specs.Spellings.{Shortest, Spells}
 use Rattle.hm_units.specs.States.{first_state}
-use Rattle.hm_units.specs.Units.{Unit, units_of}
+use Rattle.hm_units.specs.Units.{units_of}
 
 -- the edges by a table and these rules
 abbrev pub tree_edges : List Entry → SpellRules → Edges
@@ -30,6 +30,10 @@ certified_rows t r w = written_rows (tree_edges t r) (single_follows (tree_edges
 -- the certificate of the least prices
 unfoldable pub certificate_of : List Entry → SpellRules → List Event → List ℕ
 certificate_of t r w = certificate_text Two r (certified_rows t r w)
+
+-- how many layers the graph has: one more than there are units
+abbrev pub layer_count : SpellRules → List Event → ℕ
+layer_count r w = length (units_of r w) + 1
 
 -- The prices of a certificate show by themselves that no way is shorter than n bytes.
 pub record Certifies (t : List Entry) (r : SpellRules) (w : List Event) (cert : List ℕ) (n : ℕ) : Type 0 where

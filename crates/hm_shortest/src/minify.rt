@@ -1,11 +1,15 @@
 //! The shortest text of a tree, and its certificate.
 ghost use Rattle.std.specs.Prelude.{IfOk};
+ghost use Rattle.hm_cert.specs.Certificate.{AreRows};
+ghost use Rattle.hm_elements.specs.Settled.{Settled};
 ghost use Rattle.hm_shortest.specs.Minified.{IsMinifiedBy};
+ghost use Rattle.hm_shortest.specs.Shortest.{certified_rows};
 
 use hm_base::{Memory, SpellRules};
 use hm_layers::Graph;
 use hm_plan::{backward, write_path};
 use hm_refs::Table;
+use hm_refs::laws::every_table;
 use hm_tree::Tree;
 use std::alloc::Global;
 
@@ -14,22 +18,29 @@ use std::alloc::Global;
 pub struct Minified {
     pub out: Vec<u8>,
     pub certificate: Vec<u8>,
+    /// How many layers the tree's graph has: one more than its units.
+    pub layers: usize,
 }
 
-/// Writes a tree shortest by a table and these rules, and certifies that.
+/// Writes a tree shortest by a table and these rules, and certifies that. What is written of a settled tree is a certificate
+/// that can be read.
 pub fn minify_tree(
     alloc: Global,
     tree: &Tree,
     table: &Table,
     rules: SpellRules,
 ) -> Result<Minified, Memory>
-    ensures { IfOk result (IsMinifiedBy table.now.entries rules tree.now) }
+    ensures made { IfOk result (IsMinifiedBy table.now.entries rules tree.now) }
+    ensures readable { IfOk result (λ made. Settled tree.now → AreRows (certified_rows table.now.entries rules tree.now)) }
 {
+    every_table(table);
     let graph = Graph::of(alloc, tree, table, rules)?;
+    graph.is_small();
     let plan = backward(alloc, &graph, rules)?;
     let out = write_path(alloc, tree, table, rules, &graph, plan.choices.as_slice())?;
     Ok(Minified {
         out,
         certificate: plan.certificate,
+        layers: graph.len() + 1,
     })
 }

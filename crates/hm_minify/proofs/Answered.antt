@@ -10,7 +10,7 @@ use Rattle.hm_refs.proofs.Places.{same_bytes}
 use Rattle.hm_refs.specs.Names.{Entry}
 use Rattle.hm_store.specs.Contents.{Contents, Sees}
 use Rattle.hm_store.specs.Files.{FileMap, file_of}
-use Rattle.hm_words.specs.Words.{Command, minify, check, tree, is_apart, are_apart, are_distinct}
+use Rattle.hm_words.specs.Words.{Command, minify, check, tree, measure, is_apart, are_apart, are_distinct}
 use Rattle.hm_minify.specs.Endings.{Ending, with_tree, tree_ending, command_ending, check_ending}
 use Rattle.hm_minify.proofs.Seen.{mixed, sees_both, page_stays}
 
@@ -107,6 +107,11 @@ asked_seen told (tree table page) o r t w ended apart i a = record {
   seen = i.seen;
   are_told = i.are_told;
   holds = a.holds ∙ ap (λ x. with_tree x (tree_ending (tree table page) r i.seen)) (sym i.holds);
+}
+asked_seen told (measure table number size) o r t w ended apart i a = record {
+  seen = i.seen;
+  are_told = i.are_told;
+  holds = a.holds ∙ ap (λ x. with_tree x (tree_ending (measure table number size) r i.seen)) (sym i.holds);
 }
 
 -- ---- the steps of a request

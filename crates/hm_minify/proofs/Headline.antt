@@ -10,6 +10,7 @@ use Rattle.hm_base.specs.declared.rules.Rule.TheVariants.{TooLong}
 use Rattle.hm_construction.proofs.Pages.{pages_are_settled}
 use Rattle.hm_construction.specs.Trees.{Outcome, built, refused_by, page_tree}
 use Rattle.hm_elements.specs.Settled.{Settled}
+use Rattle.hm_gen.specs.Pages.{page as made_page}
 use Rattle.hm_input.specs.Inputs.{tree as tree_input, input_of, input_from, is_none, page_input, page_outcome, rewritten_input, table_names}
 use Rattle.hm_options.specs.Rewrites.{rewrite}
 use Rattle.hm_options.proofs.InOrder.{rewrite_settled}
@@ -23,7 +24,7 @@ use Rattle.hm_shortest.proofs.Headline.{shortest_is_certified}
 use Rattle.hm_shortest.specs.Shortest.{IsShortest, certificate_of, shortest_text}
 use Rattle.hm_store.specs.Contents.{Contents}
 use Rattle.hm_tokens.proofs.TextPieces.{names_of_table}
-use Rattle.hm_words.specs.Words.{Command, minify, check, tree}
+use Rattle.hm_words.specs.Words.{Command, minify, check, tree, measure}
 
 -- a table of names, and a settled tree
 pub record IsSound (t : List Entry) (w : List Event) : Type 0 where
@@ -36,7 +37,7 @@ content_is_table : (o : Option (Result (List Entry) TableFault)) (t : List Entry
 content_is_table o t None is e = let h : None ≡ Some (Ok t) = sym is ∙ e in cc
 content_is_table o t (Some bytes) is e = names_table bytes t (let h : Some (names bytes) ≡ Some (Ok t) = sym is ∙ e in cc)
 
-table_is : (none : Bool) (content : Option (List ℕ)) (t : List Entry) → table_names none content ≡ Some (Ok t) → IsTable t
+pub table_is : (none : Bool) (content : Option (List ℕ)) (t : List Entry) → table_names none content ≡ Some (Ok t) → IsTable t
 table_is true content t e = let h : [] ≡ t = cc in subst IsTable h no_table
 table_is false content t e = content_is_table (table_names false content) t content refl e
 
@@ -70,6 +71,7 @@ pub command_sound : (c : Command) (o : TreeOptions) (seen : Contents) (t : List 
 command_sound (minify table page out cert) o seen t w e = input_sound o t w (is_none table) (seen table) (seen page) (table_names (is_none table) (seen table)) refl e
 command_sound (check table page out cert) o seen t w e = input_sound o t w (is_none table) (seen table) (seen page) (table_names (is_none table) (seen table)) refl e
 command_sound (tree table page) o seen t w e = input_sound o t w (is_none table) (seen table) (seen page) (table_names (is_none table) (seen table)) refl e
+command_sound (measure table number size) o seen t w e = input_sound o t w (is_none table) (seen table) (Some (made_page number size)) (table_names (is_none table) (seen table)) refl e
 
 -- ---- The headline
 

@@ -3,6 +3,8 @@ pub mod Headline
 pub mod Seen
 pub mod Found
 pub mod Answered
+pub mod Accepted
+pub mod Generated
 pub mod Courses
 pub mod Steps
 pub mod Others

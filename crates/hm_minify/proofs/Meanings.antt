@@ -10,14 +10,15 @@ use Rattle.hm_store.specs.Contents.{Contents, Sees}
 use Rattle.hm_store.specs.Files.{FileMap}
 use Rattle.hm_input.specs.Inputs.{Input, missing, bad_table, bad_page, tree as tree_input, input_of}
 use Rattle.hm_shortest.specs.Shortest.{certificate_of, shortest_text}
-use Rattle.hm_words.specs.Words.{Command, Asked, asks, minify, check, tree, asked}
+use Rattle.hm_words.specs.Words.{Command, Asked, asks, minify, check, tree, measure, asked}
 use Rattle.hm_minify.specs.Endings.{is_fault, with_tree, tree_ending, check_ending, asked_ending, request_ending, ending}
 use Rattle.hm_minify.specs.Lines.{usage_line}
-use Rattle.hm_minify.specs.Runs.{EndsAs, Puts, HasMinified, HasChecked, HasDenied, IsDenied, HasShown, HasRefusedPage, HasRefusedTable}
+use Rattle.hm_minify.specs.Runs.{EndsAs, Puts, HasMinified, HasChecked, HasDenied, IsDenied, HasShown, HasMeasured, HasRefusedPage, HasRefusedTable}
 use Rattle.hm_minify.specs.Writes.{after_writes}
 use Rattle.hm_minify.specs.declared.status.Status.{Status}
 use Rattle.hm_minify.specs.declared.status.Status.TheVariants as status
 use Rattle.hm_minify.proofs.Found.{check_other, check_writes, checked_yes}
+use Rattle.hm_minify.proofs.Generated.{IsMeasured, asked_limits, page_never_refused}
 use Rattle.hm_minify.proofs.Headline.{command_sound, input_is_shortest}
 
 -- ---- words without a meaning
@@ -26,6 +27,7 @@ tree_is_asked : (c : Command) (r : SpellRules) (seen : Contents) (t : List Entry
 tree_is_asked (minify table page out cert) r seen t w e = cc
 tree_is_asked (check table page out cert) r seen t w e = let h : false ≡ true = check_other r t w (seen out) (seen cert) status.Usage e in cc
 tree_is_asked (tree table page) r seen t w e = cc
+tree_is_asked (measure table number size) r seen t w e = cc
 
 input_is_asked : (c : Command) (r : SpellRules) (seen : Contents) (x : Input) → (with_tree x (tree_ending c r seen)).status ≡ status.Usage → ⊥
 input_is_asked c r seen missing e = cc
@@ -142,6 +144,7 @@ denied_tree : (c : Command) (options : TreeOptions) (rules : SpellRules) (r : St
 denied_tree (minify table page out cert) options rules r o n s s_new seen t v reads w is = let e : status.Done ≡ status.No = sym w.status ∙ is in cc
 denied_tree (check table page out cert) options rules r o n s s_new seen t v reads w is = denied_of (check table page out cert) options rules out cert r o n s s_new seen t v (seen out) (seen cert) reads refl refl w is
 denied_tree (tree table page) options rules r o n s s_new seen t v reads w is = let e : status.Done ≡ status.No = sym w.status ∙ is in cc
+denied_tree (measure table number size) options rules r o n s s_new seen t v reads w is = let e : status.Done ≡ status.No = sym w.status ∙ is in cc
 
 denied_input : (c : Command) (options : TreeOptions) (rules : SpellRules) (r : Status) (o n : Option FileMap) (s s_new : Option (List ℕ)) (seen : Contents) (x : Input) → input_of c options seen ≡ x
     → EndsAs (with_tree x (tree_ending c rules seen)) r o n s s_new → r ≡ status.No → IsDenied c options rules o n s s_new seen
@@ -175,17 +178,59 @@ shows words table page options rules r o n s s_new e w is = record {
   holds = shown_of table page options rules r o n s s_new w.seen (input_of (tree table page) options w.seen) refl (of_asked words (asks (tree table page) options rules) r o n s s_new w.seen e w.holds) is;
 }
 
+-- ---- measure
+
+measured_of : (table : List ℕ) (number size : ℕ) (options : TreeOptions) (rules : SpellRules) (r : Status) (o n : Option FileMap) (s s_new : Option (List ℕ)) (seen : Contents) (x : Input) → input_of (measure table number size) options seen ≡ x
+    → EndsAs (with_tree x (tree_ending (measure table number size) rules seen)) r o n s s_new → r ≡ status.Done → HasMeasured (measure table number size) number size options rules o n s s_new seen
+measured_of table number size options rules r o n s s_new seen missing reads w is = let e : status.StoreFault ≡ status.Done = sym w.status ∙ is in cc
+measured_of table number size options rules r o n s s_new seen (bad_table fault) reads w is = let e : status.TableRefused ≡ status.Done = sym w.status ∙ is in cc
+measured_of table number size options rules r o n s s_new seen (bad_page rule at) reads w is = let e : status.PageRefused ≡ status.Done = sym w.status ∙ is in cc
+measured_of table number size options rules r o n s s_new seen (tree_input t v) reads w is = record {
+  table = t;
+  tree = v;
+  reads = reads;
+  out = shortest_text t rules v;
+  cert = certificate_of t rules v;
+  shortest = input_is_shortest (measure table number size) options rules seen t v reads;
+  files = w.files;
+  line = w.sink;
+}
+
+pub measures : (words : List (List ℕ)) (table : List ℕ) (number size : ℕ) (options : TreeOptions) (rules : SpellRules) (r : Status) (o n : Option FileMap) (s s_new : Option (List ℕ)) → asked words ≡ Some (asks (measure table number size) options rules)
+    → Sees o (λ seen. EndsAs (ending words seen) r o n s s_new) → r ≡ status.Done → Sees o (HasMeasured (measure table number size) number size options rules o n s s_new)
+measures words table number size options rules r o n s s_new e w is = record {
+  seen = w.seen;
+  are_told = w.are_told;
+  holds = measured_of table number size options rules r o n s s_new w.seen (input_of (measure table number size) options w.seen) refl (of_asked words (asks (measure table number size) options rules) r o n s s_new w.seen e w.holds) is;
+}
+
+always_input : (table : List ℕ) (number size : ℕ) (options : TreeOptions) (rules : SpellRules) (r : Status) (o n : Option FileMap) (s s_new : Option (List ℕ)) (seen : Contents) (x : Input) → IsMeasured number size → input_of (measure table number size) options seen ≡ x
+    → EndsAs (with_tree x (tree_ending (measure table number size) rules seen)) r o n s s_new → is_fault r ≡ false → (r ≡ status.TableRefused) ⊎ (r ≡ status.Done)
+always_input table number size options rules r o n s s_new seen missing m reads w a = let h : is_fault r ≡ true = ap is_fault w.status in cc
+always_input table number size options rules r o n s s_new seen (bad_table fault) m reads w a = inl w.status
+always_input table number size options rules r o n s s_new seen (bad_page rule at) m reads w a = absurd (page_never_refused options seen table number size m rule at reads)
+always_input table number size options rules r o n s s_new seen (tree_input t v) m reads w a = inr w.status
+
+-- every answer to `measure` but a refused table is that it is done
+pub always_measures : (words : List (List ℕ)) (table : List ℕ) (number size : ℕ) (options : TreeOptions) (rules : SpellRules) (r : Status) (o n : Option FileMap) (s s_new : Option (List ℕ)) → asked words ≡ Some (asks (measure table number size) options rules)
+    → Sees o (λ seen. EndsAs (ending words seen) r o n s s_new) → is_fault r ≡ false → (r ≡ status.TableRefused) ⊎ (r ≡ status.Done)
+always_measures words table number size options rules r o n s s_new e w a =
+    always_input table number size options rules r o n s s_new w.seen (input_of (measure table number size) options w.seen) (asked_limits words table number size options rules e) refl
+    (of_asked words (asks (measure table number size) options rules) r o n s s_new w.seen e w.holds) a
+
 -- ---- every command
 
 refuses_no_page : (c : Command) (rules : SpellRules) (seen : Contents) (t : List Entry) (v : List Event) → (tree_ending c rules seen t v).status ≡ status.PageRefused → ⊥
 refuses_no_page (minify table page out cert) rules seen t v e = cc
 refuses_no_page (check table page out cert) rules seen t v e = let h : false ≡ true = check_other rules t v (seen out) (seen cert) status.PageRefused e in cc
 refuses_no_page (tree table page) rules seen t v e = cc
+refuses_no_page (measure table number size) rules seen t v e = cc
 
 refuses_no_table : (c : Command) (rules : SpellRules) (seen : Contents) (t : List Entry) (v : List Event) → (tree_ending c rules seen t v).status ≡ status.TableRefused → ⊥
 refuses_no_table (minify table page out cert) rules seen t v e = cc
 refuses_no_table (check table page out cert) rules seen t v e = let h : false ≡ true = check_other rules t v (seen out) (seen cert) status.TableRefused e in cc
 refuses_no_table (tree table page) rules seen t v e = cc
+refuses_no_table (measure table number size) rules seen t v e = cc
 
 page_of : (c : Command) (options : TreeOptions) (rules : SpellRules) (r : Status) (o n : Option FileMap) (s s_new : Option (List ℕ)) (seen : Contents) (x : Input) → input_of c options seen ≡ x → EndsAs (with_tree x (tree_ending c rules seen)) r o n s s_new → r ≡ status.PageRefused
     → HasRefusedPage c options o n s s_new seen

@@ -12,7 +12,7 @@ use Rattle.hm_refs.specs.Names.{Entry}
 use Rattle.hm_store.specs.Contents.{Contents, Sees}
 use Rattle.hm_store.specs.Files.{FileMap, file_of, with_file, HasFront}
 use Rattle.hm_input.specs.Inputs.{Input, missing, bad_table, bad_page, tree as tree_input, input_of}
-use Rattle.hm_words.specs.Words.{Command, Asked, minify, check, tree, asked, has}
+use Rattle.hm_words.specs.Words.{Command, Asked, minify, check, tree, measure, asked, has}
 use Rattle.hm_minify.specs.Endings.{with_tree, tree_ending, request_ending, ending, outputs, asked_outputs}
 use Rattle.hm_minify.specs.Writes.{Write, IsLeft}
 use Rattle.hm_minify.proofs.Found.{check_writes}
@@ -55,6 +55,7 @@ tree_names : (c : Command) (r : SpellRules) (seen : Contents) (t : List Entry) (
 tree_names (minify table page out cert) r seen t w name h = h
 tree_names (check table page out cert) r seen t w name h = ap (λ ws. has (names_of ws) name) (check_writes r t w (seen out) (seen cert))
 tree_names (tree table page) r seen t w name h = refl
+tree_names (measure table number size) r seen t w name h = refl
 
 input_names : (c : Command) (r : SpellRules) (seen : Contents) (x : Input) (name : List ℕ) → has (outputs c) name ≡ false → has (names_of (with_tree x (tree_ending c r seen)).writes) name ≡ false
 input_names c r seen missing name h = refl

@@ -11,11 +11,12 @@ use Rattle.hm_check.specs.declared.verdicts.Verdict.TheVariants.{Yes, No}
 use Rattle.hm_store.specs.Contents.{Contents}
 use Rattle.hm_base.specs.Walks.{Event}
 use Rattle.hm_refs.specs.Names.{Entry}
-use Rattle.hm_shortest.specs.Shortest.{certificate_of, shortest_text}
+use Rattle.hm_shortest.specs.Shortest.{certificate_of, layer_count, shortest_text}
 use Rattle.hm_tree.specs.Dump.{dump_of}
 use Rattle.hm_input.specs.Inputs.{Input, missing, bad_table, bad_page, tree as tree_input, input_of}
-use Rattle.hm_words.specs.Words.{Command, Asked, minify, check, tree, asked}
-use Rattle.hm_minify.specs.Lines.{length_line, refused_line, table_line, usage_line, store_line, yes_line, too_long_line, bad_line_line, why_line}
+use Rattle.hm_gen.specs.Pages.{page as made_page}
+use Rattle.hm_words.specs.Words.{Command, Asked, minify, check, tree, measure, asked}
+use Rattle.hm_minify.specs.Lines.{length_line, refused_line, table_line, usage_line, store_line, yes_line, too_long_line, bad_line_line, why_line, measured_line}
 use Rattle.hm_minify.specs.Writes.{Write, write}
 use Rattle.hm_minify.specs.declared.status.Status.{Status}
 use Rattle.hm_minify.specs.declared.status.Status.TheVariants as status
@@ -77,11 +78,21 @@ check_ending r t w None cert = store_fault
 check_ending r t w (Some out) None = store_fault
 check_ending r t w (Some out) (Some cert) = checked_ending r t w out cert
 
+-- the tree of a page of so many bytes was written shortest, and the check said yes
+abbrev pub measured_ending : ℕ → SpellRules → List Entry → List Event → Ending
+measured_ending bytes r t w = says status.Done (measured_line bytes (length (shortest_text t r w)) (layer_count r w))
+
 -- what a command makes of a tree, by what further files hold
 abbrev pub tree_ending : Command → SpellRules → Contents → List Entry → List Event → Ending
 tree_ending (minify table page out cert) r seen t w = minified_ending r out cert t w
 tree_ending (check table page out cert) r seen t w = check_ending r t w (seen out) (seen cert)
 tree_ending (tree table page) r seen t w = says status.Done (dump_of w)
+tree_ending (measure table number size) r seen t w = measured_ending (length (made_page number size)) r t w
+
+-- the page of a command is a file
+abbrev pub has_page : Command → Bool
+has_page (measure table number size) = false
+has_page command = true
 
 -- ---- All commands
 
@@ -104,6 +115,7 @@ abbrev pub outputs : Command → List (List ℕ)
 outputs (minify table page out cert) = out ∷ cert ∷ []
 outputs (check table page out cert) = []
 outputs (tree table page) = []
+outputs (measure table number size) = []
 
 abbrev pub asked_outputs : Option Asked → List (List ℕ)
 asked_outputs None = []

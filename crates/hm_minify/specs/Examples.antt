@@ -22,7 +22,9 @@ endings : (ending (words "minify none absent out cert --omit --unquote") (page_a
     × (ending (words "check none page out page") (page_alone d) ≡ says status.Usage usage_line)
     × (ending (words "tree none absent") (page_alone d) ≡ store_fault)
     × (ending (words "tree absent page") (page_alone d) ≡ store_fault)
+    × (ending (words "measure absent 0 1") (page_alone d) ≡ store_fault)
+    × (ending (words "measure none 0 20001") (page_alone d) ≡ says status.Usage usage_line)
     × (ending (words "tree page") (page_alone d) ≡ says status.Usage usage_line)
     × (ending (words "minify none page out page") (page_alone d) ≡ says status.Usage usage_line)
 unfolding asked flags options_of rules_of
-endings = (refl, refl, refl, refl, refl, refl, refl)
+endings = (refl, refl, refl, refl, refl, refl, refl, refl, refl)

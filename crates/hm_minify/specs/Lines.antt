@@ -53,6 +53,12 @@ why_line (whys.WrongWidth layer got want) = codes "no 5 layer " ++ decimal layer
 why_line (whys.TooHigh layer state price bound) = codes "no 6 layer " ++ decimal layer ++ codes " state " ++ decimal state ++ codes ": price " ++ price_word price ++ codes " above " ++ price_word bound ++ 10 ∷ []
 why_line (whys.TooLong length first) = codes "no 7 output " ++ decimal length ++ codes " bytes, first price " ++ decimal first ++ 10 ∷ []
 
+-- ---- measure
+
+-- a page of so many bytes was written shortest in so many, over so many layers, and the check said yes
+abbrev pub measured_line : ℕ → ℕ → ℕ → List ℕ
+measured_line page out layers = codes "page " ++ decimal page ++ codes " output " ++ decimal out ++ codes " layers " ++ decimal layers ++ codes " yes\n"
+
 -- ---- tables and the rest
 
 -- a table is refused for this fault

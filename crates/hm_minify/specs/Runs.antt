@@ -10,14 +10,15 @@ use Rattle.hm_store.specs.Files.{FileMap, AppendsFront}
 use Rattle.hm_base.specs.declared.plain.SpellRules.{SpellRules}
 use Rattle.hm_refs.specs.Names.{Entry}
 use Rattle.hm_refs.specs.declared.fault.TableFault.{TableFault}
+use Rattle.hm_gen.specs.Pages.{page as made_page}
 use Rattle.hm_construction.specs.Trees.{built, page_tree}
-use Rattle.hm_shortest.specs.Shortest.{IsShortest}
+use Rattle.hm_shortest.specs.Shortest.{IsShortest, layer_count}
 use Rattle.hm_spellings.specs.Spellings.{Shortest}
 use Rattle.hm_tree.specs.Dump.{dump_of}
 use Rattle.hm_input.specs.Inputs.{bad_table, bad_page, tree as tree_input, input_of}
 use Rattle.hm_words.specs.Words.{Command, check}
 use Rattle.hm_minify.specs.Endings.{Ending, store_fault, is_fault, checked_ending}
-use Rattle.hm_minify.specs.Lines.{length_line, yes_line, refused_line, table_line, store_line}
+use Rattle.hm_minify.specs.Lines.{length_line, yes_line, measured_line, refused_line, table_line, store_line}
 use Rattle.hm_minify.specs.Writes.{write, after_writes, IsLeft}
 use Rattle.hm_minify.specs.declared.status.Status.{Status}
 use Rattle.hm_minify.specs.declared.status.Status.TheVariants as status
@@ -105,6 +106,20 @@ pub record HasShown (command : Command) (options : TreeOptions) (old new : Optio
   pub reads : input_of command options seen ≡ tree_input table tree
   pub files : new ≡ old
   pub lines : sink_new ≡ append_known sink_old (dump_of tree)
+
+-- ---- measure
+
+-- The table's names give the tree of the page that is made, and the line says how many bytes the page has, how many the tree
+-- written shortest, and how many layers its graph.
+pub record HasMeasured (command : Command) (number size : ℕ) (options : TreeOptions) (rules : SpellRules) (old new : Option FileMap) (sink_old sink_new : Option (List ℕ)) (seen : Contents) : Type 0 where
+  pub table : List Entry
+  pub tree : List Event
+  pub reads : input_of command options seen ≡ tree_input table tree
+  pub out : List ℕ
+  pub cert : List ℕ
+  pub shortest : IsShortest table rules tree out cert
+  pub files : new ≡ old
+  pub line : sink_new ≡ append_known sink_old (measured_line (length (made_page number size)) (length out) (layer_count rules tree))
 
 -- ---- every command
 

@@ -4,6 +4,7 @@
 mod checked;
 mod ended;
 mod lines;
+mod measured;
 mod saved;
 mod status;
 mod top;

@@ -36,6 +36,18 @@ pub fn yes_line(alloc: Global, length: u64) -> Result<String, AllocError>
     format!(in alloc; "yes {length}\n")
 }
 
+/// The line of a page of so many bytes that is written shortest in so many, over so many layers, and was checked.
+pub fn measured_line(
+    alloc: Global,
+    page: usize,
+    out: u64,
+    layers: usize,
+) -> Result<String, AllocError>
+    ensures { IfOk result (λ line. string_bytes line ≡ spec.measured_line page out layers) }
+{
+    format!(in alloc; "page {page} output {out} layers {layers} yes\n")
+}
+
 /// The line of a certificate with more bytes than the limit.
 pub fn too_long_line(alloc: Global) -> Result<String, AllocError>
     ensures { IfOk result (λ line. string_bytes line ≡ spec.too_long_line) }

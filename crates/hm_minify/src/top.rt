@@ -103,6 +103,12 @@ pub fn run<S: Store, O: Sink>(alloc: Global, words: &[Word], store: &mut S, out:
     ensures shown { (table page : List ℕ) (options : TreeOptions) (rules : SpellRules) → asked_by words.now ≡ Some (asks (request.tree table page) options rules) → result ≡ Status.Done
         → Sees (S.files store.old) (spec.HasShown (request.tree table page) options (S.files store.old) (S.files store.new) (O.contents out.old) (O.contents out.new)) }
 
+    // The page that is made of a number is written shortest and checked: there is no other answer to `measure`, but where the table is refused.
+    ensures measured { (table : List ℕ) (number size : ℕ) (options : TreeOptions) (rules : SpellRules) → asked_by words.now ≡ Some (asks (request.measure table number size) options rules) → result ≡ Status.Done
+        → Sees (S.files store.old) (spec.HasMeasured (request.measure table number size) number size options rules (S.files store.old) (S.files store.new) (O.contents out.old) (O.contents out.new)) }
+    ensures always_measured { (table : List ℕ) (number size : ℕ) (options : TreeOptions) (rules : SpellRules) → asked_by words.now ≡ Some (asks (request.measure table number size) options rules) → is_fault result ≡ false
+        → (result ≡ Status.TableRefused) ⊎ (result ≡ Status.Done) }
+
     // Whatever the command, a page is refused at its first offending place with its rule, and a table for its first fault.
     ensures refused_page { (command : request.Command) (options : TreeOptions) (rules : SpellRules) → asked_by words.now ≡ Some (asks command options rules) → result ≡ Status.PageRefused
         → Sees (S.files store.old) (spec.HasRefusedPage command options (S.files store.old) (S.files store.new) (O.contents out.old) (O.contents out.new)) }

@@ -13,6 +13,7 @@ use crate::Status;
 use crate::checked::check_files;
 use crate::ended::{Ended, Output, Stop, says};
 use crate::lines::{length_line, refused_line, table_line};
+use crate::measured::measure;
 use hm_base::SpellRules;
 use hm_input::{Input, Unread, load_tree};
 use hm_shortest::minify_tree;
@@ -21,8 +22,9 @@ use hm_tree::Tree;
 use hm_words::{Asked, Command};
 use std::alloc::Global;
 
-/// The names of the table and the page of a command.
+/// The names of the table and the page of a command whose page is a file.
 fn inputs_of<'w>(command: &Command<'w>) -> (&'w str, &'w str)
+    requires page { spec.has_page (command_of command.now) ≡ true }
     requires apart { request.is_apart (command_of command.now) ≡ true }
     ensures apart { request.are_apart result.0.now result.1.now ≡ true }
     ensures input { (options : TreeOptions) (seen : Contents) → input_of (command_of command.now) options seen ≡ page_with_table result.0.now result.1.now options seen }
@@ -41,6 +43,11 @@ fn inputs_of<'w>(command: &Command<'w>) -> (&'w str, &'w str)
             cert: _,
         } => (table, page),
         Command::Tree { table, page } => (table, page),
+        Command::Measure {
+            table: _,
+            number: _,
+            size: _,
+        } => unreachable!(),
     }
 }
 
@@ -81,13 +88,14 @@ fn show<'w>(alloc: Global, tree: &Tree) -> Result<Ended<'w>, Stop>
     Ok(says(alloc, Status::Done, tree.dump(alloc)?))
 }
 
-/// What a request makes of the tree that it works on. A check reads two further files.
+/// What a request makes of the tree of its page. A check reads two further files.
 fn answer<'w, S: Store>(
     alloc: Global,
     asked: &Asked<'w>,
     input: &Input,
     store: &mut S,
 ) -> Result<Ended<'w>, Stop>
+    requires page { spec.has_page (command_of asked.now.command) ≡ true }
     requires apart { request.is_apart (command_of asked.now.command) ≡ true }
     ensures ended { IfOk result (λ ended. Sees (S.files store.old) (λ seen. ended ≡ spec.tree_ending (command_of asked.now.command) asked.now.rules seen input.now.table.entries input.now.tree)) }
     ensures answers { IfOk result (λ ended. spec.is_fault ended.status ≡ false) }
@@ -111,15 +119,21 @@ fn answer<'w, S: Store>(
             cert,
         } => check_files(alloc, store, input, asked.rules, out, cert),
         Command::Tree { table: _, page: _ } => show(alloc, &input.tree),
+        Command::Measure {
+            table: _,
+            number: _,
+            size: _,
+        } => unreachable!(),
     }
 }
 
-/// What a request ends with. Files are read, and none is written yet.
-pub fn work<'w, S: Store>(
+/// What a request whose page is a file ends with.
+fn work_on_page<'w, S: Store>(
     alloc: Global,
     asked: &Asked<'w>,
     store: &mut S,
 ) -> Result<Ended<'w>, Stop>
+    requires page { spec.has_page (command_of asked.now.command) ≡ true }
     requires apart { request.is_apart (command_of asked.now.command) ≡ true }
     ensures ended { IfOk result (λ ended. Sees (S.files store.old) (λ seen. ended ≡ spec.asked_ending (request_of asked.now) seen)) }
     ensures answers { IfOk result (λ ended. spec.is_fault ended.status ≡ false) }
@@ -139,5 +153,37 @@ pub fn work<'w, S: Store>(
         }
         Err(Unread::Store) => Err(Stop::Store),
         Err(Unread::Memory) => Err(Stop::Memory),
+    }
+}
+
+/// What a request ends with. Files are read, and none is written yet.
+pub fn work<'w, S: Store>(
+    alloc: Global,
+    asked: &Asked<'w>,
+    store: &mut S,
+) -> Result<Ended<'w>, Stop>
+    requires apart { request.is_apart (command_of asked.now.command) ≡ true }
+    ensures ended { IfOk result (λ ended. Sees (S.files store.old) (λ seen. ended ≡ spec.asked_ending (request_of asked.now) seen)) }
+    ensures answers { IfOk result (λ ended. spec.is_fault ended.status ≡ false) }
+    ensures same { S.files store.new ≡ S.files store.old }
+    ensures writing { S.is_writing store.new ≡ S.is_writing store.old }
+    ensures later { S.faults store.old ≤ S.faults store.new }
+    ensures store { result ≡ Err Stop.Store → Rose (S.faults store.old) (S.faults store.new) ⊎ Tells (S.files store.old) (λ seen. spec.asked_ending (request_of asked.now) seen ≡ spec.store_fault) }
+{
+    match asked.command {
+        Command::Measure {
+            table,
+            number,
+            size,
+        } => measure(
+            alloc,
+            store,
+            table,
+            number,
+            size,
+            &asked.options,
+            asked.rules,
+        ),
+        _ => work_on_page(alloc, asked, store),
     }
 }

@@ -2,7 +2,7 @@ use Rattle.std.proofs.Common.{ap}
 use Rattle.hm_minify.specs.Endings.{ending, is_fault}
 use Rattle.hm_minify.specs.Lines.{usage_line}
 use Rattle.hm_minify.proofs.Courses.{answer, complete, whole, left, store_cause, store_said, sink_cause, sink_front, memory}
-use Rattle.hm_minify.proofs.Meanings.{usage_answers, usage_unasked, usage_or_fault, minified, checks, denies, shows, refuses_page, refuses_table}
+use Rattle.hm_minify.proofs.Meanings.{usage_answers, usage_unasked, usage_or_fault, minified, checks, denies, shows, measures, always_measures, refuses_page, refuses_table}
 use Rattle.hm_minify.proofs.Others.{others}
 use Rattle.hm_minify.proofs.top.run.Goals as goal
 
@@ -59,6 +59,12 @@ returns-clause-denied g c = λ command options rules e is. denies c.args.words.n
 
 pub returns-clause-shown : goal.returns-clause-shown
 returns-clause-shown g c = λ table page options rules e is. shows c.args.words.now table page options rules c.perform.result (g.S.Store.files c.args.store.now) (g.S.Store.files c.perform.new.store) (g.O.Sink.contents c.args.out.now) (g.O.Sink.contents c.perform.new.out) e (answer (ending c.args.words.now) (g.S.Store.files c.args.store.now) (g.S.Store.files c.perform.new.store) (g.S.Store.faults c.args.store.now) (g.S.Store.faults c.perform.new.store) (g.O.Sink.contents c.args.out.now) (g.O.Sink.contents c.perform.new.out) (g.O.Sink.faults c.args.out.now) (g.O.Sink.faults c.perform.new.out) c.perform.result c.perform.ensures.course (ap is_fault is)) is
+
+pub returns-clause-measured : goal.returns-clause-measured
+returns-clause-measured g c = λ table number size options rules e is. measures c.args.words.now table number size options rules c.perform.result (g.S.Store.files c.args.store.now) (g.S.Store.files c.perform.new.store) (g.O.Sink.contents c.args.out.now) (g.O.Sink.contents c.perform.new.out) e (answer (ending c.args.words.now) (g.S.Store.files c.args.store.now) (g.S.Store.files c.perform.new.store) (g.S.Store.faults c.args.store.now) (g.S.Store.faults c.perform.new.store) (g.O.Sink.contents c.args.out.now) (g.O.Sink.contents c.perform.new.out) (g.O.Sink.faults c.args.out.now) (g.O.Sink.faults c.perform.new.out) c.perform.result c.perform.ensures.course (ap is_fault is)) is
+
+pub returns-clause-always_measured : goal.returns-clause-always_measured
+returns-clause-always_measured g c = λ table number size options rules e is. always_measures c.args.words.now table number size options rules c.perform.result (g.S.Store.files c.args.store.now) (g.S.Store.files c.perform.new.store) (g.O.Sink.contents c.args.out.now) (g.O.Sink.contents c.perform.new.out) e (answer (ending c.args.words.now) (g.S.Store.files c.args.store.now) (g.S.Store.files c.perform.new.store) (g.S.Store.faults c.args.store.now) (g.S.Store.faults c.perform.new.store) (g.O.Sink.contents c.args.out.now) (g.O.Sink.contents c.perform.new.out) (g.O.Sink.faults c.args.out.now) (g.O.Sink.faults c.perform.new.out) c.perform.result c.perform.ensures.course is) is
 
 pub returns-clause-refused_page : goal.returns-clause-refused_page
 returns-clause-refused_page g c = λ command options rules e is. refuses_page c.args.words.now command options rules c.perform.result (g.S.Store.files c.args.store.now) (g.S.Store.files c.perform.new.store) (g.O.Sink.contents c.args.out.now) (g.O.Sink.contents c.perform.new.out) e (answer (ending c.args.words.now) (g.S.Store.files c.args.store.now) (g.S.Store.files c.perform.new.store) (g.S.Store.faults c.args.store.now) (g.S.Store.faults c.perform.new.store) (g.O.Sink.contents c.args.out.now) (g.O.Sink.contents c.perform.new.out) (g.O.Sink.faults c.args.out.now) (g.O.Sink.faults c.perform.new.out) c.perform.result c.perform.ensures.course (ap is_fault is)) is

@@ -1,0 +1,54 @@
+-- What was written of a settled tree is accepted.
+use Rattle.std.proofs.Common.{◌≡◌, ◌∙◌, ℕ, ◌≤◌, List, length, Ok, Err, sym, ap, subst}
+use Rattle.hm_base.specs.Walks.{Event}
+use Rattle.hm_base.specs.declared.limits.TheConstants.{OUTPUT_LIMIT}
+use Rattle.hm_base.specs.declared.plain.SpellRules.{SpellRules}
+use Rattle.hm_cert.proofs.Written.{written_is_read}
+use Rattle.hm_cert.specs.Certificate.{AreRows}
+use Rattle.hm_cert.specs.Reading.{ReadsAs, given}
+use Rattle.hm_cert.specs.declared.lines.CertificateFault.{CertificateFault}
+use Rattle.hm_cert.specs.declared.lines.CertificateFault.TheVariants.{BadLine}
+use Rattle.hm_cert.specs.declared.certificate.Certificate.{Certificate}
+use Rattle.hm_cert.specs.declared.text.Format.TheVariants.{Two}
+use Rattle.hm_check.proofs.Shown.{minified_is_accepted}
+use Rattle.hm_check.specs.Laws.{least_certificate}
+use Rattle.hm_check.specs.Verdicts.{verdict}
+use Rattle.hm_check.specs.declared.verdicts.Verdict.{Verdict}
+use Rattle.hm_check.specs.declared.verdicts.Verdict.TheVariants.{Yes, No}
+use Rattle.hm_check.specs.declared.verdicts.Why.{Why}
+use Rattle.hm_elements.specs.Settled.{Settled}
+use Rattle.hm_refs.specs.Names.{Entry}
+use Rattle.hm_refs.specs.Tables.{IsTable}
+use Rattle.hm_shortest.specs.Shortest.{certificate_of, certified_rows, shortest_text}
+
+-- the certificate is read
+pub certificate_read : (t : List Entry) (r : SpellRules) (w : List Event) (cert : List ℕ) → cert ≡ certificate_of t r w → AreRows (certified_rows t r w) → given cert ≡ Ok (least_certificate t r w)
+unfolding certificate_of
+certificate_read t r w cert e h = ap given e ∙ written_is_read Two r (certified_rows t r w) h
+
+-- and the check says yes
+pub accepted : (t : List Entry) → IsTable t → (r : SpellRules) (w : List Event) → Settled w → (out : List ℕ) (c : Certificate) → out ≡ shortest_text t r w → c ≡ least_certificate t r w → length out ≤ OUTPUT_LIMIT → verdict t r w out c ≡ Yes (length (shortest_text t r w))
+unfolding shortest_text
+accepted t k r w s out c is e short =
+    (λ i. verdict t r w (is i) (e i)) ∙ minified_is_accepted t k r w s (subst (λ x. length x ≤ OUTPUT_LIMIT) is short)
+
+-- it isn't refused at a line
+pub no_bad_line : (bytes : List ℕ) (fault : CertificateFault) (line : ℕ) (c : Certificate) → given bytes ≡ Ok c → fault ≡ BadLine line → ReadsAs bytes (Err fault) → ⊥
+no_bad_line bytes fault line c good is reads =
+    let bad : given bytes ≡ Err line = (subst (λ f. ReadsAs bytes (Err f)) is reads).1 in
+    let h : Ok c ≡ Err line = sym good ∙ bad in
+    cc
+
+-- what was read is that certificate, so what is found is a yes
+pub found_yes : (t : List Entry) → IsTable t → (r : SpellRules) (w : List Event) → Settled w → (out bytes : List ℕ) (c : Certificate) (v : Verdict) → out ≡ shortest_text t r w → length out ≤ OUTPUT_LIMIT → given bytes ≡ Ok (least_certificate t r w) → given bytes ≡ Ok c → v ≡ verdict t r w out c
+    → v ≡ Yes (length (shortest_text t r w))
+found_yes t k r w s out bytes c v is short good read e =
+    let h : Ok c ≡ Ok (least_certificate t r w) = sym read ∙ good in
+    let same : c ≡ least_certificate t r w = cc in
+    e ∙ accepted t k r w s out c is same short
+
+pub found_no : (v : Verdict) (n : ℕ) (why : Why) → v ≡ Yes n → v ≡ No why → ⊥
+found_no v n why is other = let h : Yes n ≡ No why = sym is ∙ other in cc
+
+pub found_length : (v : Verdict) (n m : ℕ) → v ≡ Yes n → v ≡ Yes m → m ≡ n
+found_length v n m is other = let h : Yes m ≡ Yes n = sym other ∙ is in cc

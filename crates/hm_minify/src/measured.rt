@@ -1,0 +1,104 @@
+//! A page that is made of a number, written shortest and checked in memory.
+ghost use Rattle.std.specs.Prelude.{◌≡◌, ◌≢◌, ◌⊎◌, ◌≤◌, IfOk, Err, false, length};
+ghost use Rattle.hm_cert.specs.Certificate.{AreRows};
+ghost use Rattle.hm_elements.specs.Settled.{Settled};
+ghost use Rattle.hm_shortest.specs.Minified.{IsMinifiedBy};
+ghost use Rattle.hm_shortest.specs.Shortest.{certified_rows, shortest_text};
+ghost use Rattle.hm_store.specs.Causes.{Rose};
+ghost use Rattle.hm_store.specs.Contents.{Sees, Tells};
+ghost use Rattle.hm_words.specs.Words as request;
+ghost use Rattle.hm_minify.specs.Endings as spec;
+
+use crate::Status;
+use crate::ended::{Ended, Stop, says};
+use crate::lines::{measured_line, refused_line, table_line};
+use hm_base::{OUTPUT_LIMIT, SpellRules, TreeOptions};
+use hm_cert::{Certificate, CertificateFault};
+use hm_check::{Verdict, check};
+use hm_input::{Input, Made, Unread, make_tree};
+use hm_refs::laws::every_table;
+use hm_shortest::{Minified, minify_tree};
+use hm_store::Store;
+use std::alloc::Global;
+
+/// Checks what was written of a tree, and gives how many bytes the text has. The check says yes; a text or a certificate above
+/// the limits of a check is refused as memory is.
+fn check_minified(
+    alloc: Global,
+    input: &Input,
+    rules: SpellRules,
+    minified: &Minified,
+) -> Result<u64, Stop>
+    requires settled { Settled input.now.tree }
+    requires minified { IsMinifiedBy input.now.table.entries rules input.now.tree minified.now }
+    requires readable { AreRows (certified_rows input.now.table.entries rules input.now.tree) }
+    ensures length { IfOk result (λ count. count ≡ length (shortest_text input.now.table.entries rules input.now.tree)) }
+    ensures memory { result ≢ Err Stop.Store }
+{
+    every_table(&input.table);
+    if minified.out.len() > OUTPUT_LIMIT as usize {
+        return Err(Stop::Memory);
+    }
+    let certificate = match Certificate::read(alloc, minified.certificate.as_slice()) {
+        Ok(certificate) => certificate,
+        Err(CertificateFault::BadLine { line: _ }) => unreachable!(),
+        Err(CertificateFault::TooLong | CertificateFault::Memory) => return Err(Stop::Memory),
+    };
+    match check(
+        alloc,
+        &input.table,
+        &input.tree,
+        minified.out.as_slice(),
+        &certificate,
+        rules,
+    )? {
+        Verdict::Yes { length } => Ok(length),
+        Verdict::No { why: _ } => unreachable!(),
+    }
+}
+
+/// Writes the tree of a page that was made shortest, and checks that.
+fn measure_tree<'w>(alloc: Global, made: &Made, rules: SpellRules) -> Result<Ended<'w>, Stop>
+    requires settled { Settled made.now.input.tree }
+    ensures ended { IfOk result (λ ended. ended ≡ spec.measured_ending made.now.bytes rules made.now.input.table.entries made.now.input.tree) }
+    ensures memory { result ≢ Err Stop.Store }
+{
+    let minified = minify_tree(alloc, &made.input.tree, &made.input.table, rules)?;
+    let length = check_minified(alloc, &made.input, rules, &minified)?;
+    Ok(says(
+        alloc,
+        Status::Done,
+        measured_line(alloc, made.bytes, length, minified.layers)?,
+    ))
+}
+
+/// What `measure` ends with: a table is loaded, a page is made, and no file is written.
+pub fn measure<'w, S: Store>(
+    alloc: Global,
+    store: &mut S,
+    table: &str,
+    number: u32,
+    size: u32,
+    options: &TreeOptions,
+    rules: SpellRules,
+) -> Result<Ended<'w>, Stop>
+    ensures ended { IfOk result (λ ended. Sees (S.files store.old) (λ seen. ended ≡ spec.command_ending (request.measure table.now number size) options.now rules seen)) }
+    ensures answers { IfOk result (λ ended. spec.is_fault ended.status ≡ false) }
+    ensures same { S.files store.new ≡ S.files store.old }
+    ensures writing { S.is_writing store.new ≡ S.is_writing store.old }
+    ensures later { S.faults store.old ≤ S.faults store.new }
+    ensures store { result ≡ Err Stop.Store → Rose (S.faults store.old) (S.faults store.new)
+        ⊎ Tells (S.files store.old) (λ seen. spec.command_ending (request.measure table.now number size) options.now rules seen ≡ spec.store_fault) }
+{
+    match make_tree(alloc, store, table, number, size, options) {
+        Ok(made) => measure_tree(alloc, &made, rules),
+        Err(Unread::Table { fault }) => {
+            Ok(says(alloc, Status::TableRefused, table_line(alloc, &fault)?))
+        }
+        Err(Unread::Page { rule, at }) => {
+            Ok(says(alloc, Status::PageRefused, refused_line(alloc, rule, at)?))
+        }
+        Err(Unread::Store) => Err(Stop::Store),
+        Err(Unread::Memory) => Err(Stop::Memory),
+    }
+}

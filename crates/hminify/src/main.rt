@@ -1,4 +1,5 @@
-//! The program: `hminify minify TABLE PAGE OUT CERT`, `check` with the same names, and `tree TABLE PAGE`, with flags.
+//! The program: `hminify minify TABLE PAGE OUT CERT`, `check` with the same names, `tree TABLE PAGE` and `measure TABLE NUMBER
+//! SIZE`, with flags.
 #![tactic(auto)]
 
 use hm_base::Word;

@@ -1,0 +1,49 @@
+-- What is true of the graph without the edges that are outdone.
+use Rattle.std.specs.Prelude.{◌≡◌, ◌≤◌, ℕ, true, List, length, Some}
+use Rattle.hm_graph.specs.Prices.{Row, Feasible, first_price}
+use Rattle.hm_graph.specs.UnitEdges.{edges_of}
+use Rattle.hm_graph.specs.Ways.{Edges, Way, least, first_way}
+use Rattle.hm_outdone.specs.Outdone.{may_forget, forgotten, sparse}
+use Rattle.hm_spellings.specs.Tags.{Spelling}
+use Rattle.hm_units.specs.States.{State, first_state}
+use Rattle.hm_units.specs.Units.{Unit}
+
+-- a way with no more bytes than b
+pub record HasWay (es : Edges) (units : List Unit) (s : State) (b : List ℕ) : Type 0 where
+  pub bytes : List ℕ
+  pub way : Way es units s bytes
+  pub short : length bytes ≤ length b
+
+-- for each way from a state in which what is pending may be forgotten there is one from the same place with nothing pending
+abbrev pub LosesNothing : Edges → Type 0
+LosesNothing es = (units : List Unit) (s : State) (b : List ℕ) → may_forget s ≡ true → Way es units s b → HasWay es units (forgotten s) b
+
+-- what may be written with something pending may be written with nothing pending, and leaves no more pending
+abbrev pub ForgettingIsNoLoss : Type 0
+ForgettingIsNoLoss = (g : Spelling) → LosesNothing (edges_of g)
+
+-- ---- Without the edges that are outdone
+
+abbrev pub SameLeast : Edges → Type 0
+SameLeast es = (units : List Unit) (s : State) → least (sparse es) units s ≡ least es units s
+
+abbrev pub SameFirstWay : Edges → Type 0
+SameFirstWay es = (units : List Unit) (s : State) (n : ℕ) → least es units s ≡ Some n → first_way (sparse es) units s ≡ first_way es units s
+
+-- prices that keep the rules at the edges that are left bound every way, also over edges that are outdone
+abbrev pub PricesBound : Edges → Type 0
+PricesBound es = (units : List Unit) (prices : List Row) (n : ℕ) (b : List ℕ) → Feasible (sparse es) units prices → first_price prices ≡ Some n → Way es units first_state b → n ≤ length b
+
+-- over any edges where forgetting loses nothing
+abbrev pub OutdoneEdgesAreNeedless : Type 0
+OutdoneEdgesAreNeedless = (es : Edges) → LosesNothing es → SameLeast es × (SameFirstWay es × PricesBound es)
+
+-- over the edges of the graph of spellings
+abbrev pub SparseLeastIsLeast : Type 0
+SparseLeastIsLeast = (g : Spelling) → SameLeast (edges_of g)
+
+abbrev pub SparseFirstWayIsFirst : Type 0
+SparseFirstWayIsFirst = (g : Spelling) → SameFirstWay (edges_of g)
+
+abbrev pub SparsePricesBound : Type 0
+SparsePricesBound = (g : Spelling) → PricesBound (edges_of g)

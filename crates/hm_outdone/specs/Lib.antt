@@ -1,0 +1,3 @@
+pub mod Outdone
+pub mod Laws
+pub mod Examples

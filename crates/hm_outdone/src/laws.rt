@@ -1,0 +1,28 @@
+//! Laws over the graph of sparse certificates. The functions do nothing.
+ghost use Rattle.hm_outdone.specs.Laws.{ForgettingIsNoLoss, OutdoneEdgesAreNeedless, SparseFirstWayIsFirst, SparseLeastIsLeast, SparsePricesBound};
+
+/// Wherever what is pending may be forgotten, nothing pending is no worse.
+pub fn forgetting_is_no_loss()
+    ensures { ForgettingIsNoLoss }
+{}
+
+/// Over any edges where forgetting is no loss, those that are outdone change neither prices nor the first way, and prices that
+/// keep the rules without them bound every way.
+pub fn outdone_edges_are_needless()
+    ensures { OutdoneEdgesAreNeedless }
+{}
+
+/// The least prices are the same without the edges that are outdone.
+pub fn sparse_least_is_least()
+    ensures { SparseLeastIsLeast }
+{}
+
+/// The first way is the same without the edges that are outdone.
+pub fn sparse_first_way_is_first()
+    ensures { SparseFirstWayIsFirst }
+{}
+
+/// Prices that keep the rules without the edges that are outdone bound every way, whoever made them.
+pub fn sparse_prices_bound()
+    ensures { SparsePricesBound }
+{}

@@ -1,0 +1,4 @@
+//! The graph of sparse certificates: without the edges that another one outdoes. Laws alone.
+#![tactic(auto)]
+
+pub mod laws;

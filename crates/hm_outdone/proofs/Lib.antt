@@ -1,2 +1,3 @@
 pub mod Least
 pub mod Forgetting
+pub mod Shown

@@ -1,12 +1,19 @@
 -- What is true of the graph without the edges that are outdone.
 use Rattle.std.specs.Prelude.{◌≡◌, ◌≤◌, ℕ, true, List, length, Some}
+use Rattle.hm_base.specs.Walks.{Event}
+use Rattle.hm_base.specs.declared.plain.SpellRules.{SpellRules}
+use Rattle.hm_elements.specs.Settled.{Settled}
 use Rattle.hm_graph.specs.Prices.{Row, Feasible, first_price}
 use Rattle.hm_graph.specs.UnitEdges.{edges_of}
 use Rattle.hm_graph.specs.Ways.{Edges, Way, least, first_way}
 use Rattle.hm_outdone.specs.Outdone.{may_forget, forgotten, sparse}
+use Rattle.hm_refs.specs.Names.{Entry}
+use Rattle.hm_refs.specs.Tables.{IsTable}
+use Rattle.hm_spellings.specs.Spellings.{Shortest}
 use Rattle.hm_spellings.specs.Tags.{Spelling}
 use Rattle.hm_units.specs.States.{State, first_state}
-use Rattle.hm_units.specs.Units.{Unit}
+use Rattle.hm_units.specs.Units.{Unit, units_of}
+use Rattle.hm_ways.specs.Laws.{sparing_plain}
 
 -- a way with no more bytes than b
 pub record HasWay (es : Edges) (units : List Unit) (s : State) (b : List ℕ) : Type 0 where
@@ -47,3 +54,10 @@ SparseFirstWayIsFirst = (g : Spelling) → SameFirstWay (edges_of g)
 
 abbrev pub SparsePricesBound : Type 0
 SparsePricesBound = (g : Spelling) → PricesBound (edges_of g)
+
+-- Over a settled tree, without references at plain characters: prices that keep the rules at the edges that are left show that no
+-- spelling has fewer bytes than the first of them.
+abbrev pub SparsePricesShow : Type 0
+SparsePricesShow =
+    (t : List Entry) → IsTable t → (r : SpellRules) (w : List Event) → Settled w → (prices : List Row) (n : ℕ)
+    → Feasible (sparse (edges_of (sparing_plain t r))) (units_of r w) prices → first_price prices ≡ Some n → Shortest t r w n

@@ -1,5 +1,5 @@
 //! Laws over the graph of sparse certificates. The functions do nothing.
-ghost use Rattle.hm_outdone.specs.Laws.{ForgettingIsNoLoss, OutdoneEdgesAreNeedless, SparseFirstWayIsFirst, SparseLeastIsLeast, SparsePricesBound};
+ghost use Rattle.hm_outdone.specs.Laws.{ForgettingIsNoLoss, OutdoneEdgesAreNeedless, SparseFirstWayIsFirst, SparseLeastIsLeast, SparsePricesBound, SparsePricesShow};
 
 /// Wherever what is pending may be forgotten, nothing pending is no worse.
 pub fn forgetting_is_no_loss()
@@ -25,4 +25,10 @@ pub fn sparse_first_way_is_first()
 /// Prices that keep the rules without the edges that are outdone bound every way, whoever made them.
 pub fn sparse_prices_bound()
     ensures { SparsePricesBound }
+{}
+
+/// Prices that keep the rules without the edges that are outdone show, whoever made them, that no spelling of a settled tree has
+/// fewer bytes than the first.
+pub fn sparse_prices_show()
+    ensures { SparsePricesShow }
 {}

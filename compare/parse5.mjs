@@ -2,22 +2,10 @@
 //
 // Each case with the words `tree TABLE page`, without flags and with status 0, is parsed by parse5 with scripting off; its
 // tree is printed in the form of hminify's dump and compared with the wanted lines. It ends with 1 where one differs.
-import { createRequire } from "node:module";
 import { readFileSync } from "node:fs";
 import { fileURLToPath } from "node:url";
 import { dirname, join } from "node:path";
-
-const require = createRequire(import.meta.url);
-
-// Debian's package is found where NODE_PATH says so.
-function library() {
-  try {
-    return require("parse5");
-  } catch (fault) {
-    if (fault.code !== "MODULE_NOT_FOUND") throw fault;
-    throw new Error("no parse5: apt-get install node-parse5, and NODE_PATH=/usr/share/nodejs in front", { cause: fault });
-  }
-}
+import { library, linesOf } from "./trees.mjs";
 
 // The cases that parse5 has no part in, with the reason.
 const LEFT_OUT = new Map(Object.entries({
@@ -32,8 +20,6 @@ const LEFT_OUT = new Map(Object.entries({
   names_two_points: "the table has a name that the standard's table hasn't",
   page_two_point_name: "the table has a name that the standard's table hasn't",
 }));
-
-const SVG = "http://www.w3.org/2000/svg";
 
 /** The page's bytes as they stand behind the escapes. */
 function bytesOf(text) {
@@ -69,49 +55,6 @@ function casesOf(text) {
     else if (key === "end") cases.push(one);
   }
   return cases;
-}
-
-function quoted(text) {
-  const escapes = { '"': '\\"', "\\": "\\\\", "\n": "\\n", "\r": "\\r", "\t": "\\t" };
-  return `"${text.replace(/["\\\n\r\t]/g, (c) => escapes[c])}"`;
-}
-
-const lowered = (text) => text.replace(/[A-Z]/g, (c) => c.toLowerCase());
-
-function doctypeLine(node) {
-  if (node.name !== "html" || node.publicId !== "") return `doctype ? ${node.name}`;
-  if (node.systemId === "") return "doctype";
-  return node.systemId === "about:legacy-compat" ? "doctype legacy" : `doctype ? ${node.systemId}`;
-}
-
-function elementLine(node) {
-  const name = node.namespaceURI === SVG ? lowered(node.tagName) : node.tagName;
-  const attrs = node.attrs.map((a) => {
-    // an attribute of SVG is told with its prefix, and in lower case, as it was written
-    const written = a.prefix ? `${a.prefix}:${a.name}` : a.name;
-    return ` ${lowered(written)}=${quoted(a.value)}`;
-  });
-  return `element ${name}${attrs.join("")}`;
-}
-
-/** The lines of a node and of all that is below it. */
-function dump(node, depth, lines) {
-  const pad = "  ".repeat(depth);
-  if (node.nodeName === "#documentType") lines.push(pad + doctypeLine(node));
-  else if (node.nodeName === "#comment") lines.push(`${pad}comment ${quoted(node.data)}`);
-  else if (node.nodeName === "#text") lines.push(`${pad}text ${quoted(node.value)}`);
-  else {
-    lines.push(pad + elementLine(node));
-    for (const child of node.childNodes) dump(child, depth + 1, lines);
-  }
-  return lines;
-}
-
-/** The lines of the tree that parse5 gives. A leading byte order mark belongs to the decoding, which is done before. */
-function linesOf(parse, page) {
-  const text = new TextDecoder("utf-8", { fatal: true }).decode(page);
-  const document = parse(text, { scriptingEnabled: false });
-  return document.childNodes.flatMap((node) => dump(node, 0, []));
 }
 
 function main(path) {

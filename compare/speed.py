@@ -1,0 +1,136 @@
+#!/usr/bin/env python3
+"""speed.py [--program PROGRAM] [--peer COMMAND] [--runs N] [NAME=FILE ..]: time and memory of hminify and a peer.
+
+Each FILE is a page that hminify takes; what stands in its body is repeated until the page has 4 MB. On each page
+`minify none PAGE OUT CERT --omit --unquote --space`, `check` with the same words, `tree none PAGE` and the peer (tdewolff's
+`minify`, its defaults) run by turns, N times (15 where nothing is said), with their output in files of a temporary folder.
+Printed are megabytes of the page a second: by the processor time of the run (user and system, of all its threads), which
+other work on the machine disturbs less, and by the wall's clock, median and best of the runs; and the peak of memory in
+bytes for a byte of the page. A peak can't be less than that of this script, some 3 bytes a byte. PROGRAM is
+`crates/hminify/out/hminify` where none is named; `--peer none` leaves the peer out. Without a FILE there are four documents
+of Debian's packages. Needs Linux and the standard library of Python 3.9 or later.
+"""
+import argparse
+import os
+import re
+import shutil
+import statistics
+import subprocess
+import sys
+import tempfile
+import time
+
+HERE = os.path.dirname(os.path.abspath(__file__))
+BUILT = os.path.join(HERE, "../crates/hminify/out/hminify")
+SIZE = 4_000_000
+FLAGS = ["--omit", "--unquote", "--space"]
+DOCUMENTS = {
+    "links": "/usr/share/doc/python-django-doc/html/ref/models/querysets.html",
+    "prose": "/usr/share/developers-reference/best-pkging-practices.html",
+    "tables": "/usr/share/doc/apache2-doc/manual/en/mod/quickreference.html",
+    "values": "/usr/share/doc/erlang-doc/lib/jinterface-1.13.1/doc/html/java/com/ericsson/otp/erlang/OtpOutputStream.html",
+}
+PACKAGES = "python-django-doc developers-reference apache2-doc erlang-doc"
+
+
+def repeated(source, target):
+    """Writes the page with its body repeated, and gives the number of its bytes."""
+    with open(source, "rb") as file:
+        page = file.read()
+    start = re.search(rb"<body\b[^>]*>", page, re.I)
+    if start is None:
+        raise SystemExit("%s: no body" % source)
+    ends = [match.start() for match in re.finditer(rb"</(?:body|html)>", page, re.I)]
+    end = next((at for at in ends if at >= start.end()), len(page))
+    front, body, behind = page[:start.end()], page[start.end():end], page[end:]
+    size = len(front) + len(behind)
+    with open(target, "wb") as file:
+        file.write(front)
+        while size < SIZE:
+            file.write(body)
+            size += len(body)
+        file.write(behind)
+    return size
+
+
+class Call:
+    """A command with the runs that it had."""
+
+    def __init__(self, name, words, output):
+        self.name, self.words, self.output = name, words, output
+        self.wall, self.processor, self.peak = [], [], 0
+
+    def run(self, folder):
+        """One run. Ends the script where the command fails."""
+        with open(os.path.join(folder, "stdout"), "wb") as out:
+            begun = time.perf_counter()
+            child = subprocess.Popen(self.words, cwd=folder, stdin=subprocess.DEVNULL, stdout=out)
+            _, status, usage = os.wait4(child.pid, 0)
+            self.wall.append(time.perf_counter() - begun)
+        child.returncode = os.waitstatus_to_exitcode(status)
+        if child.returncode != 0:
+            with open(os.path.join(folder, "stdout"), "rb") as out:
+                said = out.read(200).decode("utf-8", "replace")
+            raise SystemExit("%s: status %d, %s" % (" ".join(self.words), child.returncode, said.strip()))
+        self.processor.append(usage.ru_utime + usage.ru_stime)
+        self.peak = max(self.peak, usage.ru_maxrss * 1024)
+
+    def line(self, page, size, folder):
+        def speeds(times):
+            return "%.1f | %.1f" % tuple(size / 1e6 / t for t in (statistics.median(times), min(times)))
+        written = "+".join(str(os.path.getsize(os.path.join(folder, name))) for name in self.output) or "-"
+        return "| %s | %s | %s | %s | %.1f | %s |" % (
+            page, self.name, speeds(self.processor), speeds(self.wall), self.peak / size, written)
+
+
+def calls(program, peer):
+    """The commands, in the order in which they take turns."""
+    found = [
+        Call("minify", [program, "minify", "none", "page.html", "out.html", "cert"] + FLAGS, ["out.html", "cert"]),
+        Call("check", [program, "check", "none", "page.html", "out.html", "cert"] + FLAGS, []),
+        Call("tree", [program, "tree", "none", "page.html"], []),
+    ]
+    if peer:
+        found.append(Call("peer", [peer, "--type", "html", "-o", "peer.html", "page.html"], ["peer.html"]))
+    return found
+
+
+def main():
+    parser = argparse.ArgumentParser()
+    parser.add_argument("--program", default=BUILT)
+    parser.add_argument("--peer", default="minify")
+    parser.add_argument("--runs", type=int, default=15)
+    parser.add_argument("documents", nargs="*", metavar="NAME=FILE")
+    given = parser.parse_args()
+    program = os.path.abspath(given.program)
+    if not os.access(program, os.X_OK):
+        raise SystemExit("no program %s: ./hminify --build makes it" % program)
+    peer = None if given.peer == "none" else shutil.which(given.peer)
+    if given.peer != "none" and peer is None:
+        raise SystemExit("no %s: apt-get install minify, or say --peer none" % given.peer)
+    documents = dict(word.split("=", 1) for word in given.documents) or DOCUMENTS
+    for path in documents.values():
+        if not os.path.exists(path):
+            raise SystemExit("no %s; the four documents: apt-get install %s" % (path, PACKAGES))
+    if peer:
+        said = subprocess.run([peer, "--version"], capture_output=True, text=True)
+        print("peer: %s" % (said.stdout or said.stderr).strip())
+    print("runs: %d, load before: %.1f, processors: %d\n" % (given.runs, os.getloadavg()[0], os.cpu_count()))
+    print("| page | command | MB/s of processor time, median | best | MB/s on the clock, median | best"
+          " | peak, bytes a byte | written, bytes |")
+    print("|---|---|---|---|---|---|---|---|")
+    for name, path in documents.items():
+        with tempfile.TemporaryDirectory(prefix="hminify-speed-") as folder:
+            size = repeated(path, os.path.join(folder, "page.html"))
+            turns = calls(program, peer)
+            for _ in range(given.runs):
+                for call in turns:
+                    call.run(folder)
+            for call in turns:
+                print(call.line("%s, %d bytes" % (name, size), size, folder), flush=True)
+    print("\nload behind: %.1f" % os.getloadavg()[0])
+    return 0
+
+
+if __name__ == "__main__":
+    sys.exit(main())

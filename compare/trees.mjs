@@ -1,0 +1,59 @@
+// trees.mjs: the tree that parse5 gives of a page, with scripting off, in the form of hminify's dump.
+import { createRequire } from "node:module";
+
+const require = createRequire(import.meta.url);
+
+// Debian's package is found where NODE_PATH says so.
+export function library() {
+  try {
+    return require("parse5");
+  } catch (fault) {
+    if (fault.code !== "MODULE_NOT_FOUND") throw fault;
+    throw new Error("no parse5: apt-get install node-parse5, and NODE_PATH=/usr/share/nodejs in front", { cause: fault });
+  }
+}
+
+const SVG = "http://www.w3.org/2000/svg";
+
+function quoted(text) {
+  const escapes = { '"': '\\"', "\\": "\\\\", "\n": "\\n", "\r": "\\r", "\t": "\\t" };
+  return `"${text.replace(/["\\\n\r\t]/g, (c) => escapes[c])}"`;
+}
+
+const lowered = (text) => text.replace(/[A-Z]/g, (c) => c.toLowerCase());
+
+function doctypeLine(node) {
+  if (node.name !== "html" || node.publicId !== "") return `doctype ? ${node.name}`;
+  if (node.systemId === "") return "doctype";
+  return node.systemId === "about:legacy-compat" ? "doctype legacy" : `doctype ? ${node.systemId}`;
+}
+
+function elementLine(node) {
+  const name = node.namespaceURI === SVG ? lowered(node.tagName) : node.tagName;
+  const attrs = node.attrs.map((a) => {
+    // an attribute of SVG is told with its prefix, and in lower case, as it was written
+    const written = a.prefix ? `${a.prefix}:${a.name}` : a.name;
+    return ` ${lowered(written)}=${quoted(a.value)}`;
+  });
+  return `element ${name}${attrs.join("")}`;
+}
+
+/** The lines of a node and of all that is below it. */
+function dump(node, depth, lines) {
+  const pad = "  ".repeat(depth);
+  if (node.nodeName === "#documentType") lines.push(pad + doctypeLine(node));
+  else if (node.nodeName === "#comment") lines.push(`${pad}comment ${quoted(node.data)}`);
+  else if (node.nodeName === "#text") lines.push(`${pad}text ${quoted(node.value)}`);
+  else {
+    lines.push(pad + elementLine(node));
+    for (const child of node.childNodes) dump(child, depth + 1, lines);
+  }
+  return lines;
+}
+
+/** The lines of the tree that parse5 gives. A leading byte order mark belongs to the decoding, which is done before. */
+export function linesOf(parse, page) {
+  const text = new TextDecoder("utf-8", { fatal: true }).decode(page);
+  const document = parse(text, { scriptingEnabled: false });
+  return document.childNodes.flatMap((node) => dump(node, 0, []));
+}

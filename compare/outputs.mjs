@@ -18,19 +18,20 @@ const TABLE = join(dirname(fileURLToPath(import.meta.url)), "../tables/entities.
 const RULES = ["--omit", "--unquote", "--tight"];
 const REWRITES = ["--doctype", "--comments", "--booleans", "--empty", "--redundant", "--space"];
 
-// Why parse5's tree of an output may be another than that of its page although the standard's trees are the same.
+// Why parse5's tree of an output may be another than that of its page although the standard's trees are the same; each is
+// told by a line of one of the two trees.
 const REASONS = [
   {
     text: "the start tag of search closes an open p in the standard; parse5 7.1.2 is older than the element",
-    holds: (page) => /<search\b/i.test(page),
+    line: /^ *element search\b/m,
   },
   {
     text: "a CDATA section in title or desc of SVG is text in the standard, and a comment for parse5",
-    holds: (page) => /<!\[CDATA\[/.test(page),
+    line: /^ *comment "\[CDATA\[/m,
   },
   {
     text: "a carriage return that a reference gives is whitespace in the standard, and other text for parse5",
-    holds: (page) => /&#(0*13|x0*d)\b/i.test(page),
+    line: /^ *text ".*\\r/m,
   },
 ];
 
@@ -63,20 +64,29 @@ const treeOf = (parse, bytes) => linesOf(parse, bytes).join("\n");
 /** The names of the elements and the texts alone, each run of whitespace as one space, without scripts and styles. */
 function shown(tree) {
   const lines = [];
-  let closed = Infinity;
+  let [closed, pending, place] = [Infinity, "", 0];
+  const flush = () => {
+    const text = pending.replace(/(\\[nrt]|[ \f])+/g, " ").trim();
+    if (text !== "") lines.push(`${place} "${text}`);
+    pending = "";
+  };
   for (const line of tree.split("\n")) {
     const depth = line.search(/\S/);
     if (depth > closed) continue;
     closed = Infinity;
     const [kind, name] = line.slice(depth).split(" ", 2);
     if (kind === "element") {
+      flush();
       lines.push(`${depth} ${name}`);
       if (name === "script" || name === "style") closed = depth;
     } else if (kind === "text") {
-      const text = line.slice(depth + 6, -1).replace(/(\\[nrt]|[ \f])+/g, " ").trim();
-      if (text !== "") lines.push(`${depth} "${text}`);
+      // two texts beside each other are one without the comment between them
+      if (depth !== place) flush();
+      place = depth;
+      pending += line.slice(depth + 6, -1);
     }
   }
+  flush();
   return lines.join("\n");
 }
 
@@ -119,7 +129,7 @@ function one(tools, path, said) {
   const other = treeOf(parse, written);
   if (other !== tree) {
     sums.changed = 1;
-    const reason = REASONS.find(({ holds }) => holds(page.toString("utf8")));
+    const reason = REASONS.find(({ line }) => line.test(tree) || line.test(other));
     said.changed.push(`${path}: ${firstOther(tree, other)}\n  ${reason ? reason.text : "without a reason"}`);
     said.unexplained += reason ? 0 : 1;
   }

@@ -9,8 +9,9 @@ use Rattle.hm_refs.specs.Tables.{TableView}
 use Rattle.hm_edges.specs.declared.states.State.{State}
 use Rattle.hm_edges.specs.declared.units.Unit.{Unit}
 use Rattle.hm_layers.specs.Layers.{HaveNodes, IsLayer}
-use Rattle.hm_layers.specs.Met.{MetView, none_made, list_at, made_at, IsListOf, IsMade, IsMet, Grows, IsStepOf}
+use Rattle.hm_layers.specs.Met.{MetView, none_made, list_at, made_at, IsListOf, IsMet, IsSeen, Grows, IsStepOf}
 use Rattle.hm_layers.specs.declared.made.Made.{Made}
+use Rattle.hm_layers.specs.declared.made.Seen.{Seen}
 
 abbrev pub met : TableView → SpellRules → List (List State) → List Made → MetView
 met v rules lists made = record { table = v; rules = rules; lists = lists; made = made }
@@ -30,15 +31,37 @@ grows_on a b c ab bc =
 layer_as : (v w : TableView) (q r : SpellRules) (unit : Unit) (from behind other after : List State) (x : Made) → w ≡ v → r ≡ q → other ≡ from → after ≡ behind → IsLayer v q unit from behind x.step → IsLayer w r unit other after x.step
 layer_as v w q r unit from behind other after x of_table of_rules of_from of_behind is = subst (λ A. A) (λ i. IsLayer (sym of_table i) (sym of_rules i) unit (sym of_from i) (sym of_behind i) x.step) is
 
-made_kept : (a b : MetView) (x : Made) → Grows a b → IsMade a x → IsMade b x
-made_kept a b x grows is =
-    let from : IsListOf b (list_at a x.list) x.list = grows.lists x.list is.from in
-    let behind : IsListOf b (list_at a x.behind) x.behind = grows.lists x.behind is.behind in
+-- a number that a step has been given is that of the step of a unit from a list
+pub made_is : (a b : MetView) (list : ℕ) (unit : Unit) (n : ℕ) (x : Made) → Grows a b → list < length a.lists → x.behind < length a.lists → IsLayer a.table a.rules unit (list_at a list) (list_at a x.behind) x.step
+    → n < length b.made → made_at b n ≡ x → IsStepOf b list unit n
+made_is a b list unit n x grows within inside is there at =
+    let from : IsListOf b (list_at a list) list = grows.lists list within in
+    let behind : IsListOf b (list_at a x.behind) x.behind = grows.lists x.behind inside in
     record {
-      from = from.there;
-      behind = behind.there;
-      layer = layer_as a.table b.table a.rules b.rules x.unit (list_at a x.list) (list_at a x.behind) (list_at b x.list) (list_at b x.behind) x grows.table grows.rules from.list behind.list is.layer;
+      there = there;
+      behind = subst (λ y. y.behind < length b.lists) (sym at) behind.there;
+      layer = subst (λ y. IsLayer b.table b.rules unit (list_at b list) (list_at b y.behind) y.step) (sym at)
+          (layer_as a.table b.table a.rules b.rules unit (list_at a list) (list_at a x.behind) (list_at b list) (list_at b x.behind) x grows.table grows.rules from.list behind.list is);
     }
+
+step_kept : (a b : MetView) (list : ℕ) (unit : Unit) (n : ℕ) → Grows a b → list < length a.lists → IsStepOf a list unit n → IsStepOf b list unit n
+step_kept a b list unit n grows within is =
+    let x : Made = made_at a n in
+    let made : (n < length b.made) × (made_at b n ≡ x) = grows.made n is.there in
+    made_is a b list unit n x grows within is.behind is.layer made.0 made.1
+
+pub seen_kept : (a b : MetView) (x : Seen) → Grows a b → IsSeen a x → IsSeen b x
+seen_kept a b x grows is = record { from = (grows.lists x.list is.from).there; step = step_kept a b x.list x.unit x.number grows is.from is.step }
+
+pub all_kept : (a b : MetView) (seen : List Seen) → Grows a b → All (IsSeen a) seen → All (IsSeen b) seen
+all_kept a b seen grows are = λ n d within. seen_kept a b (get_or seen n d) grows (are n d within)
+
+pub all_noted : (m : MetView) (seen : List Seen) (x : Seen) → All (IsSeen m) seen → x.list < length m.lists → IsStepOf m x.list x.unit x.number → All (IsSeen m) (seen ++ x ∷ [])
+all_noted m seen x are from step = All-append (IsSeen m) seen (x ∷ []) are (λ n d within. only n d within)
+  where
+    only : (n : ℕ) (d : Seen) → n < 1 → IsSeen m (get_or (x ∷ []) n d)
+    only zero d within = record { from = from; step = step }
+    only (suc n) d within = absurd (omega arith)
 
 -- ---- One more list
 
@@ -60,45 +83,14 @@ nodes_at v [] states nodes own (suc k) = tt
 nodes_at v (l ∷ lists) states nodes own zero = nodes 0
 nodes_at v (l ∷ lists) states nodes own (suc k) = nodes_at v lists states (λ j. nodes (suc j)) own k
 
-all_kept : (a b : MetView) (made : List Made) → Grows a b → All (IsMade a) made → All (IsMade b) made
-all_kept a b made grows are = λ n d within. made_kept a b (get_or made n d) grows (are n d within)
-
 pub met_list : (v : TableView) (rules : SpellRules) (lists : List (List State)) (made : List Made) (states : List State) → IsMet (met v rules lists made) → HaveNodes v states → IsMet (met v rules (lists ++ states ∷ []) made)
-met_list v rules lists made states is own =
-    record {
-      nodes = nodes_at v lists states is.nodes own;
-      made = all_kept (met v rules lists made) (met v rules (lists ++ states ∷ []) made) made (list_grows v rules lists made states) is.made;
-    }
+met_list v rules lists made states is own = record { nodes = nodes_at v lists states is.nodes own }
 
 -- ---- One more step
 
 pub made_grows : (v : TableView) (rules : SpellRules) (lists : List (List State)) (made : List Made) (x : Made) → Grows (met v rules lists made) (met v rules lists (made ++ x ∷ []))
 made_grows v rules lists made x =
     record { table = refl; rules = refl; lists = λ k within. record { there = within; list = refl }; made = λ n within. (omega (arith, length_push made x), get_or_append_left made (x ∷ []) none_made n within) }
-
-pub met_made : (v : TableView) (rules : SpellRules) (lists : List (List State)) (made : List Made) (x : Made) → IsMet (met v rules lists made) → IsMade (met v rules lists made) x → IsMet (met v rules lists (made ++ x ∷ []))
-met_made v rules lists made x is own =
-    let before : MetView = met v rules lists made in
-    let now : MetView = met v rules lists (made ++ x ∷ []) in
-    record {
-      nodes = is.nodes;
-      made = All-append (IsMade now) made (x ∷ []) (all_kept before now made (made_grows v rules lists made x) is.made) (λ n d within. only n d within);
-    }
-  where
-    only : (n : ℕ) (d : Made) → n < 1 → IsMade (met v rules lists (made ++ x ∷ [])) (get_or (x ∷ []) n d)
-    only zero d within = made_kept (met v rules lists made) (met v rules lists (made ++ x ∷ [])) x (made_grows v rules lists made x) own
-    only (suc n) d within = absurd (omega arith)
-
-pub step_added : (v : TableView) (rules : SpellRules) (lists : List (List State)) (made : List Made) (x : Made) (n : ℕ) → n ≡ length made → IsMade (met v rules lists made) x
-    → IsStepOf (met v rules lists (made ++ x ∷ [])) x.list x.unit n
-step_added v rules lists made x n is own =
-    let now : MetView = met v rules lists (made ++ x ∷ []) in
-    let at : made_at now n ≡ x = ap (λ i. get_or (made ++ x ∷ []) i none_made) is ∙ get_or-append_seam made x [] none_made in
-    record {
-      there = omega (arith, length_push made x);
-      behind = subst (λ y. y.behind < length lists) (sym at) own.behind;
-      layer = subst (λ y. IsLayer v rules x.unit (list_at now x.list) (list_at now y.behind) y.step) (sym at) own.layer;
-    }
 
 -- ---- What is read of a list of lists
 

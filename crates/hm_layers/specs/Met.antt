@@ -1,15 +1,16 @@
 -- What is met of a tree's graph: lists of states with numbers, and steps with numbers, each with the number of the list behind it.
-use Rattle.std.specs.Prelude.{◌≡◌, ℕ, ◌<◌, List, [], ◌∷◌, length, slice_index_or}
-use Rattle.std.specs.List.{All}
+use Rattle.std.specs.Prelude.{◌≡◌, ℕ, ◌<◌, Bool, true, false, List, [], ◌∷◌, length, slice_index_or}
 use Rattle.hm_base.specs.declared.plain.SpellRules.{SpellRules}
+use Rattle.hm_refs.specs.Names.{Entry}
 use Rattle.hm_refs.specs.Tables.{TableView}
+use Rattle.hm_edges.specs.Units.{has_pair}
 use Rattle.hm_edges.specs.declared.states.Pending.TheVariants.{Nothing}
 use Rattle.hm_edges.specs.declared.states.State.{State}
 use Rattle.hm_edges.specs.declared.states.Where.TheVariants.{Outside}
 use Rattle.hm_edges.specs.declared.units.Unit.{Unit}
-use Rattle.hm_edges.specs.declared.units.Unit.TheVariants.{AttributeEnd}
 use Rattle.hm_layers.specs.Layers.{HaveNodes, IsLayer}
 use Rattle.hm_layers.specs.declared.made.Made.{Made}
+use Rattle.hm_layers.specs.declared.made.Seen.{Seen}
 
 -- lists of states, and what was made from them
 pub record MetView : Type 0 where
@@ -22,7 +23,7 @@ abbrev pub list_at : MetView → ℕ → List State
 list_at m k = slice_index_or m.lists k []
 
 abbrev pub none_made : Made
-none_made = record { list = 0; unit = AttributeEnd; step = []; behind = 0 }
+none_made = record { step = []; behind = 0 }
 
 abbrev pub made_at : MetView → ℕ → Made
 made_at m n = slice_index_or m.made n none_made
@@ -40,16 +41,9 @@ pub record IsListOf (m : MetView) (states : List State) (k : ℕ) : Type 0 where
   pub there : k < length m.lists
   pub list : list_at m k ≡ states
 
--- it has the step of its unit from its list, and the number of the list behind that
-pub record IsMade (m : MetView) (x : Made) : Type 0 where
-  pub from : x.list < length m.lists
-  pub behind : x.behind < length m.lists
-  pub layer : IsLayer m.table m.rules x.unit (list_at m x.list) (list_at m x.behind) x.step
-
--- nodes are of the table, and steps those of their lists and units
+-- nodes are of the table
 pub record IsMet (m : MetView) : Type 0 where
   pub nodes : (k : ℕ) → HaveNodes m.table (list_at m k)
-  pub made : All (IsMade m) m.made
 
 -- what was met is there still
 pub record Grows (old new : MetView) : Type 0 where
@@ -63,3 +57,18 @@ pub record IsStepOf (m : MetView) (list : ℕ) (unit : Unit) (n : ℕ) : Type 0 
   pub there : n < length m.made
   pub behind : (made_at m n).behind < length m.lists
   pub layer : IsLayer m.table m.rules unit (list_at m list) (list_at m (made_at m n).behind) (made_at m n).step
+
+-- it has the number of the step of its unit from its list
+pub record IsSeen (m : MetView) (x : Seen) : Type 0 where
+  pub from : x.list < length m.lists
+  pub step : IsStepOf m x.list x.unit x.number
+
+-- ---- Names for two code points
+
+-- no name stands for the code point and a second one
+abbrev pub BeginsNoPair : List Entry → ℕ → Type 0
+BeginsNoPair t c = (d : ℕ) → has_pair t c d ≡ false
+
+-- with each code point that is marked none does
+abbrev pub AreLone : List Entry → List Bool → Type 0
+AreLone t lone = (c : ℕ) → slice_index_or lone c false ≡ true → BeginsNoPair t c

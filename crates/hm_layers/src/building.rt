@@ -10,7 +10,6 @@ ghost use Rattle.hm_layers.specs.Building.{Adds, IsBuilt, character_before};
 
 use crate::graph::Graph;
 use crate::met::{LIMIT, Met};
-use crate::pairs::pair_of;
 use hm_base::{Memory, SpellRules};
 use hm_edges::{TextKind, Unit};
 use hm_parts::Part;
@@ -74,7 +73,7 @@ impl<'t> Building<'t> {
     fn add_character(&mut self, kind: TextKind, c: char, next: Option<char>) -> Result<(), Memory>
         ensures { OnOk result (Adds self.old self.new (units.character (kind_of kind) c next ∷ [])) }
     {
-        let pair = pair_of(self.met.table(), c, next);
+        let pair = self.met.pair_of(c, next);
         self.add(Unit::Character {
             kind,
             c,

@@ -1,8 +1,12 @@
-//! A step that is kept.
-ghost use Rattle.std.specs.Prelude.{◌≡◌, ◌↔◌, IsTrue};
+//! Steps that are kept, and which of them a unit has from a list.
+ghost use Rattle.std.specs.Prelude.{◌≡◌, ◌<◌, ◌↔◌, length, IfSome, IsTrue};
+ghost use Rattle.std.specs.List.{HoldsAt};
 
-use crate::step::Step;
+use crate::step::{Step, are_equal};
 use hm_edges::Unit;
+
+/// How many steps are searched for one that is there.
+const SEARCHED: usize = 256;
 
 /// A list, by its number, and a unit.
 #[derive(Clone, Copy, PartialEq, Eq, Hash)]
@@ -11,13 +15,19 @@ pub(crate) struct Front {
     pub(crate) unit: Unit,
 }
 
-/// The step of a unit from the states of a list, and the number of the list behind it.
+/// A step, and the number of the list behind it.
 #[derive(Drop)]
 pub(crate) struct Made {
-    pub(crate) list: u32,
-    pub(crate) unit: Unit,
     pub(crate) step: Step,
     pub(crate) behind: u32,
+}
+
+/// The number of the step of a unit from the states of a list.
+#[derive(Clone, Copy)]
+pub(crate) struct Seen {
+    pub(crate) list: u32,
+    pub(crate) unit: Unit,
+    pub(crate) number: u32,
 }
 
 /// Whether the two are equal.
@@ -27,12 +37,29 @@ fn is_unit(one: &Unit, other: &Unit) -> bool
     one == other
 }
 
-impl Made {
-    /// Whether it is the step of this unit from this list.
+impl Seen {
+    /// Whether it is of this unit from this list.
     pub(crate) fn is_from(&self, front: &Front) -> bool
         ensures list { IsTrue result → self.now.list ≡ front.now.list }
         ensures unit { IsTrue result → self.now.unit ≡ front.now.unit }
     {
         self.list == front.list && is_unit(&self.unit, &front.unit)
     }
+}
+
+/// The place of a step with these hops and this list behind it, where it is one of the first steps.
+pub(crate) fn equal_made(made: &[Made], step: &Step, behind: u32) -> Option<u32>
+    ensures there { IfSome result (λ n. n < length made.now) }
+    ensures step { IfSome result (HoldsAt (λ x. x.step ≡ step.now) made.now) }
+    ensures behind { IfSome result (HoldsAt (λ x. x.behind ≡ behind) made.now) }
+{
+    for (place, other) in made.iter().enumerate() {
+        if place >= SEARCHED {
+            return None;
+        }
+        if other.behind == behind && are_equal(&other.step, step) {
+            return Some(place as u32);
+        }
+    }
+    None
 }

@@ -1,11 +1,13 @@
 //! Lists of states and steps that are met while a graph is built.
-ghost use Rattle.std.specs.Prelude.{◌≡◌, ◌<◌, ◌∷◌, [], length, map, IfOk, IfSome, IsTrue};
+ghost use Rattle.std.specs.Prelude.{◌≡◌, ◌<◌, ◌∷◌, [], length, map, IfOk, IfSome, IsTrue, OnOk};
 ghost use Rattle.std.specs.List.{HoldsAt};
+ghost use Rattle.hm_edges.specs.Units as units;
 ghost use Rattle.hm_layers.specs.Layers.{HaveNodes};
-ghost use Rattle.hm_layers.specs.Met.{Grows, IsListOf, IsMade, IsStepOf, list_at, first_states, made_at, only_first};
+ghost use Rattle.hm_layers.specs.Met.{Grows, IsListOf, IsStepOf, list_at, first_states, made_at, only_first};
 
 use crate::layer::{Layer, find_layer, is_state};
-use crate::made::{Front, Made};
+use crate::made::{Front, Made, Seen, equal_made};
+use crate::pairs::{lone_characters, pair_of};
 use crate::step::Step;
 use hm_base::{Memory, SpellRules};
 use hm_edges::{Pending, State, Unit, Where};
@@ -28,8 +30,13 @@ pub(crate) struct Met<'t> {
     rules: SpellRules,
     lists: Vec<Vec<State>>,
     made: Vec<Made>,
-    /// Where the step of a list and a unit may be. What is there is looked at before it is taken.
+    seen: Vec<Seen>,
+    /// Where a list and a unit may be seen. What is there is looked at before it is taken.
     known: HashMap<Front, u32>,
+    /// Where a list and a unit may be seen that have a place in common, as `known`.
+    hints: Vec<u32>,
+    /// For each ASCII character whether it is known to begin no name's two code points.
+    lone: Vec<bool>,
 }
 
 impl<'t> Model for Met<'t> {
@@ -38,11 +45,56 @@ impl<'t> Model for Met<'t> {
     ghost Value = { MetView };
 
     ghost use Rattle.std.specs.Prelude.{map};
-    ghost use Rattle.hm_layers.specs.Met.{IsMet};
+    ghost use Rattle.std.specs.List.{All};
+    ghost use Rattle.hm_layers.specs.Met.{AreLone, IsMet, IsSeen};
 
     ghost view = { λ m. record { table = m.table.now; rules = m.rules; lists = map (λ l. l.items) m.lists.items; made = m.made.items } };
 
-    ghost invariant = { λ m. IsMet (record { table = m.table.now; rules = m.rules; lists = map (λ l. l.items) m.lists.items; made = m.made.items }) };
+    ghost invariant = { λ m. IsMet (record { table = m.table.now; rules = m.rules; lists = map (λ l. l.items) m.lists.items; made = m.made.items })
+        × All (IsSeen (record { table = m.table.now; rules = m.rules; lists = map (λ l. l.items) m.lists.items; made = m.made.items })) m.seen.items
+        × AreLone m.table.now.entries m.lone.items };
+}
+
+/// How many places there are for hints.
+const HINTS: usize = 4096;
+
+/// The place of the hint for a list and a unit.
+fn hint_place(front: &Front) -> usize {
+    let own = match front.unit {
+        Unit::Character {
+            kind: _,
+            c,
+            pair: _,
+            more,
+        } => { if more { c as u32 } else { c as u32 ^ 1024 } }
+        Unit::Fixed { len } => len ^ 2048,
+        Unit::StartTag {
+            len,
+            omits: _,
+            firm: _,
+            closes: _,
+        } => len ^ 2304,
+        Unit::TagName { len } => len ^ 2560,
+        Unit::BareAttribute { len } => len ^ 2816,
+        Unit::AttributeName { len } => len ^ 3072,
+        Unit::AttributeEnd => 3328,
+        Unit::TagClose { closes: _ } => 3329,
+        Unit::EndTag {
+            len,
+            omits: _,
+            loosens: _,
+        } => len ^ 3584,
+    };
+    (own ^ front.list.wrapping_mul(131)) as usize % HINTS
+}
+
+/// Places for hints, with none known.
+fn no_hints(alloc: Global) -> Result<Vec<u32>, Memory> {
+    let mut hints = Vec::with_capacity(alloc, HINTS)?;
+    for _place in 0..HINTS {
+        hints.push(0)?;
+    }
+    Ok(hints)
 }
 
 /// Whether the lists are the same.
@@ -101,15 +153,21 @@ impl<'t> Met<'t> {
             rules,
             lists: first_lists(alloc)?,
             made: Vec::new(alloc),
+            seen: Vec::new(alloc),
             known: HashMap::new(alloc),
+            hints: no_hints(alloc)?,
+            lone: lone_characters(alloc, table)?,
         })
     }
 
-    /// The table of names.
-    pub(crate) fn table(&self) -> &'t Table
-        ensures { result.now ≡ self.now.table }
+    /// The next character, where some name stands for the two.
+    pub(crate) fn pair_of(&self, c: char, next: Option<char>) -> Option<char>
+        ensures { result ≡ units.pair_of self.now.table.entries c next }
     {
-        self.table
+        match self.lone.get(c as usize) {
+            Some(true) => None,
+            _ => pair_of(self.table, c, next),
+        }
     }
 
     /// The states of a list.
@@ -139,32 +197,49 @@ impl<'t> Met<'t> {
             rules: _,
             lists: _,
             made,
+            seen: _,
             known: _,
+            hints: _,
+            lone: _,
         } = self;
         let mut steps = Vec::new(alloc);
         for made in made {
-            let Made {
-                list: _,
-                unit: _,
-                step,
-                behind: _,
-            } = made;
+            let Made { step, behind: _ } = made;
             steps.push(step)?;
         }
         Ok(steps)
     }
 
-    /// The step that was made from this list for this unit, where it is found.
-    fn known_step(&self, front: &Front) -> Option<u32>
+    /// The number of the step of this list and unit, where they are seen at this place.
+    fn seen_at(&self, place: u32, front: &Front) -> Option<u32>
         ensures { IfSome result (IsStepOf self.now front.now.list front.now.unit) }
     {
-        let number = *self.known.get(front)?;
-        let made = self.made.get(number as usize)?;
-        if made.is_from(front) {
-            Some(number)
+        let seen = self.seen.get(place as usize)?;
+        if seen.is_from(front) {
+            Some(seen.number)
         } else {
             None
         }
+    }
+
+    /// The number of the step of this list and unit, where they are found by their hint.
+    fn hinted(&self, front: &Front) -> Option<u32>
+        ensures { IfSome result (IsStepOf self.now front.now.list front.now.unit) }
+    {
+        let place = *self.hints.get(hint_place(front))?;
+        self.seen_at(place, front)
+    }
+
+    /// The number of the step of this list and unit, where they are known. The hint then tells of them.
+    fn known_step(&mut self, front: &Front) -> Option<u32>
+        ensures step { IfSome result (IsStepOf self.old front.now.list front.now.unit) }
+        ensures same { self.new ≡ self.old }
+    {
+        let place = *self.known.get(front)?;
+        if let Some(hint) = self.hints.get_mut(hint_place(front)) {
+            *hint = place;
+        }
+        self.seen_at(place, front)
     }
 
     /// The number of a list with these states: of an earlier one, or of one that is added.
@@ -184,23 +259,40 @@ impl<'t> Met<'t> {
         Ok(number as u32)
     }
 
-    /// Keeps a step.
-    fn add(&mut self, made: Made) -> Result<u32, Memory>
-        requires { IsMade self.old made }
-        ensures step { IfOk result (IsStepOf self.new made.list made.unit) }
+    /// The number of a step with these hops and this list behind it: of an earlier one, or of one that is added.
+    fn made_of(&mut self, made: Made) -> Result<u32, Memory>
+        ensures there { IfOk result (λ n. n < length self.new.made) }
+        ensures made { IfOk result (λ n. made_at self.new n ≡ made) }
         ensures kept { Grows self.old self.new }
     {
+        if let Some(number) = equal_made(self.made.as_slice(), &made.step, made.behind) {
+            return Ok(number);
+        }
         let number = self.made.len();
         if number >= LIMIT {
             return Err(Memory);
         }
-        let front = Front {
-            list: made.list,
-            unit: made.unit,
-        };
         self.made.push(made)?;
-        self.known.insert(front, number as u32)?;
         Ok(number as u32)
+    }
+
+    /// Notes the number of the step of a list and a unit.
+    fn note(&mut self, front: Front, number: u32) -> Result<(), Memory>
+        requires list { front.list < length self.old.lists }
+        requires step { IsStepOf self.old front.list front.unit number }
+        ensures { self.new ≡ self.old }
+    {
+        let place = self.seen.len();
+        if place >= LIMIT {
+            return Err(Memory);
+        }
+        self.seen.push(Seen {
+            list: front.list,
+            unit: front.unit,
+            number,
+        })?;
+        self.known.insert(front, place as u32)?;
+        Ok(())
     }
 
     /// Makes the step of a unit from the states of a list.
@@ -217,12 +309,12 @@ impl<'t> Met<'t> {
             self.list(front.list),
         )?;
         let behind = self.list_of(behind)?;
-        self.add(Made {
-            list: front.list,
-            unit: front.unit,
+        let number = self.made_of(Made {
             step: Step::new(hops),
             behind,
-        })
+        })?;
+        self.note(front, number)?;
+        Ok(number)
     }
 
     /// The step of a unit from the states of a list: an earlier one, or one that is made.
@@ -232,6 +324,9 @@ impl<'t> Met<'t> {
         ensures kept { Grows self.old self.new }
     {
         let front = Front { list, unit };
+        if let Some(number) = self.hinted(&front) {
+            return Ok(number);
+        }
         if let Some(number) = self.known_step(&front) {
             return Ok(number);
         }

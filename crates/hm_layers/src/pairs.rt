@@ -1,9 +1,12 @@
 //! Names of character references for two code points.
-ghost use Rattle.std.specs.Prelude.{◌≡◌, ◌<◌, ◌∷◌, [], length, bytes_eq};
+ghost use Rattle.std.specs.Prelude.{◌≡◌, ◌<◌, ◌∷◌, [], false, ℕ, length, bytes_eq, IfOk, IsTrue};
 ghost use Rattle.hm_refs.specs.Tables.{entry_at};
 ghost use Rattle.hm_edges.specs.Units as units;
+ghost use Rattle.hm_layers.specs.Met.{AreLone, BeginsNoPair};
 
+use hm_base::Memory;
 use hm_refs::{NameId, Table};
+use std::alloc::Global;
 
 /// Whether the name stands for these two code points.
 fn stands_for(table: &Table, id: NameId, c: char, d: char) -> bool
@@ -34,4 +37,35 @@ pub(crate) fn pair_of(table: &Table, c: char, next: Option<char>) -> Option<char
         None => None,
         Some(d) => { if has_pair(table, c, d) { Some(d) } else { None } }
     }
+}
+
+/// Whether the name stands for two code points.
+fn is_double(table: &Table, id: NameId) -> bool
+    requires { id < length table.now.entries }
+    ensures { (c d : ℕ) → result ≡ false → bytes_eq (entry_at table.now.entries id).points (c ∷ d ∷ []) ≡ false }
+{
+    table.points(id).second.is_some()
+}
+
+/// Whether the character is known to begin no name's two code points.
+fn begins_no_pair(table: &Table, c: char) -> bool
+    ensures { IsTrue result → BeginsNoPair table.now.entries c }
+{
+    for id in table.names_for(c) {
+        if is_double(table, *id) {
+            return false;
+        }
+    }
+    true
+}
+
+/// For each ASCII character whether it is known to begin no name's two code points.
+pub(crate) fn lone_characters(alloc: Global, table: &Table) -> Result<Vec<bool>, Memory>
+    ensures { IfOk result (λ lone. AreLone table.now.entries lone.items) }
+{
+    let mut lone = Vec::new(alloc);
+    for c in 0..128u8 {
+        lone.push(begins_no_pair(table, c as char))?;
+    }
+    Ok(lone)
 }

@@ -1,8 +1,9 @@
 //! A step between two layers.
-ghost use Rattle.std.specs.Prelude.{◌≡◌, ◌<◌, [], length, map, slice_index_or};
+ghost use Rattle.std.specs.Prelude.{◌≡◌, ◌<◌, [], length, map, slice_index_or, IsTrue};
 ghost use Rattle.hm_graph.specs.Layers.{is_single};
 ghost use Rattle.hm_steps.specs.Steps as steps;
 
+use hm_edges::Piece;
 use hm_steps::Hop;
 use std::marker::Model;
 
@@ -76,4 +77,47 @@ impl Step {
     {
         self.forced
     }
+}
+
+fn is_piece(one: Piece, other: Piece) -> bool
+    ensures { IsTrue result → one ≡ other }
+{
+    one == other
+}
+
+/// Whether the two are equal.
+fn is_hop(one: Hop, other: Hop) -> bool
+    ensures { IsTrue result → one ≡ other }
+{
+    one.len == other.len && one.to == other.to && is_piece(one.piece, other.piece)
+}
+
+/// Whether the hops are the same.
+fn are_same(one: &[Hop], other: &[Hop]) -> bool
+    ensures { IsTrue result → one.now ≡ other.now }
+{
+    if one.len() != other.len() {
+        return false;
+    }
+    for i in 0..one.len() {
+        if !is_hop(one[i], other[i]) {
+            return false;
+        }
+    }
+    true
+}
+
+/// Whether the steps have the same hops.
+pub(crate) fn are_equal(one: &Step, other: &Step) -> bool
+    ensures { IsTrue result → one.now ≡ other.now }
+{
+    if one.width() != other.width() {
+        return false;
+    }
+    for place in 0..one.width() {
+        if !are_same(one.hops(place), other.hops(place)) {
+            return false;
+        }
+    }
+    true
 }

@@ -29,11 +29,11 @@ struct Way<'c> {
     /// The place of the state among those of its layer, None where the way has ended.
     place: Option<usize>,
     /// The choices in front of the steps that are left, those of the next one last.
-    choices: &'c [u32],
+    choices: &'c [u8],
 }
 
 /// The choices behind step `k`, and those in front of it.
-fn cut_choices<'c>(choices: &'c [u32], graph: &Graph, k: usize) -> (&'c [u32], &'c [u32])
+fn cut_choices<'c>(choices: &'c [u8], graph: &Graph, k: usize) -> (&'c [u8], &'c [u8])
     requires inside { k < length graph.now.steps }
     requires choices { choices.now ≡ choices_of graph.now.last (drop k graph.now.steps) }
     ensures behind { result.0.now ≡ choices_of graph.now.last (drop (k + 1) graph.now.steps) }
@@ -47,7 +47,7 @@ fn cut_choices<'c>(choices: &'c [u32], graph: &Graph, k: usize) -> (&'c [u32], &
 }
 
 /// The choice for a place: 0 where there is nothing to choose.
-fn choice_at(choices: &[u32], place: usize) -> usize
+fn choice_at(choices: &[u8], place: usize) -> usize
     ensures { result ≡ slice_index choices.now place }
 {
     match choices.get(place) {
@@ -67,7 +67,7 @@ fn hop_at(hops: &[Hop], place: usize) -> Option<Hop>
 }
 
 /// The hop that is taken from a place, by the choices in front of the step.
-fn taken_at(step: &Step, choices: &[u32], place: usize) -> Option<Hop>
+fn taken_at(step: &Step, choices: &[u8], place: usize) -> Option<Hop>
     ensures taken { (behind : Row) → choices.now ≡ step_choices behind step.now → result ≡ hop_taken behind step.now place }
     ensures named { (t : List Entry) → IsNamedStep t step.now → IfSome result (λ hop. HasName t hop.piece) }
 {
@@ -78,7 +78,7 @@ fn taken_at(step: &Step, choices: &[u32], place: usize) -> Option<Hop>
 }
 
 /// The hop that is taken, where the way hasn't ended.
-fn next_hop(step: &Step, choices: &[u32], place: Option<usize>) -> Option<Hop>
+fn next_hop(step: &Step, choices: &[u8], place: Option<usize>) -> Option<Hop>
     ensures taken { (behind : Row) → choices.now ≡ step_choices behind step.now → result ≡ option_and_then (hop_taken behind step.now) place }
     ensures named { (t : List Entry) → IsNamedStep t step.now → IfSome result (λ hop. HasName t hop.piece) }
 {
@@ -176,7 +176,7 @@ pub fn write_path(
     table: &Table,
     rules: SpellRules,
     graph: &Graph,
-    choices: &[u32],
+    choices: &[u8],
 ) -> Result<Vec<u8>, Memory>
     requires count { length (units_of rules tree.now) ≡ length graph.now.steps }
     requires named { AreNamed table.now.entries graph.now.steps }

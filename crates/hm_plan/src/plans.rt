@@ -21,7 +21,7 @@ use std::mem;
 #[derive(Drop)]
 pub struct Plan {
     pub certificate: Vec<u8>,
-    pub choices: Vec<u32>,
+    pub choices: Vec<u8>,
     /// `hm_cert::CLOSED` where there is no way.
     pub first: u64,
 }
@@ -65,12 +65,12 @@ fn find_best(hops: &[Hop], behind: &[u64]) -> Best
     best
 }
 
-/// Appends a choice, where there is something to choose. A place that does not fit in 32 bits is refused as memory is.
-fn put_choice(choices: &mut Vec<u32>, forced: bool, place: usize) -> Result<(), Memory>
+/// Appends a choice, where there is something to choose. A place that does not fit in 8 bits is refused as memory is.
+fn put_choice(choices: &mut Vec<u8>, forced: bool, place: usize) -> Result<(), Memory>
     ensures { OnOk result (choices.new.items ≡ choices.old.items ++ (if forced then [] else place ∷ [])) }
 {
     if !forced {
-        match u32::try_from(place) {
+        match u8::try_from(place) {
             Ok(place) => choices.push(place)?,
             Err(_) => return Err(Memory),
         }
@@ -83,7 +83,7 @@ fn find_row(
     step: &Step,
     behind: &[u64],
     row: &mut Vec<u64>,
-    choices: &mut Vec<u32>,
+    choices: &mut Vec<u8>,
 ) -> Result<(), Memory>
     requires below { AreBelow (2 ^ 62) (map told behind.now) }
     requires low { IsLowStep step.now }
@@ -133,7 +133,7 @@ fn put_line(out: &mut Vec<u8>, left_out: bool, row: &[u64]) -> Result<(), Memory
 #[derive(Drop)]
 struct Back {
     text: Vec<u8>,
-    choices: Vec<u32>,
+    choices: Vec<u8>,
     row: Vec<u64>,
     spare: Vec<u64>,
 }

@@ -9,4 +9,4 @@ returns-clause-nodes c =
     let inside : c.args.list < length (map (λ l. l.items) c.self.inside.lists.items) = subst (λ m. c.args.list < length m.lists) (sym c.self.view_is) c.requires in
     let read : c.as_slice.result.now ≡ list_at c.args.self.now c.args.list =
     c.as_slice.ensures.value ∙ seen_at (λ l. l.items) c.self.inside.lists.items c.args.list c.index.result.now [] inside c.index.ensures ∙ ap (λ m. list_at m c.args.list) c.self.view_is in
-    subst (HaveNodes c.args.self.now.table) (sym read) (subst (λ m. HaveNodes m.table (list_at m c.args.list)) c.self.view_is (c.self.invariant.nodes c.args.list))
+    subst (HaveNodes c.args.self.now.table) (sym read) (subst (λ m. HaveNodes m.table (list_at m c.args.list)) c.self.view_is (c.self.invariant.0.nodes c.args.list))

@@ -1,5 +1,5 @@
 -- What a graph in code shows.
-use Rattle.std.specs.Prelude.{ℕ, ◌<◌, ◌^◌, List, [], ◌∷◌, length, slice_index_or, map}
+use Rattle.std.specs.Prelude.{ℕ, ◌<◌, ◌^◌, List, [], ◌∷◌, length, slice_index_or, map, Option, Some, None}
 use Rattle.std.specs.List.{All}
 use Rattle.hm_base.specs.Walks.{Event}
 use Rattle.hm_base.specs.declared.plain.SpellRules.{SpellRules}
@@ -21,6 +21,17 @@ pub record GraphView : Type 0 where
 -- the steps of these numbers
 abbrev pub spread : List Step → List ℕ → List Step
 spread steps numbers = map (λ n. slice_index_or steps n []) numbers
+
+abbrev pub one_of : List Hop → Option Hop
+one_of [] = None
+one_of (h ∷ []) = Some h
+one_of (h ∷ g ∷ hops) = None
+
+-- the hop of a step of one state with one hop
+abbrev pub only_hop : Step → Option Hop
+only_hop [] = None
+only_hop (hops ∷ []) = one_of hops
+only_hop (hops ∷ more ∷ step) = None
 
 -- each number is that of a step
 abbrev pub AreNumbers : List Step → List ℕ → Type 0

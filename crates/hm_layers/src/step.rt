@@ -2,6 +2,7 @@
 ghost use Rattle.std.specs.Prelude.{◌≡◌, ◌<◌, [], length, map, slice_index_or, IsTrue};
 ghost use Rattle.hm_graph.specs.Layers.{is_single};
 ghost use Rattle.hm_steps.specs.Steps as steps;
+ghost use Rattle.hm_layers.specs.Graphs as graphs;
 
 use hm_edges::Piece;
 use hm_steps::Hop;
@@ -12,18 +13,20 @@ use std::marker::Model;
 pub struct Step {
     lists: Vec<Vec<Hop>>,
     forced: bool,
+    only: Option<Hop>,
 }
 
 impl Model for Step {
     ghost use Rattle.std.specs.Prelude.{◌≡◌, List, map};
     ghost use Rattle.hm_steps.specs.Steps.{is_forced};
     ghost use Rattle.hm_steps.specs.declared.hops.Hop.{Hop};
+    ghost use Rattle.hm_layers.specs.Graphs.{only_hop};
 
     ghost Value = { List (List Hop) };
 
     ghost view = { λ s. map (λ hops. hops.items) s.lists.items };
 
-    ghost invariant = { λ s. s.forced ≡ is_forced (map (λ hops. hops.items) s.lists.items) };
+    ghost invariant = { λ s. (s.forced ≡ is_forced (map (λ hops. hops.items) s.lists.items)) × (s.only ≡ only_hop (map (λ hops. hops.items) s.lists.items)) };
 }
 
 fn is_one(hops: &[Hop]) -> bool
@@ -47,13 +50,37 @@ fn are_forced(lists: &[Vec<Hop>]) -> bool
     true
 }
 
+fn one_of(hops: &[Hop]) -> Option<Hop>
+    ensures { result ≡ graphs.one_of hops.now }
+{
+    match hops {
+        [hop] => Some(*hop),
+        _ => None,
+    }
+}
+
+/// The only hop of the only state, where there is one of each.
+fn only_of(lists: &[Vec<Hop>]) -> Option<Hop>
+    ensures { result ≡ graphs.only_hop (map (λ hops. hops.items) lists.now) }
+{
+    match lists {
+        [hops] => one_of(hops.as_slice()),
+        _ => None,
+    }
+}
+
 impl Step {
     /// The step with these hops of each state.
     pub fn new(lists: Vec<Vec<Hop>>) -> Step
         ensures { result ≡ map (λ hops. hops.items) lists.items }
     {
         let forced = are_forced(&lists);
-        Step { lists, forced }
+        let only = only_of(&lists);
+        Step {
+            lists,
+            forced,
+            only,
+        }
     }
 
     /// How many states are in front of it.
@@ -69,6 +96,13 @@ impl Step {
         ensures { result.now ≡ slice_index_or self.now place [] }
     {
         self.lists[place].as_slice()
+    }
+
+    /// The hop, where there is one state with one hop.
+    pub fn only(&self) -> Option<Hop>
+        ensures { result ≡ graphs.only_hop self.now }
+    {
+        self.only
     }
 
     /// Whether each state has one hop, so that there is nothing to choose.

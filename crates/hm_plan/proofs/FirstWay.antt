@@ -26,12 +26,12 @@ use Rattle.hm_plan.proofs.Prices.{same_self}
 
 -- ---- The hop that is taken
 
-lesser_none : (price : Option ℕ) → lesser price None ≡ price
+pub lesser_none : (price : Option ℕ) → lesser price None ≡ price
 lesser_none None = refl
 lesser_none (Some n) = refl
 
 -- where each state has one hop, it is taken
-forced_choice : (behind : Row) (step : Step) (place : ℕ) → is_forced step ≡ true → 0 ≡ choice behind (get_or step place [])
+pub forced_choice : (behind : Row) (step : Step) (place : ℕ) → is_forced step ≡ true → 0 ≡ choice behind (get_or step place [])
 forced_choice behind [] place h = refl
 forced_choice behind ([] ∷ step) place h = absurd (cc)
 forced_choice behind ((x ∷ y ∷ hops) ∷ step) place h = absurd (cc)

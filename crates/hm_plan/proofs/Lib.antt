@@ -2,3 +2,4 @@ pub mod Hexadecimal
 pub mod Prices
 pub mod FromLast
 pub mod FirstWay
+mod Only

@@ -71,6 +71,9 @@ fn taken_at(step: &Step, choices: &[u8], place: usize) -> Option<Hop>
     ensures taken { (behind : Row) → choices.now ≡ step_choices behind step.now → result ≡ hop_taken behind step.now place }
     ensures named { (t : List Entry) → IsNamedStep t step.now → IfSome result (λ hop. HasName t hop.piece) }
 {
+    if let Some(hop) = step.only() {
+        return if place == 0 { Some(hop) } else { None };
+    }
     if place >= step.width() {
         return None;
     }

@@ -77,6 +77,10 @@ fn put_comment(out: &mut Vec<u8>, text: &str) -> Result<(), Memory>
 fn put_character(out: &mut Vec<u8>, c: char) -> Result<(), Memory>
     ensures { OnOk result (out.new.items ≡ out.old.items ++ encode_utf8 c) }
 {
+    if c.is_ascii() {
+        out.push(c as u8)?;
+        return Ok(());
+    }
     let mut buffer = [0; 4];
     put(out, c.encode_utf8(&mut buffer).as_bytes())
 }

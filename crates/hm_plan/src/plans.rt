@@ -156,6 +156,20 @@ impl Back {
         })
     }
 
+    /// Goes over the only hop of a step, to a layer that is left out.
+    fn follow(&mut self, hop: Hop) -> Result<(), Memory>
+        requires below { AreBelow (2 ^ 62) (map told self.old.row.items) }
+        requires low { hop.len < 2 ^ 33 }
+        ensures text { self.new.text ≡ self.old.text }
+        ensures choices { self.new.choices ≡ self.old.choices }
+        ensures row { OnOk result (map told self.new.row.items ≡ prices.price_over (map told self.old.row.items) hop ∷ []) }
+    {
+        let price = price_over(hop, &self.row);
+        self.row.clear();
+        self.row.push(price)?;
+        Ok(())
+    }
+
     /// Goes to layer `k`, the one in front of this step.
     fn go_over(&mut self, k: usize, step: &Step) -> Result<(), Memory>
         requires below { AreBelow (2 ^ 62) (map told self.old.row.items) }
@@ -165,6 +179,11 @@ impl Back {
         ensures choices { OnOk result (self.new.choices.items ≡ self.old.choices.items ++ step_choices (map told self.old.row.items) step.now) }
         ensures row { OnOk result (map told self.new.row.items ≡ row_over (map told self.old.row.items) step.now) }
     {
+        if k != 0 {
+            if let Some(hop) = step.only() {
+                return self.follow(hop);
+            }
+        }
         find_row(step, &self.row, &mut self.spare, &mut self.choices)?;
         mem::swap(&mut self.row, &mut self.spare);
         put_line(&mut self.text, is_left_out(k, step), &self.row)

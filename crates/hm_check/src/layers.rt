@@ -29,10 +29,12 @@ pub(crate) fn count_layers(graph: &Graph, singles: bool) -> usize
 {
     graph.is_small();
     let mut count = 0;
+    let mut layer = graph.first_layer();
     for k in 0..graph.len() {
-        if !is_left_out(singles, k, graph.step(k)) {
+        if !is_left_out(singles, k, graph.step(layer)) {
             count += 1;
         }
+        layer = graph.next(layer);
     }
     count + 1
 }
@@ -43,8 +45,10 @@ pub(crate) fn find_other_width(graph: &Graph, prices: &Prices, singles: bool) ->
     ensures { result ≡ option_map width_why (other_width_over singles 0 graph.now.last graph.now.steps prices.now) }
 {
     let mut at = 0;
+    let mut layer = graph.first_layer();
     for k in 0..graph.len() {
-        let step = graph.step(k);
+        let step = graph.step(layer);
+        layer = graph.next(layer);
         if !is_left_out(singles, k, step) {
             if prices.width(at) != step.width() {
                 return Some(Why::WrongWidth {

@@ -22,8 +22,10 @@ fn sweep(alloc: Global, graph: &Graph, prices: &Prices, singles: bool) -> Result
     ensures { IfOk result (IsSwept singles graph.now prices.now 0) }
 {
     let mut sweep = Sweep::at_end(alloc, graph, prices, singles)?;
+    let mut layer = graph.last_layer();
     for k in (0..graph.len()).rev() {
-        sweep.take_layer(graph, prices, singles, k)?;
+        layer = graph.back(layer);
+        sweep.take_layer(graph, prices, singles, k, graph.step(layer))?;
     }
     Ok(sweep)
 }

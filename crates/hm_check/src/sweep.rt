@@ -1,5 +1,5 @@
 //! The prices of all layers, from the last layer on.
-ghost use Rattle.std.specs.Prelude.{◌≡◌, ◌<◌, ◌+◌, ◌^◌, true, length, map, IfOk, OnOk};
+ghost use Rattle.std.specs.Prelude.{◌≡◌, ◌<◌, ◌+◌, ◌^◌, true, [], length, map, slice_index_or, IfOk, OnOk};
 ghost use Rattle.hm_cert.specs.Layout.{told};
 ghost use Rattle.hm_layers.specs.Graphs.{IsLowStep};
 ghost use Rattle.hm_steps.specs.Prices.{row_over};
@@ -65,21 +65,22 @@ impl Sweep {
         Ok(Sweep { at, behind, found })
     }
 
-    /// Goes on to layer `k`, the one in front.
+    /// Goes on to layer `k`, the one in front of the step.
     pub(crate) fn take_layer(
         &mut self,
         graph: &Graph,
         prices: &Prices,
         singles: bool,
         k: usize,
+        step: &Step,
     ) -> Result<(), Memory>
         requires place { AreInPlace singles graph.now prices.now }
         requires layer { k < length graph.now.steps }
+        requires step { step.now ≡ slice_index_or graph.now.steps k [] }
         requires swept { IsSwept singles graph.now prices.now (k + 1) self.old }
         ensures { OnOk result (IsSwept singles graph.now prices.now k self.new) }
     {
         graph.is_small();
-        let step = graph.step(k);
         if is_left_out(singles, k, step) {
             return follow(&mut self.behind, step);
         }

@@ -1,5 +1,5 @@
 -- A graph that is built is that of its tree.
-use Rattle.std.proofs.Common.{◌≡◌, ◌∙◌, ℕ, List, [], ◌∷◌, length, map, Result, Ok, Err, IfOk, refl, sym, ap, subst}
+use Rattle.std.proofs.Common.{◌≡◌, ◌∙◌, ℕ, ◌<◌, arith, get_or, List, [], ◌∷◌, length, map, Result, Ok, Err, IfOk, refl, sym, ap, subst}
 use Rattle.std.proofs.lemmas.List.{length-map}
 use Rattle.std.proofs.Math.ListN as lists
 use Rattle.hm_base.specs.Walks.{Event}
@@ -15,7 +15,8 @@ use Rattle.hm_edges.specs.States.{state_of}
 use Rattle.hm_steps.specs.Fits.{StepsFit}
 use Rattle.hm_steps.specs.Steps.{Step}
 use Rattle.hm_layers.specs.Building.{BuildingView, steps_at, IsBuilt}
-use Rattle.hm_layers.specs.Graphs.{GraphView, IsGraphOf, AreNamed, spread}
+use Rattle.std.specs.List.{All}
+use Rattle.hm_layers.specs.Graphs.{GraphView, IsGraphOf, AreNamed, AreNumbers, spread}
 use Rattle.hm_layers.specs.Layers.{states_of}
 use Rattle.hm_layers.specs.Met.{MetView, none_made}
 use Rattle.hm_layers.specs.declared.made.Made.{Made}
@@ -26,6 +27,9 @@ spread_made m steps [] is = refl
 spread_made m steps (n ∷ numbers) is =
     let one : lists.get_or steps n [] ≡ (lists.get_or m.made n none_made).step = ap (λ ss. lists.get_or ss n []) is ∙ lists.get_or-map (λ (x : Made). x.step) m.made n none_made in
     λ i. one i ∷ spread_made m steps numbers is i
+
+pub numbers_are : (m : MetView) (steps : List Step) (numbers : List ℕ) → steps ≡ map (λ x. x.step) m.made → All (λ n. n < length m.made) numbers → AreNumbers steps numbers
+numbers_are m steps numbers is are = λ k d within. let low : get_or numbers k d < length m.made = are k d within in omega (arith, low, ap length is, length-map m.made (λ (x : Made). x.step))
 
 pub graph_made : (r : Result GraphView Memory) (b : BuildingView) (v : TableView) (rules : SpellRules) (w : List Event) → IfOk r (λ g. g.steps ≡ b.steps) → IfOk r (λ g. g.last ≡ length b.last) → AreNamed b.table.entries b.steps
     → b.table ≡ v → b.rules ≡ rules → IsBuilt b (units_of rules w) → IfOk r (IsGraphOf v.entries rules w)

@@ -1,4 +1,4 @@
-pub mod Numbers
+pub mod StepNumbers
 pub mod Places
 pub mod Placed
 pub mod Layers
@@ -9,3 +9,4 @@ pub mod Characters
 pub mod Parts
 pub mod Events
 pub mod Finished
+pub mod Runs

@@ -12,11 +12,19 @@ use Rattle.hm_edges.specs.Pieces.{HasName, piece_bytes}
 use Rattle.hm_steps.specs.Fits.{StepsFit}
 use Rattle.hm_steps.specs.Steps.{Step}
 use Rattle.hm_steps.specs.declared.hops.Hop.{Hop}
+use Rattle.hm_layers.specs.Runs.{IsAt}
+use Rattle.hm_layers.specs.declared.graph.Cursor.{Cursor}
+use Rattle.hm_layers.specs.declared.numbers.Run.{Run}
 
--- the steps between its layers, and how many states the last layer has
+-- the steps between its layers, the runs of equal ones, and how many states the last layer has
 pub record GraphView : Type 0 where
   pub steps : List Step
+  pub runs : List Run
   pub last : ℕ
+
+-- the cursor stands at its layer
+abbrev pub IsPlace : GraphView → Cursor → Type 0
+IsPlace g c = IsAt g.runs c.run c.used c.layer
 
 -- the steps of these numbers
 abbrev pub spread : List Step → List ℕ → List Step

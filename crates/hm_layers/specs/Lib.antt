@@ -1,3 +1,4 @@
+pub mod Runs
 pub mod Graphs
 pub mod Layers
 pub mod Met

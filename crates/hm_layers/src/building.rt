@@ -10,6 +10,7 @@ ghost use Rattle.hm_layers.specs.Building.{Adds, IsBuilt, character_before};
 
 use crate::graph::Graph;
 use crate::met::{LIMIT, Met};
+use crate::numbers::Numbers;
 use hm_base::{Memory, SpellRules};
 use hm_edges::{TextKind, Unit};
 use hm_parts::Part;
@@ -21,7 +22,7 @@ use std::marker::Model;
 #[derive(Drop)]
 pub(crate) struct Building<'t> {
     met: Met<'t>,
-    numbers: Vec<u32>,
+    numbers: Numbers,
     last: u32,
 }
 
@@ -32,9 +33,9 @@ impl<'t> Model for Building<'t> {
 
     ghost use Rattle.hm_layers.specs.Building.{IsBuilding, building};
 
-    ghost view = { λ b. building b.met b.numbers.items b.last };
+    ghost view = { λ b. building b.met b.numbers b.last };
 
-    ghost invariant = { λ b. IsBuilding b.met b.numbers.items b.last };
+    ghost invariant = { λ b. IsBuilding b.met b.numbers b.last };
 }
 
 impl<'t> Building<'t> {
@@ -50,7 +51,7 @@ impl<'t> Building<'t> {
     {
         Ok(Building {
             met: Met::new(alloc, table, rules)?,
-            numbers: Vec::new(alloc),
+            numbers: Numbers::new(alloc),
             last: 0,
         })
     }
@@ -143,6 +144,8 @@ impl<'t> Building<'t> {
         let Building { met, numbers, last } = self;
         let last = met.list(last).len();
         let steps = met.into_steps()?;
-        Ok(Graph::from_parts(steps, numbers, last))
+        let len = numbers.len();
+        let runs = numbers.into_runs()?;
+        Ok(Graph::from_parts(steps, runs, len, last))
     }
 }

@@ -1,17 +1,28 @@
 //! The steps of a tree.
-ghost use Rattle.std.specs.Prelude.{◌≡◌, ◌<◌, ◌^◌, [], length, slice_index_or};
-ghost use Rattle.hm_layers.specs.Graphs.{AreLow, AreNumbers, GraphView, spread};
+ghost use Rattle.std.specs.Prelude.{◌≡◌, ◌+◌, ◌-◌, ◌<◌, ◌^◌, [], length, slice_index_or};
+ghost use Rattle.hm_layers.specs.Graphs.{AreLow, AreNumbers, GraphView, IsPlace, spread};
+ghost use Rattle.hm_layers.specs.Runs.{AreRuns, unroll};
 
+use crate::numbers::Run;
 use crate::step::Step;
 use std::marker::Model;
 
 /// The steps between the layers of a tree's graph, in their order, and how many states the last layer has. Each different
-/// step is kept once.
+/// step is kept once, and equal steps in a row as one run.
 #[derive(Drop)]
 pub struct Graph {
     steps: Vec<Step>,
-    numbers: Vec<u32>,
+    runs: Vec<Run>,
+    len: usize,
     last: usize,
+}
+
+/// A layer of a graph: the one in front of step `used` of a run, or the last one behind all runs.
+#[derive(Clone, Copy)]
+pub struct Cursor {
+    run: usize,
+    used: usize,
+    layer: usize,
 }
 
 impl Model for Graph {
@@ -19,26 +30,30 @@ impl Model for Graph {
 
     ghost Value = { GraphView };
 
-    ghost use Rattle.std.specs.Prelude.{◌<◌, ◌^◌, length};
+    ghost use Rattle.std.specs.Prelude.{◌≡◌, ◌<◌, ◌^◌, length};
     ghost use Rattle.hm_layers.specs.Graphs.{AreLow, AreNumbers, spread};
+    ghost use Rattle.hm_layers.specs.Runs.{AreRuns, unroll};
 
-    ghost view = { λ g. record { steps = spread g.steps.items g.numbers.items; last = g.last } };
+    ghost view = { λ g. record { steps = spread g.steps.items (unroll g.runs.items); runs = g.runs.items; last = g.last } };
 
-    ghost invariant = { λ g. AreNumbers g.steps.items g.numbers.items × AreLow (spread g.steps.items g.numbers.items) × (length g.numbers.items < 2 ^ 29) };
+    ghost invariant = { λ g. AreNumbers g.steps.items (unroll g.runs.items) × AreLow (spread g.steps.items (unroll g.runs.items)) × (g.len ≡ length (unroll g.runs.items)) × (g.len < 2 ^ 29) × AreRuns g.runs.items };
 }
 
 impl Graph {
-    /// The graph with the steps of these numbers.
-    pub(crate) fn from_parts(steps: Vec<Step>, numbers: Vec<u32>, last: usize) -> Graph
-        requires numbers { AreNumbers steps.items numbers.items }
-        requires low { AreLow (spread steps.items numbers.items) }
-        requires few { length numbers.items < 2 ^ 29 }
-        ensures steps { result.steps ≡ spread steps.items numbers.items }
+    /// The graph with the steps of the numbers of these runs.
+    pub(crate) fn from_parts(steps: Vec<Step>, runs: Vec<Run>, len: usize, last: usize) -> Graph
+        requires numbers { AreNumbers steps.items (unroll runs.items) }
+        requires low { AreLow (spread steps.items (unroll runs.items)) }
+        requires len { len ≡ length (unroll runs.items) }
+        requires few { len < 2 ^ 29 }
+        requires runs { AreRuns runs.items }
+        ensures steps { result.steps ≡ spread steps.items (unroll runs.items) }
         ensures last { result.last ≡ last }
     {
         Graph {
             steps,
-            numbers,
+            runs,
+            len,
             last,
         }
     }
@@ -47,7 +62,7 @@ impl Graph {
     pub fn len(&self) -> usize
         ensures { result ≡ length self.now.steps }
     {
-        self.numbers.len()
+        self.len
     }
 
     /// How many states the last layer has.
@@ -57,12 +72,86 @@ impl Graph {
         self.last
     }
 
-    /// Step `k`.
-    pub fn step(&self, k: usize) -> &Step
-        requires { k < length self.now.steps }
-        ensures { result.now ≡ slice_index_or self.now.steps k [] }
+    /// The first layer.
+    pub fn first_layer(&self) -> Cursor
+        ensures place { IsPlace self.now result }
+        ensures layer { result.layer ≡ 0 }
     {
-        &self.steps[self.numbers[k] as usize]
+        let _runs = &self.runs;
+        Cursor {
+            run: 0,
+            used: 0,
+            layer: 0,
+        }
+    }
+
+    /// The last layer.
+    pub fn last_layer(&self) -> Cursor
+        ensures place { IsPlace self.now result }
+        ensures layer { result.layer ≡ length self.now.steps }
+    {
+        Cursor {
+            run: self.runs.len(),
+            used: 0,
+            layer: self.len,
+        }
+    }
+
+    /// The step behind a layer.
+    pub fn step(&self, at: Cursor) -> &Step
+        requires place { IsPlace self.now at }
+        requires inside { at.layer < length self.now.steps }
+        ensures { result.now ≡ slice_index_or self.now.steps at.layer [] }
+    {
+        &self.steps[self.runs[at.run].number as usize]
+    }
+
+    /// The next layer.
+    pub fn next(&self, at: Cursor) -> Cursor
+        requires place { IsPlace self.now at }
+        requires inside { at.layer < length self.now.steps }
+        ensures place { IsPlace self.now result }
+        ensures layer { result.layer ≡ at.layer + 1 }
+    {
+        let count = self.runs[at.run].count as usize;
+        let layer = at.layer + 1;
+        let used = at.used + 1;
+        if used < count {
+            return Cursor {
+                run: at.run,
+                used,
+                layer,
+            };
+        }
+        Cursor {
+            run: at.run + 1,
+            used: 0,
+            layer,
+        }
+    }
+
+    /// The layer in front.
+    pub fn back(&self, at: Cursor) -> Cursor
+        requires place { IsPlace self.now at }
+        requires some { 0 < at.layer }
+        ensures place { IsPlace self.now result }
+        ensures layer { result.layer ≡ at.layer - 1 }
+    {
+        let _runs = &self.runs;
+        let layer = at.layer - 1;
+        if at.used > 0 {
+            return Cursor {
+                run: at.run,
+                used: at.used - 1,
+                layer,
+            };
+        }
+        let run = at.run - 1;
+        Cursor {
+            run,
+            used: self.runs[run].count as usize - 1,
+            layer,
+        }
     }
 
     /// A graph has fewer than 2^29 steps, and no edge writes 2^33 bytes. The call does nothing.
@@ -70,6 +159,6 @@ impl Graph {
         ensures low { AreLow self.now.steps }
         ensures few { length self.now.steps < 2 ^ 29 }
     {
-        let _count = self.numbers.len();
+        let _count = self.len;
     }
 }

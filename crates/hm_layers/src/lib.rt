@@ -7,10 +7,11 @@ mod graph;
 mod layer;
 mod made;
 mod met;
+mod numbers;
 mod pairs;
 mod step;
 #[cfg(test)]
 mod tests;
 
-pub use graph::Graph;
+pub use graph::{Cursor, Graph};
 pub use step::Step;

@@ -72,8 +72,10 @@ fn is_like(graph: &Graph, wanted: &[Shown], last: usize) -> bool {
     if graph.len() != wanted.len() || graph.last() != last {
         return false;
     }
+    let mut at = graph.first_layer();
     for k in 0..wanted.len() {
-        let step = graph.step(k);
+        let step = graph.step(at);
+        at = graph.next(at);
         let (width, first, forced) = wanted[k];
         if width == 0 || step.width() != width {
             return false;

@@ -9,7 +9,7 @@ use Rattle.hm_edges.specs.declared.pieces.Piece.{Piece}
 use Rattle.hm_edges.specs.Pieces.{HasName, own_bytes, piece_bytes, piece_text}
 use Rattle.hm_graph.specs.Prices.{Row}
 use Rattle.hm_graph.specs.Ways.{lesser, same_price}
-use Rattle.hm_layers.specs.Graphs.{GraphView, AreNamed, AreNamedHops, IsNamedStep}
+use Rattle.hm_layers.specs.Graphs.{GraphView, AreNamed, AreNamedHops, IsNamedStep, IsPlace}
 use Rattle.hm_refs.specs.Names.{Entry}
 use Rattle.hm_steps.specs.Prices.{price_over}
 use Rattle.hm_steps.specs.Steps.{Step, is_forced}
@@ -78,24 +78,24 @@ way_next t g u units k None inside = refl
 way_next t g u units k (Some place) inside = ap (λ steps. way_from (piece_bytes t) g.last (u ∷ units) steps place) (step_next g.steps k inside)
 
 -- the way over one unit
-pub goes_one : (t : List Entry) (g : GraphView) (u : Unit) (own : List ℕ) (hop : Option Hop) (old new : Way) → old.step < length g.steps → new.step ≡ old.step + 1 → own_bytes u ≡ own
-    → hop ≡ option_and_then (hop_taken (row_behind g old.step) (get_or g.steps old.step [])) old.place
+pub goes_one : (t : List Entry) (g : GraphView) (u : Unit) (own : List ℕ) (hop : Option Hop) (old new : Way) → old.at.layer < length g.steps → new.at.layer ≡ old.at.layer + 1 → own_bytes u ≡ own
+    → hop ≡ option_and_then (hop_taken (row_behind g old.at.layer) (get_or g.steps old.at.layer [])) old.place
     → ((more : ℕ → List ℕ) → new.out.items ++ onward more new.place ≡ old.out.items ++ along (piece_text t own) more hop)
     → Goes t g (u ∷ []) old new
 goes_one t g u own hop old new inside next is taken put units =
-    let more : ℕ → List ℕ = way_from (piece_bytes t) g.last units (drop (old.step + 1) g.steps) in
+    let more : ℕ → List ℕ = way_from (piece_bytes t) g.last units (drop (old.at.layer + 1) g.steps) in
     ap (λ k. new.out.items ++ way_on t g units k new.place) next
     ∙ put more
     ∙ (λ i. old.out.items ++ along (piece_text t (sym is i)) more (taken i))
-    ∙ ap (λ x. old.out.items ++ x) (sym (way_next t g u units old.step old.place inside))
+    ∙ ap (λ x. old.out.items ++ x) (sym (way_next t g u units old.at.layer old.place inside))
 
 -- ---- The characters of a text
 
 -- n of the characters were taken
 pub record CharsTaken (t : List Entry) (g : GraphView) (cs : List ℕ) (n : ℕ) (old way : Way) : Type 0 where
-  pub count : way.step ≡ old.step + n
+  pub count : way.at.layer ≡ old.at.layer + n
   pub choices : HasChoices g way
-  pub goes : (kind : TextKind) (units : List Unit) → way.out.items ++ way_on t g (character_units kind (drop n cs) ++ units) way.step way.place ≡ old.out.items ++ way_on t g (character_units kind cs ++ units) old.step old.place
+  pub goes : (kind : TextKind) (units : List Unit) → way.out.items ++ way_on t g (character_units kind (drop n cs) ++ units) way.at.layer way.place ≡ old.out.items ++ way_on t g (character_units kind cs ++ units) old.at.layer old.place
 
 pub no_chars : (t : List Entry) (g : GraphView) (cs : List ℕ) (way : Way) → HasChoices g way → CharsTaken t g cs 0 way way
 no_chars t g cs way h = record { count = omega arith; choices = h; goes = λ kind units. refl }
@@ -108,9 +108,9 @@ char_taken t g cs n m c old between new inside is next taken passes goes = recor
   goes = λ kind units.
       let rest : List ℕ = drop (n + 1) cs in
       let cut : drop n cs ≡ c ∷ rest = drop_more cs n c inside ∙ ap (λ d. d ∷ rest) (sym is) in
-      ap (λ k. new.out.items ++ way_on t g (character_units kind (drop k cs) ++ units) new.step new.place) next
+      ap (λ k. new.out.items ++ way_on t g (character_units kind (drop k cs) ++ units) new.at.layer new.place) next
       ∙ goes (character kind c (next_of rest)) refl (character_units kind rest ++ units)
-      ∙ ap (λ x. between.out.items ++ way_on t g (character_units kind x ++ units) between.step between.place) (sym cut)
+      ∙ ap (λ x. between.out.items ++ way_on t g (character_units kind x ++ units) between.at.layer between.place) (sym cut)
       ∙ taken.goes kind units;
 }
 
@@ -120,7 +120,7 @@ all_chars t g cs n old new whole taken = record { taken = omega (arith, taken.co
 pub chars_go : (t : List Entry) (g : GraphView) (cs : List ℕ) (n : ℕ) (old new : Way) → n ≡ length cs → CharsTaken t g cs n old new → (kind : TextKind) → Goes t g (character_units kind cs) old new
 chars_go t g cs n old new whole taken kind units =
     let none : drop n cs ≡ [] = drop_all n cs (omega arith) in
-    ap (λ x. new.out.items ++ way_on t g (character_units kind x ++ units) new.step new.place) (sym none) ∙ taken.goes kind units
+    ap (λ x. new.out.items ++ way_on t g (character_units kind x ++ units) new.at.layer new.place) (sym none) ∙ taken.goes kind units
 
 pub length_characters : (kind : TextKind) (cs : List ℕ) → length (character_units kind cs) ≡ length cs
 length_characters kind [] = refl
@@ -130,15 +130,15 @@ length_characters kind (c ∷ cs) = omega (arith, length_characters kind cs)
 
 -- n of the parts were taken
 pub record PartsTaken (t : List Entry) (g : GraphView) (parts : List Part) (n : ℕ) (old way : Way) : Type 0 where
-  pub count : way.step + length (parts_units (drop n parts)) ≡ old.step + length (parts_units parts)
+  pub count : way.at.layer + length (parts_units (drop n parts)) ≡ old.at.layer + length (parts_units parts)
   pub choices : HasChoices g way
-  pub goes : (units : List Unit) → way.out.items ++ way_on t g (parts_units (drop n parts) ++ units) way.step way.place ≡ old.out.items ++ way_on t g (parts_units parts ++ units) old.step old.place
+  pub goes : (units : List Unit) → way.out.items ++ way_on t g (parts_units (drop n parts) ++ units) way.at.layer way.place ≡ old.out.items ++ way_on t g (parts_units parts ++ units) old.at.layer old.place
 
 pub no_parts : (t : List Entry) (g : GraphView) (parts : List Part) (way : Way) → HasChoices g way → PartsTaken t g parts 0 way way
 no_parts t g parts way h = record { count = refl; choices = h; goes = λ units. refl }
 
-pub part_inside : (t : List Entry) (g : GraphView) (parts : List Part) (n : ℕ) (part : Part) (old way : Way) → drop n parts ≡ part ∷ drop (n + 1) parts → old.step + length (parts_units parts) ≤ length g.steps → PartsTaken t g parts n old way
-    → way.step + length (part_units part) ≤ length g.steps
+pub part_inside : (t : List Entry) (g : GraphView) (parts : List Part) (n : ℕ) (part : Part) (old way : Way) → drop n parts ≡ part ∷ drop (n + 1) parts → old.at.layer + length (parts_units parts) ≤ length g.steps → PartsTaken t g parts n old way
+    → way.at.layer + length (part_units part) ≤ length g.steps
 part_inside t g parts n part old way cut inside taken =
     omega (arith, taken.count, ap (λ x. length (parts_units x)) cut, length-append (part_units part) (parts_units (drop (n + 1) parts)))
 
@@ -155,7 +155,7 @@ part_taken t g parts n part old between new cut taken passes goes =
       choices = passes.choices;
       goes = λ units.
           goes (rest ++ units)
-          ∙ ap (λ x. between.out.items ++ way_on t g x between.step between.place) (sym (append_assoc (part_units part) rest units) ∙ ap (λ x. parts_units x ++ units) (sym cut))
+          ∙ ap (λ x. between.out.items ++ way_on t g x between.at.layer between.place) (sym (append_assoc (part_units part) rest units) ∙ ap (λ x. parts_units x ++ units) (sym cut))
           ∙ taken.goes units;
     }
 
@@ -167,26 +167,26 @@ all_parts t g parts n old new past taken = record { taken = omega (arith, taken.
 
 pub parts_go : (t : List Entry) (g : GraphView) (parts : List Part) (n : ℕ) (old new : Way) → length parts ≤ n → PartsTaken t g parts n old new → Goes t g (parts_units parts) old new
 parts_go t g parts n old new past taken units =
-    ap (λ x. new.out.items ++ way_on t g (parts_units x ++ units) new.step new.place) (sym (parts_past parts n past)) ∙ taken.goes units
+    ap (λ x. new.out.items ++ way_on t g (parts_units x ++ units) new.at.layer new.place) (sym (parts_past parts n past)) ∙ taken.goes units
 
 -- ---- The events of a tree
 
 -- the units that are left at event i are those of the steps that are left, and what was written and the way from here on are all bytes
 pub record EventsTaken (t : List Entry) (rules : SpellRules) (w : List Event) (g : GraphView) (i : ℕ) (way : Way) : Type 0 where
-  pub count : way.step + length (units_left rules w i) ≡ length g.steps
+  pub count : way.at.layer + length (units_left rules w i) ≡ length g.steps
   pub choices : HasChoices g way
-  pub goes : way.out.items ++ way_on t g (units_left rules w i) way.step way.place ≡ way_from (piece_bytes t) g.last (units_of rules w) g.steps 0
+  pub goes : way.out.items ++ way_on t g (units_left rules w i) way.at.layer way.place ≡ way_from (piece_bytes t) g.last (units_of rules w) g.steps 0
 
-pub no_events : (t : List Entry) (rules : SpellRules) (w : List Event) (g : GraphView) (way : Way) → length (units_of rules w) ≡ length g.steps → way.out.items ≡ [] → way.step ≡ 0 → way.place ≡ Some 0
-    → way.choices.now ≡ choices_of g.last g.steps → EventsTaken t rules w g 0 way
-no_events t rules w g way whole none first place choices = record {
+pub no_events : (t : List Entry) (rules : SpellRules) (w : List Event) (g : GraphView) (way : Way) → length (units_of rules w) ≡ length g.steps → way.out.items ≡ [] → way.at.layer ≡ 0 → way.place ≡ Some 0
+    → way.choices.now ≡ choices_of g.last g.steps → IsPlace g way.at → EventsTaken t rules w g 0 way
+no_events t rules w g way whole none first place choices stands = record {
   count = ap (λ k. k + length (units_of rules w)) first ∙ (let e : 0 + length (units_of rules w) ≡ length g.steps = omega arith in e);
-  choices = choices ∙ ap (λ k. choices_of g.last (drop k g.steps)) (sym first);
+  choices = (choices ∙ ap (λ k. choices_of g.last (drop k g.steps)) (sym first), stands);
   goes = λ i. none i ++ way_on t g (units_of rules w) (first i) (place i);
 }
 
 pub event_inside : (t : List Entry) (rules : SpellRules) (w : List Event) (g : GraphView) (i : ℕ) (parts : List Part) (way : Way) → i < length w → parts_units parts ≡ units_at rules w i → EventsTaken t rules w g i way
-    → way.step + length (parts_units parts) ≤ length g.steps
+    → way.at.layer + length (parts_units parts) ≤ length g.steps
 event_inside t rules w g i parts way inside are taken =
     omega (arith, taken.count, ap length (units_left-next rules w i inside), length-append (units_at rules w i) (units_left rules w (i + 1)), ap length are)
 
@@ -197,7 +197,7 @@ event_taken t rules w g i parts between new inside are taken passes goes =
     let next : units_left rules w i ≡ units_at rules w i ++ rest = units_left-next rules w i inside in record {
       count = omega (arith, taken.count, passes.taken, ap length next, length-append (units_at rules w i) rest, ap length are);
       choices = passes.choices;
-      goes = goes rest ∙ ap (λ x. between.out.items ++ way_on t g x between.step between.place) (ap (λ x. x ++ rest) are ∙ sym next) ∙ taken.goes;
+      goes = goes rest ∙ ap (λ x. between.out.items ++ way_on t g x between.at.layer between.place) (ap (λ x. x ++ rest) are ∙ sym next) ∙ taken.goes;
     }
 
 way_ends : (bytes : Unit → Piece → List ℕ) (last : ℕ) (steps : List Step) (place : ℕ) → way_from bytes last [] steps place ≡ []
@@ -212,6 +212,6 @@ pub all_events : (t : List Entry) (rules : SpellRules) (w : List Event) (g : Gra
     → way.out.items ≡ way_from (piece_bytes t) g.last (units_of rules w) g.steps 0
 all_events t rules w g i way whole taken =
     let none : units_left rules w i ≡ [] = ap (units_left rules w) whole ∙ units_left-none rules w in
-    let ends : way_on t g (units_left rules w i) way.step way.place ≡ [] =
-    ap (λ units. way_on t g units way.step way.place) none ∙ onward_ends (way_from (piece_bytes t) g.last [] (drop way.step g.steps)) way.place (way_ends (piece_bytes t) g.last (drop way.step g.steps)) in
+    let ends : way_on t g (units_left rules w i) way.at.layer way.place ≡ [] =
+    ap (λ units. way_on t g units way.at.layer way.place) none ∙ onward_ends (way_from (piece_bytes t) g.last [] (drop way.at.layer g.steps)) way.place (way_ends (piece_bytes t) g.last (drop way.at.layer g.steps)) in
     sym (append-nil way.out.items) ∙ ap (λ x. way.out.items ++ x) (sym ends) ∙ taken.goes

@@ -2,7 +2,7 @@
 use Rattle.std.specs.Prelude.{◌≡◌, ℕ, ◌+◌, List, [], ◌++◌, drop, Option, Some, None}
 use Rattle.hm_edges.specs.Pieces.{piece_bytes}
 use Rattle.hm_graph.specs.Prices.{Row}
-use Rattle.hm_layers.specs.Graphs.{GraphView}
+use Rattle.hm_layers.specs.Graphs.{GraphView, IsPlace}
 use Rattle.hm_refs.specs.Names.{Entry}
 use Rattle.hm_steps.specs.Prices.{first_row, rows_of}
 use Rattle.hm_steps.specs.Ways.{choices_of, way_from}
@@ -22,15 +22,15 @@ onward more (Some place) = more place
 abbrev pub way_on : List Entry → GraphView → List Unit → ℕ → Option ℕ → List ℕ
 way_on t g units k place = onward (way_from (piece_bytes t) g.last units (drop k g.steps)) place
 
--- the choices that are left are those in front of the steps that are left
+-- the choices that are left are those in front of the steps that are left, from the layer that was reached
 abbrev pub HasChoices : GraphView → Way → Type 0
-HasChoices g way = way.choices.now ≡ choices_of g.last (drop way.step g.steps)
+HasChoices g way = (way.choices.now ≡ choices_of g.last (drop way.at.layer g.steps)) × IsPlace g way.at
 
 -- so many steps were taken
 pub record Passes (g : GraphView) (count : ℕ) (old new : Way) : Type 0 where
-  pub taken : new.step ≡ old.step + count
+  pub taken : new.at.layer ≡ old.at.layer + count
   pub choices : HasChoices g new
 
 -- the way over these units was written
 abbrev pub Goes : List Entry → GraphView → List Unit → Way → Way → Type 0
-Goes t g passed old new = (units : List Unit) → new.out.items ++ way_on t g units new.step new.place ≡ old.out.items ++ way_on t g (passed ++ units) old.step old.place
+Goes t g passed old new = (units : List Unit) → new.out.items ++ way_on t g units new.at.layer new.place ≡ old.out.items ++ way_on t g (passed ++ units) old.at.layer old.place

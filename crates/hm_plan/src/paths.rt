@@ -2,7 +2,7 @@
 ghost use Rattle.std.specs.Prelude.{◌≡◌, ◌<◌, ◌≤◌, ◌+◌, ◌++◌, ◌∷◌, [], ℕ, List, length, drop, chars, option_and_then, slice_get, slice_index, slice_index_or, IfOk, IfSome, OnOk};
 ghost use Rattle.hm_edges.specs.Pieces.{HasName, own_bytes, piece_bytes, piece_text};
 ghost use Rattle.hm_graph.specs.Prices.{Row};
-ghost use Rattle.hm_layers.specs.Graphs.{AreNamed, IsNamedStep};
+ghost use Rattle.hm_layers.specs.Graphs.{AreNamed, IsNamedStep, IsPlace};
 ghost use Rattle.hm_parts.specs.Parts.{AreParts, IsPart, part_units, parts_units};
 ghost use Rattle.hm_refs.specs.Names.{Entry};
 ghost use Rattle.hm_steps.specs.Ways.{along, choices_of, hop_taken, step_choices, way_from};
@@ -13,7 +13,7 @@ ghost use Rattle.hm_plan.specs.Paths.{Goes, HasChoices, Passes, onward, row_behi
 
 use crate::pieces::{Own, put_piece};
 use hm_base::{Memory, SpellRules};
-use hm_layers::{Graph, Step};
+use hm_layers::{Cursor, Graph, Step};
 use hm_parts::{Part, find_parts};
 use hm_refs::Table;
 use hm_steps::Hop;
@@ -24,22 +24,23 @@ use std::alloc::Global;
 #[derive(Drop)]
 struct Way<'c> {
     out: Vec<u8>,
-    /// How many steps were taken.
-    step: usize,
+    /// The layer that was reached.
+    at: Cursor,
     /// The place of the state among those of its layer, None where the way has ended.
     place: Option<usize>,
     /// The choices in front of the steps that are left, those of the next one last.
     choices: &'c [u8],
 }
 
-/// The choices behind step `k`, and those in front of it.
-fn cut_choices<'c>(choices: &'c [u8], graph: &Graph, k: usize) -> (&'c [u8], &'c [u8])
-    requires inside { k < length graph.now.steps }
-    requires choices { choices.now ≡ choices_of graph.now.last (drop k graph.now.steps) }
-    ensures behind { result.0.now ≡ choices_of graph.now.last (drop (k + 1) graph.now.steps) }
-    ensures front { result.1.now ≡ step_choices (row_behind graph.now k) (slice_index_or graph.now.steps k []) }
+/// The choices behind the step of a layer, and those in front of it.
+fn cut_choices<'c>(choices: &'c [u8], graph: &Graph, at: Cursor) -> (&'c [u8], &'c [u8])
+    requires place { IsPlace graph.now at }
+    requires inside { at.layer < length graph.now.steps }
+    requires choices { choices.now ≡ choices_of graph.now.last (drop at.layer graph.now.steps) }
+    ensures behind { result.0.now ≡ choices_of graph.now.last (drop (at.layer + 1) graph.now.steps) }
+    ensures front { result.1.now ≡ step_choices (row_behind graph.now at.layer) (slice_index_or graph.now.steps at.layer []) }
 {
-    let step = graph.step(k);
+    let step = graph.step(at);
     if step.is_forced() {
         return (choices, &[]);
     }
@@ -112,24 +113,25 @@ fn put_hop(
 
 /// Takes the next step, which is that of a unit with these bytes of its own.
 fn take(way: &mut Way, graph: &Graph, table: &Table, own: Own) -> Result<(), Memory>
-    requires inside { way.old.step < length graph.now.steps }
+    requires inside { way.old.at.layer < length graph.now.steps }
     requires choices { HasChoices graph.now way.old }
     requires named { AreNamed table.now.entries graph.now.steps }
     ensures passes { OnOk result (Passes graph.now 1 way.old way.new) }
     ensures goes { OnOk result ((u : units.Unit) → own_bytes u ≡ own_text own.entry → Goes table.now.entries graph.now (u ∷ []) way.old way.new) }
 {
     graph.is_small();
-    let (behind, front) = cut_choices(way.choices, graph, way.step);
-    let hop = next_hop(graph.step(way.step), front, way.place);
+    let at = way.at;
+    let (behind, front) = cut_choices(way.choices, graph, at);
+    let hop = next_hop(graph.step(at), front, way.place);
     way.choices = behind;
-    way.step += 1;
+    way.at = graph.next(at);
     way.place = put_hop(&mut way.out, table, hop, own)?;
     Ok(())
 }
 
 /// Takes the steps of the characters of a text.
 fn take_chars(way: &mut Way, graph: &Graph, table: &Table, text: &str) -> Result<(), Memory>
-    requires inside { way.old.step + length (chars text.now) ≤ length graph.now.steps }
+    requires inside { way.old.at.layer + length (chars text.now) ≤ length graph.now.steps }
     requires choices { HasChoices graph.now way.old }
     requires named { AreNamed table.now.entries graph.now.steps }
     ensures passes { OnOk result (Passes graph.now (length (chars text.now)) way.old way.new) }
@@ -143,7 +145,7 @@ fn take_chars(way: &mut Way, graph: &Graph, table: &Table, text: &str) -> Result
 
 /// Takes the steps of a part.
 fn take_part(way: &mut Way, graph: &Graph, table: &Table, part: Part) -> Result<(), Memory>
-    requires inside { way.old.step + length (part_units part) ≤ length graph.now.steps }
+    requires inside { way.old.at.layer + length (part_units part) ≤ length graph.now.steps }
     requires choices { HasChoices graph.now way.old }
     requires named { AreNamed table.now.entries graph.now.steps }
     requires part { IsPart part }
@@ -159,7 +161,7 @@ fn take_part(way: &mut Way, graph: &Graph, table: &Table, part: Part) -> Result<
 
 /// Takes the steps of the parts of an event.
 fn take_parts(way: &mut Way, graph: &Graph, table: &Table, parts: &[Part]) -> Result<(), Memory>
-    requires inside { way.old.step + length (parts_units parts.now) ≤ length graph.now.steps }
+    requires inside { way.old.at.layer + length (parts_units parts.now) ≤ length graph.now.steps }
     requires choices { HasChoices graph.now way.old }
     requires named { AreNamed table.now.entries graph.now.steps }
     requires parts { AreParts parts.now }
@@ -189,7 +191,7 @@ pub fn write_path(
     let mut parts = Vec::new(alloc);
     let mut way = Way {
         out: Vec::new(alloc),
-        step: 0,
+        at: graph.first_layer(),
         place: Some(0),
         choices,
     };

@@ -216,8 +216,10 @@ pub fn backward(alloc: Global, graph: &Graph, rules: SpellRules) -> Result<Plan,
 {
     graph.is_small();
     let mut back = Back::new(alloc, graph.last())?;
+    let mut layer = graph.last_layer();
     for k in (0..graph.len()).rev() {
-        back.go_over(k, graph.step(k))?;
+        layer = graph.back(layer);
+        back.go_over(k, graph.step(layer))?;
     }
     back.finish(rules)
 }

@@ -5,7 +5,7 @@ use Rattle.hm_plan.proofs.FirstWay.{no_events, event_inside, event_taken, all_ev
 use Rattle.hm_plan.proofs.paths.write_path.Goals as goal
 
 pub loop-i-init : goal.loop-i-init
-loop-i-init c = no_events c.args.table.now.entries c.args.rules c.args.tree.now c.args.graph.now _ c.requires.count c.new.ensures.items refl refl c.requires.choices
+loop-i-init c = no_events c.args.table.now.entries c.args.rules c.args.tree.now c.args.graph.now _ c.requires.count c.new.ensures.items c.first_layer.ensures.layer refl c.requires.choices c.first_layer.ensures.place
 
 pub take_parts-requires-clause-inside : goal.take_parts-requires-clause-inside
 take_parts-requires-clause-inside c =

@@ -1,0 +1,105 @@
+//! Numbers that come in runs of equal ones.
+ghost use Rattle.std.specs.Prelude.{◌≡◌, ◌<◌, ◌^◌, ◌++◌, ◌∷◌, [], length, IfOk, OnErr, OnOk};
+ghost use Rattle.std.proofs.Math.ListN.{replicate};
+ghost use Rattle.hm_layers.specs.Runs.{AreRuns, unroll};
+
+use hm_base::Memory;
+use std::alloc::Global;
+use std::marker::Model;
+
+/// A number, and how often it comes in a row.
+#[derive(Clone, Copy)]
+pub struct Run {
+    pub(crate) number: u32,
+    pub(crate) count: u32,
+}
+
+/// Numbers in their order. Equal ones in a row are kept as one run.
+#[derive(Drop)]
+pub(crate) struct Numbers {
+    runs: Vec<Run>,
+    /// The last run, which may be empty.
+    latest: Run,
+    len: usize,
+}
+
+impl Model for Numbers {
+    ghost use Rattle.std.specs.Prelude.{◌≡◌, ◌++◌, ℕ, List, length};
+    ghost use Rattle.std.proofs.Math.ListN.{replicate};
+    ghost use Rattle.hm_layers.specs.Runs.{AreRuns, unroll};
+
+    ghost Value = { List ℕ };
+
+    ghost view = { λ n. unroll n.runs.items ++ replicate n.latest.count n.latest.number };
+
+    ghost invariant = { λ n. AreRuns n.runs.items × (n.len ≡ length (unroll n.runs.items ++ replicate n.latest.count n.latest.number)) };
+}
+
+/// Adds a run behind, where it isn't empty.
+fn push_run(runs: &mut Vec<Run>, run: Run) -> Result<(), Memory>
+    requires { AreRuns runs.old.items }
+    ensures runs { AreRuns runs.new.items }
+    ensures ok { OnOk result (unroll runs.new.items ≡ unroll runs.old.items ++ replicate run.count run.number) }
+    ensures err { OnErr result (runs.new.items ≡ runs.old.items) }
+{
+    if run.count == 0 {
+        return Ok(());
+    }
+    runs.push(run)?;
+    Ok(())
+}
+
+impl Numbers {
+    /// No numbers.
+    pub(crate) fn new(alloc: Global) -> Numbers
+        ensures { result ≡ [] }
+    {
+        Numbers {
+            runs: Vec::new(alloc),
+            latest: Run {
+                number: 0,
+                count: 0,
+            },
+            len: 0,
+        }
+    }
+
+    /// How many numbers there are.
+    pub(crate) fn len(&self) -> usize
+        ensures { result ≡ length self.now }
+    {
+        self.len
+    }
+
+    /// Adds a number behind.
+    pub(crate) fn push(&mut self, number: u32) -> Result<(), Memory>
+        requires { length self.old < 2 ^ 29 }
+        ensures ok { OnOk result (self.new ≡ self.old ++ number ∷ []) }
+        ensures err { OnErr result (self.new ≡ self.old) }
+    {
+        if self.latest.number == number {
+            self.latest.count += 1;
+            self.len += 1;
+            return Ok(());
+        }
+        push_run(&mut self.runs, self.latest)?;
+        self.latest = Run { number, count: 1 };
+        self.len += 1;
+        Ok(())
+    }
+
+    /// The runs.
+    pub(crate) fn into_runs(self) -> Result<Vec<Run>, Memory>
+        ensures runs { IfOk result (λ runs. AreRuns runs.items) }
+        ensures numbers { IfOk result (λ runs. unroll runs.items ≡ self) }
+    {
+        let Numbers {
+            runs,
+            latest,
+            len: _,
+        } = self;
+        let mut runs = runs;
+        push_run(&mut runs, latest)?;
+        Ok(runs)
+    }
+}

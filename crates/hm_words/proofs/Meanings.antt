@@ -4,13 +4,13 @@ use Rattle.std.specs.Str.{bytes_eq}
 use Rattle.hm_base.specs.Bytes.{is_null}
 use Rattle.hm_base.proofs.Bytes.{both_true, first_true, second_true}
 use Rattle.hm_elements.proofs.TableTools.{same_bytes}
-use Rattle.hm_words.specs.Words.{Command, Asked, minify, check, tree, measure, asks, asked, flags, is_apart, is_flag, names_in, are_known, are_single, or_else, measured, number_in, command_in, with_flags, options_of, rules_of}
+use Rattle.hm_words.specs.Words.{Command, Asked, minify, check, tree, measure, asks, asked, flags, is_apart, is_flag, names_in, are_known, are_single, or_else, measured, number_in, command_in, with_flags, options_of, writing_of}
 use Rattle.hm_words.specs.Answers.{are_filled, are_readable, is_guarded}
 
 -- what a command asks for whose names aren't empty
 abbrev pub with_command : List (List ℕ) → Option Command → Option Asked
 with_command ws None = None
-with_command ws (Some command) = cond (is_apart command) (Some (asks command (options_of ws) (rules_of ws))) None
+with_command ws (Some command) = cond (is_apart command) (Some (asks command (options_of ws) (writing_of ws))) None
 
 names_filled : (ws : List (List ℕ)) → are_filled ws ≡ true → are_filled (names_in ws) ≡ true
 names_filled [] e = refl

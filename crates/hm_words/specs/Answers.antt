@@ -15,7 +15,7 @@ command_of (commands.Tree table page) = words.tree table.now page.now
 command_of (commands.Measure table number size) = words.measure table.now number size
 
 abbrev pub request_of : Asked → words.Asked
-request_of asked = record { command = command_of asked.command; options = asked.options; rules = asked.rules }
+request_of asked = record { command = command_of asked.command; options = asked.options; writing = asked.writing }
 
 -- the word is one of these flags
 abbrev pub is_one_of : List (Bor (List ℕ)) → List ℕ → Bool

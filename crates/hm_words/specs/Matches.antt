@@ -12,7 +12,7 @@ abbrev pub dashed : List ℕ → List ℕ
 dashed name = 45 ∷ 45 ∷ name
 
 abbrev pub flag_names : List (List ℕ)
-flag_names = words "comments booleans empty redundant doctype space conservative omit unquote tight ascii"
+flag_names = words "comments booleans empty redundant doctype space conservative omit unquote tight ascii sparse"
 
 abbrev pub flag_rule : List ℕ → Rule
 flag_rule name = record (new_rule name) { long = Some name; action = Some SetTrue }

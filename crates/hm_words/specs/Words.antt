@@ -7,6 +7,7 @@ use Rattle.hm_base.specs.Bytes.{is_null}
 use Rattle.hm_base.specs.declared.plain.SpellRules.{SpellRules}
 use Rattle.hm_base.specs.declared.plain.TreeOptions.{TreeOptions}
 use Rattle.hm_elements.specs.Names.{words}
+use Rattle.hm_words.specs.declared.writing.Writing.{Writing}
 
 -- what is done, with the names of its files, or with the number and the blocks of a page that is made
 pub data Command : Type 0 where
@@ -15,14 +16,14 @@ pub data Command : Type 0 where
   tree : List ℕ → List ℕ → Command  -- TABLE, PAGE
   measure : List ℕ → ℕ → ℕ → Command  -- TABLE, NUMBER, SIZE
 
--- a request: a command, the rewrites of the tree that it works on, and the spellings that are allowed
+-- a request: a command, the rewrites of the tree that it works on, and how that is written
 pub record Asked : Type 0 where
   pub command : Command
   pub options : TreeOptions
-  pub rules : SpellRules
+  pub writing : Writing
 
-abbrev pub asks : Command → TreeOptions → SpellRules → Asked
-asks command options rules = record { command = command; options = options; rules = rules }
+abbrev pub asks : Command → TreeOptions → Writing → Asked
+asks command options writing = record { command = command; options = options; writing = writing }
 
 -- the names of table and page differ, where the table `none` is no name
 abbrev pub are_apart : List ℕ → List ℕ → Bool
@@ -40,7 +41,7 @@ names_in ws = filter (λ w. not (is_flag w)) ws
 
 -- the flags of every command
 unfoldable pub flags : List (List ℕ)
-flags = words "--comments --booleans --empty --redundant --doctype --space --conservative --omit --unquote --tight --ascii"
+flags = words "--comments --booleans --empty --redundant --doctype --space --conservative --omit --unquote --tight --ascii --sparse"
 
 -- the word is one of these
 abbrev pub has : List (List ℕ) → List ℕ → Bool
@@ -83,6 +84,10 @@ rules_of ws = record {
   ascii = has ws (codes "--ascii");
   frame = false;
 }
+
+-- how a tree is written, by the flags among the words
+abbrev pub writing_of : List (List ℕ) → Writing
+writing_of ws = record { rules = rules_of ws; sparse = has ws (codes "--sparse") }
 
 -- ---- The names of a command's files
 
@@ -159,7 +164,7 @@ command_in names = or_else (four_of names) (or_else (measure_of names) (tree_of 
 
 abbrev pub with_flags : List (List ℕ) → Option Command → Option Asked
 with_flags ws None = None
-with_flags ws (Some command) = if is_filled command && is_apart command then Some (asks command (options_of ws) (rules_of ws)) else None
+with_flags ws (Some command) = if is_filled command && is_apart command then Some (asks command (options_of ws) (writing_of ws)) else None
 
 -- what the words ask for, where they have a meaning
 unfoldable pub asked : List (List ℕ) → Option Asked

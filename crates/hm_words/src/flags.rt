@@ -6,7 +6,7 @@ ghost use Rattle.hm_words.specs.Answers as answers;
 use hm_base::Word;
 
 /// The flags of every command.
-const FLAGS: [&str; 11] = [
+const FLAGS: [&str; 12] = [
     "--comments",
     "--booleans",
     "--empty",
@@ -18,6 +18,7 @@ const FLAGS: [&str; 11] = [
     "--unquote",
     "--tight",
     "--ascii",
+    "--sparse",
 ];
 
 /// Whether a word begins with `-`.

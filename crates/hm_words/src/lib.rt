@@ -7,5 +7,7 @@ mod numbers;
 #[cfg(test)]
 mod tests;
 mod words;
+mod writing;
 
 pub use words::{Asked, Command, WordsFault};
+pub use writing::Writing;

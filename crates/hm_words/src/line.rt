@@ -47,6 +47,7 @@ fn line<'t>(alloc: Global) -> Result<Command<'t>, AllocError>
         .arg(flag(alloc, "unquote"))?
         .arg(flag(alloc, "tight"))?
         .arg(flag(alloc, "ascii"))?
+        .arg(flag(alloc, "sparse"))?
         .arg(Arg::new(alloc, "names").action(ArgAction::Append))
 }
 

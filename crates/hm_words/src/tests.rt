@@ -65,11 +65,15 @@ fn asks(
     command: &[&str],
     options: TreeOptions,
     rules: SpellRules,
+    sparse: bool,
 ) -> Result<bool, Fail> {
     let words = worded(alloc, text)?;
     match Asked::read(alloc, words.as_slice()) {
         Ok(asked) => Ok(
-            is_command(&asked.command, command) && asked.options == options && asked.rules == rules,
+            is_command(&asked.command, command)
+                && asked.options == options
+                && asked.writing.rules == rules
+                && asked.writing.sparse == sparse,
         ),
         Err(_) => Ok(false),
     }
@@ -90,6 +94,7 @@ fn requests(rt: HostRuntime) -> Result<(), Fail> {
             &["minify", "none", "page", "out", "cert"],
             NO_OPTIONS,
             spelled,
+            false,
         )?
     );
     let commented = TreeOptions {
@@ -106,10 +111,11 @@ fn requests(rt: HostRuntime) -> Result<(), Fail> {
     assert!(rt;
         asks(
             alloc,
-            "--ascii minify --unquote table page --tight out cert --omit --comments",
+            "--ascii minify --unquote table page --tight out cert --sparse --omit --comments",
             &["minify", "table", "page", "out", "cert"],
             commented,
             all,
+            true,
         )?
     );
     assert!(rt;
@@ -118,7 +124,8 @@ fn requests(rt: HostRuntime) -> Result<(), Fail> {
             "tree none none",
             &["tree", "none", "none"],
             NO_OPTIONS,
-            NO_RULES
+            NO_RULES,
+            false,
         )?
     );
     let spaced = TreeOptions {
@@ -133,6 +140,7 @@ fn requests(rt: HostRuntime) -> Result<(), Fail> {
             &["tree", "none", "page"],
             spaced,
             NO_RULES,
+            false,
         )?
     );
     assert!(rt;
@@ -142,6 +150,7 @@ fn requests(rt: HostRuntime) -> Result<(), Fail> {
             &["measure", "0"],
             commented,
             NO_RULES,
+            false,
         )?
     );
     let omitted = SpellRules {
@@ -155,6 +164,7 @@ fn requests(rt: HostRuntime) -> Result<(), Fail> {
             &["tree", "none", "page"],
             NO_OPTIONS,
             omitted,
+            false,
         )?
     );
     Ok(())

@@ -9,6 +9,7 @@ ghost use Rattle.hm_words.specs.Matches.{IsRead};
 use crate::flags::are_readable;
 use crate::line::{is_given, names_of, parse};
 use crate::numbers::number_in;
+use crate::writing::Writing;
 use clap::ArgMatches;
 use hm_base::{SpellRules, TreeOptions, Word};
 use std::alloc::Global;
@@ -46,12 +47,12 @@ pub enum Command<'w> {
     },
 }
 
-/// A request: a command, the rewrites of the tree that it works on, and the spellings that are allowed.
+/// A request: a command, the rewrites of the tree that it works on, and how that is written.
 #[derive(Clone, Copy, Debug)]
 pub struct Asked<'w> {
     pub command: Command<'w>,
     pub options: TreeOptions,
-    pub rules: SpellRules,
+    pub writing: Writing,
 }
 
 /// Why words give no request.
@@ -139,6 +140,17 @@ fn rules_of(matches: &ArgMatches<'_>) -> SpellRules
         tight: is_given(matches, "tight"),
         ascii: is_given(matches, "ascii"),
         frame: false,
+    }
+}
+
+/// How a tree is written, by the flags that are given.
+#[tactic(auto, unfolding(crate::specs::Words::flags))]
+fn writing_of(matches: &ArgMatches<'_>) -> Writing
+    ensures { (words : List (List ℕ)) → IsRead words matches.now → result ≡ spec.writing_of words }
+{
+    Writing {
+        rules: rules_of(matches),
+        sparse: is_given(matches, "sparse"),
     }
 }
 
@@ -253,7 +265,7 @@ fn asked_in<'w>(matches: &ArgMatches<'w>) -> Option<Asked<'w>>
     Some(Asked {
         command,
         options: options_of(matches),
-        rules: rules_of(matches),
+        writing: writing_of(matches),
     })
 }
 

@@ -23,5 +23,6 @@ returns c =
     let unquote = added _ _ _ _ (flag_rule (codes "unquote")) c.in_ok-arg-9.ensures c.flag-9.ensures.local omit c.flag-9.ensures.rule in
     let tight = added _ _ _ _ (flag_rule (codes "tight")) c.in_ok-arg-10.ensures c.flag-10.ensures.local unquote c.flag-10.ensures.rule in
     let ascii = added _ _ _ _ (flag_rule (codes "ascii")) c.in_ok-arg-11.ensures c.flag-11.ensures.local tight c.flag-11.ensures.rule in
+    let sparse = added _ _ _ _ (flag_rule (codes "sparse")) c.in_ok-arg-12.ensures c.flag-12.ensures.local ascii c.flag-12.ensures.rule in
     let names_is : rule_of c.action.result ≡ names_rule = search rules in
-    IfOk-weaker c.arg-12.result _ _ (λ r adds. added _ r c.action.result _ names_rule adds (search rules) ascii names_is) c.arg-12.ensures
+    IfOk-weaker c.arg-13.result _ _ (λ r adds. added _ r c.action.result _ names_rule adds (search rules) sparse names_is) c.arg-13.ensures

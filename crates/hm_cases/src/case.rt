@@ -91,12 +91,26 @@ impl Case {
         }
     }
 
+    /// Takes the file `out` or `cert`, which is there before the run and is to be the same afterwards.
+    fn take_kept(&mut self, alloc: Global, name: &str, text: &str) -> io::Result<()> {
+        let bytes = bytes_of(alloc, text)?;
+        self.take_file(name, bytes.as_slice())?;
+        if name == "out" {
+            self.out = Some(bytes);
+        } else {
+            self.cert = Some(bytes);
+        }
+        Ok(())
+    }
+
     /// Takes a line of the case, by its first word. A first word that no line of a case has is refused as `InvalidData`.
     pub fn take(&mut self, alloc: Global, key: &str, rest: &str) -> io::Result<()> {
         match key {
             "case" => Ok(self.name.push_str(rest)?),
             "words" => self.take_words(alloc, rest),
             "table" | "page" => self.take_file(key, bytes_of(alloc, rest)?.as_slice()),
+            "has_out" => self.take_kept(alloc, "out", rest),
+            "has_cert" => self.take_kept(alloc, "cert", rest),
             "status" => match rest.parse::<u8>() {
                 Ok(status) => {
                     self.status = status;

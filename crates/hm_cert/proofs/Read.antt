@@ -7,7 +7,7 @@ use Rattle.std.proofs.lemmas.Slice.Eq.{bytes_eq-Decides}
 use Rattle.std.proofs.lemmas.List.{length-map}
 use Rattle.hm_base.specs.declared.plain.SpellRules.{SpellRules}
 use Rattle.hm_cert.specs.declared.text.Format.{Format}
-use Rattle.hm_cert.specs.declared.text.Format.TheVariants.{One, Two}
+use Rattle.hm_cert.specs.declared.text.Format.TheVariants.{One, Two, Three}
 use Rattle.hm_cert.specs.declared.certificate.Certificate.{Certificate}
 use Rattle.hm_cert.specs.Certificate.{Row, ArePrices, AreRows, price_text, row_text, row_lines, format_text, rules_text, certificate_text}
 use Rattle.hm_cert.specs.Layout.{told}
@@ -79,11 +79,15 @@ rows_are number text rows h = (rows_back number (pieces 10 text) rows h).1
 format_back : (line : List ℕ) (format : Format) → line_format line ≡ Some format → format_text format ≡ line
 format_back line format h = by_one (bytes_eq line (format_text One)) refl h
   where
-    by_two : (b : Bool) → bytes_eq line (format_text Two) ≡ b → cond b (Some Two) None ≡ Some format → format_text format ≡ line
-    by_two true e h = let is : Two ≡ format = cc in ap format_text (sym is) ∙ sym ((bytes_eq-Decides line (format_text Two)).0 e)
-    by_two false e h = absurd (cc)
+    by_three : (b : Bool) → bytes_eq line (format_text Three) ≡ b → cond b (Some Three) None ≡ Some format → format_text format ≡ line
+    by_three true e h = let is : Three ≡ format = cc in ap format_text (sym is) ∙ sym ((bytes_eq-Decides line (format_text Three)).0 e)
+    by_three false e h = absurd (cc)
 
-    by_one : (b : Bool) → bytes_eq line (format_text One) ≡ b → cond b (Some One) (cond (bytes_eq line (format_text Two)) (Some Two) None) ≡ Some format → format_text format ≡ line
+    by_two : (b : Bool) → bytes_eq line (format_text Two) ≡ b → cond b (Some Two) (cond (bytes_eq line (format_text Three)) (Some Three) None) ≡ Some format → format_text format ≡ line
+    by_two true e h = let is : Two ≡ format = cc in ap format_text (sym is) ∙ sym ((bytes_eq-Decides line (format_text Two)).0 e)
+    by_two false e h = by_three (bytes_eq line (format_text Three)) refl h
+
+    by_one : (b : Bool) → bytes_eq line (format_text One) ≡ b → cond b (Some One) (cond (bytes_eq line (format_text Two)) (Some Two) (cond (bytes_eq line (format_text Three)) (Some Three) None)) ≡ Some format → format_text format ≡ line
     by_one true e h = let is : One ≡ format = cc in ap format_text (sym is) ∙ sym ((bytes_eq-Decides line (format_text One)).0 e)
     by_one false e h = by_two (bytes_eq line (format_text Two)) refl h
 

@@ -10,7 +10,7 @@ use Rattle.std.proofs.lemmas.List.Splits.{slice_split-cons_yes, slice_split-cons
 use Rattle.std.proofs.lemmas.Str.Parse.{digit_at}
 use Rattle.hm_base.specs.declared.plain.SpellRules.{SpellRules}
 use Rattle.hm_cert.specs.declared.text.Format.{Format}
-use Rattle.hm_cert.specs.declared.text.Format.TheVariants.{One, Two}
+use Rattle.hm_cert.specs.declared.text.Format.TheVariants.{One, Two, Three}
 use Rattle.hm_cert.specs.Certificate.{Row, IsPrice, ArePrices, AreRows, price_text, row_text, row_lines, format_text, flag_text, rules_text, head_lines, certificate_text}
 use Rattle.hm_cert.specs.Reading.{pieces, words_row, line_row, line_format, and_row, with_row, rows_in, with_head, behind_rules, given}
 use Rattle.hm_cert.proofs.PriceTexts.{digits_of_decimal, text_price}
@@ -110,10 +110,12 @@ rows_back number (row ∷ rows) h =
 format_cut : (format : Format) (rest : List ℕ) → pieces 10 (format_text format ++ 10 ∷ rest) ≡ format_text format ∷ pieces 10 rest
 format_cut One rest = refl
 format_cut Two rest = refl
+format_cut Three rest = refl
 
 format_back : (format : Format) → line_format (format_text format) ≡ Some format
 format_back One = refl
 format_back Two = refl
+format_back Three = refl
 
 -- a certificate's text, line by line
 pub text_lines : (format : Format) (rules : SpellRules) (rest : List ℕ) → head_lines format rules ++ rest ≡ format_text format ++ 10 ∷ (rules_text rules ++ 10 ∷ rest)

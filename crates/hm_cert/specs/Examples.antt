@@ -2,7 +2,7 @@
 use Rattle.std.specs.Prelude.{◌≡◌, ℕ, true, false, List, [], ◌∷◌, ◌++◌, Some, None, Ok, Err, codes, length, refl}
 use Rattle.std.specs.Fmt.{digits}
 use Rattle.hm_base.specs.declared.plain.SpellRules.{SpellRules}
-use Rattle.hm_cert.specs.declared.text.Format.TheVariants.{One, Two}
+use Rattle.hm_cert.specs.declared.text.Format.TheVariants.{One, Two, Three}
 use Rattle.hm_cert.specs.Certificate.{Row, certificate_text}
 use Rattle.hm_cert.specs.Reading.{given}
 
@@ -56,6 +56,24 @@ pub choices_read : given choices_text ≡ Ok (record { format = Two; rules = omi
 unfolding digits
 choices_read = refl
 
+-- the sparse certificate of the same page, of 36 bytes
+abbrev pub sparse : List Row
+sparse = one 23 ∷ one 0 ∷ []
+
+abbrev pub sparse_text : List ℕ
+sparse_text = line (codes "html-cert 3") (line (codes "rules omit unquote") (line (codes "23") (line (codes "0") [])))
+
+pub sparse_written : certificate_text Three omit_unquote sparse ≡ sparse_text
+unfolding digits
+sparse_written = refl
+
+pub sparse_length : length sparse_text ≡ 36
+sparse_length = refl
+
+pub sparse_read : given sparse_text ≡ Ok (record { format = Three; rules = omit_unquote; prices = sparse })
+unfolding digits
+sparse_read = refl
+
 -- rows of several prices, some closed, the greatest of them 2^63 - 1
 abbrev pub wide : List Row
 wide = (Some 10 ∷ None ∷ Some 9223372036854775807 ∷ []) ∷ (None ∷ None ∷ []) ∷ []
@@ -80,7 +98,7 @@ no_layers = refl
 pub empty_file : given [] ≡ Err 1
 empty_file = refl
 
-pub other_format : given (line (codes "html-cert 3") (line (codes "rules") [])) ≡ Err 1
+pub other_format : given (line (codes "html-cert 4") (line (codes "rules") [])) ≡ Err 1
 other_format = refl
 
 pub unterminated_first : given (codes "html-cert 1") ≡ Err 1

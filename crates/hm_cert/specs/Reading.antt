@@ -6,7 +6,7 @@ use Rattle.hm_base.specs.Bytes.{is_null}
 use Rattle.hm_base.specs.declared.plain.SpellRules.{SpellRules}
 use Rattle.hm_base.specs.declared.limits.TheConstants.{CERTIFICATE_LIMIT}
 use Rattle.hm_cert.specs.declared.text.Format.{Format}
-use Rattle.hm_cert.specs.declared.text.Format.TheVariants.{One, Two}
+use Rattle.hm_cert.specs.declared.text.Format.TheVariants.{One, Two, Three}
 use Rattle.hm_cert.specs.declared.certificate.Certificate.{Certificate}
 use Rattle.hm_cert.specs.declared.lines.CertificateFault.{CertificateFault}
 use Rattle.hm_cert.specs.declared.lines.CertificateFault.TheVariants.{TooLong, BadLine, Memory}
@@ -30,7 +30,7 @@ line_row line = words_row (pieces 32 line)
 
 -- the format whose text the line is
 abbrev pub line_format : List ℕ → Option Format
-line_format line = if bytes_eq line (format_text One) then Some One else (if bytes_eq line (format_text Two) then Some Two else None)
+line_format line = if bytes_eq line (format_text One) then Some One else (if bytes_eq line (format_text Two) then Some Two else (if bytes_eq line (format_text Three) then Some Three else None))
 
 abbrev pub has_word : List ℕ → List (List ℕ) → Bool
 has_word word [] = false

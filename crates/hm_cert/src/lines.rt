@@ -121,6 +121,8 @@ fn read_format(line: &[u8]) -> Option<Format>
         Some(Format::One)
     } else if line == Format::Two.text() {
         Some(Format::Two)
+    } else if line == Format::Three.text() {
+        Some(Format::Three)
     } else {
         None
     }

@@ -16,6 +16,9 @@ const EVERY_LAYER: &str =
 
 const CHOICES: &str = "html-cert 2\nrules omit unquote\n23\n8\n8\n8\n8\n4\n0\n0\n0\n0\n";
 
+/// The sparse one of the same page.
+const SPARSE: &str = "html-cert 3\nrules omit unquote\n23\n0\n";
+
 const WIDE: &str = "html-cert 2\nrules omit unquote\n10 - 9223372036854775807\n- -\n0\n";
 
 /// The text of a certificate, written from its end and turned round.
@@ -47,6 +50,7 @@ fn written(rt: HostRuntime) -> Result<(), Memory> {
             [23, 8, 8, 8, 8, 4, 0, 0, 0, 0].as_slice(),
             CHOICES,
         ),
+        (Format::Three, [23, 0].as_slice(), SPARSE),
     ] {
         let mut prices = Prices::new(rt.alloc());
         for price in rows {
@@ -93,6 +97,8 @@ fn read(rt: HostRuntime) -> Result<(), CertificateFault> {
     }
     let read = Certificate::read(rt.alloc(), EVERY_LAYER.as_bytes())?;
     assert!(rt; read.format == Format::One && read.rules == RULES && read.prices.rows() == 14);
+    let read = Certificate::read(rt.alloc(), SPARSE.as_bytes())?;
+    assert!(rt; read.format == Format::Three && read.rules == RULES && read.prices.rows() == 2);
     let read = Certificate::read(rt.alloc(), b"html-cert 2\nrules tight ascii frame\n")?;
     assert!(rt; read.rules.tight && read.rules.ascii && read.rules.frame);
     assert!(rt; !read.rules.omit && !read.rules.unquote && read.prices.rows() == 0);
@@ -105,7 +111,7 @@ fn bad_lines(rt: HostRuntime) {
         ("", 1),
         ("\n", 1),
         ("html-cert 1", 1),
-        ("html-cert 3\nrules\n0\n", 1),
+        ("html-cert 4\nrules\n0\n", 1),
         ("html-cert 1 \nrules\n0\n", 1),
         ("html-cert 1\r\nrules\n0\n", 1),
         ("html-cert 1\n", 2),

@@ -16,6 +16,8 @@ pub enum Format {
     One,
     /// The first, the last, and those with a choice: with more than one state, or with more than one edge.
     Two,
+    /// The first, the last, and those in which some state has a choice, in the graph without edges that are outdone.
+    Three,
 }
 
 impl Format {
@@ -26,6 +28,7 @@ impl Format {
         match self {
             Format::One => b"html-cert 1",
             Format::Two => b"html-cert 2",
+            Format::Three => b"html-cert 3",
         }
     }
 }

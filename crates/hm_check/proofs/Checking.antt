@@ -5,6 +5,7 @@ use Rattle.std.specs.declared.result.Result.{Result}
 use Rattle.std.specs.declared.result.Result.TheVariants.{Ok, Err}
 use Rattle.std.specs.Result.{IfOk, IfErr}
 use Rattle.std.proofs.lemmas.Bool.{lt-ltb, le-ltb}
+use Rattle.hm_cert.specs.declared.text.Format.{Format}
 use Rattle.hm_base.specs.Faults.{HasText}
 use Rattle.hm_base.specs.Source.{refusal_at, Source, source_of, text_fault}
 use Rattle.hm_base.specs.Walks.{Event}
@@ -22,16 +23,16 @@ use Rattle.hm_graph.specs.Layers.{first_layer}
 use Rattle.hm_graph.specs.Prices.{Row}
 use Rattle.hm_graph.specs.UnitEdges.{edges_of}
 use Rattle.hm_graph.specs.Ways.{Edges}
-use Rattle.hm_layers.specs.Graphs.{GraphView}
+use Rattle.hm_layers.specs.Graphs.{GraphView, tree_edges}
 use Rattle.hm_refs.specs.Names.{Entry}
 use Rattle.hm_steps.specs.Fits.{StepsFit}
-use Rattle.hm_steps.specs.Laws.{follows_by}
+use Rattle.hm_outdone.specs.Formats.{follows_by}
 use Rattle.hm_tree.specs.Trees.{DifferFirstAt}
 use Rattle.hm_units.specs.Units.{Unit, units_of}
 use Rattle.hm_check.specs.Differences.{first_difference}
 use Rattle.hm_check.specs.Steps.{by_rows_over}
 use Rattle.hm_check.specs.Trees.{tree_why}
-use Rattle.hm_check.specs.Verdicts.{same_rules, leaves_singles_out, out_outcome, by_rows, by_difference, by_outcome, verdict}
+use Rattle.hm_check.specs.Verdicts.{same_rules, out_outcome, by_rows, by_difference, by_outcome, verdict}
 use Rattle.hm_check.specs.declared.verdicts.Verdict.{Verdict}
 use Rattle.hm_check.specs.declared.verdicts.Verdict.TheVariants.{No}
 use Rattle.hm_check.specs.declared.verdicts.Why.{Why}
@@ -77,9 +78,9 @@ difference_is w v (Some i) differs = sym (difference_at w v i differs)
 
 -- ---- The rows
 
-pub certificate_found : (edges : Edges) (bytes : Unit → Piece → List ℕ) (units : List Unit) (g : GraphView) (singles by : Bool) (n : ℕ) (rows : List Row) (found : Verdict) → StepsFit edges bytes units first_layer g.steps g.last
-    → singles ≡ by → found ≡ by_rows_over singles g.last g.steps n rows → found ≡ by_rows edges (follows_by by edges) n units rows
-certificate_found edges bytes units g singles by n rows found fits is e = e ∙ ap (λ s. by_rows_over s g.last g.steps n rows) is ∙ rows_found edges bytes units g.steps g.last by n rows fits
+pub certificate_found : (edges : Edges) (bytes : Unit → Piece → List ℕ) (units : List Unit) (g : GraphView) (format : Format) (n : ℕ) (rows : List Row) (found : Verdict) → StepsFit edges bytes units first_layer g.steps g.last
+    → found ≡ by_rows_over format g.last g.steps n rows → found ≡ by_rows edges (follows_by format edges) n units rows
+certificate_found edges bytes units g format n rows found fits e = e ∙ rows_found edges bytes units g.steps g.last format n rows fits
 
 -- ---- The verdict
 
@@ -100,12 +101,12 @@ outcome_other t r w n c (built v) why e = by_case (first_difference v w) e
     by_case (Some i) k = ap No (cc)
 
 outcome_right : (t : List Entry) (r : SpellRules) (w : List Event) (n : ℕ) (c : Certificate) (o : Outcome) → None ≡ tree_why w o
-    → by_outcome t r w n c o ≡ by_rows (edges_of (spelling t r)) (follows_by (leaves_singles_out c.format) (edges_of (spelling t r))) n (units_of r w) c.prices
+    → by_outcome t r w n c o ≡ by_rows (tree_edges t r c.format) (follows_by c.format (tree_edges t r c.format)) n (units_of r w) c.prices
 outcome_right t r w n c (refused_by rule at) e = absurd (cc)
 outcome_right t r w n c (built v) e = by_case (first_difference v w) e
   where
     by_case : (d : Option ℕ) → None ≡ option_map (λ i. TreesDiffer i) d
-        → by_difference t r w n c d ≡ by_rows (edges_of (spelling t r)) (follows_by (leaves_singles_out c.format) (edges_of (spelling t r))) n (units_of r w) c.prices
+        → by_difference t r w n c d ≡ by_rows (tree_edges t r c.format) (follows_by c.format (tree_edges t r c.format)) n (units_of r w) c.prices
     by_case None k = refl
     by_case (Some i) k = absurd (cc)
 
@@ -113,7 +114,7 @@ pub tree_other : (t : List Entry) (r : SpellRules) (w : List Event) (out : List 
 tree_other t r w out c why same e = outcome_other t r w (length out) c (out_outcome t out) why e ∙ sym (rules_are t r w out c same)
 
 pub tree_right : (t : List Entry) (r : SpellRules) (w : List Event) (out : List ℕ) (c : Certificate) (n : ℕ) (found : Verdict) → same_rules c.rules r ≡ true → None ≡ tree_why w (out_outcome t out) → n ≡ length out
-    → found ≡ by_rows (edges_of (spelling t r)) (follows_by (leaves_singles_out c.format) (edges_of (spelling t r))) n (units_of r w) c.prices → found ≡ verdict t r w out c
+    → found ≡ by_rows (tree_edges t r c.format) (follows_by c.format (tree_edges t r c.format)) n (units_of r w) c.prices → found ≡ verdict t r w out c
 tree_right t r w out c n found same e len is =
-    is ∙ ap (λ m. by_rows (edges_of (spelling t r)) (follows_by (leaves_singles_out c.format) (edges_of (spelling t r))) m (units_of r w) c.prices) len
+    is ∙ ap (λ m. by_rows (tree_edges t r c.format) (follows_by c.format (tree_edges t r c.format)) m (units_of r w) c.prices) len
     ∙ sym (rules_are t r w out c same ∙ outcome_right t r w (length out) c (out_outcome t out) e)

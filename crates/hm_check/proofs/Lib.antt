@@ -1,4 +1,3 @@
-pub mod LayerSteps
 pub mod OverSteps
 pub mod Sums
 pub mod Counting

@@ -11,23 +11,25 @@ use Rattle.hm_construction.specs.Trees.{Outcome, built, refused_by, page_tree}
 use Rattle.hm_edges.specs.Found.{spelling}
 use Rattle.hm_elements.specs.Settled.{Settled}
 use Rattle.hm_elements.proofs.Events.{is_same}
-use Rattle.hm_graph.specs.Layers.{LayerTest, first_layer, written, single_follows}
+use Rattle.hm_graph.specs.Layers.{LayerTest, first_layer, written}
 use Rattle.hm_graph.specs.Prices.{Row, Feasible, first_price, full}
 use Rattle.hm_graph.specs.UnitEdges.{edges_of}
 use Rattle.hm_graph.specs.Ways.{Edges, first_way}
+use Rattle.hm_layers.specs.Graphs.{tree_edges}
 use Rattle.hm_refs.specs.Names.{Entry}
 use Rattle.hm_refs.specs.Tables.{IsTable}
 use Rattle.hm_spellings.specs.Spellings.{Spells, Shortest, everywhere}
-use Rattle.hm_steps.specs.Laws.{follows_by}
+use Rattle.hm_outdone.specs.Formats.{follows_by}
 use Rattle.hm_units.specs.States.{first_state}
 use Rattle.hm_units.specs.Units.{Unit, units_of}
 use Rattle.hm_ways.specs.Laws.{IsBest}
 use Rattle.hm_read_back.proofs.ReadBack.{spellings_are_read_back}
-use Rattle.hm_ways.proofs.Best.{feasible_prices_show, first_ways_are_best}
+use Rattle.hm_ways.proofs.Best.{first_ways_are_best}
+use Rattle.hm_outdone.proofs.Formats.{prices_show, same_first}
 use Rattle.hm_check.specs.Differences.{first_difference}
 use Rattle.hm_check.specs.Laws.{least_certificate, YesShows, SpellingsAreAccepted, MinifiedIsAccepted}
 use Rattle.hm_check.specs.Rows.{OtherWidth, HighPrice, other_width, high_price}
-use Rattle.hm_check.specs.Verdicts.{same_rules, leaves_singles_out, out_outcome, by_first, by_high, by_full, by_width, by_rows, by_difference, by_outcome, verdict}
+use Rattle.hm_check.specs.Verdicts.{same_rules, out_outcome, by_first, by_high, by_full, by_width, by_rows, by_difference, by_outcome, verdict}
 use Rattle.hm_check.specs.declared.verdicts.Verdict.{Verdict}
 use Rattle.hm_check.specs.declared.verdicts.Verdict.TheVariants.{Yes, No}
 use Rattle.hm_check.specs.declared.verdicts.Why.TheVariants.{RulesDiffer, OutRefused, TreesDiffer, WrongLayers, TooLong}
@@ -77,7 +79,7 @@ rows_shown edges follows units n m rows h = by_test (length rows == length (writ
 -- the text of a yes has the wanted tree, and its rows are accepted
 pub record IsAccepted (t : List Entry) (r : SpellRules) (w : List Event) (out : List ℕ) (c : Certificate) (m : ℕ) : Type 0 where
   pub parses : page_tree t out ≡ built w
-  pub rows : by_rows (edges_of (spelling t r)) (follows_by (leaves_singles_out c.format) (edges_of (spelling t r))) (length out) (units_of r w) c.prices ≡ Yes m
+  pub rows : by_rows (tree_edges t r c.format) (follows_by c.format (tree_edges t r c.format)) (length out) (units_of r w) c.prices ≡ Yes m
 
 difference_accepted : (t : List Entry) (r : SpellRules) (w v : List Event) (out : List ℕ) (c : Certificate) (m : ℕ) (d : Option ℕ) → page_tree t out ≡ built v → first_difference v w ≡ d → by_difference t r w (length out) c d ≡ Yes m → IsAccepted t r w out c m
 difference_accepted t r w v out c m (Some i) tree is h = absurd (cc)
@@ -106,8 +108,8 @@ verdict_accepted t r w out c m h = by_test (same_rules c.rules r) h
 pub yes_shows : YesShows
 yes_shows t k r w s out c m h =
     let accepted : IsAccepted t r w out c m = verdict_accepted t r w out c m h in
-    let shown : AreShown (edges_of (spelling t r)) (units_of r w) (length out) m = rows_shown (edges_of (spelling t r)) (follows_by (leaves_singles_out c.format) (edges_of (spelling t r))) (units_of r w) (length out) m c.prices accepted.rows in
-    let bound : Shortest t r w shown.first = feasible_prices_show t k r w s shown.prices shown.first shown.feasible shown.price in
+    let shown : AreShown (tree_edges t r c.format) (units_of r w) (length out) m = rows_shown (tree_edges t r c.format) (follows_by c.format (tree_edges t r c.format)) (units_of r w) (length out) m c.prices accepted.rows in
+    let bound : Shortest t r w shown.first = prices_show t k r c.format w s shown.prices shown.first shown.feasible shown.price in
     record { len = sym shown.same; parses = accepted.parses; shortest = λ b spells. omega (arith, shown.short, bound b spells) }
 
 -- ---- A spelling
@@ -124,7 +126,7 @@ spelled_outcome t k r w s out spells short =
 
 -- so its rows decide
 spelled_verdict : (t : List Entry) → IsTable t → (r : SpellRules) (w : List Event) → Settled w → (out : List ℕ) (c : Certificate) → Spells t r w out → length out ≤ OUTPUT_LIMIT
-    → by_outcome t r w (length out) c (out_outcome t out) ≡ by_rows (edges_of (spelling t r)) (follows_by (leaves_singles_out c.format) (edges_of (spelling t r))) (length out) (units_of r w) c.prices
+    → by_outcome t r w (length out) c (out_outcome t out) ≡ by_rows (tree_edges t r c.format) (follows_by c.format (tree_edges t r c.format)) (length out) (units_of r w) c.prices
 spelled_verdict t k r w s out c spells short = ap (by_outcome t r w (length out) c) (spelled_outcome t k r w s out spells short) ∙ ap (by_difference t r w (length out) c) (no_difference w)
 
 -- whether a verdict is about the tree of the text
@@ -172,7 +174,7 @@ spelled_other t k r w s out c spells short = by_test (same_rules c.rules r)
     by_test : (b : Bool) → is_of_tree (cond b (by_outcome t r w (length out) c (out_outcome t out)) (No RulesDiffer)) ≡ false
     by_test true =
         ap is_of_tree (spelled_verdict t k r w s out c spells short)
-        ∙ rows_other (edges_of (spelling t r)) (follows_by (leaves_singles_out c.format) (edges_of (spelling t r))) (length out) (units_of r w) c.prices
+        ∙ rows_other (tree_edges t r c.format) (follows_by c.format (tree_edges t r c.format)) (length out) (units_of r w) c.prices
     by_test false = refl
 
 refused_is : (rule : Rule) (at : ℕ) → is_of_tree (No (OutRefused rule at)) ≡ true
@@ -198,10 +200,10 @@ rules_same r = rw (is_same r.omit r.omit refl, is_same r.unquote r.unquote refl,
 
 pub minified_is_accepted : MinifiedIsAccepted
 unfolding verdict
-minified_is_accepted t k r w s short =
+minified_is_accepted t k r format w s short =
     let edges : Edges = edges_of (spelling t r) in
     let out : List ℕ = first_way edges (units_of r w) first_state in
     let best : IsBest t r w out = first_ways_are_best t k r w s in
-    ap (λ b. cond b (by_outcome t r w (length out) (least_certificate t r w) (out_outcome t out)) (No RulesDiffer)) (rules_same r)
-    ∙ spelled_verdict t k r w s out (least_certificate t r w) best.spells short
-    ∙ least_accepted edges (single_follows edges) (units_of r w) (length out) best.price
+    ap (λ b. cond b (by_outcome t r w (length out) (least_certificate t r format w) (out_outcome t out)) (No RulesDiffer)) (rules_same r)
+    ∙ spelled_verdict t k r w s out (least_certificate t r format w) best.spells short
+    ∙ least_accepted (tree_edges t r format) (follows_by format (tree_edges t r format)) (units_of r w) (length out) (same_first (spelling t r) format (units_of r w) ∙ best.price)

@@ -5,29 +5,31 @@ use Rattle.hm_base.specs.declared.limits.TheConstants.{OUTPUT_LIMIT}
 use Rattle.hm_base.specs.declared.plain.SpellRules.{SpellRules}
 use Rattle.hm_base.specs.declared.rules.Rule.{Rule}
 use Rattle.hm_cert.specs.declared.certificate.Certificate.{Certificate}
-use Rattle.hm_cert.specs.declared.text.Format.TheVariants.{Two}
+use Rattle.hm_cert.specs.declared.text.Format.{Format}
 use Rattle.hm_construction.specs.Trees.{built, page_tree}
 use Rattle.hm_edges.specs.Found.{spelling}
 use Rattle.hm_elements.specs.Settled.{Settled}
-use Rattle.hm_graph.specs.Layers.{first_layer, single_follows}
+use Rattle.hm_graph.specs.Layers.{first_layer}
 use Rattle.hm_graph.specs.Prices.{least_prices, written_rows}
 use Rattle.hm_graph.specs.UnitEdges.{edges_of}
 use Rattle.hm_graph.specs.Ways.{first_way}
+use Rattle.hm_layers.specs.Graphs.{tree_edges}
 use Rattle.hm_refs.specs.Names.{Entry}
 use Rattle.hm_refs.specs.Tables.{IsTable}
 use Rattle.hm_spellings.specs.Spellings.{Shortest, Spells}
+use Rattle.hm_outdone.specs.Formats.{follows_by}
 use Rattle.hm_units.specs.States.{first_state}
 use Rattle.hm_units.specs.Units.{units_of}
 use Rattle.hm_check.specs.Verdicts.{verdict}
 use Rattle.hm_check.specs.declared.verdicts.Verdict.TheVariants.{Yes, No}
 use Rattle.hm_check.specs.declared.verdicts.Why.TheVariants.{OutRefused, TreesDiffer}
 
--- the certificate of the least prices, without the layers of one state with one edge
-abbrev pub least_certificate : List Entry → SpellRules → List Event → Certificate
-least_certificate t r w = record {
-  format = Two;
+-- the certificate of the least prices in a format
+abbrev pub least_certificate : List Entry → SpellRules → Format → List Event → Certificate
+least_certificate t r format w = record {
+  format = format;
   rules = r;
-  prices = written_rows (edges_of (spelling t r)) (single_follows (edges_of (spelling t r))) 0 (units_of r w) first_layer (least_prices (edges_of (spelling t r)) (units_of r w) first_layer);
+  prices = written_rows (tree_edges t r format) (follows_by format (tree_edges t r format)) 0 (units_of r w) first_layer (least_prices (tree_edges t r format) (units_of r w) first_layer);
 }
 
 -- The text parses to the tree, and no spelling of the tree is shorter.
@@ -45,7 +47,7 @@ abbrev pub SpellingsAreAccepted : Type 0
 SpellingsAreAccepted = (t : List Entry) → IsTable t → (r : SpellRules) (w : List Event) → Settled w → (out : List ℕ) (c : Certificate) → Spells t r w out → length out ≤ OUTPUT_LIMIT
     → ((rule : Rule) (at : ℕ) → verdict t r w out c ≢ No (OutRefused rule at)) × ((event : ℕ) → verdict t r w out c ≢ No (TreesDiffer event))
 
--- The text of the first way, with the least prices of all layers but the single ones, is accepted within the limit.
+-- The text of the first way, with the least prices in any format, is accepted within the limit.
 abbrev pub MinifiedIsAccepted : Type 0
-MinifiedIsAccepted = (t : List Entry) → IsTable t → (r : SpellRules) (w : List Event) → Settled w → length (first_way (edges_of (spelling t r)) (units_of r w) first_state) ≤ OUTPUT_LIMIT
-    → verdict t r w (first_way (edges_of (spelling t r)) (units_of r w) first_state) (least_certificate t r w) ≡ Yes (length (first_way (edges_of (spelling t r)) (units_of r w) first_state))
+MinifiedIsAccepted = (t : List Entry) → IsTable t → (r : SpellRules) (format : Format) (w : List Event) → Settled w → length (first_way (edges_of (spelling t r)) (units_of r w) first_state) ≤ OUTPUT_LIMIT
+    → verdict t r w (first_way (edges_of (spelling t r)) (units_of r w) first_state) (least_certificate t r format w) ≡ Yes (length (first_way (edges_of (spelling t r)) (units_of r w) first_state))

@@ -1,5 +1,6 @@
 -- What is known of the rows of a certificate from a layer of a graph on.
 use Rattle.std.specs.Prelude.{◌≡◌, ◌<◌, ◌+◌, ◌*◌, ◌^◌, ℕ, Bool, List, [], ◌∷◌, length, map, drop, Option, Some, None, option_map}
+use Rattle.hm_cert.specs.declared.text.Format.{Format}
 use Rattle.hm_cert.specs.Certificate.{AreRows}
 use Rattle.hm_cert.specs.Layout.{told}
 use Rattle.hm_graph.specs.Prices.{Row}
@@ -30,18 +31,18 @@ AreBelow n (price ∷ row) = IsBelow n price × AreBelow n row
 -- ---- Rows
 
 -- As many rows as layers are written, each as wide as its layer, and each price can be written.
-pub record AreInPlace (singles : Bool) (g : GraphView) (rows : List Row) : Type 0 where
+pub record AreInPlace (format : Format) (g : GraphView) (rows : List Row) : Type 0 where
   pub prices : AreRows rows
-  pub count : length rows ≡ count_over singles 0 g.steps
-  pub widths : other_width_over singles 0 g.last g.steps rows ≡ None
+  pub count : length rows ≡ count_over format 0 g.steps
+  pub widths : other_width_over format 0 g.last g.steps rows ≡ None
 
 -- The rows behind the first ones stand for the prices from layer k on, of which those of layer k are at hand, and the first of
 -- them above its bound is found.
-pub record IsSwept (singles : Bool) (g : GraphView) (rows : List Row) (k : ℕ) (s : Sweep) : Type 0 where
+pub record IsSwept (format : Format) (g : GraphView) (rows : List Row) (k : ℕ) (s : Sweep) : Type 0 where
   pub more : List Row
-  pub full : full_rows singles k g.last (drop k g.steps) (drop s.at rows) ≡ Some (map told s.behind.items ∷ more)
+  pub full : full_rows format k g.last (drop k g.steps) (drop s.at rows) ≡ Some (map told s.behind.items ∷ more)
   pub found : s.found ≡ option_map high_why (high_price_over k (drop k g.steps) (map told s.behind.items ∷ more))
-  pub written : s.at + count_over singles k (drop k g.steps) ≡ length rows
+  pub written : s.at + count_over format k (drop k g.steps) ≡ length rows
   pub turns : ℕ
   pub turned : turns + k ≡ length g.steps
   pub below : AreBelow (2 ^ 63 + turns * 2 ^ 33) (map told s.behind.items)

@@ -5,16 +5,13 @@ use Rattle.hm_base.specs.declared.limits.TheConstants.{OUTPUT_LIMIT}
 use Rattle.hm_base.specs.declared.plain.SpellRules.{SpellRules}
 use Rattle.hm_base.specs.declared.rules.Rule.TheVariants as rules
 use Rattle.hm_cert.specs.declared.certificate.Certificate.{Certificate}
-use Rattle.hm_cert.specs.declared.text.Format.{Format}
-use Rattle.hm_cert.specs.declared.text.Format.TheVariants.{One, Two}
 use Rattle.hm_construction.specs.Trees.{Outcome, built, refused_by, page_tree}
-use Rattle.hm_edges.specs.Found.{spelling}
 use Rattle.hm_graph.specs.Layers.{LayerTest, first_layer, written}
 use Rattle.hm_graph.specs.Prices.{Row, first_price, full}
-use Rattle.hm_graph.specs.UnitEdges.{edges_of}
 use Rattle.hm_graph.specs.Ways.{Edges}
+use Rattle.hm_layers.specs.Graphs.{tree_edges}
 use Rattle.hm_refs.specs.Names.{Entry}
-use Rattle.hm_steps.specs.Laws.{follows_by}
+use Rattle.hm_outdone.specs.Formats.{follows_by}
 use Rattle.hm_units.specs.Units.{Unit, units_of}
 use Rattle.hm_check.specs.Differences.{first_difference}
 use Rattle.hm_check.specs.Rows.{OtherWidth, HighPrice, other_width, high_price}
@@ -24,11 +21,6 @@ use Rattle.hm_check.specs.declared.verdicts.Why.TheVariants.{RulesDiffer, OutRef
 
 abbrev pub same_rules : SpellRules → SpellRules → Bool
 same_rules a b = same_flag a.omit b.omit && (same_flag a.unquote b.unquote && (same_flag a.tight b.tight && (same_flag a.ascii b.ascii && same_flag a.frame b.frame)))
-
--- single layers are left out of format 2
-abbrev pub leaves_singles_out : Format → Bool
-leaves_singles_out One = false
-leaves_singles_out Two = true
 
 -- the tree of a text within the limit of an output
 unfoldable pub out_outcome : List Entry → List ℕ → Outcome
@@ -63,7 +55,7 @@ by_rows edges follows n units rows =
 
 abbrev pub by_difference : List Entry → SpellRules → List Event → ℕ → Certificate → Option ℕ → Verdict
 by_difference t r w n c (Some i) = No (TreesDiffer i)
-by_difference t r w n c None = by_rows (edges_of (spelling t r)) (follows_by (leaves_singles_out c.format) (edges_of (spelling t r))) n (units_of r w) c.prices
+by_difference t r w n c None = by_rows (tree_edges t r c.format) (follows_by c.format (tree_edges t r c.format)) n (units_of r w) c.prices
 
 abbrev pub by_outcome : List Entry → SpellRules → List Event → ℕ → Certificate → Outcome → Verdict
 by_outcome t r w n c (refused_by rule at) = No (OutRefused rule at)

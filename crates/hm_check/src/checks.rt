@@ -1,9 +1,8 @@
 //! The check of a text and a certificate.
 ghost use Rattle.std.specs.Prelude.{◌≡◌, IfOk};
 ghost use Rattle.hm_cert.specs.Certificate.{AreRows};
-ghost use Rattle.hm_edges.specs.Found.{spelling};
-ghost use Rattle.hm_graph.specs.UnitEdges.{edges_of};
-ghost use Rattle.hm_steps.specs.Laws.{follows_by};
+ghost use Rattle.hm_layers.specs.Graphs.{tree_edges};
+ghost use Rattle.hm_outdone.specs.Formats.{follows_by};
 ghost use Rattle.hm_units.specs.Units.{units_of};
 ghost use Rattle.hm_check.specs.Verdicts as verdicts;
 ghost use Rattle.hm_check.specs.Verdicts.{verdict};
@@ -12,7 +11,7 @@ use crate::rows::by_rows;
 use crate::trees::find_difference;
 use crate::{Verdict, Why};
 use hm_base::{Memory, SpellRules};
-use hm_cert::{Certificate, Format};
+use hm_cert::Certificate;
 use hm_layers::Graph;
 use hm_refs::Table;
 use hm_tree::Tree;
@@ -29,16 +28,6 @@ fn same_rules(left: SpellRules, right: SpellRules) -> bool
         && left.frame == right.frame
 }
 
-/// Whether a format leaves out the layers of one state with one edge.
-fn leaves_singles_out(format: Format) -> bool
-    ensures { result ≡ verdicts.leaves_singles_out format }
-{
-    match format {
-        Format::One => false,
-        Format::Two => true,
-    }
-}
-
 /// What is found of the rows of a certificate, for a text of so many bytes.
 fn by_certificate(
     alloc: Global,
@@ -49,15 +38,15 @@ fn by_certificate(
     length: u64,
 ) -> Result<Verdict, Memory>
     requires { AreRows certificate.now.prices }
-    ensures { IfOk result (λ found. found ≡ verdicts.by_rows (edges_of (spelling table.now.entries rules))
-        (follows_by (verdicts.leaves_singles_out certificate.now.format) (edges_of (spelling table.now.entries rules))) length (units_of rules wanted.now) certificate.now.prices) }
+    ensures { IfOk result (λ found. found ≡ verdicts.by_rows (tree_edges table.now.entries rules certificate.now.format)
+        (follows_by certificate.now.format (tree_edges table.now.entries rules certificate.now.format)) length (units_of rules wanted.now) certificate.now.prices) }
 {
-    let graph = Graph::of(alloc, wanted, table, rules)?;
+    let graph = Graph::of(alloc, wanted, table, rules, certificate.format)?;
     by_rows(
         alloc,
         &graph,
         &certificate.prices,
-        leaves_singles_out(certificate.format),
+        certificate.format,
         length,
     )
 }

@@ -1,37 +1,29 @@
 //! The layers that a certificate writes.
 ghost use Rattle.std.specs.Prelude.{◌≡◌, length, option_map};
 ghost use Rattle.hm_steps.specs.Prices as steps;
-ghost use Rattle.hm_steps.specs.Steps.{is_single_step};
 ghost use Rattle.hm_check.specs.Steps.{count_over, other_width_over};
 ghost use Rattle.hm_check.specs.Sweeps.{width_why};
 
 use crate::Why;
-use hm_cert::Prices;
+use hm_cert::{Format, Prices};
 use hm_layers::{Graph, Step};
 
-/// Whether there is one state with one hop.
-fn is_single(step: &Step) -> bool
-    ensures { result ≡ is_single_step step.now }
-{
-    step.width() == 1 && step.is_forced()
-}
-
 /// Whether layer `k`, the one in front of the step, is left out.
-pub(crate) fn is_left_out(singles: bool, k: usize, step: &Step) -> bool
-    ensures { result ≡ steps.is_left_out singles k step.now }
+pub(crate) fn is_left_out(format: Format, k: usize, step: &Step) -> bool
+    ensures { result ≡ steps.is_left_out format k step.now }
 {
-    k != 0 && singles && is_single(step)
+    k != 0 && step.is_left_out(format)
 }
 
 /// How many layers are written.
-pub(crate) fn count_layers(graph: &Graph, singles: bool) -> usize
-    ensures { result ≡ count_over singles 0 graph.now.steps }
+pub(crate) fn count_layers(graph: &Graph, format: Format) -> usize
+    ensures { result ≡ count_over format 0 graph.now.steps }
 {
     graph.is_small();
     let mut count = 0;
     let mut layer = graph.first_layer();
     for k in 0..graph.len() {
-        if !is_left_out(singles, k, graph.step(layer)) {
+        if !is_left_out(format, k, graph.step(layer)) {
             count += 1;
         }
         layer = graph.next(layer);
@@ -40,16 +32,16 @@ pub(crate) fn count_layers(graph: &Graph, singles: bool) -> usize
 }
 
 /// The first written layer whose row has another width.
-pub(crate) fn find_other_width(graph: &Graph, prices: &Prices, singles: bool) -> Option<Why>
-    requires { length prices.now ≡ count_over singles 0 graph.now.steps }
-    ensures { result ≡ option_map width_why (other_width_over singles 0 graph.now.last graph.now.steps prices.now) }
+pub(crate) fn find_other_width(graph: &Graph, prices: &Prices, format: Format) -> Option<Why>
+    requires { length prices.now ≡ count_over format 0 graph.now.steps }
+    ensures { result ≡ option_map width_why (other_width_over format 0 graph.now.last graph.now.steps prices.now) }
 {
     let mut at = 0;
     let mut layer = graph.first_layer();
     for k in 0..graph.len() {
         let step = graph.step(layer);
         layer = graph.next(layer);
-        if !is_left_out(singles, k, step) {
+        if !is_left_out(format, k, step) {
             if prices.width(at) != step.width() {
                 return Some(Why::WrongWidth {
                     layer: k as u64,

@@ -12,20 +12,20 @@ use crate::layers::{count_layers, find_other_width};
 use crate::sweep::Sweep;
 use crate::{Verdict, Why};
 use hm_base::Memory;
-use hm_cert::{Prices, price_of};
+use hm_cert::{Format, Prices, price_of};
 use hm_layers::Graph;
 use std::alloc::Global;
 
 /// What is known at the first layer.
-fn sweep(alloc: Global, graph: &Graph, prices: &Prices, singles: bool) -> Result<Sweep, Memory>
-    requires { AreInPlace singles graph.now prices.now }
-    ensures { IfOk result (IsSwept singles graph.now prices.now 0) }
+fn sweep(alloc: Global, graph: &Graph, prices: &Prices, format: Format) -> Result<Sweep, Memory>
+    requires { AreInPlace format graph.now prices.now }
+    ensures { IfOk result (IsSwept format graph.now prices.now 0) }
 {
-    let mut sweep = Sweep::at_end(alloc, graph, prices, singles)?;
+    let mut sweep = Sweep::at_end(alloc, graph, prices, format)?;
     let mut layer = graph.last_layer();
     for k in (0..graph.len()).rev() {
         layer = graph.back(layer);
-        sweep.take_layer(graph, prices, singles, k, graph.step(layer))?;
+        sweep.take_layer(graph, prices, format, k, graph.step(layer))?;
     }
     Ok(sweep)
 }
@@ -65,13 +65,13 @@ fn by_prices(
     alloc: Global,
     graph: &Graph,
     prices: &Prices,
-    singles: bool,
+    format: Format,
     length: u64,
 ) -> Result<Verdict, Memory>
-    requires { AreInPlace singles graph.now prices.now }
-    ensures { IfOk result (λ found. found ≡ by_full_over length graph.now.steps (full_rows singles 0 graph.now.last graph.now.steps prices.now)) }
+    requires { AreInPlace format graph.now prices.now }
+    ensures { IfOk result (λ found. found ≡ by_full_over length graph.now.steps (full_rows format 0 graph.now.last graph.now.steps prices.now)) }
 {
-    let swept = sweep(alloc, graph, prices, singles)?;
+    let swept = sweep(alloc, graph, prices, format)?;
     match swept.found {
         Some(why) => Ok(Verdict::No { why }),
         None => Ok(by_first(length, first_of(swept.behind.as_slice()))),
@@ -83,13 +83,13 @@ pub(crate) fn by_rows(
     alloc: Global,
     graph: &Graph,
     prices: &Prices,
-    singles: bool,
+    format: Format,
     length: u64,
 ) -> Result<Verdict, Memory>
     requires { AreRows prices.now }
-    ensures { IfOk result (λ found. found ≡ by_rows_over singles graph.now.last graph.now.steps length prices.now) }
+    ensures { IfOk result (λ found. found ≡ by_rows_over format graph.now.last graph.now.steps length prices.now) }
 {
-    let want = count_layers(graph, singles);
+    let want = count_layers(graph, format);
     if prices.rows() != want {
         return Ok(Verdict::No {
             why: Why::WrongLayers {
@@ -98,8 +98,8 @@ pub(crate) fn by_rows(
             },
         });
     }
-    match find_other_width(graph, prices, singles) {
+    match find_other_width(graph, prices, format) {
         Some(why) => Ok(Verdict::No { why }),
-        None => by_prices(alloc, graph, prices, singles, length),
+        None => by_prices(alloc, graph, prices, format, length),
     }
 }

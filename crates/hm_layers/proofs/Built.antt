@@ -4,12 +4,10 @@ use Rattle.std.proofs.lemmas.List.{map-append}
 use Rattle.std.proofs.lemmas.List.Elements.{All-append}
 use Rattle.std.specs.List.{All}
 use Rattle.hm_graph.specs.Layers.{first_layer, states_behind}
-use Rattle.hm_graph.specs.UnitEdges.{edges_of}
 use Rattle.hm_graph.specs.Ways.{Edges}
 use Rattle.hm_refs.specs.Names.{Entry}
 use Rattle.hm_units.specs.States as graph
 use Rattle.hm_units.specs.Units as units
-use Rattle.hm_edges.specs.Found.{spelling}
 use Rattle.hm_edges.specs.Pieces.{piece_bytes}
 use Rattle.hm_edges.specs.Units.{StandsFor}
 use Rattle.hm_edges.specs.declared.pieces.Piece.{Piece}
@@ -17,7 +15,7 @@ use Rattle.hm_edges.specs.declared.units.Unit.{Unit}
 use Rattle.hm_steps.specs.Fits.{StepFits, StepsFit}
 use Rattle.hm_steps.specs.Steps.{Step}
 use Rattle.hm_layers.specs.Graphs.{IsLowStep, AreLow, IsNamedStep, AreNamed}
-use Rattle.hm_layers.specs.Layers.{states_of}
+use Rattle.hm_layers.specs.Layers.{edges_under, states_of}
 use Rattle.hm_layers.specs.Met.{MetView, list_at, made_at, Grows, IsStepOf, IsListOf}
 use Rattle.hm_layers.specs.Building.{BuildingView, steps_at, building, IsBuilding, Lead, IsBuilt, Adds}
 
@@ -93,7 +91,7 @@ building_more m n numbers last unit k is grows step few =
 pub adds_one : (m n : MetView) (numbers : List ℕ) (last : ℕ) (unit : Unit) (k : ℕ) → IsBuilding m numbers last → Grows m n → IsStepOf n last unit k
     → (u : units.Unit) → StandsFor m.table.entries unit u → Adds (building m numbers last) (building n (numbers ++ k ∷ []) (made_at n k).behind) (u ∷ [])
 adds_one m n numbers last unit k is grows step u stands =
-    let edges : Edges = edges_of (spelling n.table.entries n.rules) in
+    let edges : Edges = edges_under n.table.entries n.rules in
     let bytes : units.Unit → Piece → List ℕ = piece_bytes n.table.entries in
     let list : IsListOf n (list_at m last) last = grows.lists last is.last_there in
     let own : StandsFor n.table.entries unit u = subst (λ v. StandsFor v.entries unit u) (sym grows.table) stands in
@@ -102,7 +100,7 @@ adds_one m n numbers last unit k is grows step u stands =
       rules = grows.rules;
       units = λ us built.
           let lead : Lead edges bytes us first_layer (steps_at m numbers) (states_of n.table (list_at n last)) =
-          subst (λ A. A) (λ i. Lead (edges_of (spelling (sym grows.table i).entries (sym grows.rules i))) (piece_bytes (sym grows.table i).entries) us first_layer (steps_at m numbers) (states_of (sym grows.table i) (sym list.list i))) built in
+          subst (λ A. A) (λ i. Lead (edges_under (sym grows.table i).entries (sym grows.rules i)) (piece_bytes (sym grows.table i).entries) us first_layer (steps_at m numbers) (states_of (sym grows.table i) (sym list.list i))) built in
           subst (λ steps. Lead edges bytes (us ++ u ∷ []) first_layer steps (states_of n.table (list_at n (made_at n k).behind))) (sym (steps_more m n numbers k grows is.numbers_there))
           (lead_more edges bytes us u first_layer (steps_at m numbers) (made_at n k).step (states_of n.table (list_at n last)) (states_of n.table (list_at n (made_at n k).behind)) lead (step.layer.fits u own) (step.layer.states u own));
     }

@@ -1,16 +1,14 @@
 -- Hops and steps that are made one behind the other.
 use Rattle.std.proofs.Common.{◌≡◌, ◌∙◌, ℕ, ◌<◌, ◌^◌, List, [], ◌∷◌, ◌++◌, length, refl, sym, ap, subst}
 use Rattle.std.proofs.lemmas.List.{map-append}
-use Rattle.hm_base.specs.declared.plain.SpellRules.{SpellRules}
+use Rattle.hm_layers.specs.declared.rules.EdgeRules.{EdgeRules}
 use Rattle.hm_graph.specs.Layers.{with_ends, with_layer, with_state}
-use Rattle.hm_graph.specs.UnitEdges.{edges_of}
 use Rattle.hm_graph.specs.Ways.{Edges}
 use Rattle.hm_refs.specs.Names.{Entry}
 use Rattle.hm_refs.specs.Tables.{TableView}
 use Rattle.hm_units.specs.Edges as graph
 use Rattle.hm_units.specs.States as states
 use Rattle.hm_units.specs.Units as units
-use Rattle.hm_edges.specs.Found.{AreEdges, spelling}
 use Rattle.hm_edges.specs.Pieces.{HasName, IsOfTable, edge_of, edges_seen, piece_bytes}
 use Rattle.hm_edges.specs.States.{state_of}
 use Rattle.hm_edges.specs.Units.{StandsFor}
@@ -22,7 +20,7 @@ use Rattle.hm_steps.specs.Fits.{HopFits, HopsFit, StepFits}
 use Rattle.hm_steps.specs.Steps.{Step}
 use Rattle.hm_steps.specs.declared.hops.Hop.{Hop}
 use Rattle.hm_layers.specs.Graphs.{AreLowHops, AreNamedHops, IsLowStep, IsNamedStep}
-use Rattle.hm_layers.specs.Layers.{states_of, HaveNodes, IsPlaced, IsHop, AreHops, IsLayer}
+use Rattle.hm_layers.specs.Layers.{edges_under, AreEdgesUnder, states_of, HaveNodes, IsPlaced, IsHop, AreHops, IsLayer}
 use Rattle.hm_layers.proofs.Placed.{Keeps, state_keeps, ends_keep, ends_more, layer_more}
 
 pub hop_made : (v : TableView) (unit : Unit) (e : Edge) (before now : List State) (len n : ℕ) → IsOfTable v e → ((u : units.Unit) → StandsFor v.entries unit u → len ≡ length (piece_bytes v.entries u e.piece))
@@ -97,21 +95,21 @@ hops_more v unit es e before between now hops h are is =
       named = one_named v.entries hops h are.named is.named;
     }
 
-pub layer_none : (v : TableView) (rules : SpellRules) (unit : Unit) → IsLayer v rules unit [] [] []
+pub layer_none : (v : TableView) (rules : EdgeRules) (unit : Unit) → IsLayer v rules unit [] [] []
 layer_none v rules unit = record { fits = λ u stands. tt; states = λ u stands. refl; nodes = tt; low = tt; named = tt }
 
-pub layer_next : (v : TableView) (rules : SpellRules) (unit : Unit) (from behind now : List State) (s : State) (es : List Edge) (step : Step) (hops : List Hop)
-    → IsLayer v rules unit from behind step → AreEdges v rules unit s es → AreHops v unit es behind now hops → IsLayer v rules unit (from ++ s ∷ []) now (step ++ hops ∷ [])
+pub layer_next : (v : TableView) (rules : EdgeRules) (unit : Unit) (from behind now : List State) (s : State) (es : List Edge) (step : Step) (hops : List Hop)
+    → IsLayer v rules unit from behind step → AreEdgesUnder v rules unit s es → AreHops v unit es behind now hops → IsLayer v rules unit (from ++ s ∷ []) now (step ++ hops ∷ [])
 layer_next v rules unit from behind now s es step hops is edges are =
     record {
       fits = λ u stands.
-          let own : states.State → List graph.Edge = edges_of (spelling v.entries rules) u in
+          let own : states.State → List graph.Edge = edges_under v.entries rules u in
           let keeps : Keeps (states_of v behind) (states_of v now) = subst (Keeps (states_of v behind)) (sym (are.states u)) (ends_keep (states_of v behind) (edges_seen v u es)) in
           let fit : HopsFit (piece_bytes v.entries u) (states_of v now) (own (state_of v s)) hops = subst (λ seen. HopsFit (piece_bytes v.entries u) (states_of v now) seen hops) (edges u stands) (are.fit u stands) in
           subst (λ ss. StepFits (piece_bytes v.entries u) own (states_of v now) ss (step ++ hops ∷ [])) (sym (map-append (state_of v) from (s ∷ [])))
           (one_state (piece_bytes v.entries u) own (states_of v now) (states_of v from) step (state_of v s) hops (step_keeps (piece_bytes v.entries u) own (states_of v behind) (states_of v now) (states_of v from) step keeps (is.fits u stands)) fit);
       states = λ u stands.
-          let all : Edges = edges_of (spelling v.entries rules) in
+          let all : Edges = edges_under v.entries rules in
           are.states u ∙ ap (with_ends (states_of v behind)) (edges u stands) ∙ ap (λ ends. with_ends ends (all u (state_of v s))) (is.states u stands)
           ∙ sym (layer_more all [] u (states_of v from) (state_of v s)) ∙ ap (with_layer all [] u) (sym (map-append (state_of v) from (s ∷ [])));
       nodes = are.nodes;

@@ -1,5 +1,6 @@
 pub mod StepNumbers
 pub mod Places
+pub mod KeptEdges
 pub mod Placed
 pub mod Layers
 pub mod Lists

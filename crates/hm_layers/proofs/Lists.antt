@@ -4,7 +4,7 @@ use Rattle.std.proofs.lemmas.List.{get_or-map, get_or_append_left, length-map, l
 use Rattle.std.proofs.Math.Seq.{get_or-append_seam}
 use Rattle.std.proofs.lemmas.List.Elements.{All-append}
 use Rattle.std.specs.List.{All}
-use Rattle.hm_base.specs.declared.plain.SpellRules.{SpellRules}
+use Rattle.hm_layers.specs.declared.rules.EdgeRules.{EdgeRules}
 use Rattle.hm_refs.specs.Tables.{TableView}
 use Rattle.hm_edges.specs.declared.states.State.{State}
 use Rattle.hm_edges.specs.declared.units.Unit.{Unit}
@@ -13,7 +13,7 @@ use Rattle.hm_layers.specs.Met.{MetView, none_made, list_at, made_at, IsListOf, 
 use Rattle.hm_layers.specs.declared.made.Made.{Made}
 use Rattle.hm_layers.specs.declared.made.Seen.{Seen}
 
-abbrev pub met : TableView → SpellRules → List (List State) → List Made → MetView
+abbrev pub met : TableView → EdgeRules → List (List State) → List Made → MetView
 met v rules lists made = record { table = v; rules = rules; lists = lists; made = made }
 
 -- ---- Growing
@@ -28,7 +28,7 @@ grows_on a b c ab bc =
     }
 
 -- a layer is one of equal lists, and by an equal table and rules
-layer_as : (v w : TableView) (q r : SpellRules) (unit : Unit) (from behind other after : List State) (x : Made) → w ≡ v → r ≡ q → other ≡ from → after ≡ behind → IsLayer v q unit from behind x.step → IsLayer w r unit other after x.step
+layer_as : (v w : TableView) (q r : EdgeRules) (unit : Unit) (from behind other after : List State) (x : Made) → w ≡ v → r ≡ q → other ≡ from → after ≡ behind → IsLayer v q unit from behind x.step → IsLayer w r unit other after x.step
 layer_as v w q r unit from behind other after x of_table of_rules of_from of_behind is = subst (λ A. A) (λ i. IsLayer (sym of_table i) (sym of_rules i) unit (sym of_from i) (sym of_behind i) x.step) is
 
 -- a number that a step has been given is that of the step of a unit from a list
@@ -65,7 +65,7 @@ all_noted m seen x are from step = All-append (IsSeen m) seen (x ∷ []) are (λ
 
 -- ---- One more list
 
-pub list_grows : (v : TableView) (rules : SpellRules) (lists : List (List State)) (made : List Made) (states : List State) → Grows (met v rules lists made) (met v rules (lists ++ states ∷ []) made)
+pub list_grows : (v : TableView) (rules : EdgeRules) (lists : List (List State)) (made : List Made) (states : List State) → Grows (met v rules lists made) (met v rules (lists ++ states ∷ []) made)
 list_grows v rules lists made states =
     record {
       table = refl;
@@ -74,7 +74,7 @@ list_grows v rules lists made states =
       made = λ n within. (within, refl);
     }
 
-pub list_added : (v : TableView) (rules : SpellRules) (lists : List (List State)) (made : List Made) (states : List State) (k : ℕ) → k ≡ length lists → IsListOf (met v rules (lists ++ states ∷ []) made) states k
+pub list_added : (v : TableView) (rules : EdgeRules) (lists : List (List State)) (made : List Made) (states : List State) (k : ℕ) → k ≡ length lists → IsListOf (met v rules (lists ++ states ∷ []) made) states k
 list_added v rules lists made states k is = record { there = omega (arith, length_push lists states); list = ap (λ i. get_or (lists ++ states ∷ []) i []) is ∙ get_or-append_seam lists states [] [] }
 
 nodes_at : (v : TableView) (lists : List (List State)) (states : List State) → ((k : ℕ) → HaveNodes v (get_or lists k [])) → HaveNodes v states → (k : ℕ) → HaveNodes v (get_or (lists ++ states ∷ []) k [])
@@ -83,12 +83,12 @@ nodes_at v [] states nodes own (suc k) = tt
 nodes_at v (l ∷ lists) states nodes own zero = nodes 0
 nodes_at v (l ∷ lists) states nodes own (suc k) = nodes_at v lists states (λ j. nodes (suc j)) own k
 
-pub met_list : (v : TableView) (rules : SpellRules) (lists : List (List State)) (made : List Made) (states : List State) → IsMet (met v rules lists made) → HaveNodes v states → IsMet (met v rules (lists ++ states ∷ []) made)
+pub met_list : (v : TableView) (rules : EdgeRules) (lists : List (List State)) (made : List Made) (states : List State) → IsMet (met v rules lists made) → HaveNodes v states → IsMet (met v rules (lists ++ states ∷ []) made)
 met_list v rules lists made states is own = record { nodes = nodes_at v lists states is.nodes own }
 
 -- ---- One more step
 
-pub made_grows : (v : TableView) (rules : SpellRules) (lists : List (List State)) (made : List Made) (x : Made) → Grows (met v rules lists made) (met v rules lists (made ++ x ∷ []))
+pub made_grows : (v : TableView) (rules : EdgeRules) (lists : List (List State)) (made : List Made) (x : Made) → Grows (met v rules lists made) (met v rules lists (made ++ x ∷ []))
 made_grows v rules lists made x =
     record { table = refl; rules = refl; lists = λ k within. record { there = within; list = refl }; made = λ n within. (omega (arith, length_push made x), get_or_append_left made (x ∷ []) none_made n within) }
 
@@ -98,7 +98,7 @@ made_grows v rules lists made x =
 pub seen_at : {A B : Type 0} (f : A → B) (xs : List A) (k : ℕ) (x : A) (e : B) → k < length (map f xs) → x ≡ get_or xs k x → f x ≡ get_or (map f xs) k e
 seen_at f xs k x e within is = ap f is ∙ sym (get_or-map f xs k x e (omega (arith, length-map xs f)))
 
-pub seen_there : {A : Type 0} (f : A → List State) (v : TableView) (rules : SpellRules) (xs ys : List A) (made : List Made) (states other : List State) (k : ℕ) (d : A)
+pub seen_there : {A : Type 0} (f : A → List State) (v : TableView) (rules : EdgeRules) (xs ys : List A) (made : List Made) (states other : List State) (k : ℕ) (d : A)
     → ys ≡ xs → other ≡ states → k < length ys → f (get_or ys k d) ≡ other → IsListOf (met v rules (map f xs) made) states k
 seen_there f v rules xs ys made states other k d same like within is =
     let inside : k < length xs = subst (λ zs. k < length zs) same within in

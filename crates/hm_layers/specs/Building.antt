@@ -1,27 +1,25 @@
 -- What is built of a tree's graph: the steps so far, and the states behind them.
 use Rattle.std.specs.Prelude.{◌≡◌, ℕ, ◌<◌, ◌^◌, List, [], ◌∷◌, ◌++◌, length, map, Option, Some, None}
 use Rattle.std.specs.List.{All}
-use Rattle.hm_base.specs.declared.plain.SpellRules.{SpellRules}
 use Rattle.hm_graph.specs.Layers.{first_layer, states_behind}
-use Rattle.hm_graph.specs.UnitEdges.{edges_of}
 use Rattle.hm_graph.specs.Ways.{Edges}
 use Rattle.hm_refs.specs.Tables.{TableView}
 use Rattle.hm_units.specs.States as graph
 use Rattle.hm_units.specs.Units as units
-use Rattle.hm_edges.specs.Found.{spelling}
 use Rattle.hm_edges.specs.Pieces.{piece_bytes}
 use Rattle.hm_edges.specs.declared.pieces.Piece.{Piece}
 use Rattle.hm_edges.specs.declared.states.State.{State}
 use Rattle.hm_steps.specs.Fits.{StepFits}
 use Rattle.hm_steps.specs.Steps.{Step}
 use Rattle.hm_layers.specs.Graphs.{AreLow, AreNamed}
-use Rattle.hm_layers.specs.Layers.{states_of}
+use Rattle.hm_layers.specs.Layers.{edges_under, states_of}
 use Rattle.hm_layers.specs.Met.{MetView, list_at, made_at}
+use Rattle.hm_layers.specs.declared.rules.EdgeRules.{EdgeRules}
 
 -- the steps so far, and the states of the layer behind them
 pub record BuildingView : Type 0 where
   pub table : TableView
-  pub rules : SpellRules
+  pub rules : EdgeRules
   pub steps : List Step
   pub last : List State
 
@@ -50,7 +48,7 @@ Lead edges bytes (u ∷ us) states (step ∷ steps) behind =
 
 -- the steps so far are those of these units
 abbrev pub IsBuilt : BuildingView → List units.Unit → Type 0
-IsBuilt b us = Lead (edges_of (spelling b.table.entries b.rules)) (piece_bytes b.table.entries) us first_layer b.steps (states_of b.table b.last)
+IsBuilt b us = Lead (edges_under b.table.entries b.rules) (piece_bytes b.table.entries) us first_layer b.steps (states_of b.table b.last)
 
 -- the steps of more units are added behind
 pub record Adds (old new : BuildingView) (more : List units.Unit) : Type 0 where

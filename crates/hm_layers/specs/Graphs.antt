@@ -3,7 +3,10 @@ use Rattle.std.specs.Prelude.{ℕ, ◌<◌, ◌^◌, List, [], ◌∷◌, length
 use Rattle.std.specs.List.{All}
 use Rattle.hm_base.specs.Walks.{Event}
 use Rattle.hm_base.specs.declared.plain.SpellRules.{SpellRules}
+use Rattle.hm_cert.specs.declared.text.Format.{Format}
+use Rattle.hm_graph.specs.Ways.{Edges}
 use Rattle.hm_refs.specs.Names.{Entry}
+use Rattle.hm_outdone.specs.Formats.{edges_by}
 use Rattle.hm_units.specs.Units.{units_of}
 use Rattle.hm_graph.specs.Layers.{first_layer}
 use Rattle.hm_graph.specs.UnitEdges.{edges_of}
@@ -75,7 +78,11 @@ AreNamed t (step ∷ steps) = IsNamedStep t step × AreNamed t steps
 
 -- ---- Steps of a tree
 
--- the steps of a tree's graph by a table and these rules
-pub record IsGraphOf (t : List Entry) (rules : SpellRules) (w : List Event) (g : GraphView) : Type 0 where
-  pub fits : StepsFit (edges_of (spelling t rules)) (piece_bytes t) (units_of rules w) first_layer g.steps g.last
+-- the edges by a table and these rules, as far as a format's graph has them
+abbrev pub tree_edges : List Entry → SpellRules → Format → Edges
+tree_edges t rules format = edges_by format (edges_of (spelling t rules))
+
+-- the steps of a tree's graph by a table and these rules, in a format
+pub record IsGraphOf (t : List Entry) (rules : SpellRules) (format : Format) (w : List Event) (g : GraphView) : Type 0 where
+  pub fits : StepsFit (tree_edges t rules format) (piece_bytes t) (units_of rules w) first_layer g.steps g.last
   pub named : AreNamed t g.steps

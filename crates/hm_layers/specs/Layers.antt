@@ -1,12 +1,11 @@
 -- What is made of a unit and the states in front of it: hops, a step, the states behind.
 use Rattle.std.specs.Prelude.{◌≡◌, ℕ, ◌<◌, ◌^◌, List, [], ◌∷◌, Some, map}
-use Rattle.hm_base.specs.declared.plain.SpellRules.{SpellRules}
 use Rattle.hm_graph.specs.Layers.{states_behind, with_ends, with_state}
-use Rattle.hm_graph.specs.UnitEdges.{edges_of}
+use Rattle.hm_graph.specs.Ways.{Edges}
+use Rattle.hm_refs.specs.Names.{Entry}
 use Rattle.hm_refs.specs.Tables.{TableView}
 use Rattle.hm_units.specs.States as graph
 use Rattle.hm_units.specs.Units as units
-use Rattle.hm_edges.specs.Found.{spelling}
 use Rattle.hm_edges.specs.Pieces.{HasName, edge_of, edges_seen, piece_bytes}
 use Rattle.hm_edges.specs.States.{HasNodes, state_of}
 use Rattle.hm_edges.specs.Units.{StandsFor}
@@ -16,7 +15,12 @@ use Rattle.hm_edges.specs.declared.units.Unit.{Unit}
 use Rattle.hm_steps.specs.Fits.{HopFits, HopsFit, StepFits, place_of}
 use Rattle.hm_steps.specs.Steps.{Step}
 use Rattle.hm_steps.specs.declared.hops.Hop.{Hop}
-use Rattle.hm_layers.specs.Graphs.{AreLowHops, AreNamedHops, IsLowStep, IsNamedStep}
+use Rattle.hm_layers.specs.Graphs.{tree_edges, AreLowHops, AreNamedHops, IsLowStep, IsNamedStep}
+use Rattle.hm_layers.specs.declared.rules.EdgeRules.{EdgeRules}
+
+-- the edges by a table and these rules
+abbrev pub edges_under : List Entry → EdgeRules → Edges
+edges_under t rules = tree_edges t rules.spell rules.format
 
 -- what the states of a layer mean
 abbrev pub states_of : TableView → List State → List graph.State
@@ -49,10 +53,14 @@ pub record AreHops (v : TableView) (unit : Unit) (es : List Edge) (before now : 
   pub low : AreLowHops hops
   pub named : AreNamedHops v.entries hops
 
+-- for each unit of a tree that this one stands for, these are its edges, in their order
+abbrev pub AreEdgesUnder : TableView → EdgeRules → Unit → State → List Edge → Type 0
+AreEdgesUnder v rules unit from es = (u : units.Unit) → StandsFor v.entries unit u → edges_seen v u es ≡ edges_under v.entries rules u (state_of v from)
+
 -- the step is that of the unit from these states to those behind
-pub record IsLayer (v : TableView) (rules : SpellRules) (unit : Unit) (from behind : List State) (step : Step) : Type 0 where
-  pub fits : (u : units.Unit) → StandsFor v.entries unit u → StepFits (piece_bytes v.entries u) (edges_of (spelling v.entries rules) u) (states_of v behind) (states_of v from) step
-  pub states : (u : units.Unit) → StandsFor v.entries unit u → states_of v behind ≡ states_behind (edges_of (spelling v.entries rules)) u (states_of v from)
+pub record IsLayer (v : TableView) (rules : EdgeRules) (unit : Unit) (from behind : List State) (step : Step) : Type 0 where
+  pub fits : (u : units.Unit) → StandsFor v.entries unit u → StepFits (piece_bytes v.entries u) (edges_under v.entries rules u) (states_of v behind) (states_of v from) step
+  pub states : (u : units.Unit) → StandsFor v.entries unit u → states_of v behind ≡ states_behind (edges_under v.entries rules) u (states_of v from)
   pub nodes : HaveNodes v behind
   pub low : IsLowStep step
   pub named : IsNamedStep v.entries step

@@ -1,6 +1,5 @@
 -- What is met of a tree's graph: lists of states with numbers, and steps with numbers, each with the number of the list behind it.
 use Rattle.std.specs.Prelude.{◌≡◌, ℕ, ◌<◌, Bool, true, false, List, [], ◌∷◌, length, slice_index_or}
-use Rattle.hm_base.specs.declared.plain.SpellRules.{SpellRules}
 use Rattle.hm_refs.specs.Names.{Entry}
 use Rattle.hm_refs.specs.Tables.{TableView}
 use Rattle.hm_edges.specs.Units.{has_pair}
@@ -11,11 +10,12 @@ use Rattle.hm_edges.specs.declared.units.Unit.{Unit}
 use Rattle.hm_layers.specs.Layers.{HaveNodes, IsLayer}
 use Rattle.hm_layers.specs.declared.made.Made.{Made}
 use Rattle.hm_layers.specs.declared.made.Seen.{Seen}
+use Rattle.hm_layers.specs.declared.rules.EdgeRules.{EdgeRules}
 
 -- lists of states, and what was made from them
 pub record MetView : Type 0 where
   pub table : TableView
-  pub rules : SpellRules
+  pub rules : EdgeRules
   pub lists : List (List State)
   pub made : List Made
 
@@ -33,7 +33,7 @@ abbrev pub first_states : List State
 first_states = record { at = Outside; pending = Nothing } ∷ []
 
 -- nothing is met but the first list
-abbrev pub only_first : TableView → SpellRules → MetView
+abbrev pub only_first : TableView → EdgeRules → MetView
 only_first v rules = record { table = v; rules = rules; lists = first_states ∷ []; made = [] }
 
 -- the list has this number

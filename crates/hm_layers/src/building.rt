@@ -8,10 +8,11 @@ ghost use Rattle.hm_parts.specs.Parts.{AreParts, IsPart, part_units, parts_units
 ghost use Rattle.hm_layers.specs.Graphs.{AreNamed};
 ghost use Rattle.hm_layers.specs.Building.{Adds, IsBuilt, character_before};
 
+use crate::rules::EdgeRules;
 use crate::graph::Graph;
 use crate::met::{LIMIT, Met};
 use crate::numbers::Numbers;
-use hm_base::{Memory, SpellRules};
+use hm_base::Memory;
 use hm_edges::{TextKind, Unit};
 use hm_parts::Part;
 use hm_refs::Table;
@@ -43,7 +44,7 @@ impl<'t> Building<'t> {
     pub(crate) fn new(
         alloc: Global,
         table: &'t Table,
-        rules: SpellRules,
+        rules: EdgeRules,
     ) -> Result<Building<'t>, Memory>
         ensures table { IfOk result (λ building. building.table ≡ table.now) }
         ensures rules { IfOk result (λ building. building.rules ≡ rules) }

@@ -4,9 +4,11 @@ ghost use Rattle.hm_refs.specs.Tables.{TableView};
 ghost use Rattle.hm_edges.specs.Pieces.{AreOfTable, IsOfTable};
 ghost use Rattle.hm_edges.specs.States.{HasNodes, state_of};
 ghost use Rattle.hm_steps.specs.Fits.{place_of};
-ghost use Rattle.hm_layers.specs.Layers.{AreHops, HaveNodes, IsHop, IsLayer, IsPlaced, states_of};
+ghost use Rattle.hm_layers.specs.Layers.{AreEdgesUnder, AreHops, HaveNodes, IsHop, IsLayer, IsPlaced, states_of};
 
-use hm_base::{Memory, SpellRules};
+use crate::outdone::edges_in;
+use crate::rules::EdgeRules;
+use hm_base::Memory;
 use hm_edges::{Edge, State, Unit, find_edges, piece_len};
 use hm_refs::Table;
 use hm_steps::Hop;
@@ -90,22 +92,38 @@ pub(crate) struct Layer {
     pub(crate) behind: Vec<State>,
 }
 
+/// The edges of a unit from a state.
+fn edges_from(
+    alloc: Global,
+    table: &Table,
+    rules: EdgeRules,
+    unit: Unit,
+    from: State,
+) -> Result<Vec<Edge>, Memory>
+    requires { HasNodes table.now from.pending }
+    ensures edges { IfOk result (λ edges. AreEdgesUnder table.now rules unit from edges.items) }
+    ensures known { IfOk result (λ edges. AreOfTable table.now edges.items) }
+{
+    let mut edges = Vec::new(alloc);
+    find_edges(table, rules.spell, unit, from, &mut edges)?;
+    edges_in(alloc, table, rules.format, unit, edges)
+}
+
 /// Finds the hops of each of these states, and the states behind.
 pub(crate) fn find_layer(
     alloc: Global,
     table: &Table,
-    rules: SpellRules,
+    rules: EdgeRules,
     unit: Unit,
     from: &[State],
 ) -> Result<Layer, Memory>
     requires { HaveNodes table.now from.now }
     ensures { IfOk result (λ layer. IsLayer table.now rules unit from.now layer.behind.items (map (λ hops. hops.items) layer.hops.items)) }
 {
-    let mut edges = Vec::new(alloc);
     let mut behind = Vec::new(alloc);
     let mut hops = Vec::new(alloc);
     for state in from {
-        find_edges(table, rules, unit, *state, &mut edges)?;
+        let edges = edges_from(alloc, table, rules, unit, *state)?;
         hops.push(hops_of(alloc, table, unit, edges.as_slice(), &mut behind)?)?;
     }
     Ok(Layer { hops, behind })

@@ -7,8 +7,10 @@ mod graph;
 mod layer;
 mod made;
 mod met;
+mod outdone;
 mod numbers;
 mod pairs;
+mod rules;
 mod step;
 #[cfg(test)]
 mod tests;

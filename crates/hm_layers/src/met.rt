@@ -5,11 +5,12 @@ ghost use Rattle.hm_edges.specs.Units as units;
 ghost use Rattle.hm_layers.specs.Layers.{HaveNodes};
 ghost use Rattle.hm_layers.specs.Met.{Grows, IsListOf, IsStepOf, list_at, first_states, made_at, only_first};
 
+use crate::rules::EdgeRules;
 use crate::layer::{Layer, find_layer, is_state};
 use crate::made::{Front, Made, Seen, equal_made};
 use crate::pairs::{lone_characters, pair_of};
 use crate::step::Step;
-use hm_base::{Memory, SpellRules};
+use hm_base::Memory;
 use hm_edges::{Pending, State, Unit, Where};
 use hm_refs::Table;
 use std::alloc::Global;
@@ -27,7 +28,7 @@ const SEARCHED: usize = 256;
 pub(crate) struct Met<'t> {
     alloc: Global,
     table: &'t Table,
-    rules: SpellRules,
+    rules: EdgeRules,
     lists: Vec<Vec<State>>,
     made: Vec<Made>,
     seen: Vec<Seen>,
@@ -144,7 +145,7 @@ fn first_lists(alloc: Global) -> Result<Vec<Vec<State>>, Memory>
 
 impl<'t> Met<'t> {
     /// List 0 has the first state. No steps are met.
-    pub(crate) fn new(alloc: Global, table: &'t Table, rules: SpellRules) -> Result<Met<'t>, Memory>
+    pub(crate) fn new(alloc: Global, table: &'t Table, rules: EdgeRules) -> Result<Met<'t>, Memory>
         ensures { IfOk result (λ met. met ≡ only_first table.now rules) }
     {
         Ok(Met {

@@ -5,6 +5,7 @@ ghost use Rattle.hm_steps.specs.Steps as steps;
 ghost use Rattle.hm_layers.specs.Graphs as graphs;
 
 use hm_edges::Piece;
+use hm_cert::Format;
 use hm_steps::Hop;
 use std::marker::Model;
 
@@ -103,6 +104,17 @@ impl Step {
         ensures { result ≡ graphs.only_hop self.now }
     {
         self.only
+    }
+
+    /// Whether a certificate of this format leaves out the layer in front of it, where that isn't the first one.
+    pub fn is_left_out(&self, format: Format) -> bool
+        ensures { result ≡ steps.leaves_out format self.now }
+    {
+        match format {
+            Format::One => false,
+            Format::Two => self.width() == 1 && self.is_forced(),
+            Format::Three => self.is_forced(),
+        }
     }
 
     /// Whether each state has one hop, so that there is nothing to choose.

@@ -9,7 +9,7 @@ use Rattle.hm_cert.specs.Reading.{ReadsAs, given}
 use Rattle.hm_cert.specs.declared.lines.CertificateFault.{CertificateFault}
 use Rattle.hm_cert.specs.declared.lines.CertificateFault.TheVariants.{BadLine}
 use Rattle.hm_cert.specs.declared.certificate.Certificate.{Certificate}
-use Rattle.hm_cert.specs.declared.text.Format.TheVariants.{Two}
+use Rattle.hm_cert.specs.declared.text.Format.{Format}
 use Rattle.hm_check.proofs.Shown.{minified_is_accepted}
 use Rattle.hm_check.specs.Laws.{least_certificate}
 use Rattle.hm_check.specs.Verdicts.{verdict}
@@ -22,15 +22,15 @@ use Rattle.hm_refs.specs.Tables.{IsTable}
 use Rattle.hm_shortest.specs.Shortest.{certificate_of, certified_rows, shortest_text}
 
 -- the certificate is read
-pub certificate_read : (t : List Entry) (r : SpellRules) (w : List Event) (cert : List ℕ) → cert ≡ certificate_of t r w → AreRows (certified_rows t r w) → given cert ≡ Ok (least_certificate t r w)
+pub certificate_read : (t : List Entry) (r : SpellRules) (format : Format) (w : List Event) (cert : List ℕ) → cert ≡ certificate_of t r format w → AreRows (certified_rows t r format w) → given cert ≡ Ok (least_certificate t r format w)
 unfolding certificate_of
-certificate_read t r w cert e h = ap given e ∙ written_is_read Two r (certified_rows t r w) h
+certificate_read t r format w cert e h = ap given e ∙ written_is_read format r (certified_rows t r format w) h
 
 -- and the check says yes
-pub accepted : (t : List Entry) → IsTable t → (r : SpellRules) (w : List Event) → Settled w → (out : List ℕ) (c : Certificate) → out ≡ shortest_text t r w → c ≡ least_certificate t r w → length out ≤ OUTPUT_LIMIT → verdict t r w out c ≡ Yes (length (shortest_text t r w))
+pub accepted : (t : List Entry) → IsTable t → (r : SpellRules) (format : Format) (w : List Event) → Settled w → (out : List ℕ) (c : Certificate) → out ≡ shortest_text t r w → c ≡ least_certificate t r format w → length out ≤ OUTPUT_LIMIT → verdict t r w out c ≡ Yes (length (shortest_text t r w))
 unfolding shortest_text
-accepted t k r w s out c is e short =
-    (λ i. verdict t r w (is i) (e i)) ∙ minified_is_accepted t k r w s (subst (λ x. length x ≤ OUTPUT_LIMIT) is short)
+accepted t k r format w s out c is e short =
+    (λ i. verdict t r w (is i) (e i)) ∙ minified_is_accepted t k r format w s (subst (λ x. length x ≤ OUTPUT_LIMIT) is short)
 
 -- it isn't refused at a line
 pub no_bad_line : (bytes : List ℕ) (fault : CertificateFault) (line : ℕ) (c : Certificate) → given bytes ≡ Ok c → fault ≡ BadLine line → ReadsAs bytes (Err fault) → ⊥
@@ -40,12 +40,12 @@ no_bad_line bytes fault line c good is reads =
     cc
 
 -- what was read is that certificate, so what is found is a yes
-pub found_yes : (t : List Entry) → IsTable t → (r : SpellRules) (w : List Event) → Settled w → (out bytes : List ℕ) (c : Certificate) (v : Verdict) → out ≡ shortest_text t r w → length out ≤ OUTPUT_LIMIT → given bytes ≡ Ok (least_certificate t r w) → given bytes ≡ Ok c → v ≡ verdict t r w out c
+pub found_yes : (t : List Entry) → IsTable t → (r : SpellRules) (format : Format) (w : List Event) → Settled w → (out bytes : List ℕ) (c : Certificate) (v : Verdict) → out ≡ shortest_text t r w → length out ≤ OUTPUT_LIMIT → given bytes ≡ Ok (least_certificate t r format w) → given bytes ≡ Ok c → v ≡ verdict t r w out c
     → v ≡ Yes (length (shortest_text t r w))
-found_yes t k r w s out bytes c v is short good read e =
-    let h : Ok c ≡ Ok (least_certificate t r w) = sym read ∙ good in
-    let same : c ≡ least_certificate t r w = cc in
-    e ∙ accepted t k r w s out c is same short
+found_yes t k r format w s out bytes c v is short good read e =
+    let h : Ok c ≡ Ok (least_certificate t r format w) = sym read ∙ good in
+    let same : c ≡ least_certificate t r format w = cc in
+    e ∙ accepted t k r format w s out c is same short
 
 pub found_no : (v : Verdict) (n : ℕ) (why : Why) → v ≡ Yes n → v ≡ No why → ⊥
 found_no v n why is other = let h : Yes n ≡ No why = sym is ∙ other in cc

@@ -11,6 +11,7 @@ use Rattle.hm_refs.specs.Names.{Entry}
 use Rattle.hm_store.specs.Contents.{Contents, Sees}
 use Rattle.hm_store.specs.Files.{FileMap, file_of}
 use Rattle.hm_words.specs.Words.{Command, minify, check, tree, measure, is_apart, are_apart, are_distinct}
+use Rattle.hm_words.specs.declared.writing.Writing.{Writing}
 use Rattle.hm_minify.specs.Endings.{Ending, with_tree, tree_ending, command_ending, check_ending}
 use Rattle.hm_minify.proofs.Seen.{mixed, sees_both, page_stays}
 
@@ -84,10 +85,10 @@ check_comes r t w out cert ended seen more h =
 -- ---- the ending of a request
 
 -- what doesn't depend on further files is said by the contents that are told
-pub told_ending : (told : Option FileMap) (a c : Command) (r : SpellRules) (t : List Entry) (w : List Event) (ended : Ending) → a ≡ c → ended ≡ tree_ending c r (file_of told) t w → Sees told (λ seen. ended ≡ tree_ending a r seen t w)
+pub told_ending : (told : Option FileMap) (a c : Command) (r : Writing) (t : List Entry) (w : List Event) (ended : Ending) → a ≡ c → ended ≡ tree_ending c r (file_of told) t w → Sees told (λ seen. ended ≡ tree_ending a r seen t w)
 told_ending told a c r t w ended is e = record { seen = file_of told; are_told = λ _ _. refl; holds = e ∙ ap (λ x. tree_ending x r (file_of told) t w) (sym is) }
 
-pub asked_seen : (told : Option FileMap) (c : Command) (o : TreeOptions) (r : SpellRules) (t : List Entry) (w : List Event) (ended : Ending) → is_apart c ≡ true → Sees told (λ seen. input_of c o seen ≡ tree_input t w)
+pub asked_seen : (told : Option FileMap) (c : Command) (o : TreeOptions) (r : Writing) (t : List Entry) (w : List Event) (ended : Ending) → is_apart c ≡ true → Sees told (λ seen. input_of c o seen ≡ tree_input t w)
     → Sees told (λ seen. ended ≡ tree_ending c r seen t w) → Sees told (λ seen. ended ≡ command_ending c o r seen)
 asked_seen told (minify table page out cert) o r t w ended apart i a = record {
   seen = i.seen;
@@ -95,9 +96,9 @@ asked_seen told (minify table page out cert) o r t w ended apart i a = record {
   holds = a.holds ∙ ap (λ x. with_tree x (tree_ending (minify table page out cert) r i.seen)) (sym i.holds);
 }
 asked_seen told (check table page out cert) o r t w ended apart i a =
-    let s = sees_both told (is_either out cert) (λ seen. page_with_table table page o seen ≡ tree_input t w) (λ seen. ended ≡ check_ending r t w (seen out) (seen cert))
+    let s = sees_both told (is_either out cert) (λ seen. page_with_table table page o seen ≡ tree_input t w) (λ seen. ended ≡ check_ending r.rules t w (seen out) (seen cert))
     (λ seen more h. page_stays (is_either out cert) table page o seen more (table_apart table page out cert apart) (page_apart table page out cert apart) ∙ h)
-    (λ seen more h. check_comes r t w out cert ended seen more h) i a in
+    (λ seen more h. check_comes r.rules t w out cert ended seen more h) i a in
     record {
       seen = s.seen;
       are_told = s.are_told;
@@ -120,5 +121,5 @@ pub input_seen : (told : Option FileMap) (c : Command) (table page : List ℕ) (
 input_seen told c table page o x names i = record { seen = i.seen; are_told = i.are_told; holds = names o i.seen ∙ i.holds }
 
 -- the files are as they were before the tree was loaded
-pub answer_before : (told mid : Option FileMap) (c : Command) (r : SpellRules) (t : List Entry) (w : List Event) (ended : Ending) → mid ≡ told → Sees mid (λ seen. ended ≡ tree_ending c r seen t w) → Sees told (λ seen. ended ≡ tree_ending c r seen t w)
+pub answer_before : (told mid : Option FileMap) (c : Command) (r : Writing) (t : List Entry) (w : List Event) (ended : Ending) → mid ≡ told → Sees mid (λ seen. ended ≡ tree_ending c r seen t w) → Sees told (λ seen. ended ≡ tree_ending c r seen t w)
 answer_before told mid c r t w ended same a = subst (λ files. Sees files (λ seen. ended ≡ tree_ending c r seen t w)) same a

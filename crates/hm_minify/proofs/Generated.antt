@@ -5,7 +5,7 @@ use Rattle.std.specs.Str.{bytes_eq}
 use Rattle.std.specs.Str.Parse.{digits_value}
 use Rattle.std.proofs.lemmas.Bool.Decides.{nat_tests}
 use Rattle.hm_base.specs.declared.limits.TheConstants.{PAGE_LIMIT}
-use Rattle.hm_base.specs.declared.plain.SpellRules.{SpellRules}
+use Rattle.hm_words.specs.declared.writing.Writing.{Writing}
 use Rattle.hm_base.specs.declared.plain.TreeOptions.{TreeOptions}
 use Rattle.hm_base.specs.declared.rules.Rule.{Rule}
 use Rattle.hm_construction.specs.Trees.{Outcome, built, refused_by}
@@ -17,7 +17,7 @@ use Rattle.hm_refs.specs.Names.{Entry}
 use Rattle.hm_refs.specs.Tables.{IsTable}
 use Rattle.hm_refs.specs.declared.fault.TableFault.{TableFault}
 use Rattle.hm_store.specs.Contents.{Contents}
-use Rattle.hm_words.specs.Words.{Command, Asked, asked, asks, are_flags, check, command_in, is_apart, is_filled, is_number, measure, measured, minify, names_in, number_in, options_of, or_else, rules_of, tree, with_flags}
+use Rattle.hm_words.specs.Words.{Command, Asked, asked, asks, are_flags, check, command_in, is_apart, is_filled, is_number, measure, measured, minify, names_in, number_in, options_of, or_else, writing_of, tree, with_flags}
 use Rattle.hm_minify.proofs.Headline.{table_is}
 
 -- ---- The numbers of the words
@@ -77,16 +77,16 @@ asks_command : (ws : List (List ℕ)) (x : Option Command) (a : Asked) → with_
 asks_command ws None a e = cc
 asks_command ws (Some command) a e = by_test (is_filled command && is_apart command) e
   where
-    by_test : (b : Bool) → cond b (Some (asks command (options_of ws) (rules_of ws))) None ≡ Some a → Some command ≡ Some a.command
-    by_test true h = let is : asks command (options_of ws) (rules_of ws) ≡ a = cc in ap (λ (z : Asked). Some z.command) is
+    by_test : (b : Bool) → cond b (Some (asks command (options_of ws) (writing_of ws))) None ≡ Some a → Some command ≡ Some a.command
+    by_test true h = let is : asks command (options_of ws) (writing_of ws) ≡ a = cc in ap (λ (z : Asked). Some z.command) is
     by_test false h = cc
 
-pub asked_limits : (ws : List (List ℕ)) (table : List ℕ) (number size : ℕ) (options : TreeOptions) (rules : SpellRules) → asked ws ≡ Some (asks (measure table number size) options rules) → IsMeasured number size
+pub asked_limits : (ws : List (List ℕ)) (table : List ℕ) (number size : ℕ) (options : TreeOptions) (writing : Writing) → asked ws ≡ Some (asks (measure table number size) options writing) → IsMeasured number size
 unfolding asked
-asked_limits ws table number size options rules e = by_test (are_flags ws) e
+asked_limits ws table number size options writing e = by_test (are_flags ws) e
   where
-    by_test : (b : Bool) → cond b (with_flags ws (command_in (names_in ws))) None ≡ Some (asks (measure table number size) options rules) → IsMeasured number size
-    by_test true h = command_limits number size table (names_in ws) (asks_command ws (command_in (names_in ws)) (asks (measure table number size) options rules) h)
+    by_test : (b : Bool) → cond b (with_flags ws (command_in (names_in ws))) None ≡ Some (asks (measure table number size) options writing) → IsMeasured number size
+    by_test true h = command_limits number size table (names_in ws) (asks_command ws (command_in (names_in ws)) (asks (measure table number size) options writing) h)
     by_test false h = cc
 
 -- ---- The page

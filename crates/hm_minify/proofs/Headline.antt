@@ -4,7 +4,6 @@ use Rattle.std.specs.declared.option.Option.{Option}
 use Rattle.std.specs.Bool.{nat_lt}
 use Rattle.hm_base.specs.Walks.{Event}
 use Rattle.hm_base.specs.declared.limits.TheConstants.{PAGE_LIMIT}
-use Rattle.hm_base.specs.declared.plain.SpellRules.{SpellRules}
 use Rattle.hm_base.specs.declared.plain.TreeOptions.{TreeOptions}
 use Rattle.hm_base.specs.declared.rules.Rule.TheVariants.{TooLong}
 use Rattle.hm_construction.proofs.Pages.{pages_are_settled}
@@ -24,6 +23,8 @@ use Rattle.hm_shortest.proofs.Headline.{shortest_is_certified}
 use Rattle.hm_shortest.specs.Shortest.{IsShortest, certificate_of, shortest_text}
 use Rattle.hm_store.specs.Contents.{Contents}
 use Rattle.hm_tokens.proofs.TextPieces.{names_of_table}
+use Rattle.hm_words.specs.declared.writing.Writing.{Writing}
+use Rattle.hm_minify.specs.Endings.{format_of}
 use Rattle.hm_words.specs.Words.{Command, minify, check, tree, measure}
 
 -- a table of names, and a settled tree
@@ -75,5 +76,6 @@ command_sound (measure table number size) o seen t w e = input_sound o t w (is_n
 
 -- ---- The headline
 
-pub input_is_shortest : (c : Command) (o : TreeOptions) (r : SpellRules) (seen : Contents) (t : List Entry) (w : List Event) → input_of c o seen ≡ tree_input t w → IsShortest t r w (shortest_text t r w) (certificate_of t r w)
-input_is_shortest c o r seen t w e = let s = command_sound c o seen t w e in shortest_is_certified t s.table r w s.settled
+pub input_is_shortest : (c : Command) (o : TreeOptions) (x : Writing) (seen : Contents) (t : List Entry) (w : List Event) → input_of c o seen ≡ tree_input t w
+    → IsShortest t x.rules (format_of x.sparse) w (shortest_text t x.rules w) (certificate_of t x.rules (format_of x.sparse) w)
+input_is_shortest c o x seen t w e = let s = command_sound c o seen t w e in shortest_is_certified t s.table x.rules (format_of x.sparse) w s.settled

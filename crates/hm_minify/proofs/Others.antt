@@ -7,7 +7,7 @@ use Rattle.std.specs.FinMap.{get, get-insert}
 use Rattle.std.proofs.lemmas.Map.Text.{is_eq-slice_cmp}
 use Rattle.hm_refs.proofs.Places.{same_bytes, other_bytes}
 use Rattle.hm_base.specs.Walks.{Event}
-use Rattle.hm_base.specs.declared.plain.SpellRules.{SpellRules}
+use Rattle.hm_words.specs.declared.writing.Writing.{Writing}
 use Rattle.hm_refs.specs.Names.{Entry}
 use Rattle.hm_store.specs.Contents.{Contents, Sees}
 use Rattle.hm_store.specs.Files.{FileMap, file_of, with_file, HasFront}
@@ -51,13 +51,13 @@ left_other old (w ∷ ws) new name h (inr (inr l)) =
 
 -- ---- what is written
 
-tree_names : (c : Command) (r : SpellRules) (seen : Contents) (t : List Entry) (w : List Event) (name : List ℕ) → has (outputs c) name ≡ false → has (names_of (tree_ending c r seen t w).writes) name ≡ false
+tree_names : (c : Command) (r : Writing) (seen : Contents) (t : List Entry) (w : List Event) (name : List ℕ) → has (outputs c) name ≡ false → has (names_of (tree_ending c r seen t w).writes) name ≡ false
 tree_names (minify table page out cert) r seen t w name h = h
-tree_names (check table page out cert) r seen t w name h = ap (λ ws. has (names_of ws) name) (check_writes r t w (seen out) (seen cert))
+tree_names (check table page out cert) r seen t w name h = ap (λ ws. has (names_of ws) name) (check_writes r.rules t w (seen out) (seen cert))
 tree_names (tree table page) r seen t w name h = refl
 tree_names (measure table number size) r seen t w name h = refl
 
-input_names : (c : Command) (r : SpellRules) (seen : Contents) (x : Input) (name : List ℕ) → has (outputs c) name ≡ false → has (names_of (with_tree x (tree_ending c r seen)).writes) name ≡ false
+input_names : (c : Command) (r : Writing) (seen : Contents) (x : Input) (name : List ℕ) → has (outputs c) name ≡ false → has (names_of (with_tree x (tree_ending c r seen)).writes) name ≡ false
 input_names c r seen missing name h = refl
 input_names c r seen (bad_table fault) name h = refl
 input_names c r seen (bad_page rule at) name h = refl
@@ -65,7 +65,7 @@ input_names c r seen (tree_input t w) name h = tree_names c r seen t w name h
 
 request_names : (a : Option Asked) (seen : Contents) (name : List ℕ) → has (asked_outputs a) name ≡ false → has (names_of (request_ending a seen).writes) name ≡ false
 request_names None seen name h = refl
-request_names (Some a) seen name h = input_names a.command a.rules seen (input_of a.command a.options seen) name h
+request_names (Some a) seen name h = input_names a.command a.writing seen (input_of a.command a.options seen) name h
 
 pub others : (words : List (List ℕ)) (old new : Option FileMap) (name : List ℕ) → Sees old (λ seen. IsLeft old (ending words seen).writes new) → has (asked_outputs (asked words)) name ≡ false → file_of new name ≡ file_of old name
 others words old new name l h = left_other old (ending words l.seen).writes new name (request_names (asked words) l.seen name h) l.holds

@@ -5,6 +5,8 @@ use Rattle.hm_base.specs.declared.plain.TreeOptions.{TreeOptions}
 use Rattle.hm_base.specs.declared.limits.TheConstants.{CERTIFICATE_LIMIT}
 use Rattle.hm_cert.specs.Reading.{given}
 use Rattle.hm_cert.specs.declared.certificate.Certificate.{Certificate}
+use Rattle.hm_cert.specs.declared.text.Format.{Format}
+use Rattle.hm_cert.specs.declared.text.Format.TheVariants.{Two, Three}
 use Rattle.hm_check.specs.Verdicts.{verdict}
 use Rattle.hm_check.specs.declared.verdicts.Verdict.{Verdict}
 use Rattle.hm_check.specs.declared.verdicts.Verdict.TheVariants.{Yes, No}
@@ -16,6 +18,7 @@ use Rattle.hm_tree.specs.Dump.{dump_of}
 use Rattle.hm_input.specs.Inputs.{Input, missing, bad_table, bad_page, tree as tree_input, input_of}
 use Rattle.hm_gen.specs.Pages.{page as made_page}
 use Rattle.hm_words.specs.Words.{Command, Asked, minify, check, tree, measure, asked}
+use Rattle.hm_words.specs.declared.writing.Writing.{Writing}
 use Rattle.hm_minify.specs.Lines.{length_line, refused_line, table_line, usage_line, store_line, yes_line, too_long_line, bad_line_line, why_line, measured_line}
 use Rattle.hm_minify.specs.Writes.{Write, write}
 use Rattle.hm_minify.specs.declared.status.Status.{Status}
@@ -51,12 +54,17 @@ with_tree (bad_table fault) work = says status.TableRefused (table_line fault)
 with_tree (bad_page rule at) work = says status.PageRefused (refused_line rule at)
 with_tree (tree_input t w) work = work t w
 
+-- the format of a certificate that is written
+abbrev pub format_of : Bool → Format
+format_of false = Two
+format_of true = Three
+
 -- a tree is written shortest, with its certificate
-abbrev pub minified_ending : SpellRules → List ℕ → List ℕ → List Entry → List Event → Ending
-minified_ending r out cert t w = record {
+abbrev pub minified_ending : Writing → List ℕ → List ℕ → List Entry → List Event → Ending
+minified_ending x out cert t w = record {
   status = status.Done;
-  line = length_line (length (shortest_text t r w));
-  writes = write out (shortest_text t r w) ∷ write cert (certificate_of t r w) ∷ [];
+  line = length_line (length (shortest_text t x.rules w));
+  writes = write out (shortest_text t x.rules w) ∷ write cert (certificate_of t x.rules (format_of x.sparse) w) ∷ [];
 }
 
 -- what a check finds is said
@@ -83,11 +91,11 @@ abbrev pub measured_ending : ℕ → SpellRules → List Entry → List Event �
 measured_ending bytes r t w = says status.Done (measured_line bytes (length (shortest_text t r w)) (layer_count r w))
 
 -- what a command makes of a tree, by what further files hold
-abbrev pub tree_ending : Command → SpellRules → Contents → List Entry → List Event → Ending
-tree_ending (minify table page out cert) r seen t w = minified_ending r out cert t w
-tree_ending (check table page out cert) r seen t w = check_ending r t w (seen out) (seen cert)
-tree_ending (tree table page) r seen t w = says status.Done (dump_of w)
-tree_ending (measure table number size) r seen t w = measured_ending (length (made_page number size)) r t w
+abbrev pub tree_ending : Command → Writing → Contents → List Entry → List Event → Ending
+tree_ending (minify table page out cert) x seen t w = minified_ending x out cert t w
+tree_ending (check table page out cert) x seen t w = check_ending x.rules t w (seen out) (seen cert)
+tree_ending (tree table page) x seen t w = says status.Done (dump_of w)
+tree_ending (measure table number size) x seen t w = measured_ending (length (made_page number size)) x.rules t w
 
 -- the page of a command is a file
 abbrev pub has_page : Command → Bool
@@ -96,11 +104,11 @@ has_page command = true
 
 -- ---- All commands
 
-abbrev pub command_ending : Command → TreeOptions → SpellRules → Contents → Ending
-command_ending c options r seen = with_tree (input_of c options seen) (tree_ending c r seen)
+abbrev pub command_ending : Command → TreeOptions → Writing → Contents → Ending
+command_ending c options x seen = with_tree (input_of c options seen) (tree_ending c x seen)
 
 abbrev pub asked_ending : Asked → Contents → Ending
-asked_ending a seen = command_ending a.command a.options a.rules seen
+asked_ending a seen = command_ending a.command a.options a.writing seen
 
 abbrev pub request_ending : Option Asked → Contents → Ending
 request_ending None seen = says status.Usage usage_line

@@ -7,7 +7,6 @@ use Rattle.hm_base.specs.declared.rules.Rule.{Rule}
 use Rattle.hm_store.specs.Causes.{Rose}
 use Rattle.hm_store.specs.Contents.{Contents, Sees, Tells}
 use Rattle.hm_store.specs.Files.{FileMap, AppendsFront}
-use Rattle.hm_base.specs.declared.plain.SpellRules.{SpellRules}
 use Rattle.hm_refs.specs.Names.{Entry}
 use Rattle.hm_refs.specs.declared.fault.TableFault.{TableFault}
 use Rattle.hm_gen.specs.Pages.{page as made_page}
@@ -17,7 +16,8 @@ use Rattle.hm_spellings.specs.Spellings.{Shortest}
 use Rattle.hm_tree.specs.Dump.{dump_of}
 use Rattle.hm_input.specs.Inputs.{bad_table, bad_page, tree as tree_input, input_of}
 use Rattle.hm_words.specs.Words.{Command, check}
-use Rattle.hm_minify.specs.Endings.{Ending, store_fault, is_fault, checked_ending}
+use Rattle.hm_words.specs.declared.writing.Writing.{Writing}
+use Rattle.hm_minify.specs.Endings.{format_of, Ending, store_fault, is_fault, checked_ending}
 use Rattle.hm_minify.specs.Lines.{length_line, yes_line, measured_line, refused_line, table_line, store_line}
 use Rattle.hm_minify.specs.Writes.{write, after_writes, IsLeft}
 use Rattle.hm_minify.specs.declared.status.Status.{Status}
@@ -55,32 +55,32 @@ pub data Course (e : Contents → Ending) (old new : Option FileMap) (faults_old
 -- ---- minify
 
 -- The files give a table and a tree; OUT and CERT hold it shortest and certified, and the line says the length.
-pub record HasMinified (command : Command) (options : TreeOptions) (rules : SpellRules) (out_name cert_name : List ℕ) (old new : Option FileMap) (sink_old sink_new : Option (List ℕ)) (seen : Contents) : Type 0 where
+pub record HasMinified (command : Command) (options : TreeOptions) (writing : Writing) (out_name cert_name : List ℕ) (old new : Option FileMap) (sink_old sink_new : Option (List ℕ)) (seen : Contents) : Type 0 where
   pub table : List Entry
   pub tree : List Event
   pub reads : input_of command options seen ≡ tree_input table tree
   pub out : List ℕ
   pub cert : List ℕ
-  pub shortest : IsShortest table rules tree out cert
+  pub shortest : IsShortest table writing.rules (format_of writing.sparse) tree out cert
   pub files : new ≡ after_writes old (write out_name out ∷ write cert_name cert ∷ [])
   pub line : sink_new ≡ append_known sink_old (length_line (length out))
 
 -- ---- check
 
 -- The files give a table, a tree and a text that parses to it, no spelling is shorter, and the line says the length.
-pub record HasChecked (command : Command) (options : TreeOptions) (rules : SpellRules) (out_name : List ℕ) (old new : Option FileMap) (sink_old sink_new : Option (List ℕ)) (seen : Contents) : Type 0 where
+pub record HasChecked (command : Command) (options : TreeOptions) (writing : Writing) (out_name : List ℕ) (old new : Option FileMap) (sink_old sink_new : Option (List ℕ)) (seen : Contents) : Type 0 where
   pub table : List Entry
   pub tree : List Event
   pub reads : input_of command options seen ≡ tree_input table tree
   pub out : List ℕ
   pub there : seen out_name ≡ Some out
   pub parses : page_tree table out ≡ built tree
-  pub shortest : Shortest table rules tree (length out)
+  pub shortest : Shortest table writing.rules tree (length out)
   pub files : new ≡ old
   pub line : sink_new ≡ append_known sink_old (yes_line (length out))
 
 -- The files give a table, a tree, a text and the bytes of a certificate, and the line says the first condition that fails.
-pub record HasDenied (command : Command) (options : TreeOptions) (rules : SpellRules) (out_name cert_name : List ℕ) (old new : Option FileMap) (sink_old sink_new : Option (List ℕ)) (seen : Contents) : Type 0 where
+pub record HasDenied (command : Command) (options : TreeOptions) (writing : Writing) (out_name cert_name : List ℕ) (old new : Option FileMap) (sink_old sink_new : Option (List ℕ)) (seen : Contents) : Type 0 where
   pub table : List Entry
   pub tree : List Event
   pub reads : input_of command options seen ≡ tree_input table tree
@@ -88,14 +88,14 @@ pub record HasDenied (command : Command) (options : TreeOptions) (rules : SpellR
   pub out_there : seen out_name ≡ Some out
   pub cert : List ℕ
   pub cert_there : seen cert_name ≡ Some cert
-  pub denies : (checked_ending rules table tree out cert).status ≡ status.No
+  pub denies : (checked_ending writing.rules table tree out cert).status ≡ status.No
   pub files : new ≡ old
-  pub line : sink_new ≡ append_known sink_old (checked_ending rules table tree out cert).line
+  pub line : sink_new ≡ append_known sink_old (checked_ending writing.rules table tree out cert).line
 
 -- only a check is denied
-abbrev pub IsDenied : Command → TreeOptions → SpellRules → Option FileMap → Option FileMap → Option (List ℕ) → Option (List ℕ) → Contents → Type 0
-IsDenied (check table page out cert) options rules old new sink_old sink_new seen = HasDenied (check table page out cert) options rules out cert old new sink_old sink_new seen
-IsDenied command options rules old new sink_old sink_new seen = ⊥
+abbrev pub IsDenied : Command → TreeOptions → Writing → Option FileMap → Option FileMap → Option (List ℕ) → Option (List ℕ) → Contents → Type 0
+IsDenied (check table page out cert) options writing old new sink_old sink_new seen = HasDenied (check table page out cert) options writing out cert old new sink_old sink_new seen
+IsDenied command options writing old new sink_old sink_new seen = ⊥
 
 -- ---- tree
 
@@ -111,15 +111,15 @@ pub record HasShown (command : Command) (options : TreeOptions) (old new : Optio
 
 -- The table's names give the tree of the page that is made, and the line says how many bytes the page has, how many the tree
 -- written shortest, and how many layers its graph.
-pub record HasMeasured (command : Command) (number size : ℕ) (options : TreeOptions) (rules : SpellRules) (old new : Option FileMap) (sink_old sink_new : Option (List ℕ)) (seen : Contents) : Type 0 where
+pub record HasMeasured (command : Command) (number size : ℕ) (options : TreeOptions) (writing : Writing) (old new : Option FileMap) (sink_old sink_new : Option (List ℕ)) (seen : Contents) : Type 0 where
   pub table : List Entry
   pub tree : List Event
   pub reads : input_of command options seen ≡ tree_input table tree
   pub out : List ℕ
   pub cert : List ℕ
-  pub shortest : IsShortest table rules tree out cert
+  pub shortest : IsShortest table writing.rules (format_of writing.sparse) tree out cert
   pub files : new ≡ old
-  pub line : sink_new ≡ append_known sink_old (measured_line (length (made_page number size)) (length out) (layer_count rules tree))
+  pub line : sink_new ≡ append_known sink_old (measured_line (length (made_page number size)) (length out) (layer_count writing.rules tree))
 
 -- ---- every command
 

@@ -12,13 +12,15 @@ ghost use Rattle.hm_minify.specs.Endings as spec;
 use crate::Status;
 use crate::ended::{Ended, Stop, says};
 use crate::lines::{measured_line, refused_line, table_line};
-use hm_base::{OUTPUT_LIMIT, SpellRules, TreeOptions};
+use crate::work::format_of;
+use hm_base::{OUTPUT_LIMIT, TreeOptions};
 use hm_cert::{Certificate, CertificateFault};
 use hm_check::{Verdict, check};
 use hm_input::{Input, Made, Unread, make_tree};
 use hm_refs::laws::every_table;
 use hm_shortest::{Minified, minify_tree};
 use hm_store::Store;
+use hm_words::Writing;
 use std::alloc::Global;
 
 /// Checks what was written of a tree, and gives how many bytes the text has. The check says yes; a text or a certificate above
@@ -26,13 +28,13 @@ use std::alloc::Global;
 fn check_minified(
     alloc: Global,
     input: &Input,
-    rules: SpellRules,
+    writing: Writing,
     minified: &Minified,
 ) -> Result<u64, Stop>
     requires settled { Settled input.now.tree }
-    requires minified { IsMinifiedBy input.now.table.entries rules input.now.tree minified.now }
-    requires readable { AreRows (certified_rows input.now.table.entries rules input.now.tree) }
-    ensures length { IfOk result (λ count. count ≡ length (shortest_text input.now.table.entries rules input.now.tree)) }
+    requires minified { IsMinifiedBy input.now.table.entries writing.rules (spec.format_of writing.sparse) input.now.tree minified.now }
+    requires readable { AreRows (certified_rows input.now.table.entries writing.rules (spec.format_of writing.sparse) input.now.tree) }
+    ensures length { IfOk result (λ count. count ≡ length (shortest_text input.now.table.entries writing.rules input.now.tree)) }
     ensures memory { result ≢ Err Stop.Store }
 {
     every_table(&input.table);
@@ -50,7 +52,7 @@ fn check_minified(
         &input.tree,
         minified.out.as_slice(),
         &certificate,
-        rules,
+        writing.rules,
     )? {
         Verdict::Yes { length } => Ok(length),
         Verdict::No { why: _ } => unreachable!(),
@@ -58,13 +60,19 @@ fn check_minified(
 }
 
 /// Writes the tree of a page that was made shortest, and checks that.
-fn measure_tree<'w>(alloc: Global, made: &Made, rules: SpellRules) -> Result<Ended<'w>, Stop>
+fn measure_tree<'w>(alloc: Global, made: &Made, writing: Writing) -> Result<Ended<'w>, Stop>
     requires settled { Settled made.now.input.tree }
-    ensures ended { IfOk result (λ ended. ended ≡ spec.measured_ending made.now.bytes rules made.now.input.table.entries made.now.input.tree) }
+    ensures ended { IfOk result (λ ended. ended ≡ spec.measured_ending made.now.bytes writing.rules made.now.input.table.entries made.now.input.tree) }
     ensures memory { result ≢ Err Stop.Store }
 {
-    let minified = minify_tree(alloc, &made.input.tree, &made.input.table, rules)?;
-    let length = check_minified(alloc, &made.input, rules, &minified)?;
+    let minified = minify_tree(
+        alloc,
+        &made.input.tree,
+        &made.input.table,
+        writing.rules,
+        format_of(writing.sparse),
+    )?;
+    let length = check_minified(alloc, &made.input, writing, &minified)?;
     Ok(says(
         alloc,
         Status::Done,
@@ -80,18 +88,18 @@ pub fn measure<'w, S: Store>(
     number: u32,
     size: u32,
     options: &TreeOptions,
-    rules: SpellRules,
+    writing: Writing,
 ) -> Result<Ended<'w>, Stop>
-    ensures ended { IfOk result (λ ended. Sees (S.files store.old) (λ seen. ended ≡ spec.command_ending (request.measure table.now number size) options.now rules seen)) }
+    ensures ended { IfOk result (λ ended. Sees (S.files store.old) (λ seen. ended ≡ spec.command_ending (request.measure table.now number size) options.now writing seen)) }
     ensures answers { IfOk result (λ ended. spec.is_fault ended.status ≡ false) }
     ensures same { S.files store.new ≡ S.files store.old }
     ensures writing { S.is_writing store.new ≡ S.is_writing store.old }
     ensures later { S.faults store.old ≤ S.faults store.new }
     ensures store { result ≡ Err Stop.Store → Rose (S.faults store.old) (S.faults store.new)
-        ⊎ Tells (S.files store.old) (λ seen. spec.command_ending (request.measure table.now number size) options.now rules seen ≡ spec.store_fault) }
+        ⊎ Tells (S.files store.old) (λ seen. spec.command_ending (request.measure table.now number size) options.now writing seen ≡ spec.store_fault) }
 {
     match make_tree(alloc, store, table, number, size, options) {
-        Ok(made) => measure_tree(alloc, &made, rules),
+        Ok(made) => measure_tree(alloc, &made, writing),
         Err(Unread::Table { fault }) => {
             Ok(says(alloc, Status::TableRefused, table_line(alloc, &fault)?))
         }

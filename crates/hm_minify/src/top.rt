@@ -1,12 +1,12 @@
 //! The top call.
 ghost use Rattle.std.specs.Prelude.{◌≡◌, ◌≢◌, ◌⊎◌, ◌≤◌, Some, None, IfOk, Err, true, false, ℕ, List};
 ghost use Rattle.std.specs.Io.KnownBytes.{append_known};
-ghost use Rattle.hm_base.specs.declared.plain.SpellRules.{SpellRules};
 ghost use Rattle.hm_base.specs.declared.plain.TreeOptions.{TreeOptions};
 ghost use Rattle.hm_store.specs.Causes.{Rose};
 ghost use Rattle.hm_store.specs.Contents.{Sees, Tells};
 ghost use Rattle.hm_store.specs.Files.{AppendsFront, file_of};
 ghost use Rattle.hm_words.specs.Words as request;
+ghost use Rattle.hm_words.specs.declared.writing.Writing.{Writing};
 ghost use Rattle.hm_words.specs.Words.{asked as asked_by, asks};
 ghost use Rattle.hm_minify.specs.Endings as endings;
 ghost use Rattle.hm_minify.specs.Endings.{ending, is_fault};
@@ -90,29 +90,29 @@ pub fn run<S: Store, O: Sink>(alloc: Global, words: &[Word], store: &mut S, out:
     ensures memory { result ≡ Status.Memory → (S.files store.new ≡ S.files store.old) × (O.contents out.new ≡ O.contents out.old) × (S.is_writing store.new ≡ S.is_writing store.old) }
 
     // The headline: a page's tree after the options is written shortest and certified.
-    ensures minified { (table page output cert : List ℕ) (options : TreeOptions) (rules : SpellRules) → asked_by words.now ≡ Some (asks (request.minify table page output cert) options rules) → result ≡ Status.Done
-        → Sees (S.files store.old) (spec.HasMinified (request.minify table page output cert) options rules output cert (S.files store.old) (S.files store.new) (O.contents out.old) (O.contents out.new)) }
+    ensures minified { (table page output cert : List ℕ) (options : TreeOptions) (writing : Writing) → asked_by words.now ≡ Some (asks (request.minify table page output cert) options writing) → result ≡ Status.Done
+        → Sees (S.files store.old) (spec.HasMinified (request.minify table page output cert) options writing output cert (S.files store.old) (S.files store.new) (O.contents out.old) (O.contents out.new)) }
 
     // The checker's yes implies the bound, whoever made text and prices; a no comes with the first condition that fails.
-    ensures checked { (table page output cert : List ℕ) (options : TreeOptions) (rules : SpellRules) → asked_by words.now ≡ Some (asks (request.check table page output cert) options rules) → result ≡ Status.Done
-        → Sees (S.files store.old) (spec.HasChecked (request.check table page output cert) options rules output (S.files store.old) (S.files store.new) (O.contents out.old) (O.contents out.new)) }
-    ensures denied { (command : request.Command) (options : TreeOptions) (rules : SpellRules) → asked_by words.now ≡ Some (asks command options rules) → result ≡ Status.No
-        → Sees (S.files store.old) (spec.IsDenied command options rules (S.files store.old) (S.files store.new) (O.contents out.old) (O.contents out.new)) }
+    ensures checked { (table page output cert : List ℕ) (options : TreeOptions) (writing : Writing) → asked_by words.now ≡ Some (asks (request.check table page output cert) options writing) → result ≡ Status.Done
+        → Sees (S.files store.old) (spec.HasChecked (request.check table page output cert) options writing output (S.files store.old) (S.files store.new) (O.contents out.old) (O.contents out.new)) }
+    ensures denied { (command : request.Command) (options : TreeOptions) (writing : Writing) → asked_by words.now ≡ Some (asks command options writing) → result ≡ Status.No
+        → Sees (S.files store.old) (spec.IsDenied command options writing (S.files store.old) (S.files store.new) (O.contents out.old) (O.contents out.new)) }
 
     // A tree is shown as the options define it.
-    ensures shown { (table page : List ℕ) (options : TreeOptions) (rules : SpellRules) → asked_by words.now ≡ Some (asks (request.tree table page) options rules) → result ≡ Status.Done
+    ensures shown { (table page : List ℕ) (options : TreeOptions) (writing : Writing) → asked_by words.now ≡ Some (asks (request.tree table page) options writing) → result ≡ Status.Done
         → Sees (S.files store.old) (spec.HasShown (request.tree table page) options (S.files store.old) (S.files store.new) (O.contents out.old) (O.contents out.new)) }
 
     // The page that is made of a number is written shortest and checked: there is no other answer to `measure`, but where the table is refused.
-    ensures measured { (table : List ℕ) (number size : ℕ) (options : TreeOptions) (rules : SpellRules) → asked_by words.now ≡ Some (asks (request.measure table number size) options rules) → result ≡ Status.Done
-        → Sees (S.files store.old) (spec.HasMeasured (request.measure table number size) number size options rules (S.files store.old) (S.files store.new) (O.contents out.old) (O.contents out.new)) }
-    ensures always_measured { (table : List ℕ) (number size : ℕ) (options : TreeOptions) (rules : SpellRules) → asked_by words.now ≡ Some (asks (request.measure table number size) options rules) → is_fault result ≡ false
+    ensures measured { (table : List ℕ) (number size : ℕ) (options : TreeOptions) (writing : Writing) → asked_by words.now ≡ Some (asks (request.measure table number size) options writing) → result ≡ Status.Done
+        → Sees (S.files store.old) (spec.HasMeasured (request.measure table number size) number size options writing (S.files store.old) (S.files store.new) (O.contents out.old) (O.contents out.new)) }
+    ensures always_measured { (table : List ℕ) (number size : ℕ) (options : TreeOptions) (writing : Writing) → asked_by words.now ≡ Some (asks (request.measure table number size) options writing) → is_fault result ≡ false
         → (result ≡ Status.TableRefused) ⊎ (result ≡ Status.Done) }
 
     // Whatever the command, a page is refused at its first offending place with its rule, and a table for its first fault.
-    ensures refused_page { (command : request.Command) (options : TreeOptions) (rules : SpellRules) → asked_by words.now ≡ Some (asks command options rules) → result ≡ Status.PageRefused
+    ensures refused_page { (command : request.Command) (options : TreeOptions) (writing : Writing) → asked_by words.now ≡ Some (asks command options writing) → result ≡ Status.PageRefused
         → Sees (S.files store.old) (spec.HasRefusedPage command options (S.files store.old) (S.files store.new) (O.contents out.old) (O.contents out.new)) }
-    ensures refused_table { (command : request.Command) (options : TreeOptions) (rules : SpellRules) → asked_by words.now ≡ Some (asks command options rules) → result ≡ Status.TableRefused
+    ensures refused_table { (command : request.Command) (options : TreeOptions) (writing : Writing) → asked_by words.now ≡ Some (asks command options writing) → result ≡ Status.TableRefused
         → Sees (S.files store.old) (spec.HasRefusedTable command options (S.files store.old) (S.files store.new) (O.contents out.old) (O.contents out.new)) }
 {
     perform(alloc, words, store, out)

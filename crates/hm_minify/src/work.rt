@@ -14,12 +14,12 @@ use crate::checked::check_files;
 use crate::ended::{Ended, Output, Stop, says};
 use crate::lines::{length_line, refused_line, table_line};
 use crate::measured::measure;
-use hm_base::SpellRules;
+use hm_cert::Format;
 use hm_input::{Input, Unread, load_tree};
 use hm_shortest::minify_tree;
 use hm_store::Store;
 use hm_tree::Tree;
-use hm_words::{Asked, Command};
+use hm_words::{Asked, Command, Writing};
 use std::alloc::Global;
 
 /// The names of the table and the page of a command whose page is a file.
@@ -51,18 +51,31 @@ fn inputs_of<'w>(command: &Command<'w>) -> (&'w str, &'w str)
     }
 }
 
+/// The format of a certificate that is written.
+pub fn format_of(sparse: bool) -> Format
+    ensures { result ≡ spec.format_of sparse }
+{
+    if sparse { Format::Three } else { Format::Two }
+}
+
 /// The tree of an input, written shortest and certified.
 fn minify<'w>(
     alloc: Global,
     input: &Input,
-    rules: SpellRules,
+    writing: Writing,
     out: &'w str,
     cert: &'w str,
 ) -> Result<Ended<'w>, Stop>
-    ensures ended { IfOk result (λ ended. ended ≡ spec.minified_ending rules out.now cert.now input.now.table.entries input.now.tree) }
+    ensures ended { IfOk result (λ ended. ended ≡ spec.minified_ending writing out.now cert.now input.now.table.entries input.now.tree) }
     ensures memory { result ≢ Err Stop.Store }
 {
-    let minified = minify_tree(alloc, &input.tree, &input.table, rules)?;
+    let minified = minify_tree(
+        alloc,
+        &input.tree,
+        &input.table,
+        writing.rules,
+        format_of(writing.sparse),
+    )?;
     let line = length_line(alloc, minified.out.len())?;
     let mut outputs = Vec::new(alloc);
     outputs.push(Output {
@@ -97,13 +110,13 @@ fn answer<'w, S: Store>(
 ) -> Result<Ended<'w>, Stop>
     requires page { spec.has_page (command_of asked.now.command) ≡ true }
     requires apart { request.is_apart (command_of asked.now.command) ≡ true }
-    ensures ended { IfOk result (λ ended. Sees (S.files store.old) (λ seen. ended ≡ spec.tree_ending (command_of asked.now.command) asked.now.rules seen input.now.table.entries input.now.tree)) }
+    ensures ended { IfOk result (λ ended. Sees (S.files store.old) (λ seen. ended ≡ spec.tree_ending (command_of asked.now.command) asked.now.writing seen input.now.table.entries input.now.tree)) }
     ensures answers { IfOk result (λ ended. spec.is_fault ended.status ≡ false) }
     ensures same { S.files store.new ≡ S.files store.old }
     ensures writing { S.is_writing store.new ≡ S.is_writing store.old }
     ensures later { S.faults store.old ≤ S.faults store.new }
     ensures store { result ≡ Err Stop.Store → Rose (S.faults store.old) (S.faults store.new)
-        ⊎ Tells (S.files store.old) (λ seen. spec.tree_ending (command_of asked.now.command) asked.now.rules seen input.now.table.entries input.now.tree ≡ spec.store_fault) }
+        ⊎ Tells (S.files store.old) (λ seen. spec.tree_ending (command_of asked.now.command) asked.now.writing seen input.now.table.entries input.now.tree ≡ spec.store_fault) }
 {
     match asked.command {
         Command::Minify {
@@ -111,13 +124,13 @@ fn answer<'w, S: Store>(
             page: _,
             out,
             cert,
-        } => minify(alloc, input, asked.rules, out, cert),
+        } => minify(alloc, input, asked.writing, out, cert),
         Command::Check {
             table: _,
             page: _,
             out,
             cert,
-        } => check_files(alloc, store, input, asked.rules, out, cert),
+        } => check_files(alloc, store, input, asked.writing.rules, out, cert),
         Command::Tree { table: _, page: _ } => show(alloc, &input.tree),
         Command::Measure {
             table: _,
@@ -182,7 +195,7 @@ pub fn work<'w, S: Store>(
             number,
             size,
             &asked.options,
-            asked.rules,
+            asked.writing,
         ),
         _ => work_on_page(alloc, asked, store),
     }

@@ -1,3 +1,4 @@
 pub mod Least
 pub mod Forgetting
 pub mod Shown
+pub mod Formats

@@ -1,3 +1,4 @@
 pub mod Outdone
+pub mod Formats
 pub mod Laws
 pub mod Examples

@@ -1,12 +1,10 @@
 -- Steps of one state with one hop.
-use Rattle.std.proofs.Common.{◌≡◌, ℕ, zero, suc, ◌<◌, ◌^◌, not, ◌&&◌, ◌==◌, true, List, [], ◌∷◌, slice_get, Some, None, refl, sym, ap, subst}
-use Rattle.std.proofs.lemmas.Bool.{false_from_ne_true}
-use Rattle.std.proofs.lemmas.Bool.Decides.{Decides-eqb}
+use Rattle.std.proofs.Common.{◌≡◌, ℕ, zero, suc, ◌<◌, ◌^◌, List, [], ◌∷◌, slice_get, Some, None, refl, sym, ap, subst}
 use Rattle.hm_edges.specs.Pieces.{HasName}
 use Rattle.hm_graph.specs.Prices.{Row}
 use Rattle.hm_layers.specs.Graphs.{IsLowStep, IsNamedStep, only_hop}
 use Rattle.hm_refs.specs.Names.{Entry}
-use Rattle.hm_steps.specs.Prices.{is_left_out, price_over, row_over}
+use Rattle.hm_steps.specs.Prices.{price_over, row_over}
 use Rattle.hm_steps.specs.Steps.{Step}
 use Rattle.hm_steps.specs.Ways.{hop_taken, step_choices}
 use Rattle.hm_steps.specs.declared.hops.Hop.{Hop}
@@ -33,13 +31,9 @@ only_named t step h e named = let n : IsNamedStep t ((h ∷ []) ∷ []) = subst 
 pub only_low : (step : Step) (h : Hop) → only_hop step ≡ Some h → IsLowStep step → h.len < 2 ^ 33
 only_low step h e low = let n : IsLowStep ((h ∷ []) ∷ []) = subst IsLowStep (sym (only_is step h e)) low in n.0.0
 
--- its layer has one price, is left out but for the first, and has no choices
+-- its layer has one price and no choices
 pub only_row : (behind : Row) (step : Step) (h : Hop) → only_hop step ≡ Some h → price_over behind h ∷ [] ≡ row_over behind step
 only_row behind step h e = subst (λ s. price_over behind h ∷ [] ≡ row_over behind s) (only_is step h e) (ap (λ p. p ∷ []) (sym (lesser_none (price_over behind h))))
-
-pub only_left_out : (k : ℕ) (step : Step) (h : Hop) → only_hop step ≡ Some h → (k ≡ 0 → ⊥) → is_left_out true k step ≡ true
-only_left_out k step h e other =
-    subst (λ s. is_left_out true k s ≡ true) (only_is step h e) (ap (λ b. not b && true) (false_from_ne_true (k == 0) (λ t. other ((Decides-eqb k 0).0 t))))
 
 pub only_choices : (behind : Row) (step : Step) (h : Hop) → only_hop step ≡ Some h → step_choices behind step ≡ []
 only_choices behind step h e = subst (λ s. step_choices behind s ≡ []) (only_is step h e) refl

@@ -16,8 +16,7 @@ use hm_steps::Hop;
 use std::alloc::Global;
 use std::mem;
 
-/// What is known when the prices of all layers were found: the text of the certificate, which writes those of the layers that
-/// aren't single, the choices of the first way, those of the last layer first, and the first price, in bytes.
+/// What is known when the prices of all layers were found: the text of the certificate, the choices of the first way, those of the last layer first, and the first price, in bytes.
 #[derive(Drop)]
 pub struct Plan {
     pub certificate: Vec<u8>,
@@ -111,11 +110,11 @@ fn zero_row(alloc: Global, last: usize) -> Result<Vec<u64>, Memory>
     Ok(row)
 }
 
-/// Whether the certificate leaves out layer `k`.
-fn is_left_out(k: usize, step: &Step) -> bool
-    ensures { result ≡ prices.is_left_out true k step.now }
+/// Whether a certificate of this format leaves out layer `k`.
+fn is_left_out(format: Format, k: usize, step: &Step) -> bool
+    ensures { result ≡ prices.is_left_out format k step.now }
 {
-    k != 0 && step.width() == 1 && step.is_forced()
+    k != 0 && step.is_left_out(format)
 }
 
 /// Appends the line of a row, the last byte first, where it isn't left out.
@@ -171,27 +170,28 @@ impl Back {
     }
 
     /// Goes to layer `k`, the one in front of this step.
-    fn go_over(&mut self, k: usize, step: &Step) -> Result<(), Memory>
+    fn go_over(&mut self, format: Format, k: usize, step: &Step) -> Result<(), Memory>
         requires below { AreBelow (2 ^ 62) (map told self.old.row.items) }
         requires low { IsLowStep step.now }
         ensures text { OnOk result (self.new.text.items ≡ self.old.text.items
-            ++ (if prices.is_left_out true k step.now then [] else reverse (row_line (row_over (map told self.old.row.items) step.now)))) }
+            ++ (if prices.is_left_out format k step.now then [] else reverse (row_line (row_over (map told self.old.row.items) step.now)))) }
         ensures choices { OnOk result (self.new.choices.items ≡ self.old.choices.items ++ step_choices (map told self.old.row.items) step.now) }
         ensures row { OnOk result (map told self.new.row.items ≡ row_over (map told self.old.row.items) step.now) }
     {
-        if k != 0 {
+        let left_out = is_left_out(format, k, step);
+        if left_out {
             if let Some(hop) = step.only() {
                 return self.follow(hop);
             }
         }
         find_row(step, &self.row, &mut self.spare, &mut self.choices)?;
         mem::swap(&mut self.row, &mut self.spare);
-        put_line(&mut self.text, is_left_out(k, step), &self.row)
+        put_line(&mut self.text, left_out, &self.row)
     }
 
     /// The plan, when the first layer is reached.
-    fn finish(self, rules: SpellRules) -> Result<Plan, Memory>
-        ensures certificate { IfOk result (λ plan. plan.certificate.items ≡ reverse (self.text.items ++ reverse (head_lines Format.Two rules))) }
+    fn finish(self, format: Format, rules: SpellRules) -> Result<Plan, Memory>
+        ensures certificate { IfOk result (λ plan. plan.certificate.items ≡ reverse (self.text.items ++ reverse (head_lines format rules))) }
         ensures choices { IfOk result (λ plan. plan.choices ≡ self.choices) }
         ensures first { IfOk result (λ plan. told plan.first ≡ slice_index_or (map told self.row.items) 0 None) }
     {
@@ -200,7 +200,7 @@ impl Back {
             None => CLOSED,
         };
         let mut text = self.text;
-        put_head_reversed(&mut text, Format::Two, rules)?;
+        put_head_reversed(&mut text, format, rules)?;
         text.reverse();
         Ok(Plan {
             certificate: text,
@@ -210,16 +210,21 @@ impl Back {
     }
 }
 
-/// Finds the least prices of a graph, and writes them as a certificate under these rules.
-pub fn backward(alloc: Global, graph: &Graph, rules: SpellRules) -> Result<Plan, Memory>
-    ensures { IfOk result (IsPlan graph.now rules) }
+/// Finds the least prices of a graph, and writes them as a certificate in a format, under these rules.
+pub fn backward(
+    alloc: Global,
+    graph: &Graph,
+    format: Format,
+    rules: SpellRules,
+) -> Result<Plan, Memory>
+    ensures { IfOk result (IsPlan graph.now format rules) }
 {
     graph.is_small();
     let mut back = Back::new(alloc, graph.last())?;
     let mut layer = graph.last_layer();
     for k in (0..graph.len()).rev() {
         layer = graph.back(layer);
-        back.go_over(k, graph.step(layer))?;
+        back.go_over(format, k, graph.step(layer))?;
     }
-    back.finish(rules)
+    back.finish(format, rules)
 }

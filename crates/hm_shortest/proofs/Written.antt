@@ -4,12 +4,14 @@ use Rattle.std.specs.Prelude.{slice_index_or}
 use Rattle.hm_base.specs.Walks.{Event}
 use Rattle.hm_base.specs.declared.plain.SpellRules.{SpellRules}
 use Rattle.hm_cert.specs.Certificate.{AreRows, ArePrices}
+use Rattle.hm_cert.specs.declared.text.Format.{Format}
+use Rattle.hm_edges.specs.Found.{spelling}
 use Rattle.hm_edges.specs.Pieces.{piece_bytes}
 use Rattle.hm_elements.specs.Settled.{Settled}
 use Rattle.hm_graph.specs.Layers.{first_layer}
 use Rattle.hm_graph.specs.Prices.{Row, first_price, least_prices}
 use Rattle.hm_graph.specs.Ways.{lesser, over}
-use Rattle.hm_layers.specs.Graphs.{AreLow, GraphView, IsGraphOf}
+use Rattle.hm_layers.specs.Graphs.{AreLow, GraphView, IsGraphOf, tree_edges}
 use Rattle.hm_plan.proofs.FromLast.{prices_below}
 use Rattle.hm_plan.specs.Rows.{AreBelow}
 use Rattle.hm_refs.specs.Names.{Entry}
@@ -21,7 +23,8 @@ use Rattle.hm_steps.specs.Steps.{Step}
 use Rattle.hm_steps.specs.declared.hops.Hop.{Hop}
 use Rattle.hm_units.specs.Units.{units_of}
 use Rattle.hm_ways.proofs.Best.{first_ways_are_best}
-use Rattle.hm_shortest.specs.Shortest.{certified_rows, tree_edges}
+use Rattle.hm_outdone.proofs.Formats.{same_first}
+use Rattle.hm_shortest.specs.Shortest.{certified_rows}
 
 -- ---- A price for each layer
 
@@ -68,12 +71,12 @@ all_rows last (step ∷ steps) low few h =
     )
 
 -- those that are written are some of them
-some_rows : (singles : Bool) (k : ℕ) (steps : List Step) (rows : List Row) → AreRows rows → AreRows (written_rows singles k steps rows)
-some_rows singles k steps [] h = tt
-some_rows singles k [] (row ∷ rows) h = (h.0, h.1, tt)
-some_rows singles k (step ∷ steps) (row ∷ rows) h = by_test (is_left_out singles k step) (some_rows singles (suc k) steps rows h.2)
+some_rows : (format : Format) (k : ℕ) (steps : List Step) (rows : List Row) → AreRows rows → AreRows (written_rows format k steps rows)
+some_rows format k steps [] h = tt
+some_rows format k [] (row ∷ rows) h = (h.0, h.1, tt)
+some_rows format k (step ∷ steps) (row ∷ rows) h = by_test (is_left_out format k step) (some_rows format (suc k) steps rows h.2)
   where
-    by_test : (b : Bool) → AreRows (written_rows singles (suc k) steps rows) → AreRows (cond b (written_rows singles (suc k) steps rows) (row ∷ written_rows singles (suc k) steps rows))
+    by_test : (b : Bool) → AreRows (written_rows format (suc k) steps rows) → AreRows (cond b (written_rows format (suc k) steps rows) (row ∷ written_rows format (suc k) steps rows))
     by_test true more = more
     by_test false more = (h.0, h.1, more)
 
@@ -82,11 +85,12 @@ first_number [] n e = cc
 first_number ([] ∷ rows) n e = cc
 first_number ((price ∷ row) ∷ rows) n e = record { place = 0; number = n; there = e }
 
-pub certified_readable : (t : List Entry) → IsTable t → (r : SpellRules) (w : List Event) (g : GraphView) → IsGraphOf t r w g → AreLow g.steps → length g.steps < 2 ^ 29 → Settled w → AreRows (certified_rows t r w)
-certified_readable t k r w g h low few s =
-    let least : rows_of g.last g.steps ≡ least_prices (tree_edges t r) (units_of r w) first_layer = rows_least (tree_edges t r) (piece_bytes t) (units_of r w) first_layer g.steps g.last h.fits in
+pub certified_readable : (t : List Entry) → IsTable t → (r : SpellRules) (format : Format) (w : List Event) (g : GraphView) → IsGraphOf t r format w g → AreLow g.steps → length g.steps < 2 ^ 29 → Settled w
+    → AreRows (certified_rows t r format w)
+certified_readable t k r format w g h low few s =
+    let least : rows_of g.last g.steps ≡ least_prices (tree_edges t r format) (units_of r w) first_layer = rows_least (tree_edges t r format) (piece_bytes t) (units_of r w) first_layer g.steps g.last h.fits in
     let best = first_ways_are_best t k r w s in
-    let rows : AreRows (rows_of g.last g.steps) = all_rows g.last g.steps low few (first_number (rows_of g.last g.steps) _ (ap first_price least ∙ best.price)) in
+    let rows : AreRows (rows_of g.last g.steps) = all_rows g.last g.steps low few (first_number (rows_of g.last g.steps) _ (ap first_price least ∙ same_first (spelling t r) format (units_of r w) ∙ best.price)) in
     subst AreRows
-    (ap (written_rows true 0 g.steps) least ∙ written_agrees (tree_edges t r) (piece_bytes t) (units_of r w) first_layer g.steps g.last true 0 _ h.fits)
-    (some_rows true 0 g.steps (rows_of g.last g.steps) rows)
+    (ap (written_rows format 0 g.steps) least ∙ written_agrees (tree_edges t r format) (piece_bytes t) (units_of r w) first_layer g.steps g.last format 0 _ h.fits)
+    (some_rows format 0 g.steps (rows_of g.last g.steps) rows)

@@ -6,6 +6,7 @@ ghost use Rattle.hm_shortest.specs.Minified.{IsMinifiedBy};
 ghost use Rattle.hm_shortest.specs.Shortest.{certified_rows};
 
 use hm_base::{Memory, SpellRules};
+use hm_cert::Format;
 use hm_layers::Graph;
 use hm_plan::{backward, write_path};
 use hm_refs::Table;
@@ -22,21 +23,22 @@ pub struct Minified {
     pub layers: usize,
 }
 
-/// Writes a tree shortest by a table and these rules, and certifies that. What is written of a settled tree is a certificate
-/// that can be read.
+/// Writes a tree shortest by a table and these rules, and certifies that in a format. The text is the same in each format. What
+/// is written of a settled tree is a certificate that can be read.
 pub fn minify_tree(
     alloc: Global,
     tree: &Tree,
     table: &Table,
     rules: SpellRules,
+    format: Format,
 ) -> Result<Minified, Memory>
-    ensures made { IfOk result (IsMinifiedBy table.now.entries rules tree.now) }
-    ensures readable { IfOk result (λ made. Settled tree.now → AreRows (certified_rows table.now.entries rules tree.now)) }
+    ensures made { IfOk result (IsMinifiedBy table.now.entries rules format tree.now) }
+    ensures readable { IfOk result (λ made. Settled tree.now → AreRows (certified_rows table.now.entries rules format tree.now)) }
 {
     every_table(table);
-    let graph = Graph::of(alloc, tree, table, rules)?;
+    let graph = Graph::of(alloc, tree, table, rules, format)?;
     graph.is_small();
-    let plan = backward(alloc, &graph, rules)?;
+    let plan = backward(alloc, &graph, format, rules)?;
     let out = write_path(alloc, tree, table, rules, &graph, plan.choices.as_slice())?;
     Ok(Minified {
         out,

@@ -1,6 +1,8 @@
 -- Rows that are written, and what they stand for, are those of the graph.
 use Rattle.std.proofs.Common.{◌≡◌, ℕ, suc, Bool, true, false, not, ◌&&◌, ◌==◌, List, [], ◌∷◌, length, Option, Some, None, cond, refl, ap, ◌∙◌}
 use Rattle.std.specs.List.{list_all}
+use Rattle.hm_cert.specs.declared.text.Format.{Format}
+use Rattle.hm_cert.specs.declared.text.Format.TheVariants.{One, Two, Three}
 use Rattle.hm_units.specs.Edges.{Edge}
 use Rattle.hm_units.specs.States.{State}
 use Rattle.hm_units.specs.Units.{Unit}
@@ -10,7 +12,7 @@ use Rattle.hm_graph.specs.Prices as graph
 use Rattle.hm_graph.specs.Prices.{Row, with_row, full_from, price_at}
 use Rattle.hm_graph.specs.Ways.{Edges}
 use Rattle.hm_steps.specs.Fits.{HopsFit, StepFits, StepsFit}
-use Rattle.hm_steps.specs.Laws.{follows_by}
+use Rattle.hm_outdone.specs.Formats.{follows_by}
 use Rattle.hm_steps.specs.Prices.{is_left_out, written_rows, followed_by, full_rows}
 use Rattle.hm_steps.specs.Steps.{Step, is_forced}
 use Rattle.hm_steps.specs.declared.hops.Hop.{Hop}
@@ -43,29 +45,30 @@ forced_agrees bytes behind edges [] (hops ∷ step) h = absurd h
 forced_agrees bytes behind edges (s ∷ states) [] h = absurd h
 forced_agrees bytes behind edges (s ∷ states) (hops ∷ step) h = λ i. single_hops bytes behind (edges s) hops h.0 i && forced_agrees bytes behind edges states step h.1 i
 
-width_agrees : (bytes : Piece → List ℕ) (behind : List State) (edges : State → List Edge) (states : List State) (step : Step) → StepFits bytes edges behind states step → length step ≡ length states
+pub width_agrees : (bytes : Piece → List ℕ) (behind : List State) (edges : State → List Edge) (states : List State) (step : Step) → StepFits bytes edges behind states step → length step ≡ length states
 width_agrees bytes behind edges [] [] h = refl
 width_agrees bytes behind edges [] (hops ∷ step) h = absurd h
 width_agrees bytes behind edges (s ∷ states) [] h = absurd h
 width_agrees bytes behind edges (s ∷ states) (hops ∷ step) h = λ i. suc (width_agrees bytes behind edges states step h.1 i)
 
 -- a layer is left out by its step where it is by its unit and states
-left_out_agrees : (edges : Edges) (bytes : Piece → List ℕ) (behind : List State) (singles : Bool) (k : ℕ) (unit : Unit) (states : List State) (step : Step)
-    → StepFits bytes (edges unit) behind states step → is_left_out singles k step ≡ (not (k == 0) && follows_by singles edges unit states)
-left_out_agrees edges bytes behind true k unit states step h =
+pub left_out_agrees : (edges : Edges) (bytes : Piece → List ℕ) (behind : List State) (format : Format) (k : ℕ) (unit : Unit) (states : List State) (step : Step)
+    → StepFits bytes (edges unit) behind states step → is_left_out format k step ≡ (not (k == 0) && follows_by format edges unit states)
+left_out_agrees edges bytes behind One k unit states step h = refl
+left_out_agrees edges bytes behind Two k unit states step h =
     λ i. not (k == 0) && (single_states bytes behind (edges unit) states step h i && forced_agrees bytes behind (edges unit) states step h i)
-left_out_agrees edges bytes behind false k unit states step h = refl
+left_out_agrees edges bytes behind Three k unit states step h = λ i. not (k == 0) && forced_agrees bytes behind (edges unit) states step h i
 
-pub written_agrees : (edges : Edges) (bytes : Unit → Piece → List ℕ) (units : List Unit) (states : List State) (steps : List Step) (last : ℕ) (singles : Bool) (k : ℕ) (rows : List Row)
-    → StepsFit edges bytes units states steps last → written_rows singles k steps rows ≡ graph.written_rows edges (follows_by singles edges) k units states rows
-written_agrees edges bytes units states steps last singles k [] h = refl
-written_agrees edges bytes [] states [] last singles k (row ∷ rows) h = refl
-written_agrees edges bytes [] states (step ∷ steps) last singles k (row ∷ rows) h = absurd h
-written_agrees edges bytes (unit ∷ units) states [] last singles k (row ∷ rows) h = absurd h
-written_agrees edges bytes (unit ∷ units) states (step ∷ steps) last singles k (row ∷ rows) h =
+pub written_agrees : (edges : Edges) (bytes : Unit → Piece → List ℕ) (units : List Unit) (states : List State) (steps : List Step) (last : ℕ) (format : Format) (k : ℕ) (rows : List Row)
+    → StepsFit edges bytes units states steps last → written_rows format k steps rows ≡ graph.written_rows edges (follows_by format edges) k units states rows
+written_agrees edges bytes units states steps last format k [] h = refl
+written_agrees edges bytes [] states [] last format k (row ∷ rows) h = refl
+written_agrees edges bytes [] states (step ∷ steps) last format k (row ∷ rows) h = absurd h
+written_agrees edges bytes (unit ∷ units) states [] last format k (row ∷ rows) h = absurd h
+written_agrees edges bytes (unit ∷ units) states (step ∷ steps) last format k (row ∷ rows) h =
     let next : List State = states_behind edges unit states in
-    let more : written_rows singles (suc k) steps rows ≡ graph.written_rows edges (follows_by singles edges) (suc k) units next rows = written_agrees edges bytes units next steps last singles (suc k) rows h.1 in
-    λ i. cond (left_out_agrees edges (bytes unit) next singles k unit states step h.0 i) (more i) (row ∷ more i)
+    let more : written_rows format (suc k) steps rows ≡ graph.written_rows edges (follows_by format edges) (suc k) units next rows = written_agrees edges bytes units next steps last format (suc k) rows h.1 in
+    λ i. cond (left_out_agrees edges (bytes unit) next format k unit states step h.0 i) (more i) (row ∷ more i)
 
 followed_agrees : (edges : Edges) (bytes : Piece → List ℕ) (unit : Unit) (states : List State) (step : Step) (rows : Option (List Row)) → StepFits bytes (edges unit) (states_behind edges unit states) states step
     → followed_by step rows ≡ graph.followed_by edges unit states rows
@@ -75,19 +78,19 @@ followed_agrees edges bytes unit states step (Some (next ∷ rows)) h =
     let behind : List State = states_behind edges unit states in
     λ i. Some (row_agrees bytes behind next (price_at behind next) (edges unit) states step (tells_price behind next) h i ∷ next ∷ rows)
 
-pub full_agrees : (edges : Edges) (bytes : Unit → Piece → List ℕ) (units : List Unit) (states : List State) (steps : List Step) (last : ℕ) (singles : Bool) (k : ℕ) (rows : List Row)
-    → StepsFit edges bytes units states steps last → full_rows singles k last steps rows ≡ full_from edges (follows_by singles edges) k units states rows
-full_agrees edges bytes [] states [] last singles k [] h = refl
-full_agrees edges bytes [] states [] last singles k (row ∷ []) h = λ i. cond (length row == h i) (Some (row ∷ [])) None
-full_agrees edges bytes [] states [] last singles k (row ∷ more ∷ rows) h = refl
-full_agrees edges bytes [] states (step ∷ steps) last singles k rows h = absurd h
-full_agrees edges bytes (unit ∷ units) states [] last singles k rows h = absurd h
-full_agrees edges bytes (unit ∷ units) states (step ∷ steps) last singles k [] h = refl
-full_agrees edges bytes (unit ∷ units) states (step ∷ steps) last singles k (row ∷ rows) h =
+pub full_agrees : (edges : Edges) (bytes : Unit → Piece → List ℕ) (units : List Unit) (states : List State) (steps : List Step) (last : ℕ) (format : Format) (k : ℕ) (rows : List Row)
+    → StepsFit edges bytes units states steps last → full_rows format k last steps rows ≡ full_from edges (follows_by format edges) k units states rows
+full_agrees edges bytes [] states [] last format k [] h = refl
+full_agrees edges bytes [] states [] last format k (row ∷ []) h = λ i. cond (length row == h i) (Some (row ∷ [])) None
+full_agrees edges bytes [] states [] last format k (row ∷ more ∷ rows) h = refl
+full_agrees edges bytes [] states (step ∷ steps) last format k rows h = absurd h
+full_agrees edges bytes (unit ∷ units) states [] last format k rows h = absurd h
+full_agrees edges bytes (unit ∷ units) states (step ∷ steps) last format k [] h = refl
+full_agrees edges bytes (unit ∷ units) states (step ∷ steps) last format k (row ∷ rows) h =
     let next : List State = states_behind edges unit states in
-    let follows : full_rows singles (suc k) last steps (row ∷ rows) ≡ full_from edges (follows_by singles edges) (suc k) units next (row ∷ rows) = full_agrees edges bytes units next steps last singles (suc k) (row ∷ rows) h.1 in
-    let more : full_rows singles (suc k) last steps rows ≡ full_from edges (follows_by singles edges) (suc k) units next rows = full_agrees edges bytes units next steps last singles (suc k) rows h.1 in
-    let followed : followed_by step (full_rows singles (suc k) last steps (row ∷ rows)) ≡ graph.followed_by edges unit states (full_from edges (follows_by singles edges) (suc k) units next (row ∷ rows)) =
-    ap (followed_by step) follows ∙ followed_agrees edges (bytes unit) unit states step (full_from edges (follows_by singles edges) (suc k) units next (row ∷ rows)) h.0 in
-    λ i. cond (left_out_agrees edges (bytes unit) next singles k unit states step h.0 i) (followed i)
+    let follows : full_rows format (suc k) last steps (row ∷ rows) ≡ full_from edges (follows_by format edges) (suc k) units next (row ∷ rows) = full_agrees edges bytes units next steps last format (suc k) (row ∷ rows) h.1 in
+    let more : full_rows format (suc k) last steps rows ≡ full_from edges (follows_by format edges) (suc k) units next rows = full_agrees edges bytes units next steps last format (suc k) rows h.1 in
+    let followed : followed_by step (full_rows format (suc k) last steps (row ∷ rows)) ≡ graph.followed_by edges unit states (full_from edges (follows_by format edges) (suc k) units next (row ∷ rows)) =
+    ap (followed_by step) follows ∙ followed_agrees edges (bytes unit) unit states step (full_from edges (follows_by format edges) (suc k) units next (row ∷ rows)) h.0 in
+    λ i. cond (left_out_agrees edges (bytes unit) next format k unit states step h.0 i) (followed i)
     (cond (length row == width_agrees (bytes unit) next (edges unit) states step h.0 i) (with_row row (more i)) None)

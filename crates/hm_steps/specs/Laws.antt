@@ -1,6 +1,6 @@
 -- What steps tell of the graph that they are the steps of.
-use Rattle.std.specs.Prelude.{◌≡◌, ℕ, Bool, List, Some, if◌then◌else◌}
-use Rattle.hm_graph.specs.Layers.{LayerTest, nothing_follows, single_follows}
+use Rattle.std.specs.Prelude.{◌≡◌, ℕ, List, Some}
+use Rattle.hm_cert.specs.declared.text.Format.{Format}
 use Rattle.hm_graph.specs.Prices as graph
 use Rattle.hm_graph.specs.Prices.{Row, least_prices, FeasibleFrom, full_from}
 use Rattle.hm_graph.specs.Ways.{Edges, first_way}
@@ -8,13 +8,10 @@ use Rattle.hm_units.specs.States.{State}
 use Rattle.hm_units.specs.Units.{Unit}
 use Rattle.hm_edges.specs.declared.pieces.Piece.{Piece}
 use Rattle.hm_steps.specs.Fits.{StepsFit, place_of}
+use Rattle.hm_outdone.specs.Formats.{follows_by}
 use Rattle.hm_steps.specs.Prices.{rows_of, written_rows, full_rows, KeepsRows}
 use Rattle.hm_steps.specs.Steps.{Step}
 use Rattle.hm_steps.specs.Ways.{way_from}
-
--- the layers that are left out: none, or the single ones
-abbrev pub follows_by : Bool → Edges → LayerTest
-follows_by singles edges = if singles then single_follows edges else nothing_follows
 
 -- the prices over steps are the least ones
 abbrev pub RowsAreLeast : Type 0
@@ -28,13 +25,13 @@ WayIsFirst = (edges : Edges) (bytes : Unit → Piece → List ℕ) (units : List
 
 -- the rows that are written are the same
 abbrev pub WrittenRowsAgree : Type 0
-WrittenRowsAgree = (edges : Edges) (bytes : Unit → Piece → List ℕ) (units : List Unit) (states : List State) (steps : List Step) (last : ℕ) (singles : Bool) (k : ℕ) (rows : List Row)
-    → StepsFit edges bytes units states steps last → written_rows singles k steps rows ≡ graph.written_rows edges (follows_by singles edges) k units states rows
+WrittenRowsAgree = (edges : Edges) (bytes : Unit → Piece → List ℕ) (units : List Unit) (states : List State) (steps : List Step) (last : ℕ) (format : Format) (k : ℕ) (rows : List Row)
+    → StepsFit edges bytes units states steps last → written_rows format k steps rows ≡ graph.written_rows edges (follows_by format edges) k units states rows
 
 -- what written rows stand for is the same
 abbrev pub FullRowsAgree : Type 0
-FullRowsAgree = (edges : Edges) (bytes : Unit → Piece → List ℕ) (units : List Unit) (states : List State) (steps : List Step) (last : ℕ) (singles : Bool) (k : ℕ) (rows : List Row)
-    → StepsFit edges bytes units states steps last → full_rows singles k last steps rows ≡ full_from edges (follows_by singles edges) k units states rows
+FullRowsAgree = (edges : Edges) (bytes : Unit → Piece → List ℕ) (units : List Unit) (states : List State) (steps : List Step) (last : ℕ) (format : Format) (k : ℕ) (rows : List Row)
+    → StepsFit edges bytes units states steps last → full_rows format k last steps rows ≡ full_from edges (follows_by format edges) k units states rows
 
 -- prices keep the rules over steps exactly where they do over edges
 abbrev pub KeepingAgrees : Type 0

@@ -1,9 +1,10 @@
 -- Prices over steps: the least ones, those that are written, all that these stand for, and those that show a bound.
 use Rattle.std.specs.Prelude.{◌≡◌, ℕ, suc, Bool, not, ◌&&◌, ◌==◌, List, [], ◌∷◌, length, map, Option, Some, None, if◌then◌else◌, slice_index_or}
 use Rattle.std.proofs.Math.ListN.{replicate}
+use Rattle.hm_cert.specs.declared.text.Format.{Format}
 use Rattle.hm_graph.specs.Prices.{Row, KeepsEdge, with_row}
 use Rattle.hm_graph.specs.Ways.{lesser, over}
-use Rattle.hm_steps.specs.Steps.{Step, is_single_step}
+use Rattle.hm_steps.specs.Steps.{Step, leaves_out}
 use Rattle.hm_steps.specs.declared.hops.Hop.{Hop}
 
 -- ---- Least prices
@@ -36,17 +37,18 @@ rows_of last (step ∷ steps) = row_over (first_row (rows_of last steps)) step �
 
 -- ---- Written prices
 
--- Whether a layer is left out of a certificate: where single layers are, each but the first; k is the number of the layer.
-abbrev pub is_left_out : Bool → ℕ → Step → Bool
-is_left_out singles k step = not (k == 0) && (singles && is_single_step step)
+-- Whether a layer is left out of a certificate of this format, by the step behind it; k is the number of the layer, and the
+-- first one never is.
+abbrev pub is_left_out : Format → ℕ → Step → Bool
+is_left_out format k step = not (k == 0) && leaves_out format step
 
 -- the rows that are written of those of all layers from one on
-abbrev pub written_rows : Bool → ℕ → List Step → List Row → List Row
-written_rows singles k steps [] = []
-written_rows singles k [] (row ∷ rows) = row ∷ []
-written_rows singles k (step ∷ steps) (row ∷ rows) =
-    if is_left_out singles k step then written_rows singles (suc k) steps rows
-    else row ∷ written_rows singles (suc k) steps rows
+abbrev pub written_rows : Format → ℕ → List Step → List Row → List Row
+written_rows format k steps [] = []
+written_rows format k [] (row ∷ rows) = row ∷ []
+written_rows format k (step ∷ steps) (row ∷ rows) =
+    if is_left_out format k step then written_rows format (suc k) steps rows
+    else row ∷ written_rows format (suc k) steps rows
 
 abbrev pub followed_by : Step → Option (List Row) → Option (List Row)
 followed_by step None = None
@@ -54,14 +56,14 @@ followed_by step (Some []) = None
 followed_by step (Some (next ∷ rows)) = Some (row_over next step ∷ next ∷ rows)
 
 -- the rows of all layers from one on, by those that are written; none where these are too few or too many or of another width
-abbrev pub full_rows : Bool → ℕ → ℕ → List Step → List Row → Option (List Row)
-full_rows singles k last [] [] = None
-full_rows singles k last [] (row ∷ []) = if length row == last then Some (row ∷ []) else None
-full_rows singles k last [] (row ∷ more ∷ rows) = None
-full_rows singles k last (step ∷ steps) [] = None
-full_rows singles k last (step ∷ steps) (row ∷ rows) =
-    if is_left_out singles k step then followed_by step (full_rows singles (suc k) last steps (row ∷ rows))
-    else if length row == length step then with_row row (full_rows singles (suc k) last steps rows)
+abbrev pub full_rows : Format → ℕ → ℕ → List Step → List Row → Option (List Row)
+full_rows format k last [] [] = None
+full_rows format k last [] (row ∷ []) = if length row == last then Some (row ∷ []) else None
+full_rows format k last [] (row ∷ more ∷ rows) = None
+full_rows format k last (step ∷ steps) [] = None
+full_rows format k last (step ∷ steps) (row ∷ rows) =
+    if is_left_out format k step then followed_by step (full_rows format (suc k) last steps (row ∷ rows))
+    else if length row == length step then with_row row (full_rows format (suc k) last steps rows)
     else None
 
 -- ---- Prices that show a bound by themselves

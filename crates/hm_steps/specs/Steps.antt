@@ -1,6 +1,8 @@
 -- A step: the edges of a unit from each state of a layer, by numbers alone.
-use Rattle.std.specs.Prelude.{Bool, ◌&&◌, List}
+use Rattle.std.specs.Prelude.{Bool, false, ◌&&◌, List}
 use Rattle.std.specs.List.{list_all}
+use Rattle.hm_cert.specs.declared.text.Format.{Format}
+use Rattle.hm_cert.specs.declared.text.Format.TheVariants.{One, Two, Three}
 use Rattle.hm_graph.specs.Layers.{is_single}
 use Rattle.hm_steps.specs.declared.hops.Hop.{Hop}
 
@@ -15,3 +17,9 @@ is_forced step = list_all is_single step
 -- one state with one hop
 abbrev pub is_single_step : Step → Bool
 is_single_step step = is_single step && is_forced step
+
+-- whether a certificate of a format leaves out the layer in front of a step, where that isn't the first one
+abbrev pub leaves_out : Format → Step → Bool
+leaves_out One step = false
+leaves_out Two step = is_single_step step
+leaves_out Three step = is_forced step

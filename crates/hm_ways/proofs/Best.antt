@@ -23,7 +23,7 @@ use Rattle.hm_ways.proofs.Spelled.{way_spells}
 use Rattle.hm_ways.proofs.Wider.{wider}
 
 -- the plain characters can stand as themselves
-spares_plain : (t : List Entry) → IsTable t → (r : SpellRules) → SparesOnlyPlain (sparing_plain t r)
+pub spares_plain : (t : List Entry) → IsTable t → (r : SpellRules) → SparesOnlyPlain (sparing_plain t r)
 spares_plain t k r c h = by_plain (is_plain t c) refl h
   where
     by_plain : (b : Bool) → is_plain t c ≡ b → not b ≡ false → AlwaysStands c

@@ -8,5 +8,5 @@ invariant-loop-k l = record {
   place : IsPlace l.graph l.layer;
   layer : l.layer.layer ≡ l.k;
   few : l.count ≤ l.k;
-  counted : l.count + count_over l.singles l.k (drop l.k l.graph.steps) ≡ count_over l.singles 0 l.graph.steps;
+  counted : l.count + count_over l.format l.k (drop l.k l.graph.steps) ≡ count_over l.format 0 l.graph.steps;
 }

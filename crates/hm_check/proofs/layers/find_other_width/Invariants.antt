@@ -8,6 +8,6 @@ invariant-loop-k l = record {
   place : IsPlace l.graph l.layer;
   layer : l.layer.layer ≡ l.k;
   few : l.at ≤ l.k;
-  counted : l.at + count_over l.singles l.k (drop l.k l.graph.steps) ≡ length l.prices;
-  found : other_width_over l.singles l.k l.graph.last (drop l.k l.graph.steps) (drop l.at l.prices) ≡ other_width_over l.singles 0 l.graph.last l.graph.steps l.prices;
+  counted : l.at + count_over l.format l.k (drop l.k l.graph.steps) ≡ length l.prices;
+  found : other_width_over l.format l.k l.graph.last (drop l.k l.graph.steps) (drop l.at l.prices) ≡ other_width_over l.format 0 l.graph.last l.graph.steps l.prices;
 }

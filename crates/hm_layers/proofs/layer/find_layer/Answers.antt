@@ -8,8 +8,8 @@ use Rattle.hm_layers.proofs.Layers.{layer_next}
 use Rattle.hm_layers.proofs.Places.{node_at}
 use Rattle.hm_layers.proofs.layer.find_layer.Goals as goal
 
-pub find_edges-requires : goal.find_edges-requires
-find_edges-requires c =
+pub edges_from-requires : goal.edges_from-requires
+edges_from-requires c =
     subst (λ s. HasNodes c.args.table.now s.pending) (sym c.state-item.is) (node_at c.args.table.now c.args.from.now c.loop-state.state-index c.state-item.result c.requires c.loop-state-test.true)
 
 pub loop-state-preserved : goal.loop-state-preserved
@@ -22,6 +22,6 @@ loop-state-preserved c =
     ap (map (λ hops. hops.items)) c.in_ok-push.ensures.items ∙ map-append (λ hops. hops.items) c.loop-state.hops.items (c.in_ok-hops_of.field-0 ∷ []) in
     subst (λ from. IsLayer c.args.table.now c.args.rules c.args.unit from c.hops_of.new.behind.items (map (λ hops. hops.items) c.push.new.self.items)) (sym more)
     (subst (λ all. IsLayer c.args.table.now c.args.rules c.args.unit (before ++ c.state-item.result ∷ []) c.hops_of.new.behind.items all) (sym longer)
-    (layer_next c.args.table.now c.args.rules c.args.unit before c.loop-state.behind.items c.hops_of.new.behind.items c.state-item.result c.find_edges.new.into.items step c.in_ok-hops_of.field-0.items
-    c.loop-state.invariant c.in_ok-find_edges.ensures.edges
+    (layer_next c.args.table.now c.args.rules c.args.unit before c.loop-state.behind.items c.hops_of.new.behind.items c.state-item.result c.in_ok-edges.edges.items step c.in_ok-hops_of.field-0.items
+    c.loop-state.invariant c.in_ok-edges.ensures.edges
     (subst (λ es. AreHops c.args.table.now c.args.unit es c.loop-state.behind.items c.hops_of.new.behind.items c.in_ok-hops_of.field-0.items) c.as_slice.ensures.value c.in_ok-hops_of.ensures)))

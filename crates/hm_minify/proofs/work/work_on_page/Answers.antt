@@ -10,5 +10,5 @@ returns-in-Ok-clause-ended g c =
     let command = command_of c.args.asked.now.command in
     let input = input_seen told command c.inputs_of.result.0.now c.inputs_of.result.1.now c.args.asked.now.options (tree c.in-Ok.input.table.entries c.in-Ok.input.tree) c.inputs_of.ensures.input c.in-Ok.ensures.ok in
     IfOk-weaker c.answer.result _ _
-    (λ ended e. asked_seen told command c.args.asked.now.options c.args.asked.now.rules c.in-Ok.input.table.entries c.in-Ok.input.tree ended c.requires.apart input (answer_before told _ command c.args.asked.now.rules c.in-Ok.input.table.entries c.in-Ok.input.tree ended c.in-Ok.ensures.same e))
+    (λ ended e. asked_seen told command c.args.asked.now.options c.args.asked.now.writing c.in-Ok.input.table.entries c.in-Ok.input.tree ended c.requires.apart input (answer_before told _ command c.args.asked.now.writing c.in-Ok.input.table.entries c.in-Ok.input.tree ended c.in-Ok.ensures.same e))
     c.answer.ensures.ended

@@ -6,7 +6,7 @@ use Rattle.hm_plan.proofs.plans.backward.Given as goal
 
 abbrev pub invariant-loop-k : goal.invariant-loop-k
 invariant-loop-k l = record {
-  found : IsBack l.graph l.k l.back.text.items l.back.choices.items (map told l.back.row.items);
+  found : IsBack l.graph l.format l.k l.back.text.items l.back.choices.items (map told l.back.row.items);
   place : IsPlace l.graph l.layer;
   layer : l.layer.layer ≡ l.k;
 }

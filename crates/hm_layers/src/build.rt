@@ -26,7 +26,14 @@ impl Graph {
     ) -> Result<Graph, Memory>
         ensures { IfOk result (IsGraphOf table.now.entries rules format tree.now) }
     {
-        let mut building = Building::new(alloc, table, EdgeRules { spell: rules, format })?;
+        let mut building = Building::new(
+            alloc,
+            table,
+            EdgeRules {
+                spell: rules,
+                format,
+            },
+        )?;
         let mut parts = Vec::new(alloc);
         for i in 0..tree.len() {
             find_parts(tree, rules, i, &mut parts)?;

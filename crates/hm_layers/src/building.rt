@@ -8,10 +8,10 @@ ghost use Rattle.hm_parts.specs.Parts.{AreParts, IsPart, part_units, parts_units
 ghost use Rattle.hm_layers.specs.Graphs.{AreNamed};
 ghost use Rattle.hm_layers.specs.Building.{Adds, IsBuilt, character_before};
 
-use crate::rules::EdgeRules;
 use crate::graph::Graph;
 use crate::met::{LIMIT, Met};
 use crate::numbers::Numbers;
+use crate::rules::EdgeRules;
 use hm_base::Memory;
 use hm_edges::{TextKind, Unit};
 use hm_parts::Part;

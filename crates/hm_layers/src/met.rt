@@ -5,10 +5,10 @@ ghost use Rattle.hm_edges.specs.Units as units;
 ghost use Rattle.hm_layers.specs.Layers.{HaveNodes};
 ghost use Rattle.hm_layers.specs.Met.{Grows, IsListOf, IsStepOf, list_at, first_states, made_at, only_first};
 
-use crate::rules::EdgeRules;
 use crate::layer::{Layer, find_layer, is_state};
 use crate::made::{Front, Made, Seen, equal_made};
 use crate::pairs::{lone_characters, pair_of};
+use crate::rules::EdgeRules;
 use crate::step::Step;
 use hm_base::Memory;
 use hm_edges::{Pending, State, Unit, Where};

@@ -4,8 +4,8 @@ ghost use Rattle.hm_graph.specs.Layers.{is_single};
 ghost use Rattle.hm_steps.specs.Steps as steps;
 ghost use Rattle.hm_layers.specs.Graphs as graphs;
 
-use hm_edges::Piece;
 use hm_cert::Format;
+use hm_edges::Piece;
 use hm_steps::Hop;
 use std::marker::Model;
 

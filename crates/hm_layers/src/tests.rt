@@ -5,6 +5,7 @@ ghost use Rattle.hm_base.specs.Walks.{attributes_size};
 
 use crate::Graph;
 use hm_base::{Memory, SpellRules};
+use hm_cert::Format;
 use hm_refs::Table;
 use hm_tree::{Attrs, Tree};
 use std::alloc::Global;
@@ -92,7 +93,7 @@ fn is_like(graph: &Graph, wanted: &[Shown], last: usize) -> bool {
 fn less_than(rt: HostRuntime) -> Result<(), Fail> {
     let table = Table::read(rt.alloc(), NONE.as_bytes())?;
     let tree = text_alone(rt.alloc(), "a<b")?;
-    let graph = Graph::of(rt.alloc(), &tree, &table, RULES)?;
+    let graph = Graph::of(rt.alloc(), &tree, &table, RULES, Format::Two)?;
     let wanted = [(1, 1, true), (1, 3, false), (3, 0, false)];
     assert!(rt; is_like(&graph, &wanted, 1));
     Ok(())
@@ -103,7 +104,7 @@ fn less_than(rt: HostRuntime) -> Result<(), Fail> {
 fn value(rt: HostRuntime) -> Result<(), Fail> {
     let table = Table::read(rt.alloc(), NONE.as_bytes())?;
     let tree = element_alone(rt.alloc(), "p", "id", "x")?;
-    let graph = Graph::of(rt.alloc(), &tree, &table, RULES)?;
+    let graph = Graph::of(rt.alloc(), &tree, &table, RULES, Format::Two)?;
     let wanted = [
         (1, 1, true),
         (1, 3, false),
@@ -121,10 +122,20 @@ fn value(rt: HostRuntime) -> Result<(), Fail> {
 fn pair(rt: HostRuntime) -> Result<(), Fail> {
     let table = Table::read(rt.alloc(), TWO.as_bytes())?;
     let tree = text_alone(rt.alloc(), "x\u{338}")?;
-    let graph = Graph::of(rt.alloc(), &tree, &table, RULES)?;
+    let graph = Graph::of(rt.alloc(), &tree, &table, RULES, Format::Two)?;
     assert!(rt; is_like(&graph, &[(1, 4, false), (3, 3, false)], 2));
     let tree = text_alone(rt.alloc(), "xx")?;
-    let graph = Graph::of(rt.alloc(), &tree, &table, RULES)?;
+    let graph = Graph::of(rt.alloc(), &tree, &table, RULES, Format::Two)?;
     assert!(rt; is_like(&graph, &[(1, 3, false), (2, 3, false)], 2));
+    Ok(())
+}
+
+/// In the graph of a sparse certificate a character that can stand as itself stands as a number nowhere.
+#[test]
+fn sparse(rt: HostRuntime) -> Result<(), Fail> {
+    let table = Table::read(rt.alloc(), TWO.as_bytes())?;
+    let tree = text_alone(rt.alloc(), "x\u{338}")?;
+    let graph = Graph::of(rt.alloc(), &tree, &table, RULES, Format::Three)?;
+    assert!(rt; is_like(&graph, &[(1, 2, false), (2, 1, true)], 1));
     Ok(())
 }

@@ -2,7 +2,9 @@
 use Rattle.std.proofs.Common.{◌≡◌, ◌∙◌, ℕ, zero, suc, ◌+◌, ◌-◌, ◌<◌, ◌≤◌, List, [], ◌∷◌, ◌++◌, length, get_or, refl, sym, ap, subst, arith, append_assoc, append-nil, length-append}
 use Rattle.std.proofs.Math.ListN.{replicate}
 use Rattle.std.proofs.lemmas.Grind.{replicate_next}
-use Rattle.std.proofs.lemmas.List.{length-replicate, get_or-replicate, get_or_append_left, get_or-append_right}
+use Rattle.std.proofs.lemmas.List.{length-replicate, get_or-map, get_or-replicate, get_or_append_left, get_or-append_right}
+use Rattle.hm_steps.specs.Steps.{Step}
+use Rattle.hm_layers.specs.Graphs.{spread}
 use Rattle.hm_layers.specs.Runs.{unroll, AreRuns, IsAt}
 use Rattle.hm_layers.specs.declared.numbers.Run.{Run}
 
@@ -121,3 +123,24 @@ pub count_some : (runs : List Run) (run : ℕ) (d : Run) → AreRuns runs → ru
 count_some [] run d are inside = absurd (omega arith)
 count_some (r ∷ runs) zero d are inside = are.0
 count_some (r ∷ runs) (suc run) d are inside = count_some runs run d are.1 (omega arith)
+
+-- ---- Back over equal numbers
+
+pub back_many : (runs : List Run) (run used at n : ℕ) → IsAt runs run used at → n ≤ used → IsAt runs run (used - n) (at - n)
+back_many [] run used at n is few = (is.0, omega (arith, is.1), omega (arith, is.2))
+back_many (r ∷ runs) zero used at n is few = (omega (arith, is.0), omega (arith, is.1))
+back_many (r ∷ runs) (suc run) used at n is few =
+    let least : used ≤ at - r.count = used_least runs run used (at - r.count) is.0 in
+    (as_at runs run (used - n) (at - r.count - n) (at - n - r.count) (omega arith) (back_many runs run used (at - r.count) n is.0 few), omega (arith, is.1, least))
+
+same_number : (runs : List Run) (run used at k : ℕ) (d : Run) (e : ℕ) → IsAt runs run used at → run < length runs → k ≤ at → at ≤ k + used → get_or (unroll runs) k e ≡ get_or (unroll runs) at e
+same_number runs run used at k d e is inside low high =
+    let front : IsAt runs run (used - (at - k)) k = as_at runs run (used - (at - k)) (at - (at - k)) k (omega arith) (back_many runs run used at (at - k) is (omega arith)) in
+    at_number runs run (used - (at - k)) k d e front inside ∙ sym (at_number runs run used at d e is inside)
+
+pub same_step : (steps : List Step) (runs : List Run) (run used at k : ℕ) (d : Run) → IsAt runs run used at → at < length (unroll runs) → k ≤ at → at ≤ k + used
+    → get_or (spread steps (unroll runs)) k [] ≡ get_or (spread steps (unroll runs)) at []
+same_step steps runs run used at k d is inside low high =
+    get_or-map (λ m. get_or steps m []) (unroll runs) k 0 [] (omega arith)
+    ∙ ap (λ m. get_or steps m []) (same_number runs run used at k d 0 is (at_run runs run used at is inside) low high)
+    ∙ sym (get_or-map (λ m. get_or steps m []) (unroll runs) at 0 [] inside)

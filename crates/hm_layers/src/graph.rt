@@ -1,5 +1,5 @@
 //! The steps of a tree.
-ghost use Rattle.std.specs.Prelude.{◌≡◌, ◌+◌, ◌-◌, ◌<◌, ◌^◌, [], length, slice_index_or};
+ghost use Rattle.std.specs.Prelude.{◌≡◌, ◌+◌, ◌-◌, ◌<◌, ◌≤◌, ◌^◌, ℕ, [], length, slice_index_or};
 ghost use Rattle.hm_layers.specs.Graphs.{AreLow, AreNumbers, GraphView, IsPlace, spread};
 ghost use Rattle.hm_layers.specs.Runs.{AreRuns, unroll};
 
@@ -22,7 +22,8 @@ pub struct Graph {
 pub struct Cursor {
     run: usize,
     used: usize,
-    layer: usize,
+    /// How many layers are in front.
+    pub layer: usize,
 }
 
 impl Model for Graph {
@@ -151,6 +152,23 @@ impl Graph {
             run,
             used: self.runs[run].count as usize - 1,
             layer,
+        }
+    }
+
+    /// Goes back over at most so many layers that have the same step behind them as this one.
+    pub fn back_alike(&self, at: Cursor, limit: usize) -> Cursor
+        requires place { IsPlace self.now at }
+        requires inside { at.layer < length self.now.steps }
+        ensures place { IsPlace self.now result }
+        ensures layer { (result.layer ≤ at.layer) × (at.layer ≤ result.layer + limit) }
+        ensures alike { (k : ℕ) → result.layer ≤ k → k < at.layer → slice_index_or self.now.steps k [] ≡ slice_index_or self.now.steps at.layer [] }
+    {
+        let _runs = &self.runs;
+        let count = at.used.min(limit);
+        Cursor {
+            run: at.run,
+            used: at.used - count,
+            layer: at.layer - count,
         }
     }
 

@@ -16,7 +16,7 @@ use Rattle.hm_steps.specs.Prices.{price_over, best_price, row_over, first_row, z
 use Rattle.hm_steps.specs.Steps.{Step}
 use Rattle.hm_steps.specs.Ways.{choices_of, step_choices}
 use Rattle.hm_steps.specs.declared.hops.Hop.{Hop}
-use Rattle.hm_plan.specs.Plans.{IsPlan}
+use Rattle.hm_plan.specs.Plans.{IsBack, IsPlan}
 use Rattle.hm_plan.specs.Rows.{IsBelow, AreBelow}
 use Rattle.hm_plan.specs.declared.plans.Plan.{Plan}
 use Rattle.hm_plan.proofs.Prices.{cut_before}
@@ -80,12 +80,6 @@ prices_below last steps k l few =
     are_below (length (drop k steps) * 2 ^ 33 + 1) (2 ^ 62) (first_row (rows_of last (drop k steps))) (omega (arith, length-drop k steps)) (rows_below last (drop k steps) (low_drop steps k l))
 
 -- ---- From layer to layer
-
--- the lines, from their end, the choices and the prices of layer k
-pub record IsBack (g : GraphView) (format : Format) (k : ℕ) (text choices : List ℕ) (row : Row) : Type 0 where
-  pub lines : text ≡ reverse (row_lines (written_rows format k (drop k g.steps) (rows_of g.last (drop k g.steps))))
-  pub chosen : choices ≡ choices_of g.last (drop k g.steps)
-  pub prices : row ≡ first_row (rows_of g.last (drop k g.steps))
 
 pub step_cut : (steps : List Step) (k : ℕ) (step : Step) → 0 < k → k ≤ length steps → step ≡ get_or steps (k - 1) [] → drop (k - 1) steps ≡ step ∷ drop k steps
 step_cut steps k step some inside is = cut_before steps k step some inside (is ∙ get_or_default steps (k - 1) [] step (omega arith))

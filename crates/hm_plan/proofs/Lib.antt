@@ -3,3 +3,4 @@ pub mod Prices
 pub mod FromLast
 pub mod FirstWay
 mod Only
+pub mod Alike

@@ -78,7 +78,7 @@ below_at (Some q ∷ row) bound zero n h e = let is : q ≡ n = cc in subst (λ 
 below_at (price ∷ row) bound (suc k) n h e = below_at row bound k n h.1 e
 
 -- the sum of a hop's length and the number behind it tells the price over the hop
-pub price_is : (row : List ℕ) (k price sum len : ℕ) → AreBelow (2 ^ 62) (map told row) → k < length row → price ≡ get_or row k 0 → price < 2 ^ 64 → len < 2 ^ 33 → sum ≡ min (len + price) 18446744073709551615
+pub price_is : (row : List ℕ) (k price sum len : ℕ) → AreBelow (2 ^ 62) (map told row) → k < length row → price ≡ get_or row k 0 → price < 2 ^ 64 → len < 2 ^ 62 → sum ≡ min (len + price) 18446744073709551615
     → told sum ≡ over len (get_or (map told row) k None)
 price_is row k price sum len below inside is fits low e = by_cases (told_cases price fits)
   where

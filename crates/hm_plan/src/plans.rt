@@ -1,22 +1,24 @@
 //! Least prices, from the last layer on: the certificate that tells them, and what the first way chooses.
-ghost use Rattle.std.specs.Prelude.{◌≡◌, ◌++◌, ◌∷◌, [], ◌<◌, ◌^◌, map, reverse, true, if◌then◌else◌, None, IfOk, OnOk, slice_index_or};
+ghost use Rattle.std.specs.Prelude.{◌≡◌, ◌++◌, ◌∷◌, [], ◌<◌, ◌≤◌, ◌^◌, length, map, reverse, true, if◌then◌else◌, Some, None, IfOk, OnOk, slice_index_or};
 ghost use Rattle.hm_cert.specs.Certificate.{head_lines, row_line};
 ghost use Rattle.hm_cert.specs.Layout.{told};
-ghost use Rattle.hm_layers.specs.Graphs.{AreLowHops, IsLowStep};
+ghost use Rattle.hm_layers.specs.Graphs.{AreLowHops, IsLowStep, IsPlace, only_hop};
 ghost use Rattle.hm_steps.specs.Prices.{best_price, row_over, zeros};
 ghost use Rattle.hm_steps.specs.Prices as prices;
+ghost use Rattle.hm_steps.specs.Steps.{leaves_out};
 ghost use Rattle.hm_steps.specs.Ways.{choice, step_choices};
-ghost use Rattle.hm_plan.specs.Plans.{IsPlan};
+ghost use Rattle.hm_plan.specs.Plans.{IsFound, IsPlan};
 ghost use Rattle.hm_plan.specs.Rows.{AreBelow};
 
 use hm_base::{Memory, SpellRules};
 use hm_cert::{CLOSED, Format, put_head_reversed, put_line_reversed};
-use hm_layers::{Graph, Step};
+use hm_layers::{Cursor, Graph, Step};
 use hm_steps::Hop;
 use std::alloc::Global;
 use std::mem;
 
-/// What is known when the prices of all layers were found: the text of the certificate, the choices of the first way, those of the last layer first, and the first price, in bytes.
+/// What is known when the prices of all layers were found: the text of the certificate, the choices of the first way, those of
+/// the last layer first, and the first price, in bytes.
 #[derive(Drop)]
 pub struct Plan {
     pub certificate: Vec<u8>,
@@ -35,7 +37,7 @@ struct Best {
 /// The price over a hop, by the prices of the layer behind.
 fn price_over(hop: Hop, behind: &[u64]) -> u64
     requires below { AreBelow (2 ^ 62) (map told behind.now) }
-    requires low { hop.len < 2 ^ 33 }
+    requires low { hop.len < 2 ^ 62 }
     ensures { told result ≡ prices.price_over (map told behind.now) hop }
 {
     match behind.get(hop.to) {
@@ -158,7 +160,7 @@ impl Back {
     /// Goes over the only hop of a step, to a layer that is left out.
     fn follow(&mut self, hop: Hop) -> Result<(), Memory>
         requires below { AreBelow (2 ^ 62) (map told self.old.row.items) }
-        requires low { hop.len < 2 ^ 33 }
+        requires low { hop.len < 2 ^ 62 }
         ensures text { self.new.text ≡ self.old.text }
         ensures choices { self.new.choices ≡ self.old.choices }
         ensures row { OnOk result (map told self.new.row.items ≡ prices.price_over (map told self.old.row.items) hop ∷ []) }
@@ -210,6 +212,58 @@ impl Back {
     }
 }
 
+/// Goes on over layers in front of one that have the same step of one state with one hop, but not to the first layer.
+fn go_along(
+    back: &mut Back,
+    graph: &Graph,
+    format: Format,
+    at: Cursor,
+    hop: Hop,
+) -> Result<Cursor, Memory>
+    requires place { IsPlace graph.now at }
+    requires inside { at.layer < length graph.now.steps }
+    requires some { 0 < at.layer }
+    requires hop { only_hop (slice_index_or graph.now.steps at.layer []) ≡ Some hop }
+    requires left { leaves_out format (slice_index_or graph.now.steps at.layer []) ≡ true }
+    requires found { IsFound graph.now format at.layer back.old }
+    ensures place { IfOk result (λ front. IsPlace graph.now front) }
+    ensures layer { IfOk result (λ front. front.layer ≤ at.layer) }
+    ensures found { IfOk result (λ front. IsFound graph.now format front.layer back.new) }
+{
+    if hop.to != 0 {
+        return Ok(at);
+    }
+    graph.is_small();
+    let front = graph.back_alike(at, at.layer - 1);
+    let count = (at.layer - front.layer) as u64;
+    let hop = Hop {
+        piece: hop.piece,
+        len: count * hop.len,
+        to: 0,
+    };
+    back.follow(hop)?;
+    Ok(front)
+}
+
+/// Goes on over layers in front of one that have the same step, where that is fast.
+fn go_on(back: &mut Back, graph: &Graph, format: Format, at: Cursor) -> Result<Cursor, Memory>
+    requires place { IsPlace graph.now at }
+    requires inside { at.layer < length graph.now.steps }
+    requires found { IsFound graph.now format at.layer back.old }
+    ensures place { IfOk result (λ front. IsPlace graph.now front) }
+    ensures layer { IfOk result (λ front. front.layer ≤ at.layer) }
+    ensures found { IfOk result (λ front. IsFound graph.now format front.layer back.new) }
+{
+    let step = graph.step(at);
+    if at.layer == 0 || !step.is_left_out(format) {
+        return Ok(at);
+    }
+    match step.only() {
+        Some(hop) => go_along(back, graph, format, at, hop),
+        None => Ok(at),
+    }
+}
+
 /// Finds the least prices of a graph, and writes them as a certificate in a format, under these rules.
 pub fn backward(
     alloc: Global,
@@ -222,9 +276,10 @@ pub fn backward(
     graph.is_small();
     let mut back = Back::new(alloc, graph.last())?;
     let mut layer = graph.last_layer();
-    for k in (0..graph.len()).rev() {
+    while layer.layer > 0 {
         layer = graph.back(layer);
-        back.go_over(format, k, graph.step(layer))?;
+        back.go_over(format, layer.layer, graph.step(layer))?;
+        layer = go_on(&mut back, graph, format, layer)?;
     }
     back.finish(format, rules)
 }

@@ -1,12 +1,14 @@
-use Rattle.std.proofs.Common.{◌≡◌, map}
-use Rattle.hm_cert.specs.Layout.{told}
+use Rattle.std.proofs.Common.{◌≤◌, length}
 use Rattle.hm_layers.specs.Graphs.{IsPlace}
-use Rattle.hm_plan.proofs.FromLast.{IsBack}
+use Rattle.hm_plan.specs.Plans.{IsFound}
 use Rattle.hm_plan.proofs.plans.backward.Given as goal
 
-abbrev pub invariant-loop-k : goal.invariant-loop-k
-invariant-loop-k l = record {
-  found : IsBack l.graph l.format l.k l.back.text.items l.back.choices.items (map told l.back.row.items);
+abbrev pub invariant-loop-layer : goal.invariant-loop-layer
+invariant-loop-layer l = record {
+  found : IsFound l.graph l.format l.layer.layer l.back;
   place : IsPlace l.graph l.layer;
-  layer : l.layer.layer ≡ l.k;
+  within : l.layer.layer ≤ length l.graph.steps;
 }
+
+abbrev pub decreases-loop-layer : goal.decreases-loop-layer
+decreases-loop-layer l = l.layer.layer

@@ -1,4 +1,4 @@
-use Rattle.std.proofs.Common.{◌-◌, map, arith}
+use Rattle.std.proofs.Common.{◌-◌, ◌<◌, ◌^◌, map, arith}
 use Rattle.hm_cert.specs.Layout.{told}
 use Rattle.hm_plan.proofs.Prices.{low_hop, no_best, cut_before, takes_front, keeps_best, all_best}
 use Rattle.hm_plan.proofs.plans.find_best.Goals as goal
@@ -7,7 +7,9 @@ pub loop-place-init : goal.loop-place-init
 loop-place-init c = no_best (map told c.args.behind.now) c.args.hops.now
 
 pub price_over-price-requires-clause-low : goal.price_over-price-requires-clause-low
-price_over-price-requires-clause-low c = low_hop c.args.hops.now (c.loop-place.place - 1) c.index-hops-place.result c.requires.low (omega arith) c.index-hops-place.is
+price_over-price-requires-clause-low c =
+    let low : c.index-hops-place.result.len < 2 ^ 33 = low_hop c.args.hops.now (c.loop-place.place - 1) c.index-hops-place.result c.requires.low (omega arith) c.index-hops-place.is in
+    omega arith
 
 pub loop-place-preserved : goal.loop-place-preserved
 loop-place-preserved c =

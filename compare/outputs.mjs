@@ -159,8 +159,12 @@ function row(name, sums, peer) {
 }
 
 function main(words) {
+  if (words.length < 2) {
+    console.log("usage: outputs.mjs PROGRAM [--peer COMMAND] FOLDER | @LIST ..");
+    return 2;
+  }
   const { parse } = library();
-  const program = resolve(words.shift() ?? "");
+  const program = resolve(words.shift());
   let peer = null;
   if (words[0] === "--peer") {
     peer = words[1];

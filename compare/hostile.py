@@ -180,8 +180,9 @@ def cases():
         Run("no 0 certificate line 12", cert=PLAIN[:-2] + b"0\r\n"),
     ]
     yield "another format's first line", [
-        # format 3 isn't read; by format 1 each of the 14 layers has a line
-        Run("no 0 certificate line 1", cert=cert(head=HEAD.replace(b"2", b"3"))),
+        # by format 3 two layers have a line, by format 1 each of the 14; there is no format 4
+        Run("no 4 layers 10, wanted 2", cert=cert(head=HEAD.replace(b"2", b"3"))),
+        Run("no 0 certificate line 1", cert=cert(head=HEAD.replace(b"2", b"4"))),
         Run("no 4 layers 10, wanted 14", cert=cert(head=HEAD.replace(b"2", b"1"))),
         Run("no 0 certificate line 1", cert=cert(head=HEAD.replace(b"2", b"2 "))),
         Run("no 0 certificate line 1", cert=b"\xef\xbb\xbf" + PLAIN),

@@ -2,8 +2,8 @@
 """speed.py [--program PROGRAM] [--peer COMMAND] [--runs N] [NAME=FILE ..]: time and memory of hminify and a peer.
 
 Each FILE is a page that hminify takes; what stands in its body is repeated until the page has 4 MB. On each page
-`minify none PAGE OUT CERT --omit --unquote --space`, `check` with the same words, `tree none PAGE` and the peer (tdewolff's
-`minify`, its defaults) run by turns, N times (15 where nothing is said), with their output in files of a temporary folder.
+`minify none PAGE OUT CERT --omit --unquote --space`, `check` with the same words, both with `--sparse` too, `tree none PAGE` and
+the peer (tdewolff's `minify`, its defaults) run by turns, N times (15 where nothing is said), with their output in files of a temporary folder.
 Printed are megabytes of the page a second: by the processor time of the run (user and system, of all its threads), which
 other work on the machine disturbs less, and by the wall's clock, median and best of the runs; and the peak of memory in
 bytes for a byte of the page. A peak can't be less than that of this script, some 3 bytes a byte. PROGRAM is
@@ -88,6 +88,8 @@ def calls(program, peer):
     found = [
         Call("minify", [program, "minify", "none", "page.html", "out.html", "cert"] + FLAGS, ["out.html", "cert"]),
         Call("check", [program, "check", "none", "page.html", "out.html", "cert"] + FLAGS, []),
+        Call("minify --sparse", [program, "minify", "none", "page.html", "out3.html", "cert3", "--sparse"] + FLAGS, ["out3.html", "cert3"]),
+        Call("check, sparse", [program, "check", "none", "page.html", "out3.html", "cert3"] + FLAGS, []),
         Call("tree", [program, "tree", "none", "page.html"], []),
     ]
     if peer:

@@ -1,5 +1,5 @@
 -- Lists and steps that are added behind others.
-use Rattle.std.proofs.Common.{◌≡◌, ◌∙◌, ℕ, zero, suc, ◌<◌, List, [], ◌∷◌, ◌++◌, length, get_or, map, refl, sym, ap, subst, arith}
+use Rattle.std.proofs.Common.{◌≡◌, ◌∙◌, ℕ, zero, suc, ◌<◌, List, [], ◌∷◌, ◌++◌, true, None, length, get_or, map, refl, sym, ap, subst, arith}
 use Rattle.std.proofs.lemmas.List.{get_or-map, get_or_append_left, length-map, length_push}
 use Rattle.std.proofs.Math.Seq.{get_or-append_seam}
 use Rattle.std.proofs.lemmas.List.Elements.{All-append}
@@ -8,8 +8,10 @@ use Rattle.hm_layers.specs.declared.rules.EdgeRules.{EdgeRules}
 use Rattle.hm_refs.specs.Tables.{TableView}
 use Rattle.hm_edges.specs.declared.states.State.{State}
 use Rattle.hm_edges.specs.declared.units.Unit.{Unit}
+use Rattle.hm_edges.specs.declared.units.Unit.TheVariants.{Character}
 use Rattle.hm_layers.specs.Layers.{HaveNodes, IsLayer}
-use Rattle.hm_layers.specs.Met.{MetView, none_made, list_at, made_at, IsListOf, IsMet, IsSeen, Grows, IsStepOf}
+use Rattle.hm_layers.specs.Met.{MetView, none_made, list_at, made_at, BeginsNoPair, IsListOf, IsMet, IsPlainStep, IsSeen, Grows, IsStepOf}
+use Rattle.hm_layers.specs.declared.made.CharacterStep.{CharacterStep}
 use Rattle.hm_layers.specs.declared.made.Made.{Made}
 use Rattle.hm_layers.specs.declared.made.Seen.{Seen}
 
@@ -44,7 +46,7 @@ made_is a b list unit n x grows within inside is there at =
           (layer_as a.table b.table a.rules b.rules unit (list_at a list) (list_at a x.behind) (list_at b list) (list_at b x.behind) x grows.table grows.rules from.list behind.list is);
     }
 
-step_kept : (a b : MetView) (list : ℕ) (unit : Unit) (n : ℕ) → Grows a b → list < length a.lists → IsStepOf a list unit n → IsStepOf b list unit n
+pub step_kept : (a b : MetView) (list : ℕ) (unit : Unit) (n : ℕ) → Grows a b → list < length a.lists → IsStepOf a list unit n → IsStepOf b list unit n
 step_kept a b list unit n grows within is =
     let x : Made = made_at a n in
     let made : (n < length b.made) × (made_at b n ≡ x) = grows.made n is.there in
@@ -55,6 +57,18 @@ seen_kept a b x grows is = record { from = (grows.lists x.list is.from).there; s
 
 pub all_kept : (a b : MetView) (seen : List Seen) → Grows a b → All (IsSeen a) seen → All (IsSeen b) seen
 all_kept a b seen grows are = λ n d within. seen_kept a b (get_or seen n d) grows (are n d within)
+
+plain_kept : (a b : MetView) (x : CharacterStep) → Grows a b → IsPlainStep a x → IsPlainStep b x
+plain_kept a b x grows is =
+    record {
+      from = (grows.lists x.list is.from).there;
+      step = step_kept a b x.list (Character x.kind x.c None true) x.number grows is.from is.step;
+      behind = is.behind ∙ ap (λ y. y.behind) (sym (grows.made x.number is.step.there).1);
+      lone = subst (λ t. BeginsNoPair t.entries x.c) (sym grows.table) is.lone;
+    }
+
+pub all_plain_kept : (a b : MetView) (plain : List CharacterStep) → Grows a b → All (IsPlainStep a) plain → All (IsPlainStep b) plain
+all_plain_kept a b plain grows are = λ n d within. plain_kept a b (get_or plain n d) grows (are n d within)
 
 pub all_noted : (m : MetView) (seen : List Seen) (x : Seen) → All (IsSeen m) seen → x.list < length m.lists → IsStepOf m x.list x.unit x.number → All (IsSeen m) (seen ++ x ∷ [])
 all_noted m seen x are from step = All-append (IsSeen m) seen (x ∷ []) are (λ n d within. only n d within)

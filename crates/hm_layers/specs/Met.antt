@@ -1,5 +1,5 @@
 -- What is met of a tree's graph: lists of states with numbers, and steps with numbers, each with the number of the list behind it.
-use Rattle.std.specs.Prelude.{◌≡◌, ℕ, ◌<◌, Bool, true, false, List, [], ◌∷◌, length, slice_index_or}
+use Rattle.std.specs.Prelude.{◌≡◌, ℕ, ◌<◌, Bool, true, false, List, [], ◌∷◌, None, length, slice_index_or}
 use Rattle.hm_refs.specs.Names.{Entry}
 use Rattle.hm_refs.specs.Tables.{TableView}
 use Rattle.hm_edges.specs.Units.{has_pair}
@@ -7,7 +7,9 @@ use Rattle.hm_edges.specs.declared.states.Pending.TheVariants.{Nothing}
 use Rattle.hm_edges.specs.declared.states.State.{State}
 use Rattle.hm_edges.specs.declared.states.Where.TheVariants.{Outside}
 use Rattle.hm_edges.specs.declared.units.Unit.{Unit}
+use Rattle.hm_edges.specs.declared.units.Unit.TheVariants.{Character}
 use Rattle.hm_layers.specs.Layers.{HaveNodes, IsLayer}
+use Rattle.hm_layers.specs.declared.made.CharacterStep.{CharacterStep}
 use Rattle.hm_layers.specs.declared.made.Made.{Made}
 use Rattle.hm_layers.specs.declared.made.Seen.{Seen}
 use Rattle.hm_layers.specs.declared.rules.EdgeRules.{EdgeRules}
@@ -72,3 +74,10 @@ BeginsNoPair t c = (d : ℕ) → has_pair t c d ≡ false
 -- with each code point that is marked none does
 abbrev pub AreLone : List Entry → List Bool → Type 0
 AreLone t lone = (c : ℕ) → slice_index_or lone c false ≡ true → BeginsNoPair t c
+
+-- it leads where the step of its character does that has another one behind it and begins no name's two code points
+pub record IsPlainStep (m : MetView) (x : CharacterStep) : Type 0 where
+  pub from : x.list < length m.lists
+  pub step : IsStepOf m x.list (Character x.kind x.c None true) x.number
+  pub behind : x.behind ≡ (made_at m x.number).behind
+  pub lone : BeginsNoPair m.table.entries x.c

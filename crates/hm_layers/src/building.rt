@@ -75,13 +75,13 @@ impl<'t> Building<'t> {
     fn add_character(&mut self, kind: TextKind, c: char, next: Option<char>) -> Result<(), Memory>
         ensures { OnOk result (Adds self.old self.new (units.character (kind_of kind) c next ∷ [])) }
     {
-        let pair = self.met.pair_of(c, next);
-        self.add(Unit::Character {
-            kind,
-            c,
-            pair,
-            more: next.is_some(),
-        })
+        if self.numbers.len() >= LIMIT - 1 {
+            return Err(Memory);
+        }
+        let to = self.met.character_step(self.last, kind, c, next)?;
+        self.numbers.push(to.number)?;
+        self.last = to.behind;
+        Ok(())
     }
 
     /// Adds the step of a character, where there is one.

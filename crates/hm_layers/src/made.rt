@@ -3,7 +3,7 @@ ghost use Rattle.std.specs.Prelude.{◌≡◌, ◌<◌, ◌↔◌, length, IfSom
 ghost use Rattle.std.specs.List.{HoldsAt};
 
 use crate::step::{Step, are_equal};
-use hm_edges::Unit;
+use hm_edges::{TextKind, Unit};
 
 /// How many steps are searched for one that is there.
 const SEARCHED: usize = 256;
@@ -28,6 +28,41 @@ pub(crate) struct Seen {
     pub(crate) list: u32,
     pub(crate) unit: Unit,
     pub(crate) number: u32,
+}
+
+/// The number of a step, and that of the list behind it.
+#[derive(Clone, Copy)]
+pub(crate) struct Reached {
+    pub(crate) number: u32,
+    pub(crate) behind: u32,
+}
+
+/// The number of the step of a character from the states of a list, and that of the list behind it.
+#[derive(Clone, Copy)]
+pub(crate) struct CharacterStep {
+    pub(crate) list: u32,
+    pub(crate) kind: TextKind,
+    pub(crate) c: char,
+    pub(crate) number: u32,
+    pub(crate) behind: u32,
+}
+
+/// Whether the two are equal.
+fn is_kind(one: TextKind, other: TextKind) -> bool
+    ensures { IsTrue result → one ≡ other }
+{
+    one == other
+}
+
+impl CharacterStep {
+    /// Whether it is of this character in such a text, from this list.
+    pub(crate) fn is_from(&self, list: u32, kind: TextKind, c: char) -> bool
+        ensures list { IsTrue result → self.now.list ≡ list }
+        ensures kind { IsTrue result → self.now.kind ≡ kind }
+        ensures c { IsTrue result → self.now.c ≡ c }
+    {
+        self.list == list && self.c == c && is_kind(self.kind, kind)
+    }
 }
 
 /// Whether the two are equal.

@@ -1,17 +1,18 @@
 //! Lists of states and steps that are met while a graph is built.
-ghost use Rattle.std.specs.Prelude.{◌≡◌, ◌<◌, ◌∷◌, [], length, map, IfOk, IfSome, IsTrue, OnOk};
+ghost use Rattle.std.specs.Prelude.{◌≡◌, ◌<◌, ◌∷◌, [], true, None, is_some, length, map, IfOk, IfSome, IsTrue, OnOk};
 ghost use Rattle.std.specs.List.{HoldsAt};
 ghost use Rattle.hm_edges.specs.Units as units;
 ghost use Rattle.hm_layers.specs.Layers.{HaveNodes};
-ghost use Rattle.hm_layers.specs.Met.{Grows, IsListOf, IsStepOf, list_at, first_states, made_at, only_first};
+ghost use Rattle.hm_edges.specs.declared.units.Unit.TheVariants.{Character};
+ghost use Rattle.hm_layers.specs.Met.{BeginsNoPair, Grows, IsListOf, IsPlainStep, IsStepOf, list_at, first_states, made_at, only_first};
 
 use crate::layer::{Layer, find_layer, is_state};
-use crate::made::{Front, Made, Seen, equal_made};
+use crate::made::{CharacterStep, Front, Made, Reached, Seen, equal_made};
 use crate::pairs::{lone_characters, pair_of};
 use crate::rules::EdgeRules;
 use crate::step::Step;
 use hm_base::Memory;
-use hm_edges::{Pending, State, Unit, Where};
+use hm_edges::{Pending, State, TextKind, Unit, Where};
 use hm_refs::Table;
 use std::alloc::Global;
 use std::collections::HashMap;
@@ -38,6 +39,8 @@ pub(crate) struct Met<'t> {
     hints: Vec<u32>,
     /// For each ASCII character whether it is known to begin no name's two code points.
     lone: Vec<bool>,
+    /// Steps of such characters with another one behind them, each at the place of its list and character.
+    plain: Vec<CharacterStep>,
 }
 
 impl<'t> Model for Met<'t> {
@@ -47,13 +50,14 @@ impl<'t> Model for Met<'t> {
 
     ghost use Rattle.std.specs.Prelude.{map};
     ghost use Rattle.std.specs.List.{All};
-    ghost use Rattle.hm_layers.specs.Met.{AreLone, IsMet, IsSeen};
+    ghost use Rattle.hm_layers.specs.Met.{AreLone, IsMet, IsPlainStep, IsSeen};
 
     ghost view = { λ m. record { table = m.table.now; rules = m.rules; lists = map (λ l. l.items) m.lists.items; made = m.made.items } };
 
     ghost invariant = { λ m. IsMet (record { table = m.table.now; rules = m.rules; lists = map (λ l. l.items) m.lists.items; made = m.made.items })
         × All (IsSeen (record { table = m.table.now; rules = m.rules; lists = map (λ l. l.items) m.lists.items; made = m.made.items })) m.seen.items
-        × AreLone m.table.now.entries m.lone.items };
+        × AreLone m.table.now.entries m.lone.items
+        × All (IsPlainStep (record { table = m.table.now; rules = m.rules; lists = map (λ l. l.items) m.lists.items; made = m.made.items })) m.plain.items };
 }
 
 /// How many places there are for hints.
@@ -96,6 +100,14 @@ fn no_hints(alloc: Global) -> Result<Vec<u32>, Memory> {
         hints.push(0)?;
     }
     Ok(hints)
+}
+
+/// How many places there are for steps of plain characters.
+const PLAIN: usize = 4096;
+
+/// The place of the step of a plain character from a list.
+fn plain_place(list: u32, c: char) -> usize {
+    (list.wrapping_mul(128) ^ c as u32) as usize % PLAIN
 }
 
 /// Whether the lists are the same.
@@ -158,11 +170,22 @@ impl<'t> Met<'t> {
             known: HashMap::new(alloc),
             hints: no_hints(alloc)?,
             lone: lone_characters(alloc, table)?,
+            plain: Vec::new(alloc),
         })
     }
 
+    /// Whether the character is known to begin no name's two code points.
+    fn is_lone(&self, c: char) -> bool
+        ensures { IsTrue result → BeginsNoPair self.now.table.entries c }
+    {
+        match self.lone.get(c as usize) {
+            Some(true) => true,
+            _ => false,
+        }
+    }
+
     /// The next character, where some name stands for the two.
-    pub(crate) fn pair_of(&self, c: char, next: Option<char>) -> Option<char>
+    fn pair_of(&self, c: char, next: Option<char>) -> Option<char>
         ensures { result ≡ units.pair_of self.now.table.entries c next }
     {
         match self.lone.get(c as usize) {
@@ -202,6 +225,7 @@ impl<'t> Met<'t> {
             known: _,
             hints: _,
             lone: _,
+            plain: _,
         } = self;
         let mut steps = Vec::new(alloc);
         for made in made {
@@ -332,5 +356,94 @@ impl<'t> Met<'t> {
             return Ok(number);
         }
         self.make(front)
+    }
+    /// Where the step of a character leads that begins no name's two code points and has another one behind it, if it is
+    /// kept.
+    fn plain_step(&self, list: u32, kind: TextKind, c: char) -> Option<Reached>
+        ensures step { IfSome result (λ to. IsStepOf self.now list (Character kind c None true) to.number) }
+        ensures behind { IfSome result (λ to. to.behind ≡ (made_at self.now to.number).behind) }
+        ensures lone { IfSome result (λ to. BeginsNoPair self.now.table.entries c) }
+    {
+        let step = self.plain.get(plain_place(list, c))?;
+        if step.is_from(list, kind, c) {
+            Some(Reached {
+                number: step.number,
+                behind: step.behind,
+            })
+        } else {
+            None
+        }
+    }
+
+    /// Keeps the step of such a character. The first one is kept at all places.
+    fn keep_plain(&mut self, step: CharacterStep) -> Result<(), Memory>
+        requires { IsPlainStep self.old step }
+        ensures { self.new ≡ self.old }
+    {
+        let place = plain_place(step.list, step.c);
+        if place < self.plain.len() {
+            self.plain[place] = step;
+            return Ok(());
+        }
+        self.plain = vec![in self.alloc; step; PLAIN]?;
+        Ok(())
+    }
+
+    /// Where the step of a character leads, found as that of any unit. It is kept, where it can be.
+    fn found_step(
+        &mut self,
+        list: u32,
+        kind: TextKind,
+        c: char,
+        next: Option<char>,
+    ) -> Result<Reached, Memory>
+        requires { list < length self.old.lists }
+        ensures step { IfOk result (λ to. IsStepOf self.new list (Character kind c (units.pair_of self.old.table.entries c next) (is_some next)) to.number) }
+        ensures behind { IfOk result (λ to. to.behind ≡ (made_at self.new to.number).behind) }
+        ensures kept { Grows self.old self.new }
+    {
+        let pair = self.pair_of(c, next);
+        let more = next.is_some();
+        let number = self.step(
+            list,
+            Unit::Character {
+                kind,
+                c,
+                pair,
+                more,
+            },
+        )?;
+        let behind = self.behind(number);
+        if more && self.is_lone(c) {
+            self.keep_plain(CharacterStep {
+                list,
+                kind,
+                c,
+                number,
+                behind,
+            })?;
+        }
+        Ok(Reached { number, behind })
+    }
+
+    /// Where the step of a character leads from the states of a list, with this one behind it in the same text.
+    pub(crate) fn character_step(
+        &mut self,
+        list: u32,
+        kind: TextKind,
+        c: char,
+        next: Option<char>,
+    ) -> Result<Reached, Memory>
+        requires { list < length self.old.lists }
+        ensures step { IfOk result (λ to. IsStepOf self.new list (Character kind c (units.pair_of self.old.table.entries c next) (is_some next)) to.number) }
+        ensures behind { IfOk result (λ to. to.behind ≡ (made_at self.new to.number).behind) }
+        ensures kept { Grows self.old self.new }
+    {
+        if next.is_some() {
+            if let Some(to) = self.plain_step(list, kind, c) {
+                return Ok(to);
+            }
+        }
+        self.found_step(list, kind, c, next)
     }
 }

@@ -144,3 +144,30 @@ same_step steps runs run used at k d is inside low high =
     get_or-map (λ m. get_or steps m []) (unroll runs) k 0 [] (omega arith)
     ∙ ap (λ m. get_or steps m []) (same_number runs run used at k d 0 is (at_run runs run used at is inside) low high)
     ∙ sym (get_or-map (λ m. get_or steps m []) (unroll runs) at 0 [] inside)
+
+-- ---- On over equal numbers
+
+pub next_many : (runs : List Run) (run used at n : ℕ) (d : Run) → IsAt runs run used at → used + n < (get_or runs run d).count → run < length runs → IsAt runs run (used + n) (at + n)
+next_many [] run used at n d is more inside = absurd (omega arith)
+next_many (r ∷ runs) zero used at n d is more inside = (more, omega (arith, is.1))
+next_many (r ∷ runs) (suc run) used at n d is more inside =
+    (as_at runs run (used + n) (at - r.count + n) (at + n - r.count) (omega (arith, is.1)) (next_many runs run used (at - r.count) n d is.0 more (omega arith)), omega (arith, is.1))
+
+pub run_end : (runs : List Run) (run used at : ℕ) (d : Run) → IsAt runs run used at → run < length runs → at + ((get_or runs run d).count - used) ≤ length (unroll runs)
+run_end [] run used at d is inside = absurd (omega arith)
+run_end (r ∷ runs) zero used at d is inside = omega (arith, is.0, is.1, length_run r runs)
+run_end (r ∷ runs) (suc run) used at d is inside = omega (arith, is.1, length_run r runs, run_end runs run used (at - r.count) d is.0 (omega arith))
+
+-- behind the last of a run
+pub next_all : (runs : List Run) (run used at : ℕ) (d : Run) → AreRuns runs → IsAt runs run used at → run < length runs → IsAt runs (run + 1) 0 (at + ((get_or runs run d).count - used))
+next_all runs run used at d are is inside =
+    let count : ℕ = (get_or runs run d).count in
+    let some : used < count = at_used runs run used at d is inside in
+    let last : IsAt runs run (used + (count - used - 1)) (at + (count - used - 1)) = next_many runs run used at (count - used - 1) d is (omega (arith, some)) inside in
+    as_at runs (run + 1) 0 (at + (count - used - 1) + 1) (at + (count - used)) (omega (arith, some)) (next_out runs run (used + (count - used - 1)) (at + (count - used - 1)) d are last (omega (arith, some)) inside)
+
+pub same_later : (steps : List Step) (runs : List Run) (run used at k : ℕ) (d : Run) → IsAt runs run used at → run < length runs → at ≤ k → k < at + ((get_or runs run d).count - used)
+    → get_or (spread steps (unroll runs)) k [] ≡ get_or (spread steps (unroll runs)) at []
+same_later steps runs run used at k d is inside low high =
+    let later : IsAt runs run (used + (k - at)) k = as_at runs run (used + (k - at)) (at + (k - at)) k (omega (arith, low)) (next_many runs run used at (k - at) d is (omega (arith, low, high)) inside) in
+    sym (same_step steps runs run (used + (k - at)) k at d later (omega (arith, high, run_end runs run used at d is inside)) low (omega (arith, low)))

@@ -172,6 +172,29 @@ impl Graph {
         }
     }
 
+    /// Goes on over at most so many layers that have the same step behind them as this one.
+    pub fn next_alike(&self, at: Cursor, limit: usize) -> Cursor
+        requires place { IsPlace self.now at }
+        requires inside { at.layer < length self.now.steps }
+        ensures place { IsPlace self.now result }
+        ensures layer { (at.layer ≤ result.layer) × (result.layer ≤ at.layer + limit) }
+        ensures alike { (k : ℕ) → at.layer ≤ k → k < result.layer → slice_index_or self.now.steps k [] ≡ slice_index_or self.now.steps at.layer [] }
+    {
+        let left = self.runs[at.run].count as usize - at.used;
+        if limit < left {
+            return Cursor {
+                run: at.run,
+                used: at.used + limit,
+                layer: at.layer + limit,
+            };
+        }
+        Cursor {
+            run: at.run + 1,
+            used: 0,
+            layer: at.layer + left,
+        }
+    }
+
     /// A graph has fewer than 2^29 steps, and no edge writes 2^33 bytes. The call does nothing.
     pub fn is_small(&self)
         ensures low { AreLow self.now.steps }

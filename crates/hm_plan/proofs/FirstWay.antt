@@ -2,7 +2,7 @@
 use Rattle.std.proofs.Common.{◌≡◌, ◌∙◌, ℕ, zero, suc, ◌+◌, ◌<◌, ◌≤◌, Bool, true, false, cond, List, [], ◌∷◌, ◌++◌, length, map, get_or, drop, drop-cons, add-one, Option, Some, None, option_and_then, slice_get, refl, sym, ap, arith, append_assoc, append-nil}
 use Rattle.std.specs.Option.{IfSome}
 use Rattle.std.specs.Prelude.{encode_utf8}
-use Rattle.std.proofs.lemmas.List.{get_or-map, drop_more, drop_all, length-append}
+use Rattle.std.proofs.lemmas.List.{get_or-map, drop_all, length-append}
 use Rattle.hm_base.specs.Walks.{Event}
 use Rattle.hm_base.specs.declared.plain.SpellRules.{SpellRules}
 use Rattle.hm_edges.specs.declared.pieces.Piece.{Piece}
@@ -20,7 +20,7 @@ use Rattle.hm_parts.specs.Events.{units_at, units_left}
 use Rattle.hm_parts.specs.Parts.{AreParts, IsPart, part_units, parts_units}
 use Rattle.hm_parts.specs.declared.parts.Part.{Part}
 use Rattle.hm_parts.proofs.UnitsLeft.{units_left-next, units_left-none}
-use Rattle.hm_plan.specs.Paths.{Goes, HasChoices, Passes, onward, row_behind, way_on}
+use Rattle.hm_plan.specs.Paths.{Goes, GoesOver, HasChoices, Passes, onward, row_behind, way_on}
 use Rattle.hm_plan.specs.declared.paths.Way.{Way}
 use Rattle.hm_plan.proofs.Prices.{same_self}
 
@@ -69,10 +69,10 @@ named_step t (step ∷ steps) (suc k) h = named_step t steps k h.1
 
 -- ---- One step
 
-step_next : (steps : List Step) (k : ℕ) → k < length steps → drop k steps ≡ get_or steps k [] ∷ drop (k + 1) steps
+pub step_next : (steps : List Step) (k : ℕ) → k < length steps → drop k steps ≡ get_or steps k [] ∷ drop (k + 1) steps
 step_next steps k inside = rw add-one (drop-cons steps k [] inside)
 
-way_next : (t : List Entry) (g : GraphView) (u : Unit) (units : List Unit) (k : ℕ) (place : Option ℕ) → k < length g.steps
+pub way_next : (t : List Entry) (g : GraphView) (u : Unit) (units : List Unit) (k : ℕ) (place : Option ℕ) → k < length g.steps
     → way_on t g (u ∷ units) k place ≡ along (piece_bytes t u) (way_from (piece_bytes t) g.last units (drop (k + 1) g.steps)) (option_and_then (hop_taken (row_behind g k) (get_or g.steps k [])) place)
 way_next t g u units k None inside = refl
 way_next t g u units k (Some place) inside = ap (λ steps. way_from (piece_bytes t) g.last (u ∷ units) steps place) (step_next g.steps k inside)
@@ -91,36 +91,29 @@ goes_one t g u own hop old new inside next is taken put units =
 
 -- ---- The characters of a text
 
--- n of the characters were taken
-pub record CharsTaken (t : List Entry) (g : GraphView) (cs : List ℕ) (n : ℕ) (old way : Way) : Type 0 where
-  pub count : way.at.layer ≡ old.at.layer + n
-  pub choices : HasChoices g way
-  pub goes : (kind : TextKind) (units : List Unit) → way.out.items ++ way_on t g (character_units kind (drop n cs) ++ units) way.at.layer way.place ≡ old.out.items ++ way_on t g (character_units kind cs ++ units) old.at.layer old.place
+pub none_over : (t : List Entry) (g : GraphView) (cs : List ℕ) (way : Way) → HasChoices g way → GoesOver t g cs cs way way
+none_over t g cs way h = record { count = refl; choices = h; goes = λ kind units. refl }
 
-pub no_chars : (t : List Entry) (g : GraphView) (cs : List ℕ) (way : Way) → HasChoices g way → CharsTaken t g cs 0 way way
-no_chars t g cs way h = record { count = omega arith; choices = h; goes = λ kind units. refl }
+pub over_on : (t : List Entry) (g : GraphView) (cs middle rest : List ℕ) (old between new : Way) → GoesOver t g cs middle old between → GoesOver t g middle rest between new → GoesOver t g cs rest old new
+over_on t g cs middle rest old between new first next = record { count = next.count ∙ first.count; choices = next.choices; goes = λ kind units. next.goes kind units ∙ first.goes kind units }
 
-pub char_taken : (t : List Entry) (g : GraphView) (cs : List ℕ) (n m c : ℕ) (old between new : Way) → n < length cs → c ≡ get_or cs n c → m ≡ n + 1 → CharsTaken t g cs n old between → Passes g 1 between new
-    → ((u : Unit) → own_bytes u ≡ encode_utf8 c → Goes t g (u ∷ []) between new) → CharsTaken t g cs m old new
-char_taken t g cs n m c old between new inside is next taken passes goes = record {
-  count = omega (arith, taken.count, passes.taken);
+-- the steps that are left are enough for the rest
+pub over_inside : (t : List Entry) (g : GraphView) (cs rest : List ℕ) (old new : Way) → old.at.layer + length cs ≤ length g.steps → GoesOver t g cs rest old new → new.at.layer + length rest ≤ length g.steps
+over_inside t g cs rest old new inside over = omega (arith, over.count)
+
+pub char_over : (t : List Entry) (g : GraphView) (cs rest : List ℕ) (c : ℕ) (old new : Way) → cs ≡ c ∷ rest → Passes g 1 old new → ((u : Unit) → own_bytes u ≡ encode_utf8 c → Goes t g (u ∷ []) old new) → GoesOver t g cs rest old new
+char_over t g cs rest c old new cut passes goes = record {
+  count = omega (arith, passes.taken, ap length cut);
   choices = passes.choices;
   goes = λ kind units.
-      let rest : List ℕ = drop (n + 1) cs in
-      let cut : drop n cs ≡ c ∷ rest = drop_more cs n c inside ∙ ap (λ d. d ∷ rest) (sym is) in
-      ap (λ k. new.out.items ++ way_on t g (character_units kind (drop k cs) ++ units) new.at.layer new.place) next
-      ∙ goes (character kind c (next_of rest)) refl (character_units kind rest ++ units)
-      ∙ ap (λ x. between.out.items ++ way_on t g (character_units kind x ++ units) between.at.layer between.place) (sym cut)
-      ∙ taken.goes kind units;
+      goes (character kind c (next_of rest)) refl (character_units kind rest ++ units) ∙ ap (λ x. old.out.items ++ way_on t g (character_units kind x ++ units) old.at.layer old.place) (sym cut);
 }
 
-pub all_chars : (t : List Entry) (g : GraphView) (cs : List ℕ) (n : ℕ) (old new : Way) → n ≡ length cs → CharsTaken t g cs n old new → Passes g (length cs) old new
-all_chars t g cs n old new whole taken = record { taken = omega (arith, taken.count); choices = taken.choices }
+pub all_chars : (t : List Entry) (g : GraphView) (cs rest : List ℕ) (old new : Way) → rest ≡ [] → GoesOver t g cs rest old new → Passes g (length cs) old new
+all_chars t g cs rest old new none over = record { taken = omega (arith, over.count, ap length none); choices = over.choices }
 
-pub chars_go : (t : List Entry) (g : GraphView) (cs : List ℕ) (n : ℕ) (old new : Way) → n ≡ length cs → CharsTaken t g cs n old new → (kind : TextKind) → Goes t g (character_units kind cs) old new
-chars_go t g cs n old new whole taken kind units =
-    let none : drop n cs ≡ [] = drop_all n cs (omega arith) in
-    ap (λ x. new.out.items ++ way_on t g (character_units kind x ++ units) new.at.layer new.place) (sym none) ∙ taken.goes kind units
+pub chars_go : (t : List Entry) (g : GraphView) (cs rest : List ℕ) (old new : Way) → rest ≡ [] → GoesOver t g cs rest old new → (kind : TextKind) → Goes t g (character_units kind cs) old new
+chars_go t g cs rest old new none over kind units = ap (λ x. new.out.items ++ way_on t g (character_units kind x ++ units) new.at.layer new.place) (sym none) ∙ over.goes kind units
 
 pub length_characters : (kind : TextKind) (cs : List ℕ) → length (character_units kind cs) ≡ length cs
 length_characters kind [] = refl

@@ -4,3 +4,4 @@ pub mod FromLast
 pub mod FirstWay
 mod Only
 pub mod Alike
+mod Copied

@@ -1,18 +1,19 @@
 //! The text of the first way.
-ghost use Rattle.std.specs.Prelude.{◌≡◌, ◌<◌, ◌≤◌, ◌+◌, ◌++◌, ◌∷◌, [], ℕ, List, length, drop, chars, option_and_then, slice_get, slice_index, slice_index_or, IfOk, IfSome, OnOk};
+ghost use Rattle.std.specs.Prelude.{◌≡◌, ◌<◌, ◌≤◌, ◌+◌, ◌++◌, ◌∷◌, [], ℕ, List, length, drop, chars, option_and_then, slice_get, slice_index, slice_index_or, IfOk, IfSome, IsTrue, IsUtf8, OnOk};
 ghost use Rattle.hm_edges.specs.Pieces.{HasName, own_bytes, piece_bytes, piece_text};
 ghost use Rattle.hm_graph.specs.Prices.{Row};
-ghost use Rattle.hm_layers.specs.Graphs.{AreNamed, IsNamedStep, IsPlace};
+ghost use Rattle.hm_layers.specs.Graphs.{AreNamed, IsNamedStep, IsPlace, only_hop};
 ghost use Rattle.hm_parts.specs.Parts.{AreParts, IsPart, part_units, parts_units};
 ghost use Rattle.hm_refs.specs.Names.{Entry};
 ghost use Rattle.hm_steps.specs.Ways.{along, choices_of, hop_taken, step_choices, way_from};
 ghost use Rattle.hm_units.specs.Units as units;
 ghost use Rattle.hm_units.specs.Units.{character_units, units_of};
 ghost use Rattle.hm_plan.specs.Own.{own_text};
-ghost use Rattle.hm_plan.specs.Paths.{Goes, HasChoices, Passes, onward, row_behind};
+ghost use Rattle.hm_plan.specs.Paths.{Goes, GoesOver, HasChoices, IsCopied, Passes, onward, row_behind};
 
 use crate::pieces::{Own, put_piece};
 use hm_base::{Memory, SpellRules};
+use hm_edges::Piece;
 use hm_layers::{Cursor, Graph, Step};
 use hm_parts::{Part, find_parts};
 use hm_refs::Table;
@@ -129,6 +130,83 @@ fn take(way: &mut Way, graph: &Graph, table: &Table, own: Own) -> Result<(), Mem
     Ok(())
 }
 
+/// Whether the way goes over the only hop of a step, which copies one byte, to the first state.
+fn is_copied(step: &Step, place: Option<usize>) -> bool
+    ensures { IsTrue result → IsCopied (only_hop step.now) place }
+{
+    match (step.only(), place) {
+        (Some(hop), Some(0)) => hop.len == 1 && hop.to == 0 && matches!(hop.piece, Piece::Itself),
+        _ => false,
+    }
+}
+
+/// Takes the steps of the characters that a text begins with, as long as the same step copies one byte, and gives the rest
+/// of the text.
+fn copy_alike<'t>(way: &mut Way, graph: &Graph, text: &'t str) -> Result<&'t str, Memory>
+    requires inside { way.old.at.layer + length (chars text.now) ≤ length graph.now.steps }
+    requires some { 0 < length text.now }
+    requires choices { HasChoices graph.now way.old }
+    ensures goes { IfOk result (λ rest. (t : List Entry) → GoesOver t graph.now (chars text.now) (chars rest.now) way.old way.new) }
+    ensures within { IfOk result (λ rest. length rest.now ≤ length text.now) }
+    ensures utf8 { IfOk result (λ rest. IsUtf8 rest.now) }
+{
+    if !is_copied(graph.step(way.at), way.place) {
+        return Ok(text);
+    }
+    let at = graph.next_alike(way.at, text.len());
+    let count = at.layer - way.at.layer;
+    let front = &text.as_bytes()[..count];
+    if !front.is_ascii() {
+        return Ok(text);
+    }
+    way.out.extend_from_slice(front)?;
+    way.at = at;
+    Ok(&text[count..])
+}
+
+/// Takes the step of the first character of a text, and gives the rest of the text.
+fn take_char<'t>(
+    way: &mut Way,
+    graph: &Graph,
+    table: &Table,
+    text: &'t str,
+) -> Result<&'t str, Memory>
+    requires inside { way.old.at.layer + length (chars text.now) ≤ length graph.now.steps }
+    requires choices { HasChoices graph.now way.old }
+    requires named { AreNamed table.now.entries graph.now.steps }
+    ensures goes { IfOk result (λ rest. GoesOver table.now.entries graph.now (chars text.now) (chars rest.now) way.old way.new) }
+    ensures shorter { IfOk result (λ rest. 0 < length text.now → length rest.now < length text.now) }
+    ensures utf8 { IfOk result (λ rest. IsUtf8 rest.now) }
+{
+    let mut rest = text.chars();
+    if let Some(c) = rest.next() {
+        take(way, graph, table, Own::Character { c })?;
+    }
+    Ok(rest.as_str())
+}
+
+/// Takes the steps of some characters that a text begins with, and gives the rest of the text.
+fn take_some<'t>(
+    way: &mut Way,
+    graph: &Graph,
+    table: &Table,
+    text: &'t str,
+) -> Result<&'t str, Memory>
+    requires inside { way.old.at.layer + length (chars text.now) ≤ length graph.now.steps }
+    requires some { 0 < length text.now }
+    requires choices { HasChoices graph.now way.old }
+    requires named { AreNamed table.now.entries graph.now.steps }
+    ensures goes { IfOk result (λ rest. GoesOver table.now.entries graph.now (chars text.now) (chars rest.now) way.old way.new) }
+    ensures shorter { IfOk result (λ rest. length rest.now < length text.now) }
+    ensures utf8 { IfOk result (λ rest. IsUtf8 rest.now) }
+{
+    let rest = copy_alike(way, graph, text)?;
+    if rest.len() < text.len() {
+        return Ok(rest);
+    }
+    take_char(way, graph, table, rest)
+}
+
 /// Takes the steps of the characters of a text.
 fn take_chars(way: &mut Way, graph: &Graph, table: &Table, text: &str) -> Result<(), Memory>
     requires inside { way.old.at.layer + length (chars text.now) ≤ length graph.now.steps }
@@ -137,8 +215,9 @@ fn take_chars(way: &mut Way, graph: &Graph, table: &Table, text: &str) -> Result
     ensures passes { OnOk result (Passes graph.now (length (chars text.now)) way.old way.new) }
     ensures goes { OnOk result ((kind : units.TextKind) → Goes table.now.entries graph.now (character_units kind (chars text.now)) way.old way.new) }
 {
-    for c in text.chars() {
-        take(way, graph, table, Own::Character { c })?;
+    let mut rest = text;
+    while !rest.is_empty() {
+        rest = take_some(way, graph, table, rest)?;
     }
     Ok(())
 }

@@ -1,7 +1,11 @@
-use Rattle.std.proofs.Common.{length}
-use Rattle.std.specs.Str.{chars}
-use Rattle.hm_plan.proofs.FirstWay.{CharsTaken}
+use Rattle.std.proofs.Common.{chars, length}
+use denote.Text.{Utf8}
+use denote.Shadow.{shadow}
+use Rattle.hm_plan.specs.Paths.{GoesOver}
 use Rattle.hm_plan.proofs.paths.take_chars.Given as goal
 
-abbrev pub invariant-loop-c : goal.invariant-loop-c
-invariant-loop-c l = CharsTaken l.table.entries l.graph (chars l.text) (length l.yielded) l.initial.way l.way
+abbrev pub invariant-loop-rest : goal.invariant-loop-rest
+invariant-loop-rest l = shadow (Utf8 l.rest) × GoesOver l.table.entries l.graph (chars l.text) (chars l.rest) l.initial.way l.way
+
+abbrev pub decreases-loop-rest : goal.decreases-loop-rest
+decreases-loop-rest l = length l.rest

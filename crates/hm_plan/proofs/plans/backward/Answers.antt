@@ -1,4 +1,4 @@
-use Rattle.std.proofs.Common.{◌≡◌, ◌∙◌, ◌-◌, ◌^◌, ◌++◌, [], cond, true, get_or, reverse, map, sym, ap, subst, arith}
+use Rattle.std.proofs.Common.{◌≡◌, ◌∙◌, ◌-◌, ◌^◌, ◌++◌, [], cond, get_or, reverse, map, sym, ap, subst, arith}
 use Rattle.hm_cert.specs.Certificate.{row_line}
 use Rattle.hm_cert.specs.Layout.{told}
 use Rattle.hm_layers.specs.Graphs.{IsLowStep}

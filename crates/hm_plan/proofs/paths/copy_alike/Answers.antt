@@ -1,0 +1,27 @@
+use Rattle.std.proofs.Common.{◌≡◌, ◌∙◌, ℕ, ◌-◌, [], ◌++◌, get_or, chars, take, refl, sym, ap, subst, arith}
+use Rattle.std.specs.Str.{IsAscii}
+use Rattle.hm_layers.specs.Graphs.{only_hop}
+use Rattle.hm_plan.specs.Paths.{GoesOver, IsCopied}
+use Rattle.hm_plan.specs.declared.paths.Way.{Way}
+use Rattle.hm_plan.proofs.Copied.{ascii_boundary, some_chars, text_copied}
+use Rattle.hm_plan.proofs.paths.copy_alike.Goals as goal
+
+pub step-requires-clause-inside : goal.step-requires-clause-inside
+step-requires-clause-inside c = omega (arith, c.requires.inside, some_chars c.args.text.now c.utf8.text c.requires.some)
+
+pub range_from-requires : goal.range_from-requires
+range_from-requires c = λ some.
+    let n : ℕ = c.next_alike-at.result.layer - c.args.way.now.at.layer in
+    let ascii : IsAscii (take n c.args.text.now) = subst (λ b. IsAscii (take n b)) c.as_bytes.ensures.value c.if-not-is_ascii.ensures.cases in
+    ascii_boundary c.args.text.now n c.utf8.text (omega (arith, c.next_alike-at.ensures.layer.1)) ascii
+
+pub returns-clause-goes : goal.returns-clause-goes
+returns-clause-goes c = λ t.
+    let n : ℕ = c.next_alike-at.result.layer - c.args.way.now.at.layer in
+    let new : Way = record { out = c.extend_from_slice.new.self; at = c.next_alike-at.result; place = c.args.way.now.place; choices = c.args.way.now.choices } in
+    let copied : IsCopied (only_hop (get_or c.args.graph.now.steps c.args.way.now.at.layer [])) c.args.way.now.place = subst (λ step. IsCopied (only_hop step) c.args.way.now.place) c.step.ensures (c.if-not-is_copied.ensures refl) in
+    let ascii : IsAscii (take n c.args.text.now) = subst (λ b. IsAscii (take n b)) c.as_bytes.ensures.value c.if-not-is_ascii.ensures.cases in
+    let out : c.extend_from_slice.new.self.items ≡ c.args.way.now.out.items ++ take n c.args.text.now = c.in_ok-extend_from_slice.ensures.items ∙ ap (λ b. c.args.way.now.out.items ++ take n b) c.as_bytes.ensures.value in
+    subst (λ rest. GoesOver t c.args.graph.now (chars c.args.text.now) (chars rest) c.args.way.now new) (sym c.range_from.ensures.value)
+    (text_copied t c.args.graph.now c.args.text.now n c.args.way.now new copied c.requires.choices c.requires.inside (omega (arith, c.next_alike-at.ensures.layer.1)) c.next_alike-at.ensures.place
+    (omega (arith, c.next_alike-at.ensures.layer.0)) c.next_alike-at.ensures.alike ascii out refl refl)

@@ -81,7 +81,7 @@ def differs(program, case):
 
 def main():
     program = os.path.abspath(sys.argv[1] if len(sys.argv) > 1 else BUILT)
-    with open(os.path.join(DATA, "cases.txt"), encoding="ascii", newline="\n") as file:
+    with open(os.path.join(DATA, "cases.txt"), encoding="utf-8", newline="\n") as file:
         lines = file.read().split("\n")
     count = bad = 0
     for case in cases(lines):

@@ -46,7 +46,7 @@ made_is a b list unit n x grows within inside is there at =
           (layer_as a.table b.table a.rules b.rules unit (list_at a list) (list_at a x.behind) (list_at b list) (list_at b x.behind) x grows.table grows.rules from.list behind.list is);
     }
 
-pub step_kept : (a b : MetView) (list : ℕ) (unit : Unit) (n : ℕ) → Grows a b → list < length a.lists → IsStepOf a list unit n → IsStepOf b list unit n
+step_kept : (a b : MetView) (list : ℕ) (unit : Unit) (n : ℕ) → Grows a b → list < length a.lists → IsStepOf a list unit n → IsStepOf b list unit n
 step_kept a b list unit n grows within is =
     let x : Made = made_at a n in
     let made : (n < length b.made) × (made_at b n ≡ x) = grows.made n is.there in

@@ -357,6 +357,7 @@ impl<'t> Met<'t> {
         }
         self.make(front)
     }
+
     /// Where the step of a character leads that begins no name's two code points and has another one behind it, if it is
     /// kept.
     fn plain_step(&self, list: u32, kind: TextKind, c: char) -> Option<Reached>

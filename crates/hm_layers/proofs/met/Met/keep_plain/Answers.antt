@@ -1,4 +1,4 @@
-use Rattle.std.proofs.Common.{map, sym, subst, replicate}
+use Rattle.std.proofs.Common.{map, sym, subst}
 use Rattle.std.proofs.lemmas.List.Elements.{All-replicate, All-set}
 use Rattle.std.specs.List.{All}
 use Rattle.hm_layers.specs.Met.{IsPlainStep, MetView}

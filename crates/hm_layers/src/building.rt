@@ -1,5 +1,5 @@
 //! A graph while it is built.
-ghost use Rattle.std.specs.Prelude.{◌≡◌, ◌<◌, ◌∷◌, [], length, IfOk, OnOk};
+ghost use Rattle.std.specs.Prelude.{◌≡◌, ◌<◌, ◌∷◌, [], None, Some, length, IfOk, OnOk};
 ghost use Rattle.std.specs.Str.{chars};
 ghost use Rattle.hm_units.specs.Units as units;
 ghost use Rattle.hm_units.specs.Units.{character_units};
@@ -72,8 +72,8 @@ impl<'t> Building<'t> {
     }
 
     /// Adds the step of a character, behind which the next one stands in the same text.
-    fn add_character(&mut self, kind: TextKind, c: char, next: Option<char>) -> Result<(), Memory>
-        ensures { OnOk result (Adds self.old self.new (units.character (kind_of kind) c next ∷ [])) }
+    fn add_character(&mut self, kind: TextKind, c: char, next: char) -> Result<(), Memory>
+        ensures { OnOk result (Adds self.old self.new (units.character (kind_of kind) c (Some next) ∷ [])) }
     {
         if self.numbers.len() >= LIMIT - 1 {
             return Err(Memory);
@@ -84,18 +84,28 @@ impl<'t> Building<'t> {
         Ok(())
     }
 
-    /// Adds the step of a character, where there is one.
-    fn add_before(
-        &mut self,
-        kind: TextKind,
-        before: Option<char>,
-        next: Option<char>,
-    ) -> Result<(), Memory>
-        ensures { OnOk result (Adds self.old self.new (character_before (kind_of kind) before next)) }
+    /// Adds the step of a character in front of the next one, where there is one.
+    fn add_before(&mut self, kind: TextKind, before: Option<char>, next: char) -> Result<(), Memory>
+        ensures { OnOk result (Adds self.old self.new (character_before (kind_of kind) before (Some next))) }
     {
         match before {
             None => Ok(()),
             Some(c) => self.add_character(kind, c, next),
+        }
+    }
+
+    /// Adds the step of the last character of a text, where there is one.
+    fn add_last(&mut self, kind: TextKind, last: Option<char>) -> Result<(), Memory>
+        ensures { OnOk result (Adds self.old self.new (character_before (kind_of kind) last None)) }
+    {
+        match last {
+            None => Ok(()),
+            Some(c) => self.add(Unit::Character {
+                kind,
+                c,
+                pair: None,
+                more: false,
+            }),
         }
     }
 
@@ -105,10 +115,10 @@ impl<'t> Building<'t> {
     {
         let mut before = None;
         for c in text.chars() {
-            self.add_before(kind, before, Some(c))?;
+            self.add_before(kind, before, c)?;
             before = Some(c);
         }
-        self.add_before(kind, before, None)
+        self.add_last(kind, before)
     }
 
     /// Adds the steps of a part.

@@ -1,5 +1,5 @@
 //! Lists of states and steps that are met while a graph is built.
-ghost use Rattle.std.specs.Prelude.{◌≡◌, ◌<◌, ◌∷◌, [], true, None, is_some, length, map, IfOk, IfSome, IsTrue, OnOk};
+ghost use Rattle.std.specs.Prelude.{◌≡◌, ◌<◌, ◌∷◌, [], true, None, Some, length, map, IfOk, IfSome, IsTrue, OnOk};
 ghost use Rattle.std.specs.List.{HoldsAt};
 ghost use Rattle.hm_edges.specs.Units as units;
 ghost use Rattle.hm_layers.specs.Layers.{HaveNodes};
@@ -185,8 +185,8 @@ impl<'t> Met<'t> {
     }
 
     /// The next character, where some name stands for the two.
-    fn pair_of(&self, c: char, next: Option<char>) -> Option<char>
-        ensures { result ≡ units.pair_of self.now.table.entries c next }
+    fn pair_of(&self, c: char, next: char) -> Option<char>
+        ensures { result ≡ units.pair_of self.now.table.entries c (Some next) }
     {
         match self.lone.get(c as usize) {
             Some(true) => None,
@@ -390,32 +390,29 @@ impl<'t> Met<'t> {
         Ok(())
     }
 
-    /// Where the step of a character leads, found as that of any unit. It is kept, where it can be.
+    /// Where the step of a character leads with this one behind it, found as that of any unit. It is kept, where it can be.
     fn found_step(
         &mut self,
         list: u32,
         kind: TextKind,
         c: char,
-        next: Option<char>,
+        next: char,
     ) -> Result<Reached, Memory>
         requires { list < length self.old.lists }
-        ensures step { IfOk result (λ to. IsStepOf self.new list (Character kind c (units.pair_of self.old.table.entries c next) (is_some next)) to.number) }
+        ensures step { IfOk result (λ to. IsStepOf self.new list (Character kind c (units.pair_of self.old.table.entries c (Some next)) true) to.number) }
         ensures behind { IfOk result (λ to. to.behind ≡ (made_at self.new to.number).behind) }
         ensures kept { Grows self.old self.new }
     {
         let pair = self.pair_of(c, next);
-        let more = next.is_some();
-        let number = self.step(
-            list,
-            Unit::Character {
-                kind,
-                c,
-                pair,
-                more,
-            },
-        )?;
+        let unit = Unit::Character {
+            kind,
+            c,
+            pair,
+            more: true,
+        };
+        let number = self.step(list, unit)?;
         let behind = self.behind(number);
-        if more && self.is_lone(c) {
+        if self.is_lone(c) {
             self.keep_plain(CharacterStep {
                 list,
                 kind,
@@ -433,17 +430,15 @@ impl<'t> Met<'t> {
         list: u32,
         kind: TextKind,
         c: char,
-        next: Option<char>,
+        next: char,
     ) -> Result<Reached, Memory>
         requires { list < length self.old.lists }
-        ensures step { IfOk result (λ to. IsStepOf self.new list (Character kind c (units.pair_of self.old.table.entries c next) (is_some next)) to.number) }
+        ensures step { IfOk result (λ to. IsStepOf self.new list (Character kind c (units.pair_of self.old.table.entries c (Some next)) true) to.number) }
         ensures behind { IfOk result (λ to. to.behind ≡ (made_at self.new to.number).behind) }
         ensures kept { Grows self.old self.new }
     {
-        if next.is_some() {
-            if let Some(to) = self.plain_step(list, kind, c) {
-                return Ok(to);
-            }
+        if let Some(to) = self.plain_step(list, kind, c) {
+            return Ok(to);
         }
         self.found_step(list, kind, c, next)
     }

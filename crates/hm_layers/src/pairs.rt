@@ -1,5 +1,5 @@
 //! Names of character references for two code points.
-ghost use Rattle.std.specs.Prelude.{◌≡◌, ◌<◌, ◌∷◌, [], false, ℕ, length, bytes_eq, IfOk, IsTrue};
+ghost use Rattle.std.specs.Prelude.{◌≡◌, ◌<◌, ◌∷◌, [], false, ℕ, Some, length, bytes_eq, IfOk, IsTrue};
 ghost use Rattle.hm_refs.specs.Tables.{entry_at};
 ghost use Rattle.hm_edges.specs.Units as units;
 ghost use Rattle.hm_layers.specs.Met.{AreLone, BeginsNoPair};
@@ -30,12 +30,13 @@ fn has_pair(table: &Table, c: char, d: char) -> bool
 }
 
 /// The next character, where some name stands for the two.
-pub(crate) fn pair_of(table: &Table, c: char, next: Option<char>) -> Option<char>
-    ensures { result ≡ units.pair_of table.now.entries c next }
+pub(crate) fn pair_of(table: &Table, c: char, next: char) -> Option<char>
+    ensures { result ≡ units.pair_of table.now.entries c (Some next) }
 {
-    match next {
-        None => None,
-        Some(d) => { if has_pair(table, c, d) { Some(d) } else { None } }
+    if has_pair(table, c, next) {
+        Some(next)
+    } else {
+        None
     }
 }
 

@@ -1,4 +1,4 @@
-use Rattle.std.proofs.Common.{◌∷◌, ◌++◌, [], is_some, refl, sym, subst, arith}
+use Rattle.std.proofs.Common.{◌∷◌, ◌++◌, [], true, Some, refl, sym, subst, arith}
 use Rattle.hm_edges.specs.Units as edges
 use Rattle.hm_edges.specs.Units.{kind_of, pair_of}
 use Rattle.hm_edges.specs.declared.units.Unit.{Unit}
@@ -18,7 +18,7 @@ invariant_of-self-in_err-push c =
 
 pub invariant_of-self-2 : goal.invariant_of-self-2
 invariant_of-self-2 c =
-    let unit : Unit = Character c.args.kind c.args.c (pair_of c.self.inside.met.table.entries c.args.c c.args.next) (is_some c.args.next) in
+    let unit : Unit = Character c.args.kind c.args.c (pair_of c.self.inside.met.table.entries c.args.c (Some c.args.next)) true in
     subst (λ ns. IsBuilding c.character_step.new.self ns c.in_ok-to.to.behind) (sym c.in_ok-push.ensures.ok)
     (subst (λ k. IsBuilding c.character_step.new.self (c.self.inside.numbers ++ c.in_ok-to.to.number ∷ []) k) (sym c.in_ok-to.ensures.behind)
     (building_more c.self.inside.met c.character_step.new.self c.self.inside.numbers c.self.inside.last unit c.in_ok-to.to.number c.self.invariant c.character_step.ensures.kept c.in_ok-to.ensures.step
@@ -26,10 +26,10 @@ invariant_of-self-2 c =
 
 pub returns : goal.returns
 returns c =
-    let unit : Unit = Character c.args.kind c.args.c (pair_of c.self.inside.met.table.entries c.args.c c.args.next) (is_some c.args.next) in
-    let u : units.Unit = units.character (kind_of c.args.kind) c.args.c c.args.next in
+    let unit : Unit = Character c.args.kind c.args.c (pair_of c.self.inside.met.table.entries c.args.c (Some c.args.next)) true in
+    let u : units.Unit = units.character (kind_of c.args.kind) c.args.c (Some c.args.next) in
     subst (λ old. Adds old (building c.character_step.new.self c.push.new.self c.in_ok-to.to.behind) (u ∷ [])) c.self.view_is
     (subst (λ ns. Adds (building c.self.inside.met c.self.inside.numbers c.self.inside.last) (building c.character_step.new.self ns c.in_ok-to.to.behind) (u ∷ [])) (sym c.in_ok-push.ensures.ok)
     (subst (λ k. Adds (building c.self.inside.met c.self.inside.numbers c.self.inside.last) (building c.character_step.new.self (c.self.inside.numbers ++ c.in_ok-to.to.number ∷ []) k) (u ∷ [])) (sym c.in_ok-to.ensures.behind)
     (adds_one c.self.inside.met c.character_step.new.self c.self.inside.numbers c.self.inside.last unit c.in_ok-to.to.number c.self.invariant c.character_step.ensures.kept c.in_ok-to.ensures.step u
-    (edges.character c.args.kind c.args.c (pair_of c.self.inside.met.table.entries c.args.c c.args.next) c.args.next (is_some c.args.next) refl refl))))
+    (edges.character c.args.kind c.args.c (pair_of c.self.inside.met.table.entries c.args.c (Some c.args.next)) (Some c.args.next) true refl refl))))

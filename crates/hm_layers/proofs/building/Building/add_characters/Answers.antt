@@ -16,5 +16,5 @@ loop-c-preserved c =
 pub returns : goal.returns
 returns c =
     let t = YieldsList-end (YieldsList-from_chars c.args.text.now c.utf8.text cc) c.loop-c.yielded _ c.loop-c.yielded_by _ _ c.in-None.is c.next.ensures.steps in
-    on_ok_weaker c.add_before-2.result
-    (characters_end c.args.self.now c.loop-c.self c.add_before-2.new.self (kind_of c.args.kind) c.loop-c.before (chars c.args.text.now) (length c.loop-c.yielded) (omega (arith, t.1)) c.loop-c.invariant) c.add_before-2.ensures
+    on_ok_weaker c.add_last.result
+    (characters_end c.args.self.now c.loop-c.self c.add_last.new.self (kind_of c.args.kind) c.loop-c.before (chars c.args.text.now) (length c.loop-c.yielded) (omega (arith, t.1)) c.loop-c.invariant) c.add_last.ensures

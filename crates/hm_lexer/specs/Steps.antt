@@ -28,6 +28,14 @@ behind_nothing (rcdata name) s = behind_none s
 behind_nothing (raw name) s = behind_none s
 behind_nothing script s = behind_none s
 
+-- start tags are read, and what stands for nothing may be in front
+abbrev pub has_markup : Mode → Bool
+has_markup ordinary = true
+has_markup in_svg = true
+has_markup (rcdata name) = false
+has_markup (raw name) = false
+has_markup script = false
+
 -- what stands for nothing is in front
 abbrev pub begins_nothing : Mode → List ℕ → Bool
 begins_nothing ordinary s = begins_empty_tag s

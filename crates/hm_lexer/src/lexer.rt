@@ -1,18 +1,20 @@
 //! The lexer: a place in a text, from which it is read token by token.
-ghost use Rattle.std.specs.Prelude.{◌≡◌, ◌≢◌, ℕ, ◌+◌, ◌^◌, ◌<◌, ◌≤◌, List, drop, length, IfOk, IfErr, OnErr, IsCharBoundary};
+ghost use Rattle.std.specs.Prelude.{◌≡◌, ◌≢◌, ℕ, ◌+◌, ◌^◌, ◌<◌, ◌≤◌, true, List, drop, length, IfOk, IfErr, OnErr, IsCharBoundary};
 ghost use Rattle.hm_base.specs.RawText.{raw_end};
 ghost use Rattle.hm_base.specs.Source.{place_in};
 ghost use Rattle.hm_tree.specs.Tokens.{BeginsAt, Reads, refused};
+ghost use Rattle.hm_tag_scan.specs.Reading as tags;
 ghost use Rattle.hm_tokens.specs.First as tokens;
 ghost use Rattle.hm_lexer.specs.Modes.{mode_of, rcdata_name};
 ghost use Rattle.hm_lexer.specs.Reading.{Gives, Refuses, text_front, text_of};
-ghost use Rattle.hm_lexer.specs.Steps.{Ends, IsBehind, IsLexer, read_in, refusal_of};
+ghost use Rattle.hm_lexer.specs.Steps.{Ends, IsBehind, IsLexer, has_markup, read_in, refusal_of};
 
 use crate::inside::{raw_text_end, scan_raw_text, scan_script_text, scan_up_to};
 use crate::modes::{Mode, RcdataName};
 use crate::ordinary::{behind_empty_tags, scan_here};
 use hm_base::{Refused, Rule, SourceText};
 use hm_refs::Table;
+use hm_tag_scan::{begins_tag, scan_tag};
 use hm_tree::{ScanFault, Spanned, Token};
 use std::alloc::Global;
 use std::marker::Model;
@@ -119,6 +121,9 @@ impl<'a> Lexer<'a> {
         ensures unchanged { OnErr result (self.new ≡ self.old) }
     {
         let text = self.source.text();
+        if mode.has_markup() && begins_tag(text, self.at) {
+            return self.next_tag(alloc, mode);
+        }
         let from = token_start(text, self.at, mode);
         if from as usize == text.len() {
             return Ok(None);
@@ -129,6 +134,24 @@ impl<'a> Lexer<'a> {
                 Ok(Some(Spanned { token, from, to }))
             }
             Err(fault) => Err(refusal(self.source, fault, from)),
+        }
+    }
+
+    // Reads the tag that begins at the lexer's place.
+    fn next_tag(&mut self, alloc: Global, mode: Mode) -> Result<Option<Spanned>, Refused>
+        requires markup { has_markup (mode_of mode) ≡ true }
+        requires begins { tags.begins_tag (drop self.old.at (text_of self.old)) ≡ true }
+        ensures ok { IfOk result (λ token. Gives self.old (mode_of mode) token self.new) }
+        ensures err { IfErr result (λ refusal. Refuses self.old (mode_of mode) refusal) }
+        ensures unchanged { OnErr result (self.new ≡ self.old) }
+    {
+        let from = self.at;
+        match scan_tag(alloc, self.source.text(), from, self.table) {
+            Ok((token, to)) => {
+                self.advance(to);
+                Ok(Some(Spanned { token, from, to }))
+            }
+            Err(fault) => Err(refusal(self.source, fault, self.at)),
         }
     }
 

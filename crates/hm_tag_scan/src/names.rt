@@ -1,5 +1,5 @@
 //! Names of tags and attributes.
-ghost use Rattle.std.specs.Prelude.{◌≡◌, map, string_bytes, IfOk};
+ghost use Rattle.std.specs.Prelude.{◌≡◌, map, string_bytes, IfOk, OnOk};
 ghost use Rattle.hm_base.specs.Bytes.{lower, all_pass, some_passes, is_digit};
 ghost use Rattle.hm_base.specs.Forms as forms;
 ghost use Rattle.hm_tag_scan.specs.Reading as reading;
@@ -7,13 +7,23 @@ ghost use Rattle.hm_tag_scan.specs.Reading as reading;
 use hm_base::Memory;
 use std::alloc::Global;
 
-/// The name with its ASCII capitals as small letters.
+/// Puts the name with its ASCII capitals as small letters in place of a text.
 #[tactic(auto, using(crate::proofs::NameReads::lowercase_is))]
+pub(crate) fn put_lowered(text: &mut String, name: &str) -> Result<(), Memory>
+    ensures { OnOk result (string_bytes text.new ≡ map lower name.now) }
+{
+    text.clear();
+    text.push_str(name)?;
+    text.make_ascii_lowercase();
+    Ok(())
+}
+
+/// The name with its ASCII capitals as small letters.
 pub(crate) fn lowered(alloc: Global, name: &str) -> Result<String, Memory>
     ensures { IfOk result (λ text. string_bytes text ≡ map lower name.now) }
 {
-    let mut text = String::from_str(alloc, name)?;
-    text.make_ascii_lowercase();
+    let mut text = String::new(alloc);
+    put_lowered(&mut text, name)?;
     Ok(text)
 }
 

@@ -1,4 +1,4 @@
-use Rattle.std.proofs.Common.{◌≡◌, map, slice_range, string_bytes, Some, None, ap, sym, ◌∙◌}
+use Rattle.std.proofs.Common.{◌≡◌, map, slice_range, string_bytes, ap, sym, ◌∙◌}
 use Rattle.std.proofs.lemmas.Result.{err_from_is_err_and}
 use Rattle.hm_base.specs.Bytes.{lower}
 use Rattle.hm_tag_scan.specs.Reading.{tag_fault}
@@ -12,14 +12,14 @@ returns-in_err-body-clause-err c =
 
 pub returns-in-Some-clause-err : goal.returns-in-Some-clause-err
 returns-in-Some-clause-err c =
-    let name = c.in_ok-name.name in
-    let is : string_bytes name ≡ map lower (slice_range c.args.text.now c.args.from c.name_end-name_to.result) = c.in_ok-name.ensures ∙ ap (map lower) c.range.ensures.value in
-    λ never. whole_refused c.args.table.now.entries c.args.keeps c.args.text.now c.args.from c.name_end-name_to.result (string_bytes name) c.in_ok-body.body c.in-Some.fault c.name_end-name_to.ensures.end c.in_ok-body.ensures.ok is
-    (λ written k. ap (λ n. tag_fault n written) (sym c.deref.ensures) ∙ sym (c.fault_of.ensures c.args.table.now.entries written k) ∙ c.in-Some.is)
+    let name = c.put_lowered.new.text in
+    let is : string_bytes name ≡ map lower (slice_range c.args.text.now c.args.from c.name_end-name_to.result) = c.in_ok-put_lowered.ensures ∙ ap (map lower) c.range.ensures.value in
+    λ never. whole_refused c.args.table.now.entries c.args.keeps c.args.text.now c.args.from c.name_end-name_to.result (string_bytes name) c.read_body.new.attrs c.in_ok-body.body c.in-Some.fault c.name_end-name_to.ensures.end c.in_ok-body.ensures.ok is
+    (λ written kept k. ap (λ n. tag_fault n written) (sym c.deref.ensures) ∙ sym (c.fault_of.ensures c.args.table.now.entries written kept k) ∙ c.in-Some.is)
 
 pub returns-in-None-clause-ok : goal.returns-in-None-clause-ok
 returns-in-None-clause-ok c =
-    let name = c.in_ok-name.name in
-    let is : string_bytes name ≡ map lower (slice_range c.args.text.now c.args.from c.name_end-name_to.result) = c.in_ok-name.ensures ∙ ap (map lower) c.range.ensures.value in
-    whole_is c.args.table.now.entries c.args.keeps c.args.text.now c.args.from c.name_end-name_to.result (string_bytes name) c.in_ok-body.body c.name_end-name_to.ensures.end c.in_ok-body.ensures.ok is
-    (λ written k. ap (λ n. tag_fault n written) (sym c.deref.ensures) ∙ sym (c.fault_of.ensures c.args.table.now.entries written k) ∙ c.in-None.is)
+    let name = c.put_lowered.new.text in
+    let is : string_bytes name ≡ map lower (slice_range c.args.text.now c.args.from c.name_end-name_to.result) = c.in_ok-put_lowered.ensures ∙ ap (map lower) c.range.ensures.value in
+    whole_is c.args.table.now.entries c.args.keeps c.args.text.now c.args.from c.name_end-name_to.result (record { name = name; attrs = c.read_body.new.attrs }) c.in_ok-body.body c.name_end-name_to.ensures.end c.in_ok-body.ensures.ok is
+    (λ written kept k. ap (λ n. tag_fault n written) (sym c.deref.ensures) ∙ sym (c.fault_of.ensures c.args.table.now.entries written kept k) ∙ c.in-None.is)

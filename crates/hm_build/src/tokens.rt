@@ -64,7 +64,7 @@ pub(crate) fn take(
     match token {
         Token::Doctype { legacy } => builder.doctype(legacy),
         Token::StartTag { name, attrs, slash } => {
-            builder.start_tag(alloc, name.text.as_str(), attrs, slash)
+            builder.start_tag(alloc, name.text.as_str(), &attrs, slash)
         }
         Token::EndTag { name } => builder.end_tag(alloc, name.text.as_str()),
         Token::Slice { from, to } => builder.text(alloc, &text[from as usize..to as usize]),

@@ -1,7 +1,8 @@
 //! Names of tags and attributes.
-ghost use Rattle.std.specs.Prelude.{◌≡◌, map, string_bytes, IfOk, OnOk};
+ghost use Rattle.std.specs.Prelude.{◌≡◌, map, string_bytes, true, IfOk, OnOk};
 ghost use Rattle.hm_base.specs.Bytes.{lower, all_pass, some_passes, is_digit};
 ghost use Rattle.hm_base.specs.Forms as forms;
+ghost use Rattle.hm_tag_scan.specs.Places.{IsPlainName};
 ghost use Rattle.hm_tag_scan.specs.Reading as reading;
 
 use hm_base::Memory;
@@ -15,6 +16,19 @@ pub(crate) fn put_lowered(text: &mut String, name: &str) -> Result<(), Memory>
     text.clear();
     text.push_str(name)?;
     text.make_ascii_lowercase();
+    Ok(())
+}
+
+/// Puts the name as it is read in place of a text; `plain` tells that it is read as it is written.
+pub(crate) fn put_name(text: &mut String, name: &str, plain: bool) -> Result<(), Memory>
+    requires { plain ≡ true → IsPlainName name.now }
+    ensures { OnOk result (string_bytes text.new ≡ map lower name.now) }
+{
+    if !plain {
+        return put_lowered(text, name);
+    }
+    text.clear();
+    text.push_str(name)?;
     Ok(())
 }
 
@@ -49,7 +63,7 @@ pub(crate) fn has_capital(name: &[u8]) -> bool
 
 /// Whether the byte is an ASCII small letter.
 #[tactic(auto, unfolding(hm_base::specs::Forms::is_small))]
-fn is_small(byte: u8) -> bool
+pub(crate) fn is_small(byte: u8) -> bool
     ensures { result ≡ forms.is_small byte }
 {
     byte >= b'a' && byte <= b'z'
@@ -65,7 +79,7 @@ fn is_digit(byte: u8) -> bool
 
 /// Whether the byte may stand in the name of an element.
 #[tactic(auto, unfolding(hm_base::specs::Forms::is_tag_byte))]
-fn is_tag_byte(byte: u8) -> bool
+pub(crate) fn is_tag_byte(byte: u8) -> bool
     ensures { result ≡ forms.is_tag_byte byte }
 {
     is_small(byte) || is_digit(byte) || byte == b'.' || byte == b'_' || byte == b':' || byte == b'-'

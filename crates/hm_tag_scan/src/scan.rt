@@ -1,17 +1,19 @@
 //! The tag at a place of a text.
-ghost use Rattle.std.specs.Prelude.{◌≡◌, ◌≢◌, ℕ, ◌^◌, ◌<◌, List, drop, length, true, Some, IfOk, IfErr, IsCharBoundary};
+ghost use Rattle.std.specs.Prelude.{◌≡◌, ◌≢◌, ℕ, ◌^◌, ◌<◌, ◌≤◌, List, drop, length, slice_index, slice_range, true, false, Some, IfOk, IfErr, IsCharBoundary};
 ghost use Rattle.hm_base.specs.Walks.{Attribute};
 ghost use Rattle.hm_refs.specs.Names.{Entry};
 ghost use Rattle.hm_tree.specs.Lexemes.{token_of};
 ghost use Rattle.hm_tree.specs.Tokens.{BeginsAt, Reads, refused};
 ghost use Rattle.hm_tag_scan.specs.Collected.{IsCollected};
 ghost use Rattle.hm_refs.specs.Reads.{IsEndOf};
+ghost use Rattle.hm_base.specs.Forms as forms;
+ghost use Rattle.hm_tag_scan.specs.Places.{IsPlainName};
 ghost use Rattle.hm_tag_scan.specs.Tags.{is_name_byte};
 ghost use Rattle.hm_tag_scan.specs.Wholes.{IsWhole, fault_at};
 ghost use Rattle.hm_tag_scan.specs.Reading.{begins_tag, read_end, read_start, read_tag, tag_fault};
 
 use crate::collected::Collected;
-use crate::names::{is_tag_name, put_lowered};
+use crate::names::{is_small, is_tag_name, put_name};
 use crate::runs::{Run, run_end};
 use crate::tag_body::read_body;
 use hm_base::ATTRIBUTE_LIMIT;
@@ -27,12 +29,22 @@ struct Whole {
     behind: u32,
 }
 
-/// Why a tag with this name, in small letters, and these attributes is refused; None where it isn't.
-fn fault_of(name: &str, collected: &Collected) -> Option<ScanFault>
+/// Whether a name of a tag, in small letters, is one that is read. `plain` tells that it is.
+fn is_read(name: &str, plain: bool) -> bool
+    requires { plain ≡ true → forms.is_tag_name name.now ≡ true }
+    ensures { result ≡ forms.is_tag_name name.now }
+{
+    plain || is_tag_name(name.as_bytes())
+}
+
+/// Why a tag with this name, in small letters, and these attributes is refused; None where it isn't. `plain` tells that
+/// the name is read.
+fn fault_of(name: &str, plain: bool, collected: &Collected) -> Option<ScanFault>
+    requires { plain ≡ true → forms.is_tag_name name.now ≡ true }
     ensures { (t : List Entry) (written kept : List Attribute) → IsCollected t written collected.now kept
         → result ≡ tag_fault name.now written }
 {
-    if !is_tag_name(name.as_bytes()) {
+    if !is_read(name, plain) {
         return Some(ScanFault::BadName);
     }
     if collected.has_bad_name {
@@ -44,13 +56,43 @@ fn fault_of(name: &str, collected: &Collected) -> Option<ScanFault>
     None
 }
 
-/// Where the name of a tag ends that begins at `from`.
-fn name_end(text: &str, from: usize) -> usize
-    requires { IsCharBoundary text.now from }
-    ensures end { IsEndOf is_name_byte text.now from result }
-    ensures boundary { IsCharBoundary text.now result }
+/// Where the name of a tag ends. `plain` tells that it is one that is read, and as it is written.
+#[derive(Clone, Copy)]
+struct NameEnd {
+    to: usize,
+    plain: bool,
+}
+
+/// Whether a small letter stands at `from`, and at `to` a byte that ends the name of a tag.
+fn is_plain_between(bytes: &[u8], from: usize, to: usize) -> bool
+    requires { to ≤ length bytes.now }
+    ensures from { result ≡ true → from < to }
+    ensures to { result ≡ true → to < length bytes.now }
+    ensures begins { result ≡ true → forms.is_small (slice_index bytes.now from) ≡ true }
+    ensures ends { result ≡ true → is_name_byte (slice_index bytes.now to) ≡ false }
 {
-    run_end(text.as_bytes(), from, Run::TagName)
+    if from >= to || to == bytes.len() {
+        return false;
+    }
+    is_small(bytes[from]) && !Run::TagName.has(bytes[to])
+}
+
+/// Where the name of a tag ends that begins at `from`.
+fn name_end(text: &str, from: usize) -> NameEnd
+    requires { IsCharBoundary text.now from }
+    ensures end { IsEndOf is_name_byte text.now from result.to }
+    ensures boundary { IsCharBoundary text.now result.to }
+    ensures plain { result.plain ≡ true → IsPlainName (slice_range text.now from result.to) }
+{
+    let bytes = text.as_bytes();
+    let to = run_end(bytes, from, Run::PlainName);
+    if is_plain_between(bytes, from, to) {
+        return NameEnd { to, plain: true };
+    }
+    NameEnd {
+        to: run_end(bytes, from, Run::TagName),
+        plain: false,
+    }
 }
 
 /// Reads the tag whose name begins at `from`, and puts its name, in small letters, and its attributes into `tag`;
@@ -69,10 +111,10 @@ fn read_whole(
     ensures err { IfErr result
         (λ fault. fault ≢ ScanFault.Memory → fault_at (drop from text.now) ≡ Some fault) }
 {
-    let name_to = name_end(text, from);
-    let body = read_body(alloc, text, name_to, table, keeps, &mut tag.attrs)?;
-    put_lowered(&mut tag.name, &text[from..name_to])?;
-    match fault_of(&tag.name, &body.collected) {
+    let end = name_end(text, from);
+    let body = read_body(alloc, text, end.to, table, keeps, &mut tag.attrs)?;
+    put_name(&mut tag.name, &text[from..end.to], end.plain)?;
+    match fault_of(&tag.name, end.plain, &body.collected) {
         Some(fault) => Err(fault),
         None => Ok(Whole {
             slash: body.slash,

@@ -7,8 +7,12 @@ use Rattle.hm_base.specs.declared.limits.TheConstants.{OUTPUT_LIMIT}
 use Rattle.hm_base.specs.Walks.{Element}
 use Rattle.hm_base.specs.declared.rules.Refused.{Refused}
 use Rattle.hm_base.specs.declared.rules.Refused.TheVariants as answers
+use Rattle.hm_tree.specs.Lexemes as lexemes
+use Rattle.hm_tree.specs.Lexemes.{spanned_of}
 use Rattle.hm_tree.specs.Tokens.{Seen, seen, taken, refused, doctype, start_tag, end_tag, slice, points, comment}
+use Rattle.hm_tree.specs.declared.tokens.Placed.{Placed}
 use Rattle.hm_tree.specs.declared.tokens.Spanned.{Spanned}
+use Rattle.hm_tree.specs.declared.tokens.Tag.{Tag}
 use Rattle.hm_tokens.specs.First.{Mode, at_end, behind_bytes, first}
 use Rattle.hm_tokens.specs.Laws.{IsPlain, SoundNames, SoundToken, TakesBytes, token_size, least_size, growth}
 use Rattle.hm_tokens.proofs.Firsts.{tokens_are_small, tokens_are_sound}
@@ -174,11 +178,11 @@ short_text n end h k = omega arith
 pub answer_here : (r : Reading) (page : Source) (fault : BuildFault) (at : ℕ) → r.source ≡ page → IsRefusedAs (tree_of r) (answer_of fault (place_of r.source at)) → IsRefusedAs (tree_of r) (answer_of fault (place_of page at))
 answer_here r page fault at e h = subst (λ p. IsRefusedAs (tree_of r) (answer_of fault (place_of p at))) e h
 
-pub taken_here : (r : Reading) (m : Mode) (o : Option Spanned) (token : Spanned) (new : Reading) → Gives r m o new → o ≡ Some token → IsTaken r m token new
-taken_here r m o token new g e = subst (λ x. Gives r m x new) e g
+pub taken_here : (r : Reading) (m : Mode) (o : Option Placed) (placed : Placed) (tag : Tag) (new : Reading) → Gives r m (lexemes.next_of o tag) new → o ≡ Some placed → IsTaken r m (spanned_of placed tag) new
+taken_here r m o placed tag new g e = subst (λ x. Gives r m (lexemes.next_of x tag) new) e g
 
-pub ended_here : (r : Reading) (m : Mode) (o : Option Spanned) (new : Reading) → Gives r m o new → o ≡ None → next_of r m ≡ at_end
-ended_here r m o new g e = (subst (λ x. Gives r m x new) e g).0
+pub ended_here : (r : Reading) (m : Mode) (o : Option Placed) (tag : Tag) (new : Reading) → Gives r m (lexemes.next_of o tag) new → o ≡ None → next_of r m ≡ at_end
+ended_here r m o tag new g e = (subst (λ x. Gives r m (lexemes.next_of x tag) new) e g).0
 
-pub unchanged_here : (r : Reading) (m : Mode) (o : Option Spanned) (new : Reading) → Gives r m o new → o ≡ None → new ≡ r
-unchanged_here r m o new g e = (subst (λ x. Gives r m x new) e g).1
+pub unchanged_here : (r : Reading) (m : Mode) (o : Option Placed) (tag : Tag) (new : Reading) → Gives r m (lexemes.next_of o tag) new → o ≡ None → new ≡ r
+unchanged_here r m o tag new g e = (subst (λ x. Gives r m (lexemes.next_of x tag) new) e g).1

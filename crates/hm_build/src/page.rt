@@ -11,7 +11,7 @@ use hm_builder::{BuildFault, TreeBuilder};
 use hm_lexer::Lexer;
 use hm_refs::Table;
 use hm_refs::laws::every_table;
-use hm_tree::Tree;
+use hm_tree::{Tag, Tree};
 use std::alloc::Global;
 
 /// What a fault is answered as, of a token that begins at byte `at` of the text.
@@ -29,12 +29,13 @@ fn refusal(text: &SourceText, fault: BuildFault, at: u32) -> Refused
     }
 }
 
-/// Takes the next token, if there is one.
+/// Takes the next token, if there is one. Its tag is read into `tag`.
 fn turn<'a>(
     alloc: Global,
     text: &SourceText,
     lexer: &mut Lexer<'a>,
     builder: &mut TreeBuilder,
+    tag: &mut Tag,
 ) -> Result<bool, Refused>
     requires names { SoundNames lexer.old.names }
     requires source { lexer.old.source ≡ text.now }
@@ -43,22 +44,23 @@ fn turn<'a>(
     ensures done { result ≡ Ok false → IsRead lexer.old builder.new × (lexer.new ≡ lexer.old) }
     ensures err { IfErr result (IsRefusedAs (tree_of lexer.old)) }
 {
-    match lexer.next(alloc, mode(builder)) {
+    match lexer.next_into(alloc, mode(builder), tag) {
         Ok(None) => Ok(false),
-        Ok(Some(spanned)) => match take(alloc, builder, text.text(), spanned.token) {
+        Ok(Some(placed)) => match take(alloc, builder, text.text(), placed.lexeme, tag) {
             Ok(()) => Ok(true),
-            Err(fault) => Err(refusal(text, fault, spanned.from)),
+            Err(fault) => Err(refusal(text, fault, placed.from)),
         },
         Err(refused) => Err(refused),
     }
 }
 
-/// Takes the tokens, up to the end of the text.
+/// Takes the tokens, up to the end of the text. One tag after another is read into `tag`.
 fn turns<'a>(
     alloc: Global,
     text: &SourceText,
     lexer: &mut Lexer<'a>,
     builder: &mut TreeBuilder,
+    tag: &mut Tag,
 ) -> Result<(), Refused>
     requires names { SoundNames lexer.old.names }
     requires source { lexer.old.source ≡ text.now }
@@ -69,7 +71,7 @@ fn turns<'a>(
     ensures err { IfErr result (IsRefusedAs (tree_of lexer.old)) }
 {
     loop {
-        match turn(alloc, text, lexer, builder) {
+        match turn(alloc, text, lexer, builder, tag) {
             Ok(true) => {}
             Ok(false) => return Ok(()),
             Err(refused) => return Err(refused),
@@ -112,7 +114,8 @@ pub fn parse(alloc: Global, text: &SourceText, table: &Table) -> Result<Tree, Re
         Ok(builder) => builder,
         Err(Memory) => return Err(Refused::Memory),
     };
-    match turns(alloc, text, &mut lexer, &mut builder) {
+    let mut tag = Tag::new(alloc);
+    match turns(alloc, text, &mut lexer, &mut builder, &mut tag) {
         Ok(()) => finish(alloc, text, &lexer, builder),
         Err(refused) => Err(refused),
     }

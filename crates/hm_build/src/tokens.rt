@@ -1,5 +1,6 @@
 //! A token taken into a tree.
 ghost use Rattle.std.specs.Prelude.{◌≡◌, ◌^◌, ◌<◌, length};
+ghost use Rattle.hm_tree.specs.Lexemes.{token_of};
 ghost use Rattle.hm_tree.specs.Tokens.{IsInText, seen};
 ghost use Rattle.hm_lexer.specs.Modes.{mode_of};
 ghost use Rattle.hm_construction.specs.Steps.{step};
@@ -9,7 +10,7 @@ ghost use Rattle.hm_build.specs.Parsing.{IsReadUnder};
 
 use hm_builder::{BuildFault, TreeBuilder};
 use hm_lexer::{Mode, RawName, RcdataName};
-use hm_tree::Token;
+use hm_tree::{Lexeme, Tag};
 use std::alloc::Global;
 
 /// How the text in an HTML element of this name is read (13.2.6.2 and 13.2.6.4).
@@ -48,27 +49,28 @@ pub(crate) fn mode(builder: &TreeBuilder) -> Mode
     }
 }
 
-/// Takes a token of this text.
+/// Takes a token of this text, whose name and attributes, where it is a tag, stand in `tag`.
 pub(crate) fn take(
     alloc: Global,
     builder: &mut TreeBuilder,
     text: &str,
-    token: Token,
+    lexeme: Lexeme,
+    tag: &Tag,
 ) -> Result<(), BuildFault>
-    requires piece { IsInText text.now token }
-    requires under { IsReadUnder builder.old.state.path (seen text.now token) }
+    requires piece { IsInText text.now (token_of lexeme tag.now) }
+    requires under { IsReadUnder builder.old.state.path (seen text.now (token_of lexeme tag.now)) }
     requires short { length text.now < 2 ^ 32 }
-    requires room { Fits (step builder.old.state (seen text.now token)) builder.old.walk }
-    ensures { Answers (step builder.old.state (seen text.now token)) result builder.old builder.new }
+    requires room { Fits (step builder.old.state (seen text.now (token_of lexeme tag.now))) builder.old.walk }
+    ensures { Answers (step builder.old.state (seen text.now (token_of lexeme tag.now))) result builder.old builder.new }
 {
-    match token {
-        Token::Doctype { legacy } => builder.doctype(legacy),
-        Token::StartTag { name, attrs, slash } => {
-            builder.start_tag(alloc, name.text.as_str(), attrs, slash)
+    match lexeme {
+        Lexeme::Doctype { legacy } => builder.doctype(legacy),
+        Lexeme::StartTag { slash } => {
+            builder.start_tag(alloc, tag.name.as_str(), &tag.attrs, slash)
         }
-        Token::EndTag { name } => builder.end_tag(alloc, name.text.as_str()),
-        Token::Slice { from, to } => builder.text(alloc, &text[from as usize..to as usize]),
-        Token::Points { points } => builder.points(alloc, points),
-        Token::Comment { from, to } => builder.comment(alloc, &text[from as usize..to as usize]),
+        Lexeme::EndTag => builder.end_tag(alloc, tag.name.as_str()),
+        Lexeme::Slice { from, to } => builder.text(alloc, &text[from as usize..to as usize]),
+        Lexeme::Points { points } => builder.points(alloc, points),
+        Lexeme::Comment { from, to } => builder.comment(alloc, &text[from as usize..to as usize]),
     }
 }

@@ -26,15 +26,15 @@ impl Parts {
         &mut self,
         alloc: Global,
         name: &str,
-        attrs: Attrs,
+        attrs: &Attrs,
     ) -> Result<(), BuildFault>
         requires kept { IsKept self.old }
         requires all { self.old.drops_line_feed ≡ false }
         requires not_text { is_in_text (open_path self.old.insertion_mode self.old.path) ≡ false }
         requires not_svg { is_in_svg (open_path self.old.insertion_mode self.old.path) ≡ false }
         requires root { is_root name.now ≡ true }
-        requires room { Fits (html_start name.now attrs false (state_of self.old)) self.old.maker }
-        ensures { Takes (html_start name.now attrs false (state_of self.old)) result self.old self.new }
+        requires room { Fits (html_start name.now attrs.now false (state_of self.old)) self.old.maker }
+        ensures { Takes (html_start name.now attrs.now false (state_of self.old)) result self.old self.new }
     {
         match name {
             "html" => self.open_html(attrs),
@@ -44,14 +44,14 @@ impl Parts {
     }
 
     /// Takes the start tag of `html` (13.2.6.4.2).
-    fn open_html(&mut self, attrs: Attrs) -> Result<(), BuildFault>
+    fn open_html(&mut self, attrs: &Attrs) -> Result<(), BuildFault>
         requires kept { IsKept self.old }
-        requires room { Fits (steps.open_html (insertion_mode_of self.old.insertion_mode) attrs (state_of self.old)) self.old.maker }
-        ensures { Takes (steps.open_html (insertion_mode_of self.old.insertion_mode) attrs (state_of self.old)) result self.old self.new }
+        requires room { Fits (steps.open_html (insertion_mode_of self.old.insertion_mode) attrs.now (state_of self.old)) self.old.maker }
+        ensures { Takes (steps.open_html (insertion_mode_of self.old.insertion_mode) attrs.now (state_of self.old)) result self.old self.new }
     {
         match self.insertion_mode {
             BuilderMode::BeforeHtml => {
-                self.maker.start("html", false, attrs)?;
+                self.maker.start_from("html", false, attrs)?;
                 self.insertion_mode = BuilderMode::BeforeHead;
                 Ok(())
             }
@@ -60,15 +60,15 @@ impl Parts {
     }
 
     /// Takes the start tag of `head` (13.2.6.4.3).
-    fn open_head(&mut self, alloc: Global, attrs: Attrs) -> Result<(), BuildFault>
+    fn open_head(&mut self, alloc: Global, attrs: &Attrs) -> Result<(), BuildFault>
         requires kept { IsKept self.old }
-        requires room { Fits (steps.open_head (insertion_mode_of self.old.insertion_mode) attrs (state_of self.old)) self.old.maker }
-        ensures { Takes (steps.open_head (insertion_mode_of self.old.insertion_mode) attrs (state_of self.old)) result self.old self.new }
+        requires room { Fits (steps.open_head (insertion_mode_of self.old.insertion_mode) attrs.now (state_of self.old)) self.old.maker }
+        ensures { Takes (steps.open_head (insertion_mode_of self.old.insertion_mode) attrs.now (state_of self.old)) result self.old self.new }
     {
         match self.insertion_mode {
             BuilderMode::BeforeHtml | BuilderMode::BeforeHead => {
                 make_only_html(alloc, &mut self.maker, self.insertion_mode)?;
-                self.maker.start("head", false, attrs)?;
+                self.maker.start_from("head", false, attrs)?;
                 self.insertion_mode = BuilderMode::InHead {
                     noscript: false,
                     text: None,
@@ -80,11 +80,11 @@ impl Parts {
     }
 
     /// Takes the start tag of `body` (13.2.6.4.6). Where `head` is missing it is made, and it closes.
-    fn open_body(&mut self, alloc: Global, attrs: Attrs) -> Result<(), BuildFault>
+    fn open_body(&mut self, alloc: Global, attrs: &Attrs) -> Result<(), BuildFault>
         requires kept { IsKept self.old }
         requires not_text { is_in_text (open_path self.old.insertion_mode self.old.path) ≡ false }
-        requires room { Fits (steps.open_body (insertion_mode_of self.old.insertion_mode) attrs (state_of self.old)) self.old.maker }
-        ensures { Takes (steps.open_body (insertion_mode_of self.old.insertion_mode) attrs (state_of self.old)) result self.old self.new }
+        requires room { Fits (steps.open_body (insertion_mode_of self.old.insertion_mode) attrs.now (state_of self.old)) self.old.maker }
+        ensures { Takes (steps.open_body (insertion_mode_of self.old.insertion_mode) attrs.now (state_of self.old)) result self.old self.new }
     {
         if has_begun(self.insertion_mode) {
             return Err(BuildFault::from(Rule::SecondRoot));
@@ -93,14 +93,14 @@ impl Parts {
     }
 
     /// Opens `body` where it is missing and nothing is open in `head` (13.2.6.4.6).
-    fn open_body_here(&mut self, alloc: Global, attrs: Attrs) -> Result<(), BuildFault>
+    fn open_body_here(&mut self, alloc: Global, attrs: &Attrs) -> Result<(), BuildFault>
         requires kept { IsKept self.old }
         requires unbegun { IsUnbegun self.old.insertion_mode }
-        requires room { Fits (steps.open_body (insertion_mode_of self.old.insertion_mode) attrs (state_of self.old)) self.old.maker }
-        ensures { Takes (steps.open_body (insertion_mode_of self.old.insertion_mode) attrs (state_of self.old)) result self.old self.new }
+        requires room { Fits (steps.open_body (insertion_mode_of self.old.insertion_mode) attrs.now (state_of self.old)) self.old.maker }
+        ensures { Takes (steps.open_body (insertion_mode_of self.old.insertion_mode) attrs.now (state_of self.old)) result self.old self.new }
     {
         close_made_head(alloc, &mut self.maker, self.insertion_mode)?;
-        self.maker.start("body", false, attrs)?;
+        self.maker.start_from("body", false, attrs)?;
         self.insertion_mode = BuilderMode::InBody;
         Ok(())
     }
@@ -110,15 +110,15 @@ impl Parts {
         &mut self,
         alloc: Global,
         name: &str,
-        attrs: Attrs,
+        attrs: &Attrs,
         slash: bool,
     ) -> Result<(), BuildFault>
         requires kept { IsKept self.old }
         requires all { self.old.drops_line_feed ≡ false }
         requires not_text { is_in_text (open_path self.old.insertion_mode self.old.path) ≡ false }
         requires before { IsBefore self.old.insertion_mode }
-        requires room { Fits (start_inside (insertion_mode_of self.old.insertion_mode) name.now attrs slash (state_of self.old)) self.old.maker }
-        ensures { Takes (start_inside (insertion_mode_of self.old.insertion_mode) name.now attrs slash (state_of self.old)) result self.old self.new }
+        requires room { Fits (start_inside (insertion_mode_of self.old.insertion_mode) name.now attrs.now slash (state_of self.old)) self.old.maker }
+        ensures { Takes (start_inside (insertion_mode_of self.old.insertion_mode) name.now attrs.now slash (state_of self.old)) result self.old self.new }
     {
         match self.insertion_mode {
             BuilderMode::AfterHead => self.start_after_head(alloc, name, attrs, slash),
@@ -138,14 +138,14 @@ impl Parts {
         &mut self,
         alloc: Global,
         name: &str,
-        attrs: Attrs,
+        attrs: &Attrs,
         slash: bool,
     ) -> Result<(), BuildFault>
         requires kept { IsKept self.old }
         requires all { self.old.drops_line_feed ≡ false }
         requires insertion_mode { self.old.insertion_mode ≡ BuilderMode.AfterHead }
-        requires room { Fits (steps.start_after_head name.now attrs slash (state_of self.old)) self.old.maker }
-        ensures { Takes (steps.start_after_head name.now attrs slash (state_of self.old)) result self.old self.new }
+        requires room { Fits (steps.start_after_head name.now attrs.now slash (state_of self.old)) self.old.maker }
+        ensures { Takes (steps.start_after_head name.now attrs.now slash (state_of self.old)) result self.old self.new }
     {
         if is_metadata(name) {
             return Err(BuildFault::from(Rule::AfterHead));
@@ -159,14 +159,14 @@ impl Parts {
         &mut self,
         alloc: Global,
         name: &str,
-        attrs: Attrs,
+        attrs: &Attrs,
         slash: bool,
     ) -> Result<(), BuildFault>
         requires kept { IsKept self.old }
         requires all { self.old.drops_line_feed ≡ false }
         requires takes { TakesChildren self.old.insertion_mode }
-        requires room { Fits (start_inside (insertion_mode_of self.old.insertion_mode) name.now attrs slash (state_of self.old)) self.old.maker }
-        ensures { Takes (start_inside (insertion_mode_of self.old.insertion_mode) name.now attrs slash (state_of self.old)) result self.old self.new }
+        requires room { Fits (start_inside (insertion_mode_of self.old.insertion_mode) name.now attrs.now slash (state_of self.old)) self.old.maker }
+        ensures { Takes (start_inside (insertion_mode_of self.old.insertion_mode) name.now attrs.now slash (state_of self.old)) result self.old self.new }
     {
         if may_stand(Named::of(name), Named::of("head"), Some("html")) {
             self.reach_head(alloc)?;
@@ -193,13 +193,13 @@ impl Parts {
     }
 
     /// Starts a child of `head` (13.2.6.4.4). A void one closes at once.
-    fn start_child(&mut self, name: &str, attrs: Attrs) -> Result<(), Memory>
+    fn start_child(&mut self, name: &str, attrs: &Attrs) -> Result<(), Memory>
         requires kept { IsKept self.old }
         requires all { self.old.drops_line_feed ≡ false }
         requires insertion_mode { self.old.insertion_mode ≡ BuilderMode.InHead false None }
         requires stands { stands_on name.now under_head ≡ true }
-        requires room { Fits (opened name.now attrs (state_of self.old)) self.old.maker }
-        ensures { OnOk result (IsDone (opened name.now attrs (state_of self.old)) self.old self.new) }
+        requires room { Fits (opened name.now attrs.now (state_of self.old)) self.old.maker }
+        ensures { OnOk result (IsDone (opened name.now attrs.now (state_of self.old)) self.old self.new) }
     {
         match name {
             "noscript" => self.start_noscript(attrs),
@@ -211,12 +211,12 @@ impl Parts {
     }
 
     /// Takes a start tag in `noscript` in `head` (13.2.6.4.5).
-    fn start_in_noscript(&mut self, name: &str, attrs: Attrs) -> Result<(), BuildFault>
+    fn start_in_noscript(&mut self, name: &str, attrs: &Attrs) -> Result<(), BuildFault>
         requires kept { IsKept self.old }
         requires all { self.old.drops_line_feed ≡ false }
         requires insertion_mode { self.old.insertion_mode ≡ BuilderMode.InHead true None }
-        requires room { Fits (steps.start_in_noscript name.now attrs (state_of self.old)) self.old.maker }
-        ensures { Takes (steps.start_in_noscript name.now attrs (state_of self.old)) result self.old self.new }
+        requires room { Fits (steps.start_in_noscript name.now attrs.now (state_of self.old)) self.old.maker }
+        ensures { Takes (steps.start_in_noscript name.now attrs.now (state_of self.old)) result self.old self.new }
     {
         match name {
             "link" | "meta" => self.start_void(true, name, attrs)?,
@@ -227,14 +227,14 @@ impl Parts {
     }
 
     /// Starts `noscript` in `head` (13.2.6.4.4).
-    fn start_noscript(&mut self, attrs: Attrs) -> Result<(), Memory>
+    fn start_noscript(&mut self, attrs: &Attrs) -> Result<(), Memory>
         requires kept { IsKept self.old }
         requires all { self.old.drops_line_feed ≡ false }
         requires insertion_mode { self.old.insertion_mode ≡ BuilderMode.InHead false None }
-        requires room { Fits (opened noscript attrs (state_of self.old)) self.old.maker }
-        ensures { OnOk result (IsDone (opened noscript attrs (state_of self.old)) self.old self.new) }
+        requires room { Fits (opened noscript attrs.now (state_of self.old)) self.old.maker }
+        ensures { OnOk result (IsDone (opened noscript attrs.now (state_of self.old)) self.old self.new) }
     {
-        self.maker.start("noscript", false, attrs)?;
+        self.maker.start_from("noscript", false, attrs)?;
         self.insertion_mode = BuilderMode::InHead {
             noscript: true,
             text: None,
@@ -243,14 +243,14 @@ impl Parts {
     }
 
     /// Starts an element that holds a text, in `head` or in `noscript` in it (13.2.6.4.4, 13.2.6.4.5).
-    fn start_text(&mut self, noscript: bool, text: HeadText, attrs: Attrs) -> Result<(), Memory>
+    fn start_text(&mut self, noscript: bool, text: HeadText, attrs: &Attrs) -> Result<(), Memory>
         requires kept { IsKept self.old }
         requires all { self.old.drops_line_feed ≡ false }
         requires insertion_mode { self.old.insertion_mode ≡ BuilderMode.InHead noscript None }
-        requires room { Fits (opened (text_name text) attrs (state_of self.old)) self.old.maker }
-        ensures { OnOk result (IsDone (opened (text_name text) attrs (state_of self.old)) self.old self.new) }
+        requires room { Fits (opened (text_name text) attrs.now (state_of self.old)) self.old.maker }
+        ensures { OnOk result (IsDone (opened (text_name text) attrs.now (state_of self.old)) self.old self.new) }
     {
-        self.maker.start(text.name(), false, attrs)?;
+        self.maker.start_from(text.name(), false, attrs)?;
         self.insertion_mode = BuilderMode::InHead {
             noscript,
             text: Some(text),
@@ -259,15 +259,15 @@ impl Parts {
     }
 
     /// Starts and ends a void element, in `head` or in `noscript` in it (13.2.6.4.4, 13.2.6.4.5).
-    fn start_void(&mut self, noscript: bool, name: &str, attrs: Attrs) -> Result<(), Memory>
+    fn start_void(&mut self, noscript: bool, name: &str, attrs: &Attrs) -> Result<(), Memory>
         requires kept { IsKept self.old }
         requires all { self.old.drops_line_feed ≡ false }
         requires insertion_mode { self.old.insertion_mode ≡ BuilderMode.InHead noscript None }
         requires void { is_void name.now ≡ true }
-        requires room { Fits (opened name.now attrs (state_of self.old)) self.old.maker }
-        ensures { OnOk result (IsDone (opened name.now attrs (state_of self.old)) self.old self.new) }
+        requires room { Fits (opened name.now attrs.now (state_of self.old)) self.old.maker }
+        ensures { OnOk result (IsDone (opened name.now attrs.now (state_of self.old)) self.old self.new) }
     {
-        self.maker.start(name, false, attrs)?;
+        self.maker.start_from(name, false, attrs)?;
         self.maker.end()
     }
 }

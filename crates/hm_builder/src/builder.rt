@@ -96,12 +96,12 @@ impl TreeBuilder {
         &mut self,
         alloc: Global,
         name: &str,
-        attrs: Attrs,
+        attrs: &Attrs,
         slash: bool,
     ) -> Result<(), BuildFault>
         requires not_text { paths.is_in_text self.old.state.path ≡ false }
-        requires room { Fits (step self.old.state (tokens.start_tag name.now attrs slash)) self.old.walk }
-        ensures { Answers (step self.old.state (tokens.start_tag name.now attrs slash)) result self.old self.new }
+        requires room { Fits (step self.old.state (tokens.start_tag name.now attrs.now slash)) self.old.walk }
+        ensures { Answers (step self.old.state (tokens.start_tag name.now attrs.now slash)) result self.old self.new }
     {
         if self.is_broken {
             return Err(BuildFault::Memory);

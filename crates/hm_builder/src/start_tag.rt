@@ -30,13 +30,13 @@ impl Parts {
         &mut self,
         alloc: Global,
         name: &str,
-        attrs: Attrs,
+        attrs: &Attrs,
         slash: bool,
     ) -> Result<(), BuildFault>
         requires kept { IsKept self.old }
         requires not_text { is_in_text (open_path self.old.insertion_mode self.old.path) ≡ false }
-        requires room { Fits (step (state_of self.old) (tokens.start_tag name.now attrs slash)) self.old.maker }
-        ensures { Takes (step (state_of self.old) (tokens.start_tag name.now attrs slash)) result self.old self.new }
+        requires room { Fits (step (state_of self.old) (tokens.start_tag name.now attrs.now slash)) self.old.maker }
+        ensures { Takes (step (state_of self.old) (tokens.start_tag name.now attrs.now slash)) result self.old self.new }
     {
         self.drops_line_feed = false;
         self.start_undropped(alloc, name, attrs, slash)
@@ -47,14 +47,14 @@ impl Parts {
         &mut self,
         alloc: Global,
         name: &str,
-        attrs: Attrs,
+        attrs: &Attrs,
         slash: bool,
     ) -> Result<(), BuildFault>
         requires kept { IsKept self.old }
         requires all { self.old.drops_line_feed ≡ false }
         requires not_text { is_in_text (open_path self.old.insertion_mode self.old.path) ≡ false }
-        requires room { Fits (step_start name.now attrs slash (state_of self.old)) self.old.maker }
-        ensures { Takes (step_start name.now attrs slash (state_of self.old)) result self.old self.new }
+        requires room { Fits (step_start name.now attrs.now slash (state_of self.old)) self.old.maker }
+        ensures { Takes (step_start name.now attrs.now slash (state_of self.old)) result self.old self.new }
     {
         match self.insertion_mode {
             BuilderMode::Initial => Err(BuildFault::from(Rule::NoDoctype)),
@@ -71,15 +71,15 @@ impl Parts {
         &mut self,
         alloc: Global,
         name: &str,
-        attrs: Attrs,
+        attrs: &Attrs,
         slash: bool,
     ) -> Result<(), BuildFault>
         requires kept { IsKept self.old }
         requires all { self.old.drops_line_feed ≡ false }
         requires not_text { is_in_text (open_path self.old.insertion_mode self.old.path) ≡ false }
         requires before { IsBefore self.old.insertion_mode }
-        requires room { Fits (html_start name.now attrs slash (state_of self.old)) self.old.maker }
-        ensures { Takes (html_start name.now attrs slash (state_of self.old)) result self.old self.new }
+        requires room { Fits (html_start name.now attrs.now slash (state_of self.old)) self.old.maker }
+        ensures { Takes (html_start name.now attrs.now slash (state_of self.old)) result self.old self.new }
     {
         if is_refused(name) {
             return Err(BuildFault::from(Rule::RefusedName));
@@ -95,14 +95,14 @@ impl Parts {
         &mut self,
         alloc: Global,
         name: &str,
-        attrs: Attrs,
+        attrs: &Attrs,
         slash: bool,
     ) -> Result<(), BuildFault>
         requires kept { IsKept self.old }
         requires reach { CanReach self.old.insertion_mode }
         requires all { self.old.drops_line_feed ≡ false }
-        requires room { Fits (reach_body (insertion_mode_of self.old.insertion_mode) (start_in_body name.now attrs slash) (state_of self.old)) self.old.maker }
-        ensures { Takes (reach_body (insertion_mode_of self.old.insertion_mode) (start_in_body name.now attrs slash) (state_of self.old)) result self.old self.new }
+        requires room { Fits (reach_body (insertion_mode_of self.old.insertion_mode) (start_in_body name.now attrs.now slash) (state_of self.old)) self.old.maker }
+        ensures { Takes (reach_body (insertion_mode_of self.old.insertion_mode) (start_in_body name.now attrs.now slash) (state_of self.old)) result self.old self.new }
     {
         let foreign = opens_as_svg(&self.path, name);
         let moves = self.path.start(name, foreign)?;
@@ -149,13 +149,13 @@ fn move_and_start(
     moves: Moves,
     name: &str,
     foreign: bool,
-    attrs: Attrs,
+    attrs: &Attrs,
 ) -> Result<(), Memory>
     requires closes { moves.closes ≤ length (path_after [] maker.old) }
-    requires room { HasRoom (maker.old ++ ((map end_event (take moves.closes (path_after [] maker.old)) ++ starts (elements_of moves.made)) ++ walks.start name.now foreign attrs ∷ [])) }
-    ensures { OnOk result (maker.new ≡ maker.old ++ ((map end_event (take moves.closes (path_after [] maker.old)) ++ starts (elements_of moves.made)) ++ walks.start name.now foreign attrs ∷ [])) }
+    requires room { HasRoom (maker.old ++ ((map end_event (take moves.closes (path_after [] maker.old)) ++ starts (elements_of moves.made)) ++ walks.start name.now foreign attrs.now ∷ [])) }
+    ensures { OnOk result (maker.new ≡ maker.old ++ ((map end_event (take moves.closes (path_after [] maker.old)) ++ starts (elements_of moves.made)) ++ walks.start name.now foreign attrs.now ∷ [])) }
 {
     end_elements(maker, moves.closes)?;
     start_made(alloc, maker, moves.made)?;
-    maker.start(name, foreign, attrs)
+    maker.start_from(name, foreign, attrs)
 }

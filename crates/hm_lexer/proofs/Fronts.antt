@@ -7,10 +7,14 @@ use Rattle.std.proofs.lemmas.List.Folds.{drop_split}
 use Rattle.hm_refs.specs.Names.{Entry}
 use Rattle.hm_text_scan.specs.Texts.{read_text}
 use Rattle.hm_tokens.specs.First.{before_rest, read_inside}
+use Rattle.hm_tree.specs.Lexemes.{token_of}
 use Rattle.hm_tree.specs.Tokens.{BeginsAt, IsPiece, IsInText, Reads, Scanned, seen, slice, comment, taken}
+use Rattle.hm_tree.specs.declared.tokens.Lexeme.{Lexeme}
+use Rattle.hm_tree.specs.declared.tokens.ScanFault.{ScanFault}
+use Rattle.hm_tree.specs.declared.tokens.Tag.{Tag}
 use Rattle.hm_tree.specs.declared.tokens.Token.{Token}
 use Rattle.hm_tree.specs.declared.tokens.Token.TheVariants as tokens
-use Rattle.hm_lexer.specs.Steps.{read_piece}
+use Rattle.hm_lexer.specs.Steps.{read_piece, read_with}
 
 -- ---- a front of a text, and the text
 
@@ -99,6 +103,11 @@ reads_nothing t s at to low starts end =
 -- ---- where a token begins
 
 -- a token that names no piece of its text begins at each place
-pub at_each : {E : Type 0} (o : Result (Token × ℕ) E) (place : ℕ) → IfOk o (λ r. (at : ℕ) → BeginsAt at r.0) → IfOk o (λ r. BeginsAt place r.0)
-at_each (Ok r) place h = h place
-at_each (Err e) place h = tt
+pub at_each : {E : Type 0} (o : Result (Lexeme × ℕ) E) (tag : Tag) (place : ℕ) → IfOk o (λ r. (at : ℕ) → BeginsAt at (token_of r.0 tag)) → IfOk o (λ r. BeginsAt place (token_of r.0 tag))
+at_each (Ok r) tag place h = h place
+at_each (Err e) tag place h = tt
+
+-- the same of what was read with its tag in a place of its own
+pub at_each_with : (o : Result (Lexeme × ℕ) ScanFault) (tag : Tag) (place : ℕ) → IfOk (read_with o tag) (λ r. (at : ℕ) → BeginsAt at r.0) → IfOk o (λ r. BeginsAt place (token_of r.0 tag))
+at_each_with (Ok r) tag place h = h place
+at_each_with (Err e) tag place h = tt

@@ -3,3 +3,4 @@ pub mod EmptyTags
 pub mod TextEnds
 pub mod Fronts
 pub mod Nexts
+pub mod TagsFirst

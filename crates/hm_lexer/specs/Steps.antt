@@ -1,14 +1,18 @@
 -- The steps by which the next token is found.
-use Rattle.std.specs.Prelude.{◌≡◌, ℕ, ◌-◌, ◌≤◌, Bool, true, false, ◌&&◌, ◌==◌, List, ◌∷◌, drop, Option, Some, None, IfSome, MatchOption, IsCharBoundary, if◌then◌else◌}
+use Rattle.std.specs.Prelude.{◌≡◌, ℕ, ◌-◌, ◌≤◌, Bool, true, false, ◌&&◌, ◌==◌, List, ◌∷◌, drop, Option, Some, None, IfSome, MatchOption, Result, Ok, Err, IsCharBoundary, if◌then◌else◌}
 use Rattle.hm_base.specs.Bytes.{is_null}
 use Rattle.hm_base.specs.RawText.{raw_end, script_end}
 use Rattle.hm_base.specs.declared.rules.Refused.{Refused}
 use Rattle.hm_base.specs.declared.rules.Refused.TheVariants as answers
 use Rattle.hm_refs.specs.Names.{Entry}
 use Rattle.hm_tag_scan.specs.Reading.{begins_tag}
+use Rattle.hm_tree.specs.Lexemes.{token_of}
 use Rattle.hm_tree.specs.Tokens.{Scanned}
+use Rattle.hm_tree.specs.declared.tokens.Lexeme.{Lexeme}
 use Rattle.hm_tree.specs.declared.tokens.ScanFault.{ScanFault}
 use Rattle.hm_tree.specs.declared.tokens.ScanFault.TheVariants as faults
+use Rattle.hm_tree.specs.declared.tokens.Tag.{Tag}
+use Rattle.hm_tree.specs.declared.tokens.Token.{Token}
 use Rattle.hm_tokens.specs.First.{Mode, ordinary, in_svg, rcdata, raw, script, Next, at_end, behind_bytes, Behind, behind_empty_tags, behind_none, read_here, read_inside, read_references, read_nothing, rule_of}
 use Rattle.hm_lexer.specs.Modes.{rcdata_name}
 use Rattle.hm_lexer.specs.declared.lexer.TextEnd.{TextEnd}
@@ -27,6 +31,14 @@ behind_nothing in_svg s = behind_empty_tags s
 behind_nothing (rcdata name) s = behind_none s
 behind_nothing (raw name) s = behind_none s
 behind_nothing script s = behind_none s
+
+-- start tags are read, and what stands for nothing may be in front
+abbrev pub has_markup : Mode → Bool
+has_markup ordinary = true
+has_markup in_svg = true
+has_markup (rcdata name) = false
+has_markup (raw name) = false
+has_markup script = false
 
 -- what stands for nothing is in front
 abbrev pub begins_nothing : Mode → List ℕ → Bool
@@ -49,6 +61,11 @@ pub record IsBehind (mode : Mode) (s : List ℕ) (at to : ℕ) : Type 0 where
 abbrev pub read_piece : Bool → List Entry → List ℕ → List ℕ → Scanned
 read_piece true t s rest = read_references t s rest
 read_piece false t s rest = read_nothing s rest
+
+-- what was read, with the name and the attributes of a tag from their place
+abbrev pub read_with : Result (Lexeme × ℕ) ScanFault → Tag → Result (Token × ℕ) ScanFault
+read_with (Ok r) tag = Ok (token_of r.0 tag, r.1)
+read_with (Err fault) tag = Err fault
 
 abbrev pub read_in : List Entry → Mode → List ℕ → Scanned
 read_in t ordinary s = read_here t false s

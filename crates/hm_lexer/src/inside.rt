@@ -4,14 +4,15 @@ ghost use Rattle.hm_base.specs.Bytes.{head_is};
 ghost use Rattle.hm_base.specs.Forms.{is_small};
 ghost use Rattle.hm_base.specs.RawText.{raw_end, script_end};
 ghost use Rattle.hm_tokens.specs.First.{read_inside};
+ghost use Rattle.hm_tree.specs.Lexemes.{token_of};
 ghost use Rattle.hm_tree.specs.Tokens.{BeginsAt, Reads, refused};
 ghost use Rattle.hm_lexer.specs.Steps.{Ends, IsEndAt, read_piece};
 
 use hm_mark_scan::{scan_raw, scan_script};
 use hm_refs::Table;
-use hm_tag_scan::scan_tag;
+use hm_tag_scan::scan_tag_into;
 use hm_text_scan::scan_text;
-use hm_tree::{ScanFault, Token};
+use hm_tree::{Lexeme, ScanFault, Tag};
 use std::alloc::Global;
 
 /// Where the text from byte `at` on ends, at the first end tag with that name.
@@ -48,23 +49,25 @@ pub fn scan_up_to(
     to: u32,
     table: &Table,
     references: bool,
-) -> Result<(Token, u32), ScanFault>
+    tag: &mut Tag,
+) -> Result<(Lexeme, u32), ScanFault>
     requires boundary { IsCharBoundary text.now at }
     requires size { length text.now < 2 ^ 32 }
     requires end { IsEndAt (Some (to - at)) text.now at to }
-    ensures ok { IfOk result (λ r. Reads (read_inside table.now.entries (drop at text.now) (Some (to - at)) (read_piece references table.now.entries)) text.now r.0 r.1) }
+    ensures ok { IfOk result (λ r. Reads (read_inside table.now.entries (drop at text.now) (Some (to - at)) (read_piece references table.now.entries)) text.now (token_of r.0 tag.new) r.1) }
     ensures err { IfErr result
         (λ fault. fault ≢ ScanFault.Memory → read_inside table.now.entries (drop at text.now) (Some (to - at)) (read_piece references table.now.entries) ≡ refused fault) }
     ensures forward { IfOk result (λ r. at < r.1) }
-    ensures placed { IfOk result (λ r. BeginsAt at r.0) }
+    ensures placed { IfOk result (λ r. BeginsAt at (token_of r.0 tag.new)) }
 {
     if at == to {
-        return scan_tag(alloc, text, at, table);
+        return scan_tag_into(alloc, text, at, table, tag);
     }
     if references {
-        return Ok(scan_text(&text[..to as usize], at, true, table));
+        let (token, behind) = scan_text(&text[..to as usize], at, true, table);
+        return Ok((Lexeme::of(token, tag), behind));
     }
-    Ok((Token::Slice { from: at, to }, to))
+    Ok((Lexeme::Slice { from: at, to }, to))
 }
 
 /// Reads from byte `at` on in the raw text of an element with that name.
@@ -74,18 +77,19 @@ pub fn scan_raw_text(
     at: u32,
     name: &str,
     table: &Table,
-) -> Result<(Token, u32), ScanFault>
+    tag: &mut Tag,
+) -> Result<(Lexeme, u32), ScanFault>
     requires boundary { IsCharBoundary text.now at }
     requires size { length text.now < 2 ^ 32 }
     requires name { head_is is_small name.now ≡ true }
-    ensures ok { IfOk result (λ r. Reads (read_inside table.now.entries (drop at text.now) (raw_end name.now (drop at text.now)) (read_piece false table.now.entries)) text.now r.0 r.1) }
+    ensures ok { IfOk result (λ r. Reads (read_inside table.now.entries (drop at text.now) (raw_end name.now (drop at text.now)) (read_piece false table.now.entries)) text.now (token_of r.0 tag.new) r.1) }
     ensures err { IfErr result
         (λ fault. fault ≢ ScanFault.Memory → read_inside table.now.entries (drop at text.now) (raw_end name.now (drop at text.now)) (read_piece false table.now.entries) ≡ refused fault) }
     ensures forward { IfOk result (λ r. at < r.1) }
-    ensures placed { IfOk result (λ r. BeginsAt at r.0) }
+    ensures placed { IfOk result (λ r. BeginsAt at (token_of r.0 tag.new)) }
 {
     match raw_text_end(text, at, name) {
-        Some(to) => scan_up_to(alloc, text, at, to, table, false),
+        Some(to) => scan_up_to(alloc, text, at, to, table, false, tag),
         None => Err(ScanFault::Cut),
     }
 }
@@ -96,17 +100,18 @@ pub fn scan_script_text(
     text: &str,
     at: u32,
     table: &Table,
-) -> Result<(Token, u32), ScanFault>
+    tag: &mut Tag,
+) -> Result<(Lexeme, u32), ScanFault>
     requires boundary { IsCharBoundary text.now at }
     requires size { length text.now < 2 ^ 32 }
-    ensures ok { IfOk result (λ r. Reads (read_inside table.now.entries (drop at text.now) (script_end (drop at text.now)) (read_piece false table.now.entries)) text.now r.0 r.1) }
+    ensures ok { IfOk result (λ r. Reads (read_inside table.now.entries (drop at text.now) (script_end (drop at text.now)) (read_piece false table.now.entries)) text.now (token_of r.0 tag.new) r.1) }
     ensures err { IfErr result
         (λ fault. fault ≢ ScanFault.Memory → read_inside table.now.entries (drop at text.now) (script_end (drop at text.now)) (read_piece false table.now.entries) ≡ refused fault) }
     ensures forward { IfOk result (λ r. at < r.1) }
-    ensures placed { IfOk result (λ r. BeginsAt at r.0) }
+    ensures placed { IfOk result (λ r. BeginsAt at (token_of r.0 tag.new)) }
 {
     match script_text_end(text, at) {
-        Some(to) => scan_up_to(alloc, text, at, to, table, false),
+        Some(to) => scan_up_to(alloc, text, at, to, table, false, tag),
         None => Err(ScanFault::Cut),
     }
 }

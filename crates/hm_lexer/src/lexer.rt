@@ -1,19 +1,22 @@
 //! The lexer: a place in a text, from which it is read token by token.
-ghost use Rattle.std.specs.Prelude.{◌≡◌, ◌≢◌, ℕ, ◌+◌, ◌^◌, ◌<◌, ◌≤◌, List, drop, length, IfOk, IfErr, OnErr, IsCharBoundary};
+ghost use Rattle.std.specs.Prelude.{◌≡◌, ◌≢◌, ℕ, ◌+◌, ◌^◌, ◌<◌, ◌≤◌, true, List, drop, length, IfOk, IfErr, OnErr, IsCharBoundary};
 ghost use Rattle.hm_base.specs.RawText.{raw_end};
 ghost use Rattle.hm_base.specs.Source.{place_in};
+ghost use Rattle.hm_tree.specs.Lexemes.{next_of, token_of};
 ghost use Rattle.hm_tree.specs.Tokens.{BeginsAt, Reads, refused};
+ghost use Rattle.hm_tag_scan.specs.Reading as tags;
 ghost use Rattle.hm_tokens.specs.First as tokens;
 ghost use Rattle.hm_lexer.specs.Modes.{mode_of, rcdata_name};
 ghost use Rattle.hm_lexer.specs.Reading.{Gives, Refuses, text_front, text_of};
-ghost use Rattle.hm_lexer.specs.Steps.{Ends, IsBehind, IsLexer, read_in, refusal_of};
+ghost use Rattle.hm_lexer.specs.Steps.{Ends, IsBehind, IsLexer, has_markup, read_in, refusal_of};
 
 use crate::inside::{raw_text_end, scan_raw_text, scan_script_text, scan_up_to};
 use crate::modes::{Mode, RcdataName};
 use crate::ordinary::{behind_empty_tags, scan_here};
 use hm_base::{Refused, Rule, SourceText};
 use hm_refs::Table;
-use hm_tree::{ScanFault, Spanned, Token};
+use hm_tag_scan::{begins_tag, scan_tag_into};
+use hm_tree::{Lexeme, Placed, ScanFault, Spanned, Tag};
 use std::alloc::Global;
 use std::marker::Model;
 
@@ -118,55 +121,122 @@ impl<'a> Lexer<'a> {
         ensures err { IfErr result (λ refusal. Refuses self.old (mode_of mode) refusal) }
         ensures unchanged { OnErr result (self.new ≡ self.old) }
     {
+        let mut tag = Tag::new(alloc);
+        match self.next_into(alloc, mode, &mut tag) {
+            Ok(Some(placed)) => Ok(Some(placed.spanned(tag))),
+            Ok(None) => Ok(None),
+            Err(refused) => Err(refused),
+        }
+    }
+
+    /// The same, with a tag's name and attributes put into `tag`, in place of what was there. After a refusal nothing
+    /// is said of what stands in it.
+    pub fn next_into(
+        &mut self,
+        alloc: Global,
+        mode: Mode,
+        tag: &mut Tag,
+    ) -> Result<Option<Placed>, Refused>
+        ensures ok { IfOk result (λ placed. Gives self.old (mode_of mode) (next_of placed tag.new) self.new) }
+        ensures err { IfErr result (λ refusal. Refuses self.old (mode_of mode) refusal) }
+        ensures unchanged { OnErr result (self.new ≡ self.old) }
+    {
         let text = self.source.text();
+        if mode.has_markup() && begins_tag(text, self.at) {
+            return self.next_tag(alloc, mode, tag);
+        }
         let from = token_start(text, self.at, mode);
         if from as usize == text.len() {
             return Ok(None);
         }
-        match self.scan(alloc, mode, from) {
-            Ok((token, to)) => {
+        match self.scan(alloc, mode, from, tag) {
+            Ok((lexeme, to)) => {
                 self.advance(to);
-                Ok(Some(Spanned { token, from, to }))
+                Ok(Some(Placed { lexeme, from, to }))
             }
             Err(fault) => Err(refusal(self.source, fault, from)),
         }
     }
 
+    // Reads the tag that begins at the lexer's place.
+    fn next_tag(
+        &mut self,
+        alloc: Global,
+        mode: Mode,
+        tag: &mut Tag,
+    ) -> Result<Option<Placed>, Refused>
+        requires markup { has_markup (mode_of mode) ≡ true }
+        requires begins { tags.begins_tag (drop self.old.at (text_of self.old)) ≡ true }
+        ensures ok { IfOk result (λ placed. Gives self.old (mode_of mode) (next_of placed tag.new) self.new) }
+        ensures err { IfErr result (λ refusal. Refuses self.old (mode_of mode) refusal) }
+        ensures unchanged { OnErr result (self.new ≡ self.old) }
+    {
+        let from = self.at;
+        match scan_tag_into(alloc, self.source.text(), from, self.table, tag) {
+            Ok((lexeme, to)) => {
+                self.advance(to);
+                Ok(Some(Placed { lexeme, from, to }))
+            }
+            Err(fault) => Err(refusal(self.source, fault, self.at)),
+        }
+    }
+
     // Reads the token that begins at `from`, the next place at which one does.
-    fn scan(&mut self, alloc: Global, mode: Mode, from: u32) -> Result<(Token, u32), ScanFault>
+    fn scan(
+        &mut self,
+        alloc: Global,
+        mode: Mode,
+        from: u32,
+        tag: &mut Tag,
+    ) -> Result<(Lexeme, u32), ScanFault>
         requires start { IsBehind (mode_of mode) (text_of self.old) self.old.at from }
         requires inside { from < length (text_of self.old) }
-        ensures ok { IfOk result (λ r. Reads (read_in self.old.names (mode_of mode) (drop from (text_of self.old))) (text_of self.old) r.0 r.1) }
+        ensures ok { IfOk result (λ r. Reads (read_in self.old.names (mode_of mode) (drop from (text_of self.old))) (text_of self.old) (token_of r.0 tag.new) r.1) }
         ensures err { IfErr result
             (λ fault. fault ≢ ScanFault.Memory → read_in self.old.names (mode_of mode) (drop from (text_of self.old)) ≡ refused fault) }
         ensures forward { IfOk result (λ r. from < r.1) }
-        ensures placed { IfOk result (λ r. BeginsAt (from + text_front (mode_of mode) (drop from (text_of self.old))) r.0) }
+        ensures placed { IfOk result (λ r. BeginsAt (from + text_front (mode_of mode) (drop from (text_of self.old))) (token_of r.0 tag.new)) }
         ensures same { self.new ≡ self.old }
     {
         let text = self.source.text();
         match mode {
-            Mode::Html => scan_here(alloc, text, from, self.table, false),
-            Mode::Foreign => scan_here(alloc, text, from, self.table, true),
-            Mode::Rcdata { name } => self.scan_rcdata(alloc, name),
-            Mode::Raw { name } => scan_raw_text(alloc, text, from, name.as_str(), self.table),
-            Mode::Script => scan_script_text(alloc, text, from, self.table),
+            Mode::Html => scan_here(alloc, text, from, self.table, false, tag),
+            Mode::Foreign => scan_here(alloc, text, from, self.table, true, tag),
+            Mode::Rcdata { name } => self.scan_rcdata(alloc, name, tag),
+            Mode::Raw { name } => {
+                scan_raw_text(alloc, text, from, name.as_str(), self.table, tag)
+            }
+            Mode::Script => scan_script_text(alloc, text, from, self.table, tag),
         }
     }
 
     // Reads from the place of the lexer on in the text of a title or a textarea.
-    fn scan_rcdata(&mut self, alloc: Global, name: RcdataName) -> Result<(Token, u32), ScanFault>
+    fn scan_rcdata(
+        &mut self,
+        alloc: Global,
+        name: RcdataName,
+        tag: &mut Tag,
+    ) -> Result<(Lexeme, u32), ScanFault>
         requires { self.old.at < length (text_of self.old) }
-        ensures ok { IfOk result (λ r. Reads (read_in self.old.names (tokens.rcdata (rcdata_name name)) (drop self.old.at (text_of self.old))) (text_of self.old) r.0 r.1) }
+        ensures ok { IfOk result (λ r. Reads (read_in self.old.names (tokens.rcdata (rcdata_name name)) (drop self.old.at (text_of self.old))) (text_of self.old) (token_of r.0 tag.new) r.1) }
         ensures err { IfErr result
             (λ fault. fault ≢ ScanFault.Memory → read_in self.old.names (tokens.rcdata (rcdata_name name)) (drop self.old.at (text_of self.old)) ≡ refused fault) }
         ensures forward { IfOk result (λ r. self.old.at < r.1) }
-        ensures placed { IfOk result (λ r. BeginsAt self.old.at r.0) }
+        ensures placed { IfOk result (λ r. BeginsAt self.old.at (token_of r.0 tag.new)) }
         ensures same { self.new ≡ self.old }
     {
         match self.end_of(name) {
             Some(place) => {
                 self.text_end = Some(TextEnd { name, place });
-                scan_up_to(alloc, self.source.text(), self.at, place, self.table, true)
+                scan_up_to(
+                    alloc,
+                    self.source.text(),
+                    self.at,
+                    place,
+                    self.table,
+                    true,
+                    tag,
+                )
             }
             None => Err(ScanFault::Cut),
         }

@@ -1,6 +1,7 @@
 //! Modes: what kind of text is read.
 ghost use Rattle.std.specs.Prelude.{◌≡◌};
-ghost use Rattle.hm_lexer.specs.Modes.{raw_name, rcdata_name};
+ghost use Rattle.hm_lexer.specs.Modes.{mode_of, raw_name, rcdata_name};
+ghost use Rattle.hm_lexer.specs.Steps as steps;
 
 /// An element whose text has character references, and no markup (13.2.5.2).
 #[derive(Clone, Copy, Debug, PartialEq, Eq)]
@@ -53,4 +54,16 @@ pub enum Mode {
     Raw { name: RawName },
     /// The text of a script, and its end tag.
     Script,
+}
+
+impl Mode {
+    /// Whether start tags are read.
+    pub(crate) fn has_markup(self) -> bool
+        ensures { result ≡ steps.has_markup (mode_of self) }
+    {
+        match self {
+            Mode::Html | Mode::Foreign => true,
+            Mode::Rcdata { .. } | Mode::Raw { .. } | Mode::Script => false,
+        }
+    }
 }

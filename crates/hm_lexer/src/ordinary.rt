@@ -3,16 +3,17 @@ ghost use Rattle.std.specs.Prelude.{◌≡◌, ◌≢◌, ◌+◌, ◌^◌, ◌<
 ghost use Rattle.hm_text_scan.specs.Texts as texts;
 ghost use Rattle.hm_tokens.specs.First as tokens;
 ghost use Rattle.hm_tokens.specs.First.{read_here, read_markup};
+ghost use Rattle.hm_tree.specs.Lexemes.{token_of};
 ghost use Rattle.hm_tree.specs.Tokens.{BeginsAt, Reads, refused};
 ghost use Rattle.hm_lexer.specs.Reading.{front_here, markup_front};
 ghost use Rattle.hm_lexer.specs.Steps as steps;
-ghost use Rattle.hm_lexer.specs.Steps.{IsBehind};
+ghost use Rattle.hm_lexer.specs.Steps.{IsBehind, read_with};
 
 use hm_mark_scan::{begins_cdata, begins_doctype, scan_cdata, scan_comment, scan_doctype};
 use hm_refs::Table;
-use hm_tag_scan::{begins_tag, scan_tag};
+use hm_tag_scan::{begins_tag, scan_tag_into};
 use hm_text_scan::{begins_markup, scan_text};
-use hm_tree::{ScanFault, Token};
+use hm_tree::{Lexeme, ScanFault, Tag, Token};
 use std::alloc::Global;
 
 /// Whether the bytes begin with `</>`, which stands for nothing (13.2.5.7).
@@ -39,6 +40,16 @@ pub fn behind_empty_tags(text: &str, at: u32) -> u32
     from as u32
 }
 
+// What was read, with a tag's name and attributes put into `tag`.
+fn placed(read: Result<(Token, u32), ScanFault>, tag: &mut Tag) -> Result<(Lexeme, u32), ScanFault>
+    ensures { read ≡ read_with result tag.new }
+{
+    match read {
+        Ok((token, to)) => Ok((Lexeme::of(token, tag), to)),
+        Err(fault) => Err(fault),
+    }
+}
+
 /// Reads the markup that begins at byte `at`.
 fn scan_markup(
     alloc: Global,
@@ -46,28 +57,29 @@ fn scan_markup(
     at: u32,
     table: &Table,
     foreign: bool,
-) -> Result<(Token, u32), ScanFault>
+    tag: &mut Tag,
+) -> Result<(Lexeme, u32), ScanFault>
     requires inside { at < length text.now }
     requires begins { texts.begins_markup (drop at text.now) ≡ true }
     requires real { steps.begins_empty_tag (drop at text.now) ≡ false }
     requires size { length text.now < 2 ^ 32 }
     ensures ok { IfOk result
-        (λ r. Reads (read_markup table.now.entries foreign (drop at text.now)) text.now r.0 r.1) }
+        (λ r. Reads (read_markup table.now.entries foreign (drop at text.now)) text.now (token_of r.0 tag.new) r.1) }
     ensures err { IfErr result
         (λ fault. fault ≢ ScanFault.Memory → read_markup table.now.entries foreign (drop at text.now) ≡ refused fault) }
     ensures forward { IfOk result (λ r. at < r.1) }
-    ensures placed { IfOk result (λ r. BeginsAt (at + markup_front foreign (drop at text.now)) r.0) }
+    ensures placed { IfOk result (λ r. BeginsAt (at + markup_front foreign (drop at text.now)) (token_of r.0 tag.new)) }
 {
     if begins_tag(text, at) {
-        return scan_tag(alloc, text, at, table);
+        return scan_tag_into(alloc, text, at, table, tag);
     }
     if begins_doctype(text, at) {
-        return scan_doctype(text, at);
+        return placed(scan_doctype(text, at), tag);
     }
     if foreign && begins_cdata(text, at) {
-        return scan_cdata(text, at);
+        return placed(scan_cdata(text, at), tag);
     }
-    scan_comment(text, at)
+    placed(scan_comment(text, at), tag)
 }
 
 /// Reads the markup or the piece of text that begins at byte `at`. `foreign` tells that a CDATA section may.
@@ -77,21 +89,22 @@ pub fn scan_here(
     at: u32,
     table: &Table,
     foreign: bool,
-) -> Result<(Token, u32), ScanFault>
+    tag: &mut Tag,
+) -> Result<(Lexeme, u32), ScanFault>
     requires inside { at < length text.now }
     requires boundary { IsCharBoundary text.now at }
     requires real { steps.begins_empty_tag (drop at text.now) ≡ false }
     requires size { length text.now < 2 ^ 32 }
     ensures ok { IfOk result
-        (λ r. Reads (read_here table.now.entries foreign (drop at text.now)) text.now r.0 r.1) }
+        (λ r. Reads (read_here table.now.entries foreign (drop at text.now)) text.now (token_of r.0 tag.new) r.1) }
     ensures err { IfErr result
         (λ fault. fault ≢ ScanFault.Memory → read_here table.now.entries foreign (drop at text.now) ≡ refused fault) }
     ensures forward { IfOk result (λ r. at < r.1) }
-    ensures placed { IfOk result (λ r. BeginsAt (at + front_here foreign (drop at text.now)) r.0) }
+    ensures placed { IfOk result (λ r. BeginsAt (at + front_here foreign (drop at text.now)) (token_of r.0 tag.new)) }
 {
     if begins_markup(text, at) {
-        scan_markup(alloc, text, at, table, foreign)
+        scan_markup(alloc, text, at, table, foreign, tag)
     } else {
-        Ok(scan_text(text, at, false, table))
+        placed(Ok(scan_text(text, at, false, table)), tag)
     }
 }

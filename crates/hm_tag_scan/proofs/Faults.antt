@@ -1,10 +1,11 @@
 -- Why a tag is refused.
-use Rattle.std.proofs.Common.{◌≡◌, ℕ, ◌<◌, ◌≤◌, Bool, true, false, cond, not, ◌||◌, nat_lt, List, length, map, drop, slice_range, Option, Some, None, refl, ap, ap₂, sym, ◌∙◌, arith}
+use Rattle.std.proofs.Common.{◌≡◌, ℕ, ◌<◌, ◌≤◌, Bool, true, false, cond, not, ◌||◌, nat_lt, List, length, map, drop, slice_range, Option, Some, None, string_bytes, refl, ap, ap₂, sym, ◌∙◌, arith}
 use Rattle.hm_base.specs.Bytes.{behind, lower}
 use Rattle.hm_base.specs.Forms.{is_tag_name}
 use Rattle.hm_base.specs.Walks.{Attribute}
 use Rattle.hm_refs.specs.Names.{Entry}
 use Rattle.hm_tree.specs.Tokens.{taken, refused, start_tag, end_tag, Reads}
+use Rattle.hm_tree.specs.declared.tokens.Tag as places
 use Rattle.hm_tree.specs.declared.tokens.Token.TheVariants as tokens
 use Rattle.hm_tree.specs.declared.tokens.ScanFault.{ScanFault}
 use Rattle.hm_tree.specs.declared.tokens.ScanFault.TheVariants as faults
@@ -72,14 +73,14 @@ free_parts name written h = parts (not (is_tag_name name)) (has_bad_name written
     parts false false false e h = (refl, grind arith)
 
 -- a tag that was read behind its name, with its name
-pub whole_is : (t : List Entry) (keeps : Bool) (s : List ℕ) (from name_to : ℕ) (name : List ℕ) (b : TagBody) → IsEndOf is_name_byte s from name_to → IsTagBody t keeps s name_to b
-    → name ≡ map lower (slice_range s from name_to) → ((written : List Attribute) → IsCollected t written b.collected → tag_fault name written ≡ None)
-    → IsWhole t keeps s from (record { name = name; attrs = b.collected.attrs; slash = b.slash; behind = b.behind })
-whole_is t keeps s from name_to name b e k is free =
-    let same : name ≡ tag_name (drop from s) = is ∙ ap (map lower) (sym e.front) in
+pub whole_is : (t : List Entry) (keeps : Bool) (s : List ℕ) (from name_to : ℕ) (read : places.Tag) (b : TagBody) → IsEndOf is_name_byte s from name_to → IsTagBody t keeps s name_to read.attrs b
+    → string_bytes read.name ≡ map lower (slice_range s from name_to) → ((written kept : List Attribute) → IsCollected t written b.collected kept → tag_fault (string_bytes read.name) written ≡ None)
+    → IsWhole t keeps s from read (record { slash = b.slash; behind = b.behind })
+whole_is t keeps s from name_to read b e k is free =
+    let same : string_bytes read.name ≡ tag_name (drop from s) = is ∙ ap (map lower) (sym e.front) in
     let cut : cut_tag (behind is_name_byte (drop from s)) ≡ Some k.tag = ap cut_tag e.behind ∙ k.is in
-    let accepted : tag_fault name k.tag.attributes ≡ None = free k.tag.attributes k.collected in
-    let parts = free_parts name k.tag.attributes accepted in
+    let accepted : tag_fault (string_bytes read.name) k.tag.attributes ≡ None = free k.tag.attributes read.attrs k.collected in
+    let parts = free_parts (string_bytes read.name) k.tag.attributes accepted in
     record {
       accepted = ap (fault_by (tag_name (drop from s))) cut ∙ ap (λ n. tag_fault n k.tag.attributes) (sym same) ∙ accepted;
       name = same;
@@ -93,11 +94,11 @@ whole_is t keeps s from name_to name b e k is free =
     }
 
 -- a fault of a tag whose name was found
-pub whole_refused : (t : List Entry) (keeps : Bool) (s : List ℕ) (from name_to : ℕ) (name : List ℕ) (b : TagBody) (f : ScanFault) → IsEndOf is_name_byte s from name_to → IsTagBody t keeps s name_to b
-    → name ≡ map lower (slice_range s from name_to) → ((written : List Attribute) → IsCollected t written b.collected → tag_fault name written ≡ Some f) → fault_at (drop from s) ≡ Some f
-whole_refused t keeps s from name_to name b f e k is found =
+pub whole_refused : (t : List Entry) (keeps : Bool) (s : List ℕ) (from name_to : ℕ) (name : List ℕ) (attrs : List Attribute) (b : TagBody) (f : ScanFault) → IsEndOf is_name_byte s from name_to → IsTagBody t keeps s name_to attrs b
+    → name ≡ map lower (slice_range s from name_to) → ((written kept : List Attribute) → IsCollected t written b.collected kept → tag_fault name written ≡ Some f) → fault_at (drop from s) ≡ Some f
+whole_refused t keeps s from name_to name attrs b f e k is found =
     let same : name ≡ tag_name (drop from s) = is ∙ ap (map lower) (sym e.front) in
-    ap (fault_by (tag_name (drop from s))) (ap cut_tag e.behind ∙ k.is) ∙ ap (λ n. tag_fault n k.tag.attributes) (sym same) ∙ found k.tag.attributes k.collected
+    ap (fault_by (tag_name (drop from s))) (ap cut_tag e.behind ∙ k.is) ∙ ap (λ n. tag_fault n k.tag.attributes) (sym same) ∙ found k.tag.attributes attrs k.collected
 
 -- no end of the tag
 pub body_refused : (s : List ℕ) (from name_to : ℕ) (f : ScanFault) → IsEndOf is_name_byte s from name_to → HasNoBody s name_to f → (f ≡ faults.Memory → ⊥) → fault_at (drop from s) ≡ Some f
@@ -107,18 +108,18 @@ body_refused s from name_to faults.BadName e none never = absurd none
 body_refused s from name_to faults.TooManyAttributes e none never = absurd none
 body_refused s from name_to faults.BadDoctype e none never = absurd none
 
-pub start_is : (t : List Entry) (s : List ℕ) (from : ℕ) (w : Whole) → IsWhole t true s from w → Reads (read_start t (drop from s)) s (tokens.StartTag w.name w.attrs w.slash) w.behind
+pub start_is : (t : List Entry) (s : List ℕ) (from : ℕ) (read : places.Tag) (w : Whole) → IsWhole t true s from read w → Reads (read_start t (drop from s)) s (tokens.StartTag (string_bytes read.name) read.attrs w.slash) w.behind
 unfolding read_start
-start_is t s from w k = record {
+start_is t s from read w k = record {
   is = start_taken t (tag_name (drop from s)) (cut_tag (behind is_name_byte (drop from s))) k.tag k.cut k.accepted
-      ∙ ap₂ taken (ap₂ (λ n a. start_tag n a k.tag.slash) (sym k.name) (sym (k.attrs refl)) ∙ ap (start_tag w.name w.attrs) (sym k.slash)) (sym k.rest);
+      ∙ ap₂ taken (ap₂ (λ n a. start_tag n a k.tag.slash) (sym k.name) (sym (k.attrs refl)) ∙ ap (start_tag (string_bytes read.name) read.attrs) (sym k.slash)) (sym k.rest);
   inside = tt;
   boundary = k.boundary;
 }
 
-pub end_is : (t : List Entry) (s : List ℕ) (from : ℕ) (w : Whole) → IsWhole t false s from w → Reads (read_end (drop from s)) s (tokens.EndTag w.name) w.behind
+pub end_is : (t : List Entry) (s : List ℕ) (from : ℕ) (read : places.Tag) (w : Whole) → IsWhole t false s from read w → Reads (read_end (drop from s)) s (tokens.EndTag (string_bytes read.name)) w.behind
 unfolding read_end
-end_is t s from w k = record {
+end_is t s from read w k = record {
   is = end_taken (tag_name (drop from s)) (cut_tag (behind is_name_byte (drop from s))) k.tag k.cut k.accepted
       ∙ ap₂ (λ n r. taken (end_tag n) r) (sym k.name) (sym k.rest);
   inside = tt;

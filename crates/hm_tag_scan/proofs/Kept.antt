@@ -1,5 +1,5 @@
 -- Attributes that are kept, one after another.
-use Rattle.std.proofs.Common.{◌≡◌, ℕ, ◌+◌, ◌<◌, ◌≤◌, Bool, true, false, cond, not, ◌&&◌, ◌||◌, nat_le, List, [], ◌∷◌, ◌++◌, map, length, bytes_eq, refl, ap, ap₂, sym, subst, ◌∙◌, arith, length-append, append-nil}
+use Rattle.std.proofs.Common.{◌≡◌, ℕ, ◌+◌, ◌≤◌, Bool, true, false, cond, not, ◌&&◌, ◌||◌, nat_le, List, [], ◌∷◌, ◌++◌, map, length, bytes_eq, refl, ap, sym, subst, ◌∙◌, arith, length-append, append-nil}
 use Rattle.std.proofs.lemmas.Slice.Eq.{bytes_eq-Decides}
 use Rattle.hm_base.specs.Walks.{Attribute, has_name}
 use Rattle.hm_refs.specs.Names.{Entry}
@@ -84,34 +84,35 @@ or_parts : (a b : Bool) → a || b ≡ false → (a ≡ false) × (b ≡ false)
 or_parts true b h = absurd (cc)
 or_parts false b h = (refl, h)
 
-pub record Takes (t : List Entry) (a : Attribute) (old new : Collected) : Type 0 where
+pub record Takes (t : List Entry) (a : Attribute) (old : Collected) (before : List Attribute) (new : Collected) (after : List Attribute) : Type 0 where
   pub keeps : new.keeps ≡ old.keeps
   pub count : new.count ≡ old.count + 1
   pub bad : new.has_bad_name ≡ old.has_bad_name || is_bad_name a.name
-  pub attrs : new.attrs ≡ cond (new.keeps && not new.has_bad_name && nat_le new.count attribute_limit) (added old.attrs (read_attribute t a)) old.attrs
+  pub attrs : after ≡ cond (new.keeps && not new.has_bad_name && nat_le new.count attribute_limit) (added before (read_attribute t a)) before
 
 wanted : (keeps bad : Bool) (count : ℕ) → keeps ≡ true → bad ≡ false → count ≤ attribute_limit → keeps && not bad && nat_le count attribute_limit ≡ true
 wanted keeps bad count k b h = let low : nat_le count 256 ≡ true = grind arith in rw (k, b) low
 
-pub collected_more : (t : List Entry) (written : List Attribute) (a : Attribute) (old new : Collected) → IsCollected t written old → Takes t a old new → IsCollected t (written ++ a ∷ []) new
-collected_more t written a old new c k =
+pub collected_more : (t : List Entry) (written : List Attribute) (a : Attribute) (old : Collected) (before : List Attribute) (new : Collected) (after : List Attribute)
+    → IsCollected t written old before → Takes t a old before new after → IsCollected t (written ++ a ∷ []) new after
+collected_more t written a old before new after c k =
     let count : new.count ≡ length (written ++ a ∷ []) = rw (k.count, length-append written (a ∷ []), c.count) refl in
     let bad : new.has_bad_name ≡ has_bad_name (written ++ a ∷ []) = k.bad ∙ ap (λ b. b || is_bad_name a.name) c.bad ∙ sym (bad_push written a) in
     record {
       count = count;
       bad = bad;
-      few = subst (λ n. length new.attrs ≤ n) (sym k.count)
+      few = subst (λ n. length after ≤ n) (sym k.count)
           (subst (λ r. length r ≤ old.count + 1) (sym k.attrs) (few (new.keeps && not new.has_bad_name && nat_le new.count attribute_limit)));
       read = λ keeps none short.
           let parts = or_parts (has_bad_name written) (is_bad_name a.name) (sym (bad_push written a) ∙ none) in
           let longer : length (written ++ a ∷ []) ≡ length written + 1 = length-append written (a ∷ []) in
           let wants : new.keeps && not new.has_bad_name && nat_le new.count attribute_limit ≡ true = wanted new.keeps new.has_bad_name new.count keeps (bad ∙ none) (omega arith) in
-          let before : old.attrs ≡ read_attributes t written = c.read (sym k.keeps ∙ keeps) parts.0 (omega arith) in
-          k.attrs ∙ ap (λ b. cond b (added old.attrs (read_attribute t a)) old.attrs) wants
-          ∙ ap (λ r. added r (read_attribute t a)) before
+          let are : before ≡ read_attributes t written = c.read (sym k.keeps ∙ keeps) parts.0 (omega arith) in
+          k.attrs ∙ ap (λ b. cond b (added before (read_attribute t a)) before) wants
+          ∙ ap (λ r. added r (read_attribute t a)) are
           ∙ sym (ap without_repeats (map_push (read_attribute t) written a) ∙ repeats_push (map (read_attribute t) written) (read_attribute t a));
     }
   where
-    few : (b : Bool) → length (cond b (added old.attrs (read_attribute t a)) old.attrs) ≤ old.count + 1
-    few true = omega (arith, added_few old.attrs (read_attribute t a), c.few)
+    few : (b : Bool) → length (cond b (added before (read_attribute t a)) before) ≤ old.count + 1
+    few true = omega (arith, added_few before (read_attribute t a), c.few)
     few false = omega (arith, c.few)

@@ -8,6 +8,7 @@ pub mod ValuePlaces
 pub mod TagParts
 pub mod ValueReads
 pub mod NameReads
+pub mod PlainNames
 pub mod Kept
 pub mod TagBodies
 pub mod Faults

@@ -1,5 +1,5 @@
 -- Names as they are read.
-use Rattle.std.proofs.Common.{◌≡◌, ℕ, ◌+◌, ◌≤◌, ◌<◌, Bool, true, false, cond, ◌&&◌, ◌||◌, List, [], ◌∷◌, map, refl, ap₂, arith}
+use Rattle.std.proofs.Common.{◌≡◌, ℕ, Bool, true, false, ◌||◌, List, [], ◌∷◌, map, refl, ap₂, arith}
 use Rattle.std.specs.Char.{to_ascii_lowercase}
 use Rattle.hm_base.specs.Bytes.{lower, some_passes}
 use Rattle.hm_tag_scan.specs.Reading.{is_capital}
@@ -12,7 +12,7 @@ pub lowercase_is : (s : List ℕ) → map to_ascii_lowercase s ≡ map lower s
 lowercase_is [] = refl
 lowercase_is (c ∷ s) = ap₂ (λ d r. d ∷ r) (lower_is c) (lowercase_is s)
 
-lower_same : (c : ℕ) → is_capital c ≡ false → lower c ≡ c
+pub lower_same : (c : ℕ) → is_capital c ≡ false → lower c ≡ c
 unfolding is_capital lower
 lower_same c h = rw h refl
 

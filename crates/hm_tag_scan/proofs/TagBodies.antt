@@ -1,5 +1,5 @@
 -- A tag that is read part by part.
-use Rattle.std.proofs.Common.{◌≡◌, ℕ, ◌+◌, ◌-◌, ◌<◌, ◌≤◌, Bool, true, false, List, [], ◌∷◌, ◌++◌, length, drop, slice_range, Option, Some, None, refl, ap, sym, ◌∙◌, arith, length-append, append-nil}
+use Rattle.std.proofs.Common.{◌≡◌, ℕ, ◌<◌, ◌≤◌, Bool, List, [], ◌∷◌, ◌++◌, length, drop, Option, None, refl, ap, sym, ◌∙◌, arith, length-append, append-nil}
 use Rattle.std.specs.Str.{IsCharBoundary}
 use Rattle.hm_base.specs.Walks.{Attribute}
 use Rattle.hm_refs.specs.Names.{Entry}
@@ -12,11 +12,11 @@ use Rattle.hm_tag_scan.proofs.Written.{with_attributes}
 use Rattle.hm_tag_scan.proofs.WrittenTags.{with_all}
 
 -- up to a place the tag whose name ends at from was read
-pub record IsReadTo (t : List Entry) (keeps : Bool) (s : List ℕ) (from at : ℕ) (c : Collected) : Type 0 where
+pub record IsReadTo (t : List Entry) (keeps : Bool) (s : List ℕ) (from at : ℕ) (attrs : List Attribute) (c : Collected) : Type 0 where
   pub written : List Attribute
   pub cut : cut_tag (drop from s) ≡ with_attributes written (cut_tag (drop at s))
   pub kept : c.keeps ≡ keeps
-  pub collected : IsCollected t written c
+  pub collected : IsCollected t written c attrs
   pub few : length written ≤ at
   pub forward : from ≤ at
   pub boundary : IsCharBoundary s at
@@ -25,16 +25,16 @@ with_push : (written : List Attribute) (a : Attribute) (o : Option Tag) → with
 with_push [] a o = refl
 with_push (b ∷ written) a o = ap (with_attribute b) (with_push written a o)
 
-pub read_cut : (t : List Entry) (keeps : Bool) (s : List ℕ) (from at : ℕ) (c : Collected) → IsReadTo t keeps s from at c → cut_tag (drop at s) ≡ None → cut_tag (drop from s) ≡ None
-read_cut t keeps s from at c r none = r.cut ∙ ap (with_attributes r.written) none ∙ all_none r.written
+pub read_cut : (t : List Entry) (keeps : Bool) (s : List ℕ) (from at : ℕ) (attrs : List Attribute) (c : Collected) → IsReadTo t keeps s from at attrs c → cut_tag (drop at s) ≡ None → cut_tag (drop from s) ≡ None
+read_cut t keeps s from at attrs c r none = r.cut ∙ ap (with_attributes r.written) none ∙ all_none r.written
   where
     all_none : (written : List Attribute) → with_attributes written None ≡ None
     all_none [] = refl
     all_none (a ∷ written) = ap (with_attribute a) (all_none written)
 
-pub read_end : (t : List Entry) (keeps : Bool) (s : List ℕ) (from at behind : ℕ) (slash : Bool) (c : Collected) → IsReadTo t keeps s from at c → IsTagEnd s at slash behind
-    → IsTagBody t keeps s from (record { collected = c; slash = slash; behind = behind })
-read_end t keeps s from at behind slash c r e =
+pub read_end : (t : List Entry) (keeps : Bool) (s : List ℕ) (from at behind : ℕ) (slash : Bool) (attrs : List Attribute) (c : Collected) → IsReadTo t keeps s from at attrs c → IsTagEnd s at slash behind
+    → IsTagBody t keeps s from attrs (record { collected = c; slash = slash; behind = behind })
+read_end t keeps s from at behind slash attrs c r e =
     let low : from ≤ at = r.forward in
     let next : at < behind = e.forward in
     record {
@@ -48,9 +48,9 @@ read_end t keeps s from at behind slash c r e =
       boundary = e.rest;
     }
 
-pub read_more : (t : List Entry) (keeps : Bool) (s : List ℕ) (from at start : ℕ) (a : places.Attribute) (old new : Collected) → IsReadTo t keeps s from at old → IsPair s at start a → new.keeps ≡ old.keeps
-    → ((written : List Attribute) → IsCollected t written old → IsCollected t (written ++ written_in s start a ∷ []) new) → IsReadTo t keeps s from a.value.behind new
-read_more t keeps s from at start a old new r p same takes =
+pub read_more : (t : List Entry) (keeps : Bool) (s : List ℕ) (from at start : ℕ) (a : places.Attribute) (before after : List Attribute) (old new : Collected) → IsReadTo t keeps s from at before old → IsPair s at start a → new.keeps ≡ old.keeps
+    → ((written : List Attribute) → IsCollected t written old before → IsCollected t (written ++ written_in s start a ∷ []) new after) → IsReadTo t keeps s from a.value.behind after new
+read_more t keeps s from at start a before after old new r p same takes =
     let low : from ≤ at = r.forward in
     let next : at ≤ start = p.forward in
     let name : start < a.name_to = p.is.forward in

@@ -13,21 +13,21 @@ use Rattle.hm_tag_scan.specs.declared.tag_body.TagBody.{TagBody}
 abbrev pub added : List Attribute → Attribute → List Attribute
 added attributes a = if has_name a.name attributes then attributes else attributes ++ a ∷ []
 
--- these attributes, as they are written, were taken
-pub record IsCollected (t : List Entry) (written : List Attribute) (c : Collected) : Type 0 where
+-- these attributes, as they are written, were taken, and of them the first of each name are kept
+pub record IsCollected (t : List Entry) (written : List Attribute) (c : Collected) (attrs : List Attribute) : Type 0 where
   pub count : c.count ≡ length written
   pub bad : c.has_bad_name ≡ has_bad_name written
-  pub few : length c.attrs ≤ c.count
-  pub read : c.keeps ≡ true → has_bad_name written ≡ false → length written ≤ attribute_limit → c.attrs ≡ read_attributes t written
+  pub few : length attrs ≤ c.count
+  pub read : c.keeps ≡ true → has_bad_name written ≡ false → length written ≤ attribute_limit → attrs ≡ read_attributes t written
 
--- the tag whose name ends at a place
-pub record IsTagBody (t : List Entry) (keeps : Bool) (s : List ℕ) (from : ℕ) (b : TagBody) : Type 0 where
+-- the tag whose name ends at a place, with the attributes that are kept
+pub record IsTagBody (t : List Entry) (keeps : Bool) (s : List ℕ) (from : ℕ) (attrs : List Attribute) (b : TagBody) : Type 0 where
   pub tag : Tag
   pub is : cut_tag (drop from s) ≡ Some tag
   pub slash : b.slash ≡ tag.slash
   pub rest : drop b.behind s ≡ tag.rest
   pub kept : b.collected.keeps ≡ keeps
-  pub collected : IsCollected t tag.attributes b.collected
+  pub collected : IsCollected t tag.attributes b.collected attrs
   pub forward : from < b.behind
   pub boundary : IsCharBoundary s b.behind
 

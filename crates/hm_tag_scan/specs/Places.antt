@@ -1,11 +1,12 @@
 -- Places in a text at which parts of it end.
-use Rattle.std.specs.Prelude.{◌≡◌, ℕ, ◌+◌, ◌≤◌, ◌<◌, Bool, ◌||◌, ◌==◌, List, drop, slice_index, slice_range, IsCharBoundary}
-use Rattle.hm_base.specs.Bytes.{Cut, is_space}
+use Rattle.std.specs.Prelude.{◌≡◌, ℕ, ◌+◌, ◌≤◌, ◌<◌, Bool, ◌||◌, true, ◌==◌, List, map, drop, slice_index, slice_range, IsCharBoundary}
+use Rattle.hm_base.specs.Bytes.{Cut, is_space, lower}
+use Rattle.hm_base.specs.Forms.{is_tag_byte, is_tag_name}
 use Rattle.hm_tag_scan.specs.Tags.{is_name_byte, is_later_byte, is_unquoted_byte, attribute_at}
 use Rattle.hm_tag_scan.specs.declared.attribute.Attribute.{Attribute}
 use Rattle.hm_tag_scan.specs.declared.attribute.Value.{Value}
 use Rattle.hm_tag_scan.specs.declared.runs.Run.{Run}
-use Rattle.hm_tag_scan.specs.declared.runs.Run.TheVariants.{Space, Gap, TagName, AttributeName, Unquoted}
+use Rattle.hm_tag_scan.specs.declared.runs.Run.TheVariants.{Space, Gap, TagName, PlainName, AttributeName, Unquoted}
 
 -- whitespace or '/'
 unfoldable pub is_gap_byte : ℕ → Bool
@@ -16,8 +17,14 @@ abbrev pub test_of : Run → ℕ → Bool
 test_of Space = is_space
 test_of Gap = is_gap_byte
 test_of TagName = is_name_byte
+test_of PlainName = is_tag_byte
 test_of AttributeName = is_later_byte
 test_of Unquoted = is_unquoted_byte
+
+-- the name of an element that is read, and as it is written
+pub record IsPlainName (name : List ℕ) : Type 0 where
+  pub is : is_tag_name name ≡ true
+  pub lowered : map lower name ≡ name
 
 -- a cut of the rest of the text: what is before it stands between two places, and what is behind it begins at a third
 pub record IsCutAt (k : Cut) (s : List ℕ) (v : Value) : Type 0 where

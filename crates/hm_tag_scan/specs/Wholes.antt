@@ -1,11 +1,12 @@
 -- A tag with its name.
-use Rattle.std.specs.Prelude.{◌≡◌, ℕ, ◌<◌, Bool, true, List, drop, Option, Some, None, IsCharBoundary}
+use Rattle.std.specs.Prelude.{◌≡◌, ℕ, ◌<◌, Bool, true, List, drop, Option, Some, None, string_bytes, IsCharBoundary}
 use Rattle.hm_base.specs.Bytes.{behind}
 use Rattle.hm_refs.specs.Names.{Entry}
 use Rattle.hm_tree.specs.declared.tokens.ScanFault.{ScanFault}
 use Rattle.hm_tree.specs.declared.tokens.ScanFault.TheVariants as faults
 use Rattle.hm_tag_scan.specs.Tags.{Tag, is_name_byte, cut_tag}
 use Rattle.hm_tag_scan.specs.Reading.{tag_name, tag_fault, read_attributes}
+use Rattle.hm_tree.specs.declared.tokens.Tag as places
 use Rattle.hm_tag_scan.specs.declared.scan.Whole.{Whole}
 
 abbrev pub fault_by : List ℕ → Option Tag → Option ScanFault
@@ -16,13 +17,13 @@ fault_by name (Some g) = tag_fault name g.attributes
 abbrev pub fault_at : List ℕ → Option ScanFault
 fault_at s = fault_by (tag_name s) (cut_tag (behind is_name_byte s))
 
--- the tag whose name begins at a place, with its attributes where they are wanted
-pub record IsWhole (t : List Entry) (keeps : Bool) (s : List ℕ) (from : ℕ) (w : Whole) : Type 0 where
+-- the tag whose name begins at a place, with its name and, where they are wanted, its attributes in a place of their own
+pub record IsWhole (t : List Entry) (keeps : Bool) (s : List ℕ) (from : ℕ) (read : places.Tag) (w : Whole) : Type 0 where
   pub accepted : fault_at (drop from s) ≡ None
-  pub name : w.name ≡ tag_name (drop from s)
+  pub name : string_bytes read.name ≡ tag_name (drop from s)
   pub tag : Tag
   pub cut : cut_tag (behind is_name_byte (drop from s)) ≡ Some tag
-  pub attrs : keeps ≡ true → w.attrs ≡ read_attributes t tag.attributes
+  pub attrs : keeps ≡ true → read.attrs ≡ read_attributes t tag.attributes
   pub slash : w.slash ≡ tag.slash
   pub rest : drop w.behind s ≡ tag.rest
   pub forward : from < w.behind

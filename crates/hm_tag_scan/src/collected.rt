@@ -11,25 +11,23 @@ use hm_refs::Table;
 use hm_tree::Attrs;
 use std::alloc::Global;
 
-/// How many attributes were written, whether one of them has a name that isn't read, and the first attribute of each
-/// name, unless the tag is refused anyway. An end tag keeps none.
-#[derive(Drop)]
+/// How many attributes were written, and whether one of them has a name that isn't read. The first attribute of each
+/// name is kept beside it, unless the tag is refused anyway. An end tag keeps none.
+#[derive(Clone, Copy)]
 pub(crate) struct Collected {
     pub(crate) keeps: bool,
     pub(crate) count: u32,
     pub(crate) has_bad_name: bool,
-    pub(crate) attrs: Attrs,
 }
 
 impl Collected {
-    pub(crate) fn new(alloc: Global, keeps: bool) -> Collected
-        ensures { result ≡ record { keeps = keeps; count = 0; has_bad_name = false; attrs = [] } }
+    pub(crate) fn new(keeps: bool) -> Collected
+        ensures { result ≡ record { keeps = keeps; count = 0; has_bad_name = false } }
     {
         Collected {
             keeps,
             count: 0,
             has_bad_name: false,
-            attrs: Attrs::new(alloc),
         }
     }
 
@@ -48,18 +46,19 @@ impl Collected {
         name: &str,
         value: &str,
         table: &Table,
+        attrs: &mut Attrs,
     ) -> Result<(), Memory>
         requires room { self.old.count + 1 < 2 ^ 32 }
-        requires few { length self.old.attrs ≤ self.old.count }
+        requires few { length attrs.old ≤ self.old.count }
         ensures taken { OnOk result
-            ((written : List Attribute) → IsCollected table.now.entries written self.old
-            → IsCollected table.now.entries (written ++ record { name = name.now; value = value.now } ∷ []) self.new) }
+            ((written : List Attribute) → IsCollected table.now.entries written self.old attrs.old
+            → IsCollected table.now.entries (written ++ record { name = name.now; value = value.now } ∷ []) self.new attrs.new) }
         ensures keeps { self.new.keeps ≡ self.old.keeps }
     {
         self.count += 1;
         self.has_bad_name = self.has_bad_name || is_bad_name(name.as_bytes());
         if self.wants() {
-            keep(&mut self.attrs, alloc, name, value, table)?;
+            keep(attrs, alloc, name, value, table)?;
         }
         Ok(())
     }

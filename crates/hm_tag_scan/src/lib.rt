@@ -15,4 +15,4 @@ mod tests;
 mod values;
 
 pub use begins::begins_tag;
-pub use scan::scan_tag;
+pub use scan::{scan_tag, scan_tag_into};

@@ -1,19 +1,43 @@
 //! Names of tags and attributes.
-ghost use Rattle.std.specs.Prelude.{◌≡◌, map, string_bytes, IfOk};
+ghost use Rattle.std.specs.Prelude.{◌≡◌, map, string_bytes, true, IfOk, OnOk};
 ghost use Rattle.hm_base.specs.Bytes.{lower, all_pass, some_passes, is_digit};
 ghost use Rattle.hm_base.specs.Forms as forms;
+ghost use Rattle.hm_tag_scan.specs.Places.{IsPlainName};
 ghost use Rattle.hm_tag_scan.specs.Reading as reading;
 
 use hm_base::Memory;
 use std::alloc::Global;
 
-/// The name with its ASCII capitals as small letters.
+/// Puts the name with its ASCII capitals as small letters in place of a text.
 #[tactic(auto, using(crate::proofs::NameReads::lowercase_is))]
+pub(crate) fn put_lowered(text: &mut String, name: &str) -> Result<(), Memory>
+    ensures { OnOk result (string_bytes text.new ≡ map lower name.now) }
+{
+    text.clear();
+    text.push_str(name)?;
+    text.make_ascii_lowercase();
+    Ok(())
+}
+
+/// Puts the name as it is read in place of a text; `plain` tells that it is read as it is written.
+pub(crate) fn put_name(text: &mut String, name: &str, plain: bool) -> Result<(), Memory>
+    requires { plain ≡ true → IsPlainName name.now }
+    ensures { OnOk result (string_bytes text.new ≡ map lower name.now) }
+{
+    if !plain {
+        return put_lowered(text, name);
+    }
+    text.clear();
+    text.push_str(name)?;
+    Ok(())
+}
+
+/// The name with its ASCII capitals as small letters.
 pub(crate) fn lowered(alloc: Global, name: &str) -> Result<String, Memory>
     ensures { IfOk result (λ text. string_bytes text ≡ map lower name.now) }
 {
-    let mut text = String::from_str(alloc, name)?;
-    text.make_ascii_lowercase();
+    let mut text = String::new(alloc);
+    put_lowered(&mut text, name)?;
     Ok(text)
 }
 
@@ -39,7 +63,7 @@ pub(crate) fn has_capital(name: &[u8]) -> bool
 
 /// Whether the byte is an ASCII small letter.
 #[tactic(auto, unfolding(hm_base::specs::Forms::is_small))]
-fn is_small(byte: u8) -> bool
+pub(crate) fn is_small(byte: u8) -> bool
     ensures { result ≡ forms.is_small byte }
 {
     byte >= b'a' && byte <= b'z'
@@ -55,7 +79,7 @@ fn is_digit(byte: u8) -> bool
 
 /// Whether the byte may stand in the name of an element.
 #[tactic(auto, unfolding(hm_base::specs::Forms::is_tag_byte))]
-fn is_tag_byte(byte: u8) -> bool
+pub(crate) fn is_tag_byte(byte: u8) -> bool
     ensures { result ≡ forms.is_tag_byte byte }
 {
     is_small(byte) || is_digit(byte) || byte == b'.' || byte == b'_' || byte == b':' || byte == b'-'

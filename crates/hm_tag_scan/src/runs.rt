@@ -4,6 +4,8 @@ ghost use Rattle.hm_base.specs.Bytes as bytes;
 ghost use Rattle.hm_refs.specs.Reads.{IsEndOf};
 ghost use Rattle.hm_tag_scan.specs.Places.{test_of};
 
+use crate::names::is_tag_byte;
+
 /// The bytes that a run is made of.
 #[derive(Clone, Copy)]
 pub(crate) enum Run {
@@ -13,6 +15,8 @@ pub(crate) enum Run {
     Gap,
     /// Neither whitespace nor `/` nor `>`.
     TagName,
+    /// Small letters, digits, `.`, `_`, `:` and `-`.
+    PlainName,
     /// Neither whitespace nor `/`, `>` or `=`.
     AttributeName,
     /// Neither whitespace nor `>`.
@@ -21,13 +25,14 @@ pub(crate) enum Run {
 
 impl Run {
     #[tactic(auto, unfolding(crate::specs::Places::is_gap_byte, crate::specs::Tags::is_name_byte, crate::specs::Tags::is_later_byte, crate::specs::Tags::is_unquoted_byte, hm_base::specs::RawText::is_name_end))]
-    fn has(self, byte: u8) -> bool
+    pub(crate) fn has(self, byte: u8) -> bool
         ensures { result ≡ test_of self byte }
     {
         match self {
             Run::Space => is_space(byte),
             Run::Gap => is_space(byte) || byte == b'/',
             Run::TagName => !(is_space(byte) || byte == b'/' || byte == b'>'),
+            Run::PlainName => is_tag_byte(byte),
             Run::AttributeName => {
                 !(is_space(byte) || byte == b'/' || byte == b'>' || byte == b'=')
             }

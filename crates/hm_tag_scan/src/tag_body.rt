@@ -5,32 +5,36 @@ ghost use Rattle.hm_tag_scan.specs.Collected.{HasNoBody, IsTagBody};
 use crate::collected::Collected;
 use crate::parts::{Part, next_part};
 use hm_refs::Table;
-use hm_tree::ScanFault;
+use hm_tree::{Attrs, ScanFault};
 use std::alloc::Global;
 
-/// The attributes of a tag, whether a `/` stands directly before its `>`, and where what is behind it begins.
-#[derive(Drop)]
+/// What was seen of a tag's attributes, whether a `/` stands directly before its `>`, and where what is behind it
+/// begins.
+#[derive(Clone, Copy)]
 pub(crate) struct TagBody {
     pub(crate) collected: Collected,
     pub(crate) slash: bool,
     pub(crate) behind: usize,
 }
 
-/// Reads the tag whose name ends at `from`; `keeps` tells whether its attributes are wanted.
+/// Reads the tag whose name ends at `from`; `keeps` tells whether its attributes are wanted. They are put into `attrs`,
+/// in place of what was there.
 pub(crate) fn read_body(
     alloc: Global,
     text: &str,
     from: usize,
     table: &Table,
     keeps: bool,
+    attrs: &mut Attrs,
 ) -> Result<TagBody, ScanFault>
     requires boundary { IsCharBoundary text.now from }
     requires size { length text.now < 2 ^ 32 }
-    ensures ok { IfOk result (IsTagBody table.now.entries keeps text.now from) }
+    ensures ok { IfOk result (IsTagBody table.now.entries keeps text.now from attrs.new) }
     ensures err { IfErr result (HasNoBody text.now from) }
 {
     let bytes = text.as_bytes();
-    let mut collected = Collected::new(alloc, keeps);
+    attrs.clear();
+    let mut collected = Collected::new(keeps);
     let mut at = from;
     loop {
         match next_part(bytes, at) {
@@ -48,7 +52,7 @@ pub(crate) fn read_body(
             } => {
                 let name = &text[start..attribute.name_to];
                 let value = &text[attribute.value.from..attribute.value.to];
-                collected.take(alloc, name, value, table)?;
+                collected.take(alloc, name, value, table, attrs)?;
                 at = attribute.value.behind;
             }
         }

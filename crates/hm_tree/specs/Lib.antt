@@ -1,5 +1,6 @@
 pub mod Attributes
 pub mod Dump
+pub mod Lexemes
 pub mod Pairs
 pub mod Pieces
 pub mod Rows

@@ -124,6 +124,15 @@ impl Attrs {
         Ok(true)
     }
 
+    /// Takes all attributes away. The memory of their texts is kept for others.
+    pub fn clear(&mut self)
+        ensures { self.new ≡ [] }
+    {
+        self.text.clear();
+        self.pairs.clear();
+        self.index = None;
+    }
+
     // Whether an attribute has this name.
     fn has(&self, name: &str) -> bool
         ensures { result ≡ has_name name.now self.now }

@@ -16,7 +16,7 @@ pub use attrs::Attrs;
 pub use attrs_view::AttrsView;
 pub use events::EventView;
 pub use maker::Maker;
-pub use tokens::{ScanFault, Spanned, Token};
+pub use tokens::{Lexeme, Placed, ScanFault, Spanned, Tag, Token};
 pub use tree::Tree;
 
 #[cfg(test)]

@@ -5,7 +5,7 @@ ghost use Rattle.hm_base.specs.Walks.{attributes_size, path_after, walk_size};
 ghost use Rattle.hm_tree.specs.Trees.{last_agrees};
 
 use super::*;
-use hm_base::Memory;
+use hm_base::{Memory, Word};
 use std::alloc::{AllocError, AllocFailed, Global};
 use std::test::Fail;
 
@@ -276,6 +276,33 @@ fn a_name_once(rt: HostRuntime) -> Result<(), Fail> {
     assert_eq!(rt; attrs.len(), 2);
     assert_eq!(rt; attrs.at(0), ("id", "x"));
     assert_eq!(rt; attrs.at(1), ("class", ""));
+    attrs.clear();
+    assert_eq!(rt; attrs.len(), 0);
+    Ok(())
+}
+
+#[test]
+fn a_tag_in_its_place(rt: HostRuntime) -> Result<(), Fail> {
+    let alloc = rt.alloc();
+    let mut tag = Tag::new(alloc);
+    let name = Word {
+        text: String::from_str(alloc, "br")?,
+    };
+    let token = Token::StartTag {
+        name,
+        attrs: Attrs::new(alloc),
+        slash: true,
+    };
+    let lexeme = Lexeme::of(token, &mut tag);
+    let placed = Placed {
+        lexeme,
+        from: 3,
+        to: 8,
+    };
+    assert_eq!(rt; tag.name.as_str(), "br");
+    let spanned = placed.spanned(tag);
+    assert_eq!(rt; (spanned.from, spanned.to), (3, 8));
+    assert!(rt; matches!(&spanned.token, Token::StartTag { slash: true, .. }));
     Ok(())
 }
 

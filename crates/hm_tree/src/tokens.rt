@@ -1,7 +1,10 @@
 //! Tokens and the faults of scans.
+ghost use Rattle.std.specs.Prelude.{◌≡◌};
+ghost use Rattle.hm_tree.specs.Lexemes.{spanned_of, token_of};
+
 use crate::Attrs;
 use hm_base::{Memory, Points, Word};
-use std::alloc::{AllocError, AllocFailed};
+use std::alloc::{AllocError, AllocFailed, Global};
 use thiserror::Error;
 
 /// A token of the tokenization stage, 13.2.5 of the HTML Standard.
@@ -40,6 +43,101 @@ pub struct Spanned {
     pub token: Token,
     pub from: u32,
     pub to: u32,
+}
+
+/// The name and the attributes of a tag: a place that is used again for tag after tag.
+#[derive(Debug, Drop)]
+pub struct Tag {
+    pub name: String,
+    pub attrs: Attrs,
+}
+
+impl Tag {
+    /// A place without name and attributes. It allocates nothing until a tag is put there.
+    pub fn new(alloc: Global) -> Tag {
+        Tag {
+            name: String::new(alloc),
+            attrs: Attrs::new(alloc),
+        }
+    }
+}
+
+/// A token whose name and attributes, where it is a tag, stand in a [`Tag`].
+#[derive(Clone, Copy, Debug)]
+pub enum Lexeme {
+    Doctype { legacy: bool },
+    StartTag { slash: bool },
+    EndTag,
+    /// The bytes from `from` up to `to` of the source text.
+    Slice { from: u32, to: u32 },
+    /// What a character reference stands for.
+    Points { points: Points },
+    /// A comment whose text is the bytes from `from` up to `to` of the source text.
+    Comment { from: u32, to: u32 },
+}
+
+impl Lexeme {
+    /// A token, of which a tag's name and attributes are put into `tag`; of any other the place stays as it is.
+    pub fn of(token: Token, tag: &mut Tag) -> Lexeme
+        ensures { token_of result tag.new ≡ token }
+    {
+        match token {
+            Token::Doctype { legacy } => Lexeme::Doctype { legacy },
+            Token::StartTag { name, attrs, slash } => {
+                tag.name = name.text;
+                tag.attrs = attrs;
+                Lexeme::StartTag { slash }
+            }
+            Token::EndTag { name } => {
+                tag.name = name.text;
+                Lexeme::EndTag
+            }
+            Token::Slice { from, to } => Lexeme::Slice { from, to },
+            Token::Points { points } => Lexeme::Points { points },
+            Token::Comment { from, to } => Lexeme::Comment { from, to },
+        }
+    }
+
+    /// The token, of which a tag takes its name and its attributes over.
+    pub fn token(self, tag: Tag) -> Token
+        ensures { result ≡ token_of self tag }
+    {
+        match self {
+            Lexeme::Doctype { legacy } => Token::Doctype { legacy },
+            Lexeme::StartTag { slash } => Token::StartTag {
+                name: Word { text: tag.name },
+                attrs: tag.attrs,
+                slash,
+            },
+            Lexeme::EndTag => Token::EndTag {
+                name: Word { text: tag.name },
+            },
+            Lexeme::Slice { from, to } => Token::Slice { from, to },
+            Lexeme::Points { points } => Token::Points { points },
+            Lexeme::Comment { from, to } => Token::Comment { from, to },
+        }
+    }
+}
+
+/// A token whose tag stands in a [`Tag`], with the bytes of the source text that it was read from.
+#[derive(Clone, Copy, Debug)]
+pub struct Placed {
+    pub lexeme: Lexeme,
+    pub from: u32,
+    pub to: u32,
+}
+
+impl Placed {
+    /// The token with its bytes, of which a tag takes its name and its attributes over.
+    pub fn spanned(self, tag: Tag) -> Spanned
+        ensures { result ≡ spanned_of self tag }
+    {
+        Spanned {
+            token: self.lexeme.token(tag),
+            from: self.from,
+            to: self.to,
+        }
+    }
 }
 
 /// Why a construct isn't read.

@@ -9,4 +9,4 @@ pub start_made-requires : goal.start_made-requires
 start_made-requires c =
     let w = c.args.maker.now in
     let closed = map end_event (take c.args.moves.closes (path_after [] w)) in
-    rw c.in_ok-end_elements.ensures (room_made w closed (starts (elements_of c.args.moves.made)) (start c.args.name.now c.args.foreign c.args.attrs ∷ []) c.requires.room)
+    rw c.in_ok-end_elements.ensures (room_made w closed (starts (elements_of c.args.moves.made)) (start c.args.name.now c.args.foreign c.args.attrs.now ∷ []) c.requires.room)

@@ -8,4 +8,4 @@ returns-in_err-whole-clause-err c =
     rw (p.1, p.2) (λ never. start_refused c.args.table.now.entries _ c.in_err-whole.field-0.0 (c.in_err-whole.ensures.err never))
 
 pub returns-clause-ok : goal.returns-clause-ok
-returns-clause-ok c = start_is c.args.table.now.entries c.args.text.now c.args.from c.in_ok-whole.whole c.in_ok-whole.ensures.ok
+returns-clause-ok c = start_is c.args.table.now.entries c.args.text.now c.args.from c.read_whole.new.tag c.in_ok-whole.whole c.in_ok-whole.ensures.ok

@@ -10,4 +10,4 @@ open_body_here-requires-clause-unbegun c =
 pub returns-then-has_begun : goal.returns-then-has_begun
 returns-then-has_begun c =
     let p = c.args.self.now in
-    rw c.from.ensures (body_refused p.maker p.path p.drops_line_feed p.behind_body p.behind_html c.args.attrs p.insertion_mode (sym c.has_begun.ensures ∙ c.if-has_begun.true) c.requires.not_text)
+    rw c.from.ensures (body_refused p.maker p.path p.drops_line_feed p.behind_body p.behind_html c.args.attrs.now p.insertion_mode (sym c.has_begun.ensures ∙ c.if-has_begun.true) c.requires.not_text)

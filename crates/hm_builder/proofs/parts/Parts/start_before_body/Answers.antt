@@ -13,7 +13,7 @@ pub start_in_noscript-requires-clause-room : goal.start_in_noscript-requires-cla
 start_in_noscript-requires-clause-room c =
     let p = c.args.self.now in
     let alone = noscript_alone p.insertion_mode p.path c.in-InHead.noscript c.in-InHead.text c.in-InHead.is c.if-noscript.true c.requires.not_text in
-    subst (λ s. Fits s p.maker) (noscript_step p c.args.name.now c.args.attrs c.args.slash alone) c.requires.room
+    subst (λ s. Fits s p.maker) (noscript_step p c.args.name.now c.args.attrs.now c.args.slash alone) c.requires.room
 
 pub start_in_head-requires-clause-takes : goal.start_in_head-requires-clause-takes
 start_in_head-requires-clause-takes c =
@@ -24,4 +24,4 @@ returns-then-noscript c =
     let p = c.args.self.now in
     let alone = noscript_alone p.insertion_mode p.path c.in-InHead.noscript c.in-InHead.text c.in-InHead.is c.if-noscript.true c.requires.not_text in
     subst (λ (s : Stepped). Takes s c.start_in_noscript.result p c.start_in_noscript.new.self)
-    (sym (noscript_step p c.args.name.now c.args.attrs c.args.slash alone)) c.start_in_noscript.ensures
+    (sym (noscript_step p c.args.name.now c.args.attrs.now c.args.slash alone)) c.start_in_noscript.ensures

@@ -1,4 +1,4 @@
-use Rattle.std.proofs.Common.{◌≡◌, ◌||◌, true, false, cond, sym, ap, ◌∙◌, refl}
+use Rattle.std.proofs.Common.{◌≡◌, ◌||◌, sym, ◌∙◌, refl}
 use Rattle.hm_tag_scan.specs.Reading as reading
 use Rattle.hm_tag_scan.proofs.Kept.{collected_more}
 use Rattle.hm_tag_scan.proofs.collected.Collected.take.Goals as goal
@@ -11,7 +11,7 @@ returns-in_ok-keep-clause-taken c =
       | then-self w ↦ rw w.if-self.true (w.self-is ∙ w.if-self.true)
       | else-self w ↦ rw (w.if-self.false, ← w.as_bytes.ensures.value) (w.self-is ∙ w.is_bad_name-self.ensures)
     ] in
-    λ written old. collected_more c.args.table.now.entries written (record { name = c.args.name.now; value = c.args.value.now }) c.args.self.now _ old (record {
+    λ written old. collected_more c.args.table.now.entries written (record { name = c.args.name.now; value = c.args.value.now }) c.args.self.now c.args.attrs.now _ _ old (record {
       keeps = refl;
       count = refl;
       bad = bad;
@@ -25,7 +25,7 @@ returns-else-wants-clause-taken c =
       | then-self w ↦ rw w.if-self.true (w.self-is ∙ w.if-self.true)
       | else-self w ↦ rw (w.if-self.false, ← w.as_bytes.ensures.value) (w.self-is ∙ w.is_bad_name-self.ensures)
     ] in
-    λ written old. collected_more c.args.table.now.entries written (record { name = c.args.name.now; value = c.args.value.now }) c.args.self.now _ old (record {
+    λ written old. collected_more c.args.table.now.entries written (record { name = c.args.name.now; value = c.args.value.now }) c.args.self.now c.args.attrs.now _ _ old (record {
       keeps = refl;
       count = refl;
       bad = bad;

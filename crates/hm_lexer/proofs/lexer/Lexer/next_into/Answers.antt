@@ -1,10 +1,11 @@
 use Rattle.std.proofs.Common.{◌≡◌, ◌<◌, ◌≤◌, length, refl, sym, ap, subst, ◌∙◌, arith}
+use Rattle.hm_tree.specs.Lexemes.{token_of}
 use Rattle.hm_lexer.specs.Modes.{mode_of}
 use Rattle.hm_base.specs.Source.{place_in}
 use Rattle.hm_lexer.specs.Reading.{Reading, Refuses, IsTaken, text_of}
 use Rattle.hm_lexer.specs.Steps.{IsBehind, refusal_of}
 use Rattle.hm_lexer.proofs.Nexts.{next_ends, next_taken, next_refused}
-use Rattle.hm_lexer.proofs.lexer.Lexer.next.Goals as goal
+use Rattle.hm_lexer.proofs.lexer.Lexer.next_into.Goals as goal
 
 pub returns-then-from-text-clause-ok : goal.returns-then-from-text-clause-ok
 returns-then-from-text-clause-ok c =
@@ -21,8 +22,8 @@ returns-in-Ok-clause-ok c =
     let high : c.token_start-from.result ≤ length (text_of c.args.self.now) = b.boundary.0 in
     let low : c.token_start-from.result < length (text_of c.args.self.now) = omega (arith, c.if-from-text.false) in
     let moved : record c.args.self.now { at = c.in-Ok.to } ≡ c.advance.new.self = sym (c.advance.ensures ∙ ap (λ (r : Reading). record r { at = c.in-Ok.to }) c.in-Ok.ensures.same) in
-    subst (λ (r : Reading). IsTaken c.args.self.now (mode_of c.args.mode) (record { token = c.in-Ok.token; from = c.token_start-from.result; to = c.in-Ok.to }) r) moved
-    (next_taken c.args.self.now (mode_of c.args.mode) c.in-Ok.token c.token_start-from.result c.in-Ok.to b low c.in-Ok.ensures.forward c.in-Ok.ensures.ok c.in-Ok.ensures.placed)
+    subst (λ (r : Reading). IsTaken c.args.self.now (mode_of c.args.mode) (record { token = token_of c.in-Ok.lexeme c.scan.new.tag; from = c.token_start-from.result; to = c.in-Ok.to }) r) moved
+    (next_taken c.args.self.now (mode_of c.args.mode) (token_of c.in-Ok.lexeme c.scan.new.tag) c.token_start-from.result c.in-Ok.to b low c.in-Ok.ensures.forward c.in-Ok.ensures.ok c.in-Ok.ensures.placed)
 
 pub returns-in-Err-clause-err : goal.returns-in-Err-clause-err
 returns-in-Err-clause-err c =

@@ -3,6 +3,7 @@ pub mod Dump
 pub mod Pairs
 pub mod Pieces
 pub mod Rows
+pub mod Sources
 pub mod Tokens
 pub mod Trees
 pub mod Views

@@ -8,6 +8,7 @@ ghost use Rattle.hm_elements.specs.Names.{head};
 ghost use Rattle.hm_elements.specs.Paths.{current_name};
 ghost use Rattle.hm_elements.specs.Settled.{Settled};
 ghost use Rattle.hm_space.specs.Copies.{event_before, may_follow};
+ghost use Rattle.hm_space.specs.Fronts.{spaced_text};
 ghost use Rattle.hm_space.specs.Marks.{IsBefore, kept_count};
 ghost use Rattle.hm_space.specs.Space as space;
 ghost use Rattle.hm_space.specs.Space.{collapsed, collapsed_event, collapsed_text, trimmed};
@@ -17,7 +18,7 @@ ghost use Rattle.hm_tree.specs.Views.{event_of};
 
 use crate::copy::put;
 use crate::names::keeps_space;
-use crate::spaces::{push_spaced, without_leading, without_trailing};
+use crate::spaces::{push_spaced, spaced_front, without_leading, without_trailing};
 use hm_base::Memory;
 use hm_elements::{is_block, is_space_parent, same_name};
 use hm_tree::{EventView, Maker, Tree};
@@ -47,7 +48,6 @@ pub fn collapse(alloc: Global, tree: &Tree, conservative: bool) -> Result<Tree, 
     for i in 0..tree.len() {
         let event = tree.event(i);
         put_collapsed(
-            alloc,
             &mut maker,
             &mut scratch,
             tree,
@@ -138,7 +138,6 @@ fn is_in_head(tree: &Tree, i: u32) -> bool
 
 // Puts what event `i` becomes.
 fn put_collapsed(
-    alloc: Global,
     maker: &mut Maker,
     scratch: &mut String,
     tree: &Tree,
@@ -158,7 +157,7 @@ fn put_collapsed(
             return put_text(maker, scratch, text, tree, i, before.edge, conservative);
         }
     }
-    put(alloc, maker, event)
+    put(maker, event)
 }
 
 // Puts what a text becomes that isn't kept as it is, as event `i`. `edge` tells whether an edge of a
@@ -180,17 +179,39 @@ fn put_text(
     requires last { ends_in_text maker.old ≡ false }
     ensures { OnOk result (maker.new ≡ maker.old ++ collapsed_text conservative (path_after [] (take i tree.now)) (event_before tree.now i) (slice_get tree.now (i + 1)) text.now) }
 {
+    if spaced_front(text.as_bytes()).to == text.len() {
+        return put_spaced(maker, text, tree, i, edge, conservative);
+    }
     scratch.clear();
     push_spaced(scratch, text)?;
+    put_spaced(maker, scratch.as_str(), tree, i, edge, conservative)
+}
+
+// Puts a text whose runs of whitespace are single spaces, as event `i`. `edge` tells whether an edge of a block stands
+// before it.
+fn put_spaced(
+    maker: &mut Maker,
+    text: &str,
+    tree: &Tree,
+    i: u32,
+    edge: bool,
+    conservative: bool,
+) -> Result<(), Memory>
+    requires inside { i < length tree.now }
+    requires edge { edge ≡ space.is_edge (event_before tree.now i) }
+    requires room { HasRoom (maker.old ++ walks.text text.now false ∷ []) }
+    requires some { is_null text.now ≡ false }
+    requires last { ends_in_text maker.old ≡ false }
+    ensures { OnOk result (maker.new ≡ maker.old ++ spaced_text conservative (path_after [] (take i tree.now)) (event_before tree.now i) (slice_get tree.now (i + 1)) text.now) }
+{
     if conservative {
-        maker.text(scratch.as_str(), false)
+        maker.text(text, false)
     } else {
-        put_trimmed(maker, scratch.as_str(), tree, i, edge)
+        put_trimmed(maker, text, tree, i, edge)
     }
 }
 
-// Puts a text whose runs of whitespace are single spaces, as event `i`, as far as it is seen. `edge` tells whether an edge of a
-// block stands before it.
+// The same as far as the text is seen.
 fn put_trimmed(maker: &mut Maker, text: &str, tree: &Tree, i: u32, edge: bool) -> Result<(), Memory>
     requires inside { i < length tree.now }
     requires edge { edge ≡ space.is_edge (event_before tree.now i) }

@@ -1,5 +1,5 @@
 //! The whitespace of one text.
-ghost use Rattle.std.specs.Prelude.{◌≡◌, ◌≤◌, ◌++◌, length, true, false, OnOk, string_bytes};
+ghost use Rattle.std.specs.Prelude.{◌≡◌, ◌≤◌, ◌++◌, length, Bool, true, false, OnOk, string_bytes};
 ghost use Rattle.hm_space.specs.Fronts as fronts;
 ghost use Rattle.hm_space.specs.Fronts.{IsSpacedFront};
 ghost use Rattle.hm_space.specs.Space.{spaced, without_leading, without_trailing};
@@ -63,6 +63,22 @@ pub(crate) fn push_spaced(out: &mut String, text: &str) -> Result<(), Memory>
         }
         rest = behind_space(&rest[front.to + 1..]);
     }
+}
+
+// Whether a space stands in front.
+pub(crate) fn begins_with_space(text: &str) -> bool
+    ensures { (edge : Bool) → result ≡ false → text.now ≡ without_leading edge text.now }
+{
+    let bytes = text.as_bytes();
+    !bytes.is_empty() && bytes[0] == b' '
+}
+
+// Whether a space stands at the end.
+pub(crate) fn ends_with_space(text: &str) -> bool
+    ensures { (edge : Bool) → result ≡ false → text.now ≡ without_trailing edge text.now }
+{
+    let bytes = text.as_bytes();
+    !bytes.is_empty() && bytes[bytes.len() - 1] == b' '
 }
 
 // Without a space in front, where `edge` is set.

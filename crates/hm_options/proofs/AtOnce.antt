@@ -1,6 +1,6 @@
 -- The rewrites that change single events, made at once and made one by one.
 use Rattle.std.proofs.Common.{◌≡◌, ℕ, Bool, true, false, not, ◌&&◌, ◌||◌, List, [], ◌∷◌, ◌++◌, flat_map, map, Option, Some, None, if◌then◌else◌, sym, ap, ◌∙◌, refl}
-use Rattle.std.proofs.lemmas.Bool.{and_parts}
+use Rattle.std.proofs.lemmas.Bool.{and_parts, not-true}
 use Rattle.std.proofs.lemmas.Grind.{flat_map-append}
 use Rattle.std.proofs.lemmas.List.{append-nil, map-append}
 use Rattle.hm_base.specs.Bytes.{is_null}
@@ -176,10 +176,6 @@ all_kept (e ∷ w) = ap (λ v. e ∷ v) (all_kept w)
 
 -- ---- texts that stand apart aren't joined
 
-not_true : (b : Bool) → not b ≡ true → b ≡ false
-not_true true h = absurd (cc)
-not_true false h = refl
-
 text_apart : (s : List ℕ) (raw : Bool) (w : List Event) → begins_text w ≡ false → text_before s raw w ≡ text s raw ∷ w
 text_apart s raw [] h = refl
 text_apart s raw (doctype legacy ∷ w) h = refl
@@ -191,7 +187,7 @@ text_apart s raw (end n foreign ∷ w) h = refl
 pushed_apart : (e : Event) (w : List Event) → is_apart e w ≡ true → pushed e w ≡ e ∷ w
 pushed_apart (doctype legacy) w h = refl
 pushed_apart (start n foreign attributes) w h = refl
-pushed_apart (text s raw) w h = text_apart s raw w (not_true (begins_text w) (and_parts (not (is_null s)) (not (begins_text w)) h).1)
+pushed_apart (text s raw) w h = text_apart s raw w (not-true (begins_text w) (and_parts (not (is_null s)) (not (begins_text w)) h).1)
 pushed_apart (comment s) w h = refl
 pushed_apart (end n foreign) w h = refl
 

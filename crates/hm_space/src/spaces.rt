@@ -1,5 +1,6 @@
 //! The whitespace of one text.
 ghost use Rattle.std.specs.Prelude.{◌≡◌, ◌≤◌, ◌++◌, length, Bool, true, false, OnOk, string_bytes};
+ghost use Rattle.hm_base.specs.Bytes as bytes;
 ghost use Rattle.hm_space.specs.Fronts as fronts;
 ghost use Rattle.hm_space.specs.Fronts.{IsSpacedFront};
 ghost use Rattle.hm_space.specs.Space.{spaced, without_leading, without_trailing};
@@ -14,11 +15,19 @@ pub(crate) struct SpacedFront {
     pub(crate) after: bool,
 }
 
+// Whether a byte is whitespace. Most bytes of a text are greater than a space.
+#[tactic(auto, unfolding(hm_base::specs::Bytes::is_space))]
+fn is_blank(byte: u8) -> bool
+    ensures { result ≡ bytes.is_space byte }
+{
+    byte <= b' ' && is_space(byte as char)
+}
+
 // Whether a byte is whitespace that changes: `after` tells whether whitespace stands directly before.
 fn changes(after: bool, byte: u8) -> bool
     ensures { result ≡ fronts.changes after byte }
 {
-    is_space(byte as char) && (after || byte != b' ')
+    is_blank(byte) && (after || byte != b' ')
 }
 
 // The longest such front.
@@ -28,7 +37,7 @@ pub(crate) fn spaced_front(bytes: &[u8]) -> SpacedFront
     let mut to = 0;
     let mut after = false;
     while to < bytes.len() && !changes(after, bytes[to]) {
-        after = is_space(bytes[to] as char);
+        after = is_blank(bytes[to]);
         to += 1;
     }
     SpacedFront { to, after }

@@ -260,7 +260,7 @@ const TITLE: Kind = Kind {
     ..OTHER
 };
 
-/// The names that the tables list, by their first letter, from `a` to `z`.
+/// The names that the tables list, by their first letter, from `a` to `z`; those that pages have most come first.
 static KNOWN: [&[Known]; 26] = [
     &[
         ("a", UNNESTED),
@@ -271,13 +271,13 @@ static KNOWN: [&[Known]; 26] = [
         ("aside", BLOCK),
     ],
     &[
+        ("br", VOID),
+        ("body", BODY),
+        ("button", BUTTON),
+        ("blockquote", BLOCK),
         ("base", BASE),
         ("basefont", REFUSED),
         ("bgsound", REFUSED),
-        ("blockquote", BLOCK),
-        ("body", BODY),
-        ("br", VOID),
-        ("button", BUTTON),
     ],
     &[
         ("caption", CELL),
@@ -287,13 +287,13 @@ static KNOWN: [&[Known]; 26] = [
         ("command", REFUSED),
     ],
     &[
+        ("div", BLOCK),
+        ("dt", ITEM),
         ("dd", ITEM),
+        ("dl", BLOCK),
         ("details", BLOCK),
         ("dialog", BLOCK),
         ("dir", BLOCK),
-        ("div", BLOCK),
-        ("dl", BLOCK),
-        ("dt", ITEM),
     ],
     &[("embed", VOID)],
     &[
@@ -307,10 +307,10 @@ static KNOWN: [&[Known]; 26] = [
     ],
     &[],
     &[
-        ("h1", HEADING),
         ("h2", HEADING),
         ("h3", HEADING),
         ("h4", HEADING),
+        ("h1", HEADING),
         ("h5", HEADING),
         ("h6", HEADING),
         ("head", HEAD),
@@ -320,27 +320,27 @@ static KNOWN: [&[Known]; 26] = [
         ("html", HTML),
     ],
     &[
-        ("iframe", RAW),
-        ("image", REFUSED),
         ("img", VOID),
         ("input", VOID),
+        ("iframe", RAW),
+        ("image", REFUSED),
         ("isindex", REFUSED),
     ],
     &[],
     &[("keygen", REFUSED)],
     &[
-        ("legend", LEGEND),
         ("li", ITEM),
         ("link", VOID),
+        ("legend", LEGEND),
         ("listing", REFUSED),
     ],
     &[
+        ("meta", VOID),
         ("main", BLOCK),
         ("marquee", REFUSED),
         ("math", REFUSED),
         ("menu", BLOCK),
         ("menuitem", REFUSED),
-        ("meta", VOID),
     ],
     &[
         ("nav", BLOCK),
@@ -349,10 +349,10 @@ static KNOWN: [&[Known]; 26] = [
         ("noframes", REFUSED),
     ],
     &[
-        ("object", OBJECT),
-        ("ol", BLOCK),
-        ("optgroup", OPTION),
         ("option", OPTION),
+        ("ol", BLOCK),
+        ("object", OBJECT),
+        ("optgroup", OPTION),
     ],
     &[
         ("p", PARAGRAPH),
@@ -369,24 +369,24 @@ static KNOWN: [&[Known]; 26] = [
     ],
     &[
         ("script", SCRIPT),
-        ("search", BLOCK),
         ("section", BLOCK),
         ("select", SELECT),
-        ("source", VOID),
         ("style", RAW),
+        ("search", BLOCK),
+        ("source", VOID),
         ("summary", BLOCK),
     ],
     &[
+        ("td", CELL),
+        ("tr", PART),
+        ("th", CELL),
         ("table", TABLE),
         ("tbody", PART),
-        ("td", CELL),
-        ("template", REFUSED),
-        ("textarea", TEXTAREA),
-        ("tfoot", PART),
-        ("th", CELL),
         ("thead", PART),
+        ("tfoot", PART),
         ("title", TITLE),
-        ("tr", PART),
+        ("textarea", TEXTAREA),
+        ("template", REFUSED),
         ("track", VOID),
     ],
     &[("ul", BLOCK)],

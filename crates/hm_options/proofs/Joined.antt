@@ -1,20 +1,11 @@
 -- Texts that touch after comments between them were left out, joined as they are put.
-use Rattle.std.proofs.Common.{◌≡◌, ℕ, ◌+◌, ◌≤◌, Bool, true, false, not, List, [], ◌∷◌, ◌++◌, length, slice_get, take, Option, Some, None, unwrap_or, sym, ap, ◌∙◌, refl, arith, length-append, append_assoc}
+use Rattle.std.proofs.Common.{◌≡◌, ℕ, ◌+◌, ◌≤◌, Bool, true, false, not, List, [], ◌∷◌, ◌++◌, length, Option, Some, None, unwrap_or, sym, ap, ◌∙◌, refl, arith, length-append, append_assoc}
 use Rattle.hm_base.specs.Bytes.{is_null}
-use Rattle.hm_base.specs.Walks.{Event, doctype, start, text, comment, end, Element, path_behind, path_after, ends_match, event_size, walk_size, with_text, text_before, pushed, pushes}
-use denote.Ref.{Bor}
-use Rattle.hm_tree.specs.Views.{event_of}
-use Rattle.hm_tree.specs.declared.events.EventView.{EventView}
-use Rattle.hm_tree.specs.declared.events.EventView.TheVariants as views
-use Rattle.hm_options.specs.Joins.{may_join, IsLast}
-use Rattle.hm_options.specs.Rewrites.{no_comment, uncommented}
-use Rattle.hm_space.specs.Copies.{event_before}
-use Rattle.hm_space.proofs.Apart.{text_there}
+use Rattle.hm_base.specs.Walks.{Event, doctype, start, text, comment, end, Element, path_behind, path_after, event_size, walk_size, with_text, text_before, pushed, pushes}
+use Rattle.hm_options.specs.Joins.{IsLast}
 use Rattle.hm_space.proofs.Behind.{some_null}
-use Rattle.hm_space.proofs.Collapsing.{stays_no_longer}
-use Rattle.hm_space.proofs.Rewriting.{NoLonger, IsCopied, IsCopied-more, HasRoom-next, IsCopied-all, IsCopied-closed, ends_match-at}
 use Rattle.hm_tree.specs.Rows.{is_text, ends_in_text, extended}
-use Rattle.hm_tree.specs.Trees.{HasRoom, IsWalk, last_agrees}
+use Rattle.hm_tree.specs.Trees.{HasRoom, last_agrees}
 use Rattle.hm_tree.proofs.LastLemmas.{ends_in_text-push}
 use Rattle.hm_tree.proofs.RoomLemmas.{with_text_cases, path_after-with_text, walk_size-with_text, length-with_text, last_agrees-with_text}
 use Rattle.hm_tree.proofs.TextLemmas.{with_text-extended}
@@ -156,7 +147,7 @@ joined_count : (v : List Event) → length (pushes v []) ≤ length v
 joined_count [] = omega arith
 joined_count (e ∷ v) = omega (arith, pushed_count e (pushes v []), joined_count v)
 
-joined_room : (v m : List Event) (e : Event) → m ≡ pushes v [] → HasRoom (v ++ e ∷ []) → HasRoom (m ++ e ∷ [])
+pub joined_room : (v m : List Event) (e : Event) → m ≡ pushes v [] → HasRoom (v ++ e ∷ []) → HasRoom (m ++ e ∷ [])
 joined_room v m e is room =
     let path : path_after [] (m ++ e ∷ []) ≡ path_after [] (v ++ e ∷ []) = path_after-push [] m e ∙ ap (λ p. path_behind p e) (ap (path_after []) is ∙ joined_path [] v) ∙ sym (path_after-push [] v e) in
     record {
@@ -207,64 +198,6 @@ text_is_last w s r some agrees = (
   last_agrees-with_text w s r agrees,
 )
 
--- what holds before event i: the events so far without comments are v, and what is put is v joined
-pub record IsUncommented (w : List Event) (i : ℕ) (m : List Event) (last : Option Bool) : Type 0 where
-  pub events : List Event
-  pub copied : IsCopied no_comment w i events
-  pub joined : m ≡ pushes events []
-  pub last_told : IsLast m last
-
-comment_no_longer : (path : List Element) (before next : Option Event) (e : Event) → NoLonger e (no_comment path before e next)
-comment_no_longer path before next (doctype legacy) = stays_no_longer (doctype legacy)
-comment_no_longer path before next (start n foreign attributes) = stays_no_longer (start n foreign attributes)
-comment_no_longer path before next (text s raw) = stays_no_longer (text s raw)
-comment_no_longer path before next (comment s) = record { path = λ p. refl; count = omega arith; size = omega arith }
-comment_no_longer path before next (end n foreign) = stays_no_longer (end n foreign)
-
-anywhere : (path : List Element) (before next : Option Event) (e : Event) → no_comment [] None e None ≡ no_comment path before e next
-anywhere path before next (doctype legacy) = refl
-anywhere path before next (start n foreign attributes) = refl
-anywhere path before next (text s raw) = refl
-anywhere path before next (comment s) = refl
-anywhere path before next (end n foreign) = refl
-
-module _ (w : List Event) where
-  module _ (i : ℕ) (m : List Event) (last : Option Bool) (e : Event) (at : slice_get w i ≡ Some e) (walk : IsWalk w) (h : IsUncommented w i m last) where
-    pub uncommented_room : HasRoom (m ++ e ∷ [])
-    uncommented_room = joined_room h.events m e h.joined (HasRoom-next no_comment w i h.events e at h.copied walk)
-
-    ended : ends_match (path_after [] m) (e ∷ []) ≡ true
-    ended = rw (h.joined, joined_path [] h.events, h.copied.path) (ends_match-at [] w i e walk.matched at)
-
-    pub IsUncommented-more : (u : List Event) (next : Option Bool) → ((v : List Event) → m ≡ pushes v [] → u ≡ pushes (v ++ no_comment [] None e None) []) → IsLast u next → IsUncommented w (i + 1) u next
-    IsUncommented-more u next put told = record {
-      events = h.events ++ no_comment [] None e None;
-      copied = IsCopied-more no_comment w i h.events e at h.copied (h.events ++ no_comment [] None e None) (no_comment [] None e None) (anywhere (path_after [] (take i w)) (event_before w i) (slice_get w (i + 1)) e) (comment_no_longer [] None None e) refl;
-      joined = put h.events h.joined;
-      last_told = told;
-    }
-
-  pub uncommented_joins : (i : ℕ) (m : List Event) (last : Option Bool) (e : Event) → slice_get w i ≡ Some e → IsWalk w → IsUncommented w i m last → may_join m e ≡ true
-  uncommented_joins i m last (doctype legacy) at walk h = ended i m last (doctype legacy) at walk h
-  uncommented_joins i m last (start n foreign attributes) at walk h = ended i m last (start n foreign attributes) at walk h
-  uncommented_joins i m last (text s raw) at walk h = rw (text_there w i s raw walk.apart at) refl
-  uncommented_joins i m last (comment s) at walk h = ended i m last (comment s) at walk h
-  uncommented_joins i m last (end n foreign) at walk h = ended i m last (end n foreign) at walk h
-
-  pub IsUncommented-all : (i : ℕ) (m : List Event) (last : Option Bool) → length w ≤ i → IsUncommented w i m last → m ≡ uncommented w
-  IsUncommented-all i m last past h = h.joined ∙ ap (λ v. pushes v []) (IsCopied-all no_comment w i h.events past h.copied)
-
-  pub IsUncommented-closed : (i : ℕ) (m : List Event) (last : Option Bool) → length w ≤ i → IsWalk w → IsUncommented w i m last → path_after [] m ≡ []
-  IsUncommented-closed i m last past walk h = ap (path_after []) h.joined ∙ joined_path [] h.events ∙ IsCopied-closed no_comment w i h.events past walk h.copied
-
 pub not_null : (s : List ℕ) → not (is_null s) ≡ true → is_null s ≡ false
 not_null [] h = absurd (cc)
 not_null (c ∷ s) h = refl
-
--- an event that is neither a text nor a comment stays
-pub plain_event : (e : EventView) → ((s : Bor (List ℕ)) (raw : Bool) → e ≡ views.Text s raw → ⊥) → ((s : Bor (List ℕ)) → e ≡ views.Comment s → ⊥) → (is_text (event_of e) ≡ false) × (no_comment [] None (event_of e) None ≡ event_of e ∷ [])
-plain_event (views.Doctype legacy) no_text other = (refl, refl)
-plain_event (views.Start name foreign attrs) no_text other = (refl, refl)
-plain_event (views.Text s raw) no_text other = absurd (no_text s raw refl)
-plain_event (views.Comment s) no_text other = absurd (other s refl)
-plain_event (views.End name foreign) no_text other = (refl, refl)

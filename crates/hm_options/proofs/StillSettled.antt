@@ -11,9 +11,7 @@ use Rattle.hm_elements.specs.Paths.{is_in_raw, is_in_text}
 use Rattle.hm_elements.specs.Settled.{no_zero_in_values, all_names_in_form, all_utf8, Settled}
 use Rattle.hm_elements.specs.Places.{AttributesAllowed, TextAllowed, html_path}
 use Rattle.hm_options.specs.Rewrites.{by, no_comment, uncommented}
-use Rattle.hm_options.specs.Rules.{event_rule, attributes_rule, attribute_rule, is_dropped, valued}
-use Rattle.hm_options.specs.declared.rules.Rule.{Rule}
-use Rattle.hm_options.specs.declared.rules.Rule.TheVariants.{PlainDoctype, BooleanValues, EmptyAttributes, RedundantAttributes}
+use Rattle.hm_options.specs.Rules.{Rule, PlainDoctype, BooleanValues, EmptyAttributes, RedundantAttributes, event_rule, attributes_rule, attribute_rule, is_dropped, valued}
 use Rattle.hm_options.proofs.Kept.{rule_each, rule_count, valued_name, fresh_name}
 use Rattle.hm_options.proofs.Ruled.{start_by, svg_by, text_by, comment_by, end_by}
 use Rattle.hm_space.specs.Rewritten.{first_event, rewritten}

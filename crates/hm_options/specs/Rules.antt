@@ -1,10 +1,15 @@
--- The rewrites that change single events, as the code names them.
+-- The rewrites that change single events, one by one.
 use Rattle.std.specs.Prelude.{ℕ, Bool, false, List, [], ◌∷◌, Option, if◌then◌else◌}
 use Rattle.hm_base.specs.Walks.{Event, Attribute, Element}
 use Rattle.hm_elements.specs.Attributes.{is_redundant}
 use Rattle.hm_options.specs.Rewrites.{plain_doctype, with_attributes, without_value, no_boolean_values, is_empty, no_empty, no_redundant}
-use Rattle.hm_options.specs.declared.rules.Rule.{Rule}
-use Rattle.hm_options.specs.declared.rules.Rule.TheVariants.{PlainDoctype, BooleanValues, EmptyAttributes, RedundantAttributes}
+
+-- a rewrite that changes doctypes or the attributes of HTML elements
+pub data Rule : Type 0 where
+  PlainDoctype : Rule
+  BooleanValues : Rule
+  EmptyAttributes : Rule
+  RedundantAttributes : Rule
 
 -- what an event becomes
 abbrev pub event_rule : Rule → List Element → Option Event → Event → Option Event → List Event

@@ -1,75 +1,85 @@
 //! Attributes that say nothing.
-ghost use Rattle.std.specs.Prelude.{◌≡◌, ◌++◌, ◌∷◌, ◌+◌, ◌<◌, ◌^◌, length, false, IfOk, OnOk};
+ghost use Rattle.std.specs.Prelude.{◌≡◌, [], ◌++◌, ◌∷◌, ◌+◌, ◌<◌, ◌^◌, length, flat_map, false, true, IfOk, OnOk};
 ghost use Rattle.hm_base.specs.Bytes.{all_pass};
 ghost use Rattle.hm_base.specs.Bytes as bytes;
 ghost use Rattle.hm_base.specs.Walks.{has_name};
+ghost use Rattle.hm_options.specs.Passes as passes;
+ghost use Rattle.hm_options.specs.Passes.{attribute_pass};
 ghost use Rattle.hm_options.specs.Rewrites as rewrites;
-ghost use Rattle.hm_options.specs.Rules.{attribute_rule, attributes_rule};
-ghost use Rattle.hm_options.specs.Rules as specs_rules;
 ghost use Rattle.hm_tree.specs.Views.{attributes_shown};
 
-use crate::rules::Rule;
-use hm_base::{Memory, is_space};
+use hm_base::{Memory, TreeOptions, is_space};
 use hm_elements::{is_boolean, is_redundant, says_nothing_blank};
 use hm_tree::{Attrs, AttrsView};
 use std::alloc::Global;
 
+// Whether each attribute of an HTML element of this name stays as it is. Where the answer is no, one may not.
+pub(crate) fn stay(options: &TreeOptions, element: &str, attrs: &AttrsView<'_>) -> bool
+    ensures { result ≡ true → flat_map (attribute_pass options.now element.now) (attributes_shown attrs.now) ≡ attributes_shown attrs.now }
+{
+    for i in 0..attrs.len() {
+        let (name, value) = attrs.at(i);
+        if changes(options, element, name, value) {
+            return false;
+        }
+    }
+    true
+}
+
+// Whether an attribute may change.
+fn changes(options: &TreeOptions, element: &str, name: &str, value: &str) -> bool
+    ensures { result ≡ false → attribute_pass options.now element.now (record { name = name.now; value = value.now }) ≡ record { name = name.now; value = value.now } ∷ [] }
+{
+    (options.booleans && is_boolean(name)) || is_dropped(options, element, name, value)
+}
+
 // The attributes of an HTML element of this name, each rewritten or left out.
 pub(crate) fn rewritten_attributes(
     alloc: Global,
-    rule: Rule,
+    options: &TreeOptions,
     element: &str,
     attrs: &AttrsView<'_>,
 ) -> Result<Attrs, Memory>
-    ensures { IfOk result (λ made. made ≡ attributes_rule rule element.now (attributes_shown attrs.now)) }
+    ensures { IfOk result (λ made. made ≡ flat_map (attribute_pass options.now element.now) (attributes_shown attrs.now)) }
 {
     let mut made = Attrs::new(alloc);
     for i in 0..attrs.len() {
         let (name, value) = attrs.at(i);
-        add_rewritten(alloc, &mut made, rule, element, name, value)?;
+        add_rewritten(&mut made, options, element, name, value)?;
     }
     Ok(made)
 }
 
 // Adds what an attribute becomes, whose name isn't there yet.
 fn add_rewritten(
-    alloc: Global,
     made: &mut Attrs,
-    rule: Rule,
+    options: &TreeOptions,
     element: &str,
     name: &str,
     value: &str,
 ) -> Result<(), Memory>
     requires room { length made.old + 1 < 2 ^ 32 }
     requires fresh { has_name name.now made.old ≡ false }
-    ensures { OnOk result (made.new ≡ made.old ++ attribute_rule rule element.now (record { name = name.now; value = value.now })) }
+    ensures { OnOk result (made.new ≡ made.old ++ attribute_pass options.now element.now (record { name = name.now; value = value.now })) }
 {
-    if is_dropped(rule, element, name, value) {
-        return Ok(());
+    let value = left_value(options, name, value);
+    if !is_dropped(options, element, name, value) {
+        made.put(name, value)?;
     }
-    let kept = kept_value(rule, name, value);
-    made.add(
-        String::from_str(alloc, name)?,
-        String::from_str(alloc, kept)?,
-    )?;
     Ok(())
 }
 
-fn is_dropped(rule: Rule, element: &str, name: &str, value: &str) -> bool
-    ensures { result ≡ specs_rules.is_dropped rule element.now (record { name = name.now; value = value.now }) }
+fn is_dropped(options: &TreeOptions, element: &str, name: &str, value: &str) -> bool
+    ensures { result ≡ passes.is_dropped options.now element.now (record { name = name.now; value = value.now }) }
 {
-    match rule {
-        Rule::PlainDoctype => false,
-        Rule::BooleanValues => false,
-        Rule::EmptyAttributes => is_empty(name, value),
-        Rule::RedundantAttributes => is_redundant(element, name, value),
-    }
+    (options.empty && is_empty(name, value))
+        || (options.redundant && is_redundant(element, name, value))
 }
 
-fn kept_value<'t>(rule: Rule, name: &str, value: &'t str) -> &'t str
-    ensures { record { name = name.now; value = result.now } ≡ specs_rules.valued rule (record { name = name.now; value = value.now }) }
+fn left_value<'t>(options: &TreeOptions, name: &str, value: &'t str) -> &'t str
+    ensures { record { name = name.now; value = result.now } ≡ passes.valued options.now (record { name = name.now; value = value.now }) }
 {
-    if rule == Rule::BooleanValues && is_boolean(name) {
+    if options.booleans && is_boolean(name) {
         ""
     } else {
         value

@@ -2,7 +2,6 @@
 #![tactic(auto)]
 
 mod attributes;
-mod comments;
 pub mod laws;
 mod rules;
 mod top;

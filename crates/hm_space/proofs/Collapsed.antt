@@ -4,7 +4,6 @@ use Rattle.std.proofs.lemmas.Str.{IsUtf8-from_is_utf8, is_utf8-from_IsUtf8}
 use Rattle.hm_base.specs.Bytes.{is_null}
 use Rattle.hm_base.specs.Forms.{is_blank}
 use Rattle.hm_base.specs.Walks.{Event, doctype, start, text, comment, end, Element, begins_end, begins_text}
-use Rattle.hm_elements.specs.Paths.{outer}
 use Rattle.hm_elements.specs.Settled.{Settled}
 use Rattle.hm_elements.specs.Places.{TextAllowed, html_path}
 use Rattle.hm_space.specs.Rewritten.{first_event, rewritten}

@@ -1,5 +1,5 @@
 -- Attributes with distinct names, gone through in order.
-use Rattle.std.proofs.Common.{◌≡◌, ℕ, zero, suc, ◌+◌, Bool, true, false, not, List, [], ◌∷◌, ◌++◌, take, slice_get, bytes_eq, Some, if◌then◌else◌, sym, ap, ◌∙◌, refl}
+use Rattle.std.proofs.Common.{◌≡◌, ℕ, zero, suc, ◌+◌, Bool, true, false, not, List, [], ◌∷◌, ◌++◌, take, slice_get, bytes_eq, Some, if◌then◌else◌, ap, ◌∙◌, refl}
 use Rattle.std.proofs.lemmas.Bool.{and_parts}
 use Rattle.std.proofs.lemmas.List.{take_more}
 use Rattle.std.proofs.lemmas.Option.{slice_get_within, get_or_from_slice_get}
@@ -42,11 +42,3 @@ new_name (b ∷ attributes) (suc i) a h at =
     let parts = and_parts (not (has_name b.name attributes)) (has_distinct_names attributes) h in
     let other : bytes_eq b.name a.name ≡ false = other_name b.name a.name (bytes_eq b.name a.name) refl (named_otherwise b.name attributes i a (not_true (has_name b.name attributes) parts.0) at) in
     rw (other) (new_name attributes i a parts.1 at)
-
--- what a copy is with one more attribute
-pub copied_more : (attributes made next : List Attribute) (i : ℕ) (a : Attribute) (added : Bool) → has_distinct_names attributes ≡ true → slice_get attributes i ≡ Some a → made ≡ take i attributes
-    → added ≡ not (has_name a.name made) → next ≡ (if added then made ++ a ∷ [] else made) → next ≡ take (i + 1) attributes
-copied_more attributes made next i a added distinct at is new more =
-    let fresh : has_name a.name made ≡ false = rw is (new_name attributes i a distinct at) in
-    let put : added ≡ true = rw fresh at new in
-    rw (more, put, is) (sym (take_push attributes i a at))

@@ -5,6 +5,7 @@ pub mod Better
 pub mod Collapsed
 pub mod Collapsing
 pub mod Distinct
+pub mod Fronts
 pub mod Parents
 pub mod Rewriting
 pub mod Runs

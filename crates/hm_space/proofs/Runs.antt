@@ -1,5 +1,5 @@
 -- The whitespace of one text: character by character, and at its ends.
-use Rattle.std.proofs.Common.{◌≡◌, ◌≢◌, ℕ, zero, suc, ◌+◌, ◌-◌, ◌<◌, ◌≤◌, Bool, true, false, ◌&&◌, ◌==◌, List, [], ◌∷◌, ◌++◌, length, take, drop, get_or, chars, encode_utf8, encode_utf8_all, IsUtf8, if◌then◌else◌, sym, ap, ◌∙◌, refl, inl, inr, arith, append_assoc}
+use Rattle.std.proofs.Common.{◌≡◌, ◌≢◌, ℕ, zero, suc, ◌+◌, ◌-◌, ◌<◌, ◌≤◌, Bool, true, false, ◌&&◌, ◌==◌, List, [], ◌∷◌, ◌++◌, length, take, drop, get_or, chars, encode_utf8, encode_utf8_all, IsUtf8, if◌then◌else◌, sym, ap, ◌∙◌, refl, inl, inr, arith}
 use Rattle.std.proofs.lemmas.Bool.{cases_lt, ne_eqb}
 use Rattle.std.proofs.lemmas.List.{append-nil}
 use Rattle.std.proofs.lemmas.Str.{encode_ascii, encodes-chars, inside_one, length-encode, len_utf8_bounds}
@@ -13,31 +13,7 @@ spaced_chars after (c ∷ cs) =
     if is_space c then (if after then spaced_chars true cs else 32 ∷ spaced_chars true cs)
     else encode_utf8 c ++ spaced_chars false cs
 
--- whether whitespace stands last
-abbrev pub is_after : Bool → List ℕ → Bool
-is_after after [] = after
-is_after after (c ∷ cs) = is_after (is_space c) cs
-
-pub is_after-push : (after : Bool) (cs : List ℕ) (c : ℕ) → is_after after (cs ++ c ∷ []) ≡ is_space c
-is_after-push after [] c = refl
-is_after-push after (d ∷ cs) c = is_after-push (is_space d) cs c
-
-module _ (c : ℕ) (cs : List ℕ) (d : ℕ) (more : (after : Bool) → spaced_chars after (cs ++ d ∷ []) ≡ spaced_chars after cs ++ spaced_chars (is_after after cs) (d ∷ [])) where
-  push_space : (after : Bool) → (if after then spaced_chars true (cs ++ d ∷ []) else 32 ∷ spaced_chars true (cs ++ d ∷ [])) ≡ (if after then spaced_chars true cs else 32 ∷ spaced_chars true cs) ++ spaced_chars (is_after true cs) (d ∷ [])
-  push_space true = more true
-  push_space false = ap (λ s. 32 ∷ s) (more true)
-
-  push_by : (b after : Bool) → (if b then (if after then spaced_chars true (cs ++ d ∷ []) else 32 ∷ spaced_chars true (cs ++ d ∷ [])) else encode_utf8 c ++ spaced_chars false (cs ++ d ∷ []))
-      ≡ (if b then (if after then spaced_chars true cs else 32 ∷ spaced_chars true cs) else encode_utf8 c ++ spaced_chars false cs) ++ spaced_chars (is_after b cs) (d ∷ [])
-  push_by true after = push_space after
-  push_by false after = rw (more false) (sym (append_assoc (encode_utf8 c) (spaced_chars false cs) (spaced_chars (is_after false cs) (d ∷ []))))
-
--- one more character
-pub spaced_chars-push : (after : Bool) (cs : List ℕ) (d : ℕ) → spaced_chars after (cs ++ d ∷ []) ≡ spaced_chars after cs ++ spaced_chars (is_after after cs) (d ∷ [])
-spaced_chars-push after [] d = refl
-spaced_chars-push after (c ∷ cs) d = push_by c cs d (λ a. spaced_chars-push a cs d) (is_space c) after
-
-not_space : (c : ℕ) → 128 ≤ c → is_space c ≡ false
+pub not_space : (c : ℕ) → 128 ≤ c → is_space c ≡ false
 unfolding is_space
 not_space c h = rw (ne_eqb c 9 (λ e. omega arith), ne_eqb c 10 (λ e. omega arith), ne_eqb c 12 (λ e. omega arith), ne_eqb c 13 (λ e. omega arith), ne_eqb c 32 (λ e. omega arith)) refl
 
@@ -83,21 +59,6 @@ all_chars after (c ∷ cs) = char_by c cs (λ a. all_chars a cs) (is_space c) af
 -- what is written character by character is the text with its runs made short
 pub spaced_text : (s : List ℕ) → IsUtf8 s → spaced_chars false (chars s) ≡ spaced false s
 spaced_text s utf8 = all_chars false (chars s) ∙ ap (spaced false) (encodes-chars s utf8)
-
--- what is written behind one more character, which is no whitespace, or whitespace of either place
-pub written_char : (out start written : List ℕ) (after : Bool) (cs : List ℕ) (c : ℕ) → written ≡ start ++ spaced_chars false cs → after ≡ is_after false cs
-    → out ≡ written ++ spaced_chars after (c ∷ []) → out ≡ start ++ spaced_chars false (cs ++ c ∷ [])
-written_char out start written after cs c before is more =
-    rw (more, before, is, spaced_chars-push false cs c) (append_assoc start (spaced_chars false cs) (spaced_chars (is_after false cs) (c ∷ [])))
-
-pub char_stays : (after : Bool) (c : ℕ) → is_space c ≡ false → spaced_chars after (c ∷ []) ≡ encode_utf8 c
-char_stays after c h = rw (h, append-nil) refl
-
-pub space_once : (c : ℕ) → is_space c ≡ true → spaced_chars false (c ∷ []) ≡ 32 ∷ []
-space_once c h = rw h refl
-
-pub space_again : (c : ℕ) → is_space c ≡ true → spaced_chars true (c ∷ []) ≡ []
-space_again c h = rw h refl
 
 -- a text without the space at its end
 pub trailing_cut : (s : List ℕ) (n : ℕ) → n + 1 ≡ length s → get_or s n 0 ≡ 32 → take n s ≡ without_trailing true s

@@ -6,6 +6,7 @@ use denote.Ref.{Bor}
 use Rattle.hm_tree.specs.Views.{event_of}
 use Rattle.hm_tree.specs.declared.events.EventView.{EventView}
 use Rattle.hm_tree.specs.declared.events.EventView.TheVariants as views
+use Rattle.hm_space.specs.Fronts.{spaced_text}
 use Rattle.hm_space.specs.Marks.{kept_count}
 use Rattle.hm_space.specs.Space.{spaced, keeps_space, is_kept, hides_space, is_edge, without_leading, without_trailing, is_one_space, text_of, trimmed, collapsed_text, collapsed_event}
 
@@ -69,8 +70,8 @@ module _ (path : List Element) (before next : Option Event) (s : List ℕ) where
   pub text_kept : (conservative : Bool) → is_kept path ≡ true → collapsed_text conservative path before next s ≡ text s false ∷ []
   text_kept conservative kept = rw kept refl
 
-  pub text_spaced : is_kept path ≡ false → collapsed_text true path before next s ≡ text (spaced false s) false ∷ []
-  text_spaced kept = rw kept refl
+  pub text_shown : (conservative : Bool) → is_kept path ≡ false → collapsed_text conservative path before next s ≡ spaced_text conservative path before next (spaced false s)
+  text_shown conservative shown = rw shown refl
 
 one_kept : (b : Bool) (n : ℕ) → (if b then suc n else n) ≡ 0 → (b ≡ false) × (n ≡ 0)
 one_kept true n h = absurd (omega arith)

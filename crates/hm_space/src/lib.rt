@@ -7,5 +7,5 @@ mod names;
 mod spaces;
 mod walk;
 
-pub use copy::{copied, put};
+pub use copy::put;
 pub use walk::collapse;

@@ -1,24 +1,93 @@
 //! The whitespace of one text.
-ghost use Rattle.std.specs.Prelude.{◌≡◌, ◌++◌, false, OnOk, string_bytes};
+ghost use Rattle.std.specs.Prelude.{◌≡◌, ◌≤◌, ◌++◌, length, Bool, true, false, OnOk, string_bytes};
+ghost use Rattle.hm_base.specs.Bytes as bytes;
+ghost use Rattle.hm_space.specs.Fronts as fronts;
+ghost use Rattle.hm_space.specs.Fronts.{IsSpacedFront};
 ghost use Rattle.hm_space.specs.Space.{spaced, without_leading, without_trailing};
 
 use hm_base::{Memory, is_space};
+
+// A front of a text that stays as it is where each longest run of whitespace becomes one space. It goes up to byte `to`,
+// where the text ends or whitespace stands that changes; `after` tells whether a space stands directly before.
+#[derive(Clone, Copy, Debug)]
+pub(crate) struct SpacedFront {
+    pub(crate) to: usize,
+    pub(crate) after: bool,
+}
+
+// Whether a byte is whitespace. Most bytes of a text are greater than a space.
+#[tactic(auto, unfolding(hm_base::specs::Bytes::is_space))]
+fn is_blank(byte: u8) -> bool
+    ensures { result ≡ bytes.is_space byte }
+{
+    byte <= b' ' && is_space(byte as char)
+}
+
+// Whether a byte is whitespace that changes: `after` tells whether whitespace stands directly before.
+fn changes(after: bool, byte: u8) -> bool
+    ensures { result ≡ fronts.changes after byte }
+{
+    is_blank(byte) && (after || byte != b' ')
+}
+
+// The longest such front.
+pub(crate) fn spaced_front(bytes: &[u8]) -> SpacedFront
+    ensures { IsSpacedFront bytes.now result }
+{
+    let mut to = 0;
+    let mut after = false;
+    while to < bytes.len() && !changes(after, bytes[to]) {
+        after = is_blank(bytes[to]);
+        to += 1;
+    }
+    SpacedFront { to, after }
+}
+
+// The text without the whitespace in front.
+fn behind_space(text: &str) -> &str
+    ensures same { spaced true text.now ≡ spaced false result.now }
+    ensures shorter { length result.now ≤ length text.now }
+{
+    let bytes = text.as_bytes();
+    let mut at = 0;
+    while at < bytes.len() && is_space(bytes[at] as char) {
+        at += 1;
+    }
+    &text[at..]
+}
 
 // Appends the text with each longest run of whitespace as one space.
 pub(crate) fn push_spaced(out: &mut String, text: &str) -> Result<(), Memory>
     ensures { OnOk result (string_bytes out.new ≡ string_bytes out.old ++ spaced false text.now) }
 {
-    let mut after = false;
-    for c in text.chars() {
-        let space = is_space(c);
-        if !space {
-            out.push(c)?;
-        } else if !after {
-            out.push(' ')?;
+    let mut rest = text;
+    'runs: loop {
+        let front = spaced_front(rest.as_bytes());
+        out.push_str(&rest[..front.to])?;
+        if front.to == rest.len() {
+            return Ok(());
         }
-        after = space;
+        if !front.after {
+            out.push_str(" ")?;
+        }
+        rest = behind_space(&rest[front.to + 1..]);
     }
-    Ok(())
+}
+
+// Whether a space stands in front.
+pub(crate) fn begins_with_space(text: &str) -> bool
+    ensures { (edge : Bool) → result ≡ false → text.now ≡ without_leading edge text.now }
+{
+    let bytes = text.as_bytes();
+    !bytes.is_empty() && bytes[0] == b' '
+}
+
+// Whether a space stands at the end.
+pub(crate) fn ends_with_space(text: &str) -> bool
+    ensures { (edge : Bool) → result ≡ false → text.now ≡ without_trailing edge text.now }
+{
+    let bytes = text.as_bytes();
+    !bytes.is_empty() && bytes[bytes.len() - 1] == b' '
 }
 
 // Without a space in front, where `edge` is set.

@@ -8,28 +8,24 @@ ghost use Rattle.hm_elements.specs.Names.{head};
 ghost use Rattle.hm_elements.specs.Paths.{current_name};
 ghost use Rattle.hm_elements.specs.Settled.{Settled};
 ghost use Rattle.hm_space.specs.Copies.{event_before, may_follow};
-ghost use Rattle.hm_space.specs.Marks.{IsBefore, kept_count};
+ghost use Rattle.hm_space.specs.Fronts.{spaced_text};
+ghost use Rattle.hm_space.specs.Marks.{kept_count};
 ghost use Rattle.hm_space.specs.Space as space;
-ghost use Rattle.hm_space.specs.Space.{collapsed, collapsed_event, collapsed_text, trimmed};
+ghost use Rattle.hm_space.specs.Space.{collapsed, collapsed_event, collapsed_text, trimmed, without_leading, without_trailing};
 ghost use Rattle.hm_tree.specs.Rows.{ends_in_text};
 ghost use Rattle.hm_tree.specs.Trees.{HasRoom};
 ghost use Rattle.hm_tree.specs.Views.{event_of};
 
 use crate::copy::put;
 use crate::names::keeps_space;
-use crate::spaces::{push_spaced, without_leading, without_trailing};
+use crate::spaces::{
+    begins_with_space, ends_with_space, push_spaced, spaced_front, without_leading,
+    without_trailing,
+};
 use hm_base::Memory;
 use hm_elements::{is_block, is_space_parent, same_name};
 use hm_tree::{EventView, Maker, Tree};
 use std::alloc::Global;
-
-// What is known before an event: how many open elements keep their whitespace, and whether the event before is the start
-// or the end of a block.
-#[derive(Clone, Copy, Debug)]
-struct Before {
-    kept: u32,
-    edge: bool,
-}
 
 /// The tree with its whitespace collapsed. In every text but raw ones and those in `pre`, `textarea` and `svg` each longest
 /// run of whitespace becomes one space. Unless this is to be done conservatively, a text that is one space is left out
@@ -40,39 +36,24 @@ pub fn collapse(alloc: Global, tree: &Tree, conservative: bool) -> Result<Tree, 
 {
     let mut maker = Tree::maker(alloc);
     let mut scratch = String::new(alloc);
-    let mut before = Before {
-        kept: 0,
-        edge: false,
-    };
+    let mut kept = 0;
     for i in 0..tree.len() {
         let event = tree.event(i);
         put_collapsed(
-            alloc,
             &mut maker,
             &mut scratch,
             tree,
             i,
             &event,
-            before,
+            kept,
             conservative,
         )?;
-        before = behind(before, &event);
+        kept = kept_behind(kept, &event);
     }
     Ok(maker.finish())
 }
 
-// What is known behind an event.
-fn behind(before: Before, event: &EventView<'_>) -> Before
-    requires { before.kept + 1 < 2 ^ 32 }
-    ensures kept { (path : List Element) → ends_match path (event_of event.now ∷ []) ≡ true → before.kept ≡ kept_count path → result.kept ≡ kept_count (path_behind path (event_of event.now)) }
-    ensures edge { result.edge ≡ space.is_edge (Some (event_of event.now)) }
-{
-    Before {
-        kept: kept_behind(before.kept, event),
-        edge: is_edge(event),
-    }
-}
-
+// How many of the open elements keep their whitespace behind an event.
 fn kept_behind(kept: u32, event: &EventView<'_>) -> u32
     requires { kept + 1 < 2 ^ 32 }
     ensures { (path : List Element) → ends_match path (event_of event.now ∷ []) ≡ true → kept ≡ kept_count path → result ≡ kept_count (path_behind path (event_of event.now)) }
@@ -93,6 +74,14 @@ fn is_edge(event: &EventView<'_>) -> bool
         EventView::End { name, foreign } => !*foreign && is_block(name),
         _ => false,
     }
+}
+
+// Whether the event before event `i` is the start or the end of a block.
+fn is_edge_before(tree: &Tree, i: u32) -> bool
+    requires { i < length tree.now }
+    ensures { result ≡ space.is_edge (event_before tree.now i) }
+{
+    i > 0 && is_edge(&tree.event(i - 1))
 }
 
 // Whether the event behind event `i` is the start or the end of a block.
@@ -138,62 +127,76 @@ fn is_in_head(tree: &Tree, i: u32) -> bool
 
 // Puts what event `i` becomes.
 fn put_collapsed(
-    alloc: Global,
     maker: &mut Maker,
     scratch: &mut String,
     tree: &Tree,
     i: u32,
     event: &EventView<'_>,
-    before: Before,
+    kept: u32,
     conservative: bool,
 ) -> Result<(), Memory>
     requires at { slice_get tree.now i ≡ Some (event_of event.now) }
-    requires before { IsBefore tree.now i before }
+    requires kept { kept ≡ kept_count (path_after [] (take i tree.now)) }
     requires room { HasRoom (maker.old ++ event_of event.now ∷ []) }
     requires follows { may_follow maker.old (event_of event.now) ≡ true }
     ensures { OnOk result (maker.new ≡ maker.old ++ collapsed_event conservative (path_after [] (take i tree.now)) (event_before tree.now i) (event_of event.now) (slice_get tree.now (i + 1))) }
 {
     if let EventView::Text { text, raw } = event {
-        if !*raw && before.kept == 0 {
-            return put_text(maker, scratch, text, tree, i, before.edge, conservative);
+        if !*raw && kept == 0 {
+            return put_text(maker, scratch, text, tree, i, conservative);
         }
     }
-    put(alloc, maker, event)
+    put(maker, event)
 }
 
-// Puts what a text becomes that isn't kept as it is, as event `i`. `edge` tells whether an edge of a
-// block stands before it.
+// Puts what a text becomes that isn't kept as it is, as event `i`.
 fn put_text(
     maker: &mut Maker,
     scratch: &mut String,
     text: &str,
     tree: &Tree,
     i: u32,
-    edge: bool,
     conservative: bool,
 ) -> Result<(), Memory>
     requires inside { i < length tree.now }
     requires shown { space.is_kept (path_after [] (take i tree.now)) ≡ false }
-    requires edge { edge ≡ space.is_edge (event_before tree.now i) }
     requires room { HasRoom (maker.old ++ walks.text text.now false ∷ []) }
     requires some { is_null text.now ≡ false }
     requires last { ends_in_text maker.old ≡ false }
     ensures { OnOk result (maker.new ≡ maker.old ++ collapsed_text conservative (path_after [] (take i tree.now)) (event_before tree.now i) (slice_get tree.now (i + 1)) text.now) }
 {
+    if spaced_front(text.as_bytes()).to == text.len() {
+        return put_spaced(maker, text, tree, i, conservative);
+    }
     scratch.clear();
     push_spaced(scratch, text)?;
+    put_spaced(maker, scratch.as_str(), tree, i, conservative)
+}
+
+// Puts a text whose runs of whitespace are single spaces, as event `i`.
+fn put_spaced(
+    maker: &mut Maker,
+    text: &str,
+    tree: &Tree,
+    i: u32,
+    conservative: bool,
+) -> Result<(), Memory>
+    requires inside { i < length tree.now }
+    requires room { HasRoom (maker.old ++ walks.text text.now false ∷ []) }
+    requires some { is_null text.now ≡ false }
+    requires last { ends_in_text maker.old ≡ false }
+    ensures { OnOk result (maker.new ≡ maker.old ++ spaced_text conservative (path_after [] (take i tree.now)) (event_before tree.now i) (slice_get tree.now (i + 1)) text.now) }
+{
     if conservative {
-        maker.text(scratch.as_str(), false)
+        maker.text(text, false)
     } else {
-        put_trimmed(maker, scratch.as_str(), tree, i, edge)
+        put_trimmed(maker, text, tree, i)
     }
 }
 
-// Puts a text whose runs of whitespace are single spaces, as event `i`, as far as it is seen. `edge` tells whether an edge of a
-// block stands before it.
-fn put_trimmed(maker: &mut Maker, text: &str, tree: &Tree, i: u32, edge: bool) -> Result<(), Memory>
+// The same as far as the text is seen.
+fn put_trimmed(maker: &mut Maker, text: &str, tree: &Tree, i: u32) -> Result<(), Memory>
     requires inside { i < length tree.now }
-    requires edge { edge ≡ space.is_edge (event_before tree.now i) }
     requires room { HasRoom (maker.old ++ walks.text text.now false ∷ []) }
     requires last { ends_in_text maker.old ≡ false }
     ensures { OnOk result (maker.new ≡ maker.old ++ trimmed (path_after [] (take i tree.now)) (event_before tree.now i) (slice_get tree.now (i + 1)) text.now) }
@@ -201,7 +204,31 @@ fn put_trimmed(maker: &mut Maker, text: &str, tree: &Tree, i: u32, edge: bool) -
     if text == " " && hides_space(tree, i) {
         return Ok(());
     }
-    let text = without_leading(text, edge);
-    let text = without_trailing(text, is_edge_behind(tree, i));
+    let text = front_trimmed(text, tree, i);
+    let text = end_trimmed(text, tree, i);
     maker.text(text, false)
+}
+
+// A text, as event `i`, without a space behind the edge of a block.
+fn front_trimmed<'t>(text: &'t str, tree: &Tree, i: u32) -> &'t str
+    requires { i < length tree.now }
+    ensures { result.now ≡ without_leading (space.is_edge (event_before tree.now i)) text.now }
+{
+    if begins_with_space(text) {
+        without_leading(text, is_edge_before(tree, i))
+    } else {
+        text
+    }
+}
+
+// A text, as event `i`, without a space before the edge of a block.
+fn end_trimmed<'t>(text: &'t str, tree: &Tree, i: u32) -> &'t str
+    requires { i < length tree.now }
+    ensures { result.now ≡ without_trailing (space.is_edge (slice_get tree.now (i + 1))) text.now }
+{
+    if ends_with_space(text) {
+        without_trailing(text, is_edge_behind(tree, i))
+    } else {
+        text
+    }
 }

@@ -10,7 +10,7 @@ use Rattle.hm_tree.specs.Pieces.{HasPieces, IsPiece, bytes_of}
 use Rattle.hm_tree.specs.Rows.{IsTable, event_at, events_of}
 use Rattle.hm_tree.specs.declared.pieces.AttributePieces.{AttributePieces}
 use Rattle.hm_tree.specs.declared.pieces.Piece.{Piece}
-use Rattle.hm_tree.specs.declared.rows.AttrsRange.{AttrsRange}
+use Rattle.hm_tree.specs.declared.appended.AttrsRange.{AttrsRange}
 use Rattle.hm_tree.specs.declared.rows.Part.{Part}
 use Rattle.hm_tree.specs.declared.rows.Part.TheVariants as parts
 use Rattle.hm_tree.specs.declared.rows.Row.{Row}

@@ -11,7 +11,7 @@ use Rattle.hm_tree.specs.Pieces.{IsAppended, IsPiece, attribute_in, attributes_i
 use Rattle.hm_tree.specs.Rows.{IsTable, events_of}
 use Rattle.hm_tree.specs.declared.pieces.AttributePieces.{AttributePieces}
 use Rattle.hm_tree.specs.declared.pieces.Piece.{Piece}
-use Rattle.hm_tree.specs.declared.rows.AttrsRange.{AttrsRange}
+use Rattle.hm_tree.specs.declared.appended.AttrsRange.{AttrsRange}
 use Rattle.hm_tree.specs.declared.rows.Part.TheVariants as parts
 use Rattle.hm_tree.specs.declared.rows.Row.{Row}
 use Rattle.hm_tree.proofs.PieceLemmas.{IsPiece-append, IsPiece-new, bytes_of-append, bytes_of-new}

@@ -13,7 +13,7 @@ use Rattle.hm_tree.specs.Pieces.{HasPieces, IsPiece, IsShown, attributes_in, byt
 use Rattle.hm_tree.specs.Rows.{IsRange, IsInside, AreInside, ReachesEnd, LastReachesEnd, IsTable, event_at, events_of, parents_from}
 use Rattle.hm_tree.specs.declared.pieces.AttributePieces.{AttributePieces}
 use Rattle.hm_tree.specs.declared.pieces.Piece.{Piece}
-use Rattle.hm_tree.specs.declared.rows.AttrsRange.{AttrsRange}
+use Rattle.hm_tree.specs.declared.appended.AttrsRange.{AttrsRange}
 use Rattle.hm_tree.specs.declared.rows.Part.{Part}
 use Rattle.hm_tree.specs.declared.rows.Part.TheVariants as parts
 use Rattle.hm_tree.specs.declared.rows.Row.{Row}

@@ -4,7 +4,7 @@ use Rattle.hm_base.specs.Walks.{Event, doctype, start, text, comment, end, walk_
 use Rattle.hm_tree.specs.Trees.{IsTold, open_behind}
 use Rattle.hm_tree.specs.Pieces.{HasPieces, IsPiece, attributes_in, bytes_of}
 use Rattle.hm_tree.specs.declared.pieces.AttributePieces.{AttributePieces}
-use Rattle.hm_tree.specs.declared.rows.AttrsRange.{AttrsRange}
+use Rattle.hm_tree.specs.declared.appended.AttrsRange.{AttrsRange}
 use Rattle.hm_tree.specs.declared.rows.Part.{Part}
 use Rattle.hm_tree.specs.declared.rows.Part.TheVariants as parts
 use Rattle.hm_tree.specs.declared.rows.Row.{Row}

@@ -1,6 +1,7 @@
 //! Trees as walks: a tree and its maker, the attributes of a tag, and the tokens that the scans give.
 #![tactic(auto)]
 
+mod appended;
 mod attrs;
 mod attrs_view;
 mod dump;
@@ -9,6 +10,7 @@ mod maker;
 mod names;
 mod pieces;
 mod rows;
+mod sources;
 mod tokens;
 mod tree;
 

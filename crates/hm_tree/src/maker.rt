@@ -1,10 +1,13 @@
 //! Making a tree, event by event.
 ghost use Rattle.std.specs.Prelude.{◌≡◌, ◌<◌, [], ◌∷◌, ◌++◌, length, true, OnOk, OnErr};
 ghost use Rattle.hm_base.specs.Walks.{start, doctype, comment, path_after, with_text};
+ghost use Rattle.hm_tree.specs.Sources.{listed};
 ghost use Rattle.hm_tree.specs.Trees.{HasRoom, IsBegun, end_of, last_agrees};
+ghost use Rattle.hm_tree.specs.Views.{attributes_shown};
 
 use crate::rows::Rows;
-use crate::{Attrs, Tree};
+use crate::sources::AttributeSource;
+use crate::{Attrs, AttrsView, Tree};
 use hm_base::Memory;
 use std::alloc::Global;
 use std::marker::Model;
@@ -75,6 +78,33 @@ impl Maker {
     pub fn start_from(&mut self, name: &str, foreign: bool, attrs: &Attrs) -> Result<(), Memory>
         requires { HasRoom (self.old ++ start name.now foreign attrs.now ∷ []) }
         ensures ok { OnOk result (self.new ≡ self.old ++ start name.now foreign attrs.now ∷ []) }
+        ensures err { OnErr result (self.new ≡ self.old) }
+    {
+        self.start_of(name, foreign, &AttributeSource::Tag { attrs })
+    }
+
+    /// The same with the attributes of an element of another tree.
+    pub fn start_as(
+        &mut self,
+        name: &str,
+        foreign: bool,
+        attrs: &AttrsView<'_>,
+    ) -> Result<(), Memory>
+        requires { HasRoom (self.old ++ start name.now foreign (attributes_shown attrs.now) ∷ []) }
+        ensures ok { OnOk result (self.new ≡ self.old ++ start name.now foreign (attributes_shown attrs.now) ∷ []) }
+        ensures err { OnErr result (self.new ≡ self.old) }
+    {
+        self.start_of(name, foreign, &AttributeSource::Element { attrs: *attrs })
+    }
+
+    fn start_of(
+        &mut self,
+        name: &str,
+        foreign: bool,
+        attrs: &AttributeSource<'_>,
+    ) -> Result<(), Memory>
+        requires { HasRoom (self.old ++ start name.now foreign (listed attrs.now) ∷ []) }
+        ensures ok { OnOk result (self.new ≡ self.old ++ start name.now foreign (listed attrs.now) ∷ []) }
         ensures err { OnErr result (self.new ≡ self.old) }
     {
         let start = self.rows.len();

@@ -1,25 +1,19 @@
 //! The events of a walk in a table: a row for each event, and all texts one behind the other.
-ghost use Rattle.std.specs.Prelude.{◌≡◌, ◌+◌, ◌^◌, ◌<◌, ◌≤◌, [], ◌∷◌, ◌++◌, length, slice_get, slice_range, string_bytes, string_len, string_capacity, vec_len, vec_capacity, true, Some, OnOk, OnErr};
+ghost use Rattle.std.specs.Prelude.{◌≡◌, ◌+◌, ◌^◌, ◌<◌, ◌≤◌, [], ◌∷◌, ◌++◌, length, slice_get, slice_range, true, Some, OnOk, OnErr};
 ghost use Rattle.hm_base.specs.Walks as walks;
-ghost use Rattle.hm_base.specs.Walks.{start, doctype, comment, event_size, path_after, walk_size, with_text, attributes_size};
-ghost use Rattle.hm_tree.specs.Pairs.{IsShifted};
-ghost use Rattle.hm_tree.specs.Pieces.{IsAppended};
+ghost use Rattle.hm_base.specs.Walks.{start, doctype, comment, event_size, path_after, walk_size, with_text};
 ghost use Rattle.hm_tree.specs.Rows.{IsRange, ends_in_text, extended};
+ghost use Rattle.hm_tree.specs.Sources.{listed};
 ghost use Rattle.hm_tree.specs.Trees.{IsTold, end_of, innermost, last_agrees, parent_of};
 ghost use Rattle.hm_tree.specs.Views.{event_of};
 
-use crate::pieces::{AttributePieces, Pair, Piece, cut};
-use crate::{Attrs, AttrsView, EventView};
+use crate::appended::{AttrsRange, append, append_attributes, text_len};
+use crate::pieces::{AttributePieces, Piece, cut};
+use crate::sources::{AttributeSource, count};
+use crate::{AttrsView, EventView};
 use hm_base::Memory;
 use std::alloc::Global;
 use std::marker::Model;
-
-// Some of the attributes of a table, from one index up to another.
-#[derive(Clone, Copy, Debug)]
-struct AttrsRange {
-    from: u32,
-    to: u32,
-}
 
 // An event, with pieces of the table's text, and for a start the indices of its attributes.
 #[derive(Clone, Copy, Debug)]
@@ -163,17 +157,17 @@ impl Rows {
         &mut self,
         name: &str,
         foreign: bool,
-        attrs: &Attrs,
+        attrs: &AttributeSource<'_>,
         parent: Option<u32>,
     ) -> Result<(), Memory>
         requires room { length self.old + 1 < 2 ^ 29 }
-        requires bytes { walk_size self.old + event_size (start name.now foreign attrs.now) < 2 ^ 29 }
+        requires bytes { walk_size self.old + event_size (start name.now foreign (listed attrs.now)) < 2 ^ 29 }
         requires parent { parent ≡ innermost self.old }
-        ensures ok { OnOk result (self.new ≡ self.old ++ start name.now foreign attrs.now ∷ []) }
+        ensures ok { OnOk result (self.new ≡ self.old ++ start name.now foreign (listed attrs.now) ∷ []) }
         ensures err { OnErr result (self.new ≡ self.old) }
     {
         self.rows.reserve(1)?;
-        self.attributes.reserve(attrs.len() as usize)?;
+        self.attributes.reserve(count(attrs) as usize)?;
         self.text.reserve(name.len() + text_len(attrs))?;
         let name = append(&mut self.text, name);
         let attrs = append_attributes(&mut self.text, &mut self.attributes, attrs);
@@ -305,69 +299,4 @@ fn part_of(attributes: &[AttributePieces], attrs: AttrsRange) -> &[AttributePiec
     ensures { result.now ≡ slice_range attributes.now attrs.from attrs.to }
 {
     &attributes[attrs.from as usize..attrs.to as usize]
-}
-
-// The bytes of names and values.
-fn text_len(attrs: &Attrs) -> usize
-    ensures { result ≡ attributes_size attrs.now }
-{
-    attrs.text().len()
-}
-
-// Appends attributes for which there is room, and says where.
-fn append_attributes(
-    text: &mut String,
-    attributes: &mut Vec<AttributePieces>,
-    attrs: &Attrs,
-) -> AttrsRange
-    requires room { string_len text.old + attributes_size attrs.now ≤ string_capacity text.old }
-    requires places { length (string_bytes text.old) + attributes_size attrs.now < 2 ^ 32 }
-    requires rows { vec_len attributes.old + length attrs.now ≤ vec_capacity attributes.old }
-    requires indices { length attributes.old.items + length attrs.now < 2 ^ 32 }
-    ensures appended { IsAppended (string_bytes text.old) attributes.old.items attrs.now (string_bytes text.new) attributes.new.items }
-    ensures from { result.from ≡ length attributes.old.items }
-    ensures to { result.to ≡ length attributes.new.items }
-{
-    let from = attributes.len() as u32;
-    let start = append(text, attrs.text()).from;
-    for pair in attrs.pairs() {
-        attributes.push(shifted(pair, start)).unwrap();
-    }
-    let to = attributes.len() as u32;
-    AttrsRange { from, to }
-}
-
-// The pieces of an attribute, so many bytes further on.
-fn shifted(pair: &Pair, start: u32) -> AttributePieces
-    requires ordered { (pair.now.from ≤ pair.now.middle) × (pair.now.middle ≤ pair.now.to) }
-    requires places { start + pair.now.to < 2 ^ 32 }
-    ensures { IsShifted start pair.now result }
-{
-    let middle = start + pair.middle as u32;
-    AttributePieces {
-        name: Piece {
-            from: start + pair.from as u32,
-            to: middle,
-        },
-        value: Piece {
-            from: middle,
-            to: start + pair.to as u32,
-        },
-    }
-}
-
-// Appends a text for which there is room.
-fn append(text: &mut String, more: &str) -> Piece
-    requires room { string_len text.old + length more.now ≤ string_capacity text.old }
-    requires places { length (string_bytes text.old) + length more.now < 2 ^ 32 }
-    ensures room { string_capacity text.old ≤ string_capacity text.new }
-    ensures len { string_len text.new ≡ string_len text.old + length more.now }
-    ensures bytes { string_bytes text.new ≡ string_bytes text.old ++ more.now }
-    ensures from { result.from ≡ length (string_bytes text.old) }
-    ensures to { result.to ≡ length (string_bytes text.old) + length more.now }
-{
-    let from = text.len() as u32;
-    text.push_str(more).unwrap();
-    let to = text.len() as u32;
-    Piece { from, to }
 }

@@ -1,9 +1,11 @@
-use Rattle.std.proofs.Common.{◌≡◌, ◌++◌, false, string_bytes}
-use Rattle.hm_space.proofs.Runs.{spaced_chars, is_after}
+use Rattle.std.proofs.Common.{◌≡◌, ◌++◌, false, length, string_bytes}
+use denote.Shadow.{shadow}
+use denote.Text.{Utf8}
+use Rattle.hm_space.specs.Space.{spaced}
 use Rattle.hm_space.proofs.spaces.push_spaced.Given as goal
 
-abbrev pub invariant-loop-c : goal.invariant-loop-c
-invariant-loop-c l = record {
-  written : string_bytes l.out ≡ string_bytes l.initial.out ++ spaced_chars false l.yielded;
-  after : l.after ≡ is_after false l.yielded;
-}
+abbrev pub invariant-runs : goal.invariant-runs
+invariant-runs l = (string_bytes l.out ++ spaced false l.rest ≡ string_bytes l.initial.out ++ spaced false l.text) × shadow (Utf8 l.rest)
+
+abbrev pub decreases-runs : goal.decreases-runs
+decreases-runs l = length l.rest

@@ -1,6 +1,7 @@
 use Rattle.std.proofs.Common.{◌≡◌, ◌+◌, ◌++◌, [], ◌∷◌, length, string_bytes, subst, ap, ◌∙◌, arith}
 use Rattle.hm_base.specs.Walks.{start}
 use Rattle.hm_tree.specs.Pieces.{IsAppended}
+use Rattle.hm_tree.specs.Sources.{listed}
 use Rattle.hm_tree.specs.declared.rows.Part.TheVariants.{Start}
 use Rattle.hm_tree.proofs.ShownLemmas.{few_attributes}
 use Rattle.hm_tree.proofs.StartLemmas.{IsTableOf-start}
@@ -9,11 +10,11 @@ use Rattle.hm_tree.proofs.rows.Rows.push_start.Goals as goal
 
 pub append_attributes-attrs-requires-clause-indices : goal.append_attributes-attrs-requires-clause-indices
 append_attributes-attrs-requires-clause-indices c =
-    omega (arith, ap length c.reserve-2.ensures.items, row_count c.self.invariant, few_attributes c.args.attrs.now c.len.ensures.distinct, c.requires.bytes)
+    omega (arith, ap length c.reserve-2.ensures.items, row_count c.self.invariant, few_attributes (listed c.args.attrs.now) c.count.ensures.distinct, c.requires.bytes)
 
 pushed : (c : goal.After-unwrap)
     → IsTableOf (string_bytes c.append_attributes-attrs.new.text) c.append_attributes-attrs.new.attributes.items
-    (c.self.inside.rows.items ++ record { part = Start c.args.foreign c.append-name.result c.append_attributes-attrs.result; parent = c.args.parent } ∷ []) (c.args.self.now ++ start c.args.name.now c.args.foreign c.args.attrs.now ∷ [])
+    (c.self.inside.rows.items ++ record { part = Start c.args.foreign c.append-name.result c.append_attributes-attrs.result; parent = c.args.parent } ∷ []) (c.args.self.now ++ start c.args.name.now c.args.foreign (listed c.args.attrs.now) ∷ [])
 pushed c =
     let s = string_bytes c.self.inside.text in
     let n = c.args.name.now in
@@ -21,10 +22,10 @@ pushed c =
     let t = string_bytes c.append_attributes-attrs.new.text in
     let new = c.append_attributes-attrs.new.attributes.items in
     let bytes : string_bytes c.append-name.new.text ≡ s ++ n = c.append-name.ensures.bytes ∙ ap (λ u. u ++ n) c.reserve-3.ensures.bytes in
-    let appended : IsAppended (s ++ n) pieces c.args.attrs.now t new =
-    subst (λ u. IsAppended u pieces c.args.attrs.now t new) bytes (subst (λ old. IsAppended (string_bytes c.append-name.new.text) old c.args.attrs.now t new) c.reserve-2.ensures.items c.append_attributes-attrs.ensures.appended) in
-    IsTableOf-start s n t pieces new c.self.inside.rows.items c.args.self.now c.args.foreign c.args.attrs.now c.args.parent c.append-name.result c.append_attributes-attrs.result
-    c.utf8.name c.len.ensures.texts c.len.ensures.distinct (c.append-name.ensures.from ∙ ap length c.reserve-3.ensures.bytes) (c.append-name.ensures.to ∙ ap (λ u. length u + length n) c.reserve-3.ensures.bytes)
+    let appended : IsAppended (s ++ n) pieces (listed c.args.attrs.now) t new =
+    subst (λ u. IsAppended u pieces (listed c.args.attrs.now) t new) bytes (subst (λ old. IsAppended (string_bytes c.append-name.new.text) old (listed c.args.attrs.now) t new) c.reserve-2.ensures.items c.append_attributes-attrs.ensures.appended) in
+    IsTableOf-start s n t pieces new c.self.inside.rows.items c.args.self.now c.args.foreign (listed c.args.attrs.now) c.args.parent c.append-name.result c.append_attributes-attrs.result
+    c.utf8.name c.count.ensures.texts c.count.ensures.distinct (c.append-name.ensures.from ∙ ap length c.reserve-3.ensures.bytes) (c.append-name.ensures.to ∙ ap (λ u. length u + length n) c.reserve-3.ensures.bytes)
     appended (c.append_attributes-attrs.ensures.from ∙ ap length c.reserve-2.ensures.items) c.append_attributes-attrs.ensures.to c.self.view_is c.self.invariant c.requires.parent c.requires.room c.requires.bytes
 
 -- the rows that are then there

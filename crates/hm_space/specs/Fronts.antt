@@ -1,0 +1,20 @@
+-- A text whose runs of whitespace become single spaces: the front of it that stays as it is, and what is put of it.
+use Rattle.std.specs.Prelude.{◌≡◌, ◌<◌, ◌≤◌, Bool, true, false, not, ◌&&◌, ◌||◌, ◌==◌, List, [], ◌∷◌, Option, ℕ, ◌++◌, length, take, drop, get_or, if◌then◌else◌}
+use Rattle.hm_base.specs.Bytes.{is_space}
+use Rattle.hm_base.specs.Walks.{Event, Element, text}
+use Rattle.hm_space.specs.Space.{spaced, trimmed}
+use Rattle.hm_space.specs.declared.spaces.SpacedFront.{SpacedFront}
+
+-- the byte is whitespace that changes; after tells that whitespace stands directly before
+abbrev pub changes : Bool → ℕ → Bool
+changes after c = is_space c && (after || not (c == 32))
+
+-- what is known of such a front of s: whitespace stands behind it, unless the text ends there
+pub record IsSpacedFront (s : List ℕ) (front : SpacedFront) : Type 0 where
+  pub inside : front.to ≤ length s
+  pub same : spaced false s ≡ take front.to s ++ spaced front.after (drop front.to s)
+  pub space : front.to < length s → is_space (get_or s front.to 0) ≡ true
+
+-- a text whose runs of whitespace are single spaces, conservatively or not
+abbrev pub spaced_text : Bool → List Element → Option Event → Option Event → List ℕ → List Event
+spaced_text conservative path before next s = if conservative then text s false ∷ [] else trimmed path before next s

@@ -73,12 +73,14 @@ fn put_number(out: &mut Vec<u8>, number: u64) -> Result<(), Memory>
 }
 
 /// Appends the two digits of a number below 100, the last first.
+#[inline(always)]
 fn put_pair(out: &mut Vec<u8>, pair: u8) -> Result<(), Memory>
     requires { pair < 100 }
     ensures { OnOk result (out.new.items ≡ out.old.items ++ (48 + pair % 10) ∷ (48 + pair / 10) ∷ []) }
 {
-    out.push(b'0' + pair % 10)?;
-    out.push(b'0' + pair / 10)?;
+    out.reserve(2)?;
+    out.push_reserved(b'0' + pair % 10);
+    out.push_reserved(b'0' + pair / 10);
     Ok(())
 }
 

@@ -36,6 +36,7 @@ impl Model for Numbers {
 }
 
 /// Adds a run behind, where it isn't empty.
+#[inline(never)]
 fn push_run(runs: &mut Vec<Run>, run: Run) -> Result<(), Memory>
     requires { AreRuns runs.old.items }
     ensures runs { AreRuns runs.new.items }
@@ -72,6 +73,7 @@ impl Numbers {
     }
 
     /// Adds a number behind.
+    #[inline(always)]
     pub(crate) fn push(&mut self, number: u32) -> Result<(), Memory>
         requires { length self.old < 2 ^ 29 }
         ensures ok { OnOk result (self.new ≡ self.old ++ number ∷ []) }

@@ -1,19 +1,26 @@
--- Over equal steps of one state with one hop.
-use Rattle.std.proofs.Common.{◌≡◌, ◌∙◌, ℕ, zero, suc, ◌+◌, ◌-◌, ◌*◌, ◌<◌, ◌≤◌, ◌^◌, true, cond, List, [], ◌∷◌, ◌++◌, length, get_or, drop, reverse, Option, Some, None, refl, sym, ap, subst, arith, append-nil}
-use Rattle.std.proofs.lemmas.List.{drop_more}
+-- Over equal steps over which no state changes its place.
+use Rattle.std.proofs.Common.{◌≡◌, ◌∙◌, ℕ, zero, suc, ◌+◌, ◌-◌, ◌*◌, ◌<◌, ◌≤◌, ◌^◌, true, cond, List, [], ◌∷◌, ◌++◌, length, map, get_or, drop, reverse, Option, Some, None, refl, sym, ap, subst, arith, append-nil}
+use Rattle.std.proofs.lemmas.List.{length-map}
 use Rattle.std.proofs.lemmas.Nat.{mul-lt}
 use Rattle.hm_cert.specs.Certificate.{row_line}
 use Rattle.hm_cert.specs.declared.text.Format.{Format}
+use Rattle.hm_cert.specs.declared.text.Format.TheVariants.{One, Two, Three}
+use Rattle.hm_graph.specs.Layers.{is_single}
 use Rattle.hm_graph.specs.Prices.{Row}
 use Rattle.hm_graph.specs.Ways.{over}
-use Rattle.hm_layers.specs.Graphs.{GraphView, AreLow, only_hop}
-use Rattle.hm_steps.specs.Prices.{first_row, is_left_out, price_over, row_over, rows_of}
-use Rattle.hm_steps.specs.Steps.{Step, leaves_out}
+use Rattle.hm_layers.specs.Graphs.{GraphView}
+use Rattle.hm_refs.proofs.Bools.{and_right}
+use Rattle.hm_steps.specs.Prices.{best_price, first_row, is_left_out, price_over, row_over, rows_of}
+use Rattle.hm_steps.specs.Steps.{Step, is_forced, leaves_out}
 use Rattle.hm_steps.specs.Ways.{step_choices}
 use Rattle.hm_steps.specs.declared.hops.Hop.{Hop}
 use Rattle.hm_plan.specs.Plans.{IsBack}
-use Rattle.hm_plan.proofs.FromLast.{back_more, low_step, step_cut}
-use Rattle.hm_plan.proofs.Only.{only_choices, only_low, only_row, left_out_later}
+use Rattle.hm_plan.specs.Still.{AreStill, Stays}
+use Rattle.hm_plan.proofs.FirstWay.{forced_none, lesser_none, step_next}
+use Rattle.hm_plan.proofs.FromLast.{back_more, step_cut}
+use Rattle.hm_plan.proofs.Only.{left_out_later}
+
+-- ---- Prices with more bytes
 
 over_none : (p : Option ℕ) → p ≡ over 0 p
 over_none None = refl
@@ -23,48 +30,82 @@ over_more : (n len : ℕ) (p : Option ℕ) → over (suc n * len) p ≡ over len
 over_more n len None = refl
 over_more n len (Some x) = ap Some (grind arith)
 
--- from layer k on over n more, which have the step of one state with one hop to the first place
-pub back_along : (g : GraphView) (format : Format) (k n : ℕ) (step : Step) (h : Hop) (text choices : List ℕ) (p : Option ℕ) → only_hop step ≡ Some h → leaves_out format step ≡ true → h.to ≡ 0 → n < k → k ≤ length g.steps
-    → ((j : ℕ) → k - n ≤ j → j < k → get_or g.steps j [] ≡ step) → IsBack g format k text choices (p ∷ []) → IsBack g format (k - n) text choices (over (n * h.len) p ∷ [])
-back_along g format k zero step h text choices p e left to some inside are found =
-    let same : k ≡ k - 0 = omega arith in
-    let none : 0 ≡ 0 * h.len = omega arith in
-    let price : p ≡ over (0 * h.len) p = over_none p ∙ ap (λ m. over m p) none in
-    subst (λ A. A) (λ i. IsBack g format (same i) text choices (price i ∷ [])) found
-back_along g format k (suc n) step h text choices p e left to some inside are found =
-    let row : Row = over (n * h.len) p ∷ [] in
-    let before : IsBack g format (k - n) text choices row = back_along g format k n step h text choices p e left to (omega arith) inside (λ j low high. are j (omega (arith, low)) high) found in
+each_none : (row : Row) → row ≡ map (over 0) row
+each_none [] = refl
+each_none (p ∷ row) = λ i. over_none p i ∷ each_none row i
+
+each_more : (n len : ℕ) (row : Row) → map (over (suc n * len)) row ≡ map (over len) (map (over (n * len)) row)
+each_more n len [] = refl
+each_more n len (p ∷ row) = λ i. over_more n len p i ∷ each_more n len row i
+
+-- ---- Over one step
+
+stays_price : (row : Row) (hops : List Hop) (len place : ℕ) → Stays len place hops → best_price row hops ≡ over len (get_or row place None)
+stays_price row [] len place h = absurd h
+stays_price row (x ∷ []) len place h = lesser_none (price_over row x) ∙ (λ i. over (h.0 i) (get_or row (h.1 i) None))
+stays_price row (x ∷ y ∷ hops) len place h = absurd h
+
+next_place : (k p : ℕ) → k + suc p ≡ suc k + p
+next_place k p = omega arith
+
+still_from : (row rest : Row) (k len : ℕ) (step : Step) → length rest ≡ length step → ((p : ℕ) → p < length step → Stays len (k + p) (get_or step p [])) → ((p : ℕ) → get_or row (k + p) None ≡ get_or rest p None)
+    → row_over row step ≡ map (over len) rest
+still_from row [] k len [] same still at = refl
+still_from row (q ∷ rest) k len [] same still at = absurd (omega (arith, same))
+still_from row [] k len (hops ∷ step) same still at = absurd (omega (arith, same))
+still_from row (q ∷ rest) k len (hops ∷ step) same still at =
+    let front : best_price row hops ≡ over len q = stays_price row hops len (k + 0) (still 0 (omega arith)) ∙ ap (over len) (at 0) in
+    let more : row_over row step ≡ map (over len) rest =
+    still_from row rest (suc k) len step (omega (arith, same)) (λ p inside. subst (λ n. Stays len n (get_or step p [])) (next_place k p) (still (suc p) (omega (arith, inside))))
+    (λ p. subst (λ n. get_or row n None ≡ get_or rest p None) (next_place k p) (at (suc p))) in
+    λ i. front i ∷ more i
+
+no_place : (p : ℕ) → p ≡ 0 + p
+no_place p = omega arith
+
+still_row : (row : Row) (len : ℕ) (step : Step) → length row ≡ length step → AreStill len step → row_over row step ≡ map (over len) row
+still_row row len step same still =
+    still_from row row 0 len step same (λ p inside. subst (λ n. Stays len n (get_or step p [])) (no_place p) (still p inside)) (λ p. ap (λ n. get_or row n None) (sym (no_place p)))
+
+left_forced : (format : Format) (step : Step) → leaves_out format step ≡ true → is_forced step ≡ true
+left_forced One step h = absurd (cc)
+left_forced Two step h = and_right (is_single step) (is_forced step) h
+left_forced Three step h = h
+
+-- ---- Over many
+
+-- from layer k on over n more, which have a step over which no state changes its place
+back_along : (g : GraphView) (format : Format) (k n : ℕ) (step : Step) (len : ℕ) (text choices : List ℕ) (row : Row) → AreStill len step → leaves_out format step ≡ true → length row ≡ length step → n < k → k ≤ length g.steps
+    → ((j : ℕ) → k - n ≤ j → j < k → get_or g.steps j [] ≡ step) → IsBack g format k text choices row → IsBack g format (k - n) text choices (map (over (n * len)) row)
+back_along g format k zero step len text choices row still left same some inside are found =
+    let here : k ≡ k - 0 = omega arith in
+    let none : 0 ≡ 0 * len = omega arith in
+    let prices : row ≡ map (over (0 * len)) row = each_none row ∙ ap (λ m. map (over m) row) none in
+    subst (λ A. A) (λ i. IsBack g format (here i) text choices (prices i)) found
+back_along g format k (suc n) step len text choices row still left same some inside are found =
+    let behind : Row = map (over (n * len)) row in
+    let before : IsBack g format (k - n) text choices behind = back_along g format k n step len text choices row still left same (omega arith) inside (λ j low high. are j (omega (arith, low)) high) found in
     let next : k - n - 1 ≡ k - suc n = omega arith in
     let cut : drop (k - n - 1) g.steps ≡ step ∷ drop (k - n) g.steps = step_cut g.steps (k - n) step (omega arith) (omega arith) (sym (are (k - n - 1) (omega arith) (omega arith))) in
     let out : is_left_out format (k - n - 1) step ≡ true = left_out_later format (k - n - 1) step (λ none. omega (arith, none)) left in
-    let lines : text ≡ text ++ cond (is_left_out format (k - n - 1) step) [] (reverse (row_line (row_over row step))) =
-    sym (ap (λ b. text ++ cond b [] (reverse (row_line (row_over row step)))) out ∙ append-nil text) in
-    let chosen : choices ≡ choices ++ step_choices row step = sym (ap (λ x. choices ++ x) (only_choices row step h e) ∙ append-nil choices) in
-    let price : over (suc n * h.len) p ≡ price_over row h = over_more n h.len p ∙ ap (λ i. over h.len (get_or row i None)) (sym to) in
-    let front : over (suc n * h.len) p ∷ [] ≡ row_over row step = ap (λ q. q ∷ []) price ∙ only_row row step h e in
-    subst (λ j. IsBack g format j text choices (over (suc n * h.len) p ∷ [])) next
-    (back_more g format (k - n) step text text choices choices row (over (suc n * h.len) p ∷ []) (omega arith) cut before lines chosen front)
+    let lines : text ≡ text ++ cond (is_left_out format (k - n - 1) step) [] (reverse (row_line (row_over behind step))) =
+    sym (ap (λ b. text ++ cond b [] (reverse (row_line (row_over behind step)))) out ∙ append-nil text) in
+    let chosen : choices ≡ choices ++ step_choices behind step = sym (ap (λ x. choices ++ x) (forced_none behind step (left_forced format step left)) ∙ append-nil choices) in
+    let front : map (over (suc n * len)) row ≡ row_over behind step = each_more n len row ∙ sym (still_row behind len step (length-map row (over (n * len)) ∙ same) still) in
+    subst (λ j. IsBack g format j text choices (map (over (suc n * len)) row)) next
+    (back_more g format (k - n) step text text choices choices behind (map (over (suc n * len)) row) (omega arith) cut before lines chosen front)
 
--- the one price of a layer whose step has one state with one hop
-pub one_price : (g : GraphView) (format : Format) (k : ℕ) (step : Step) (h : Hop) (text choices : List ℕ) (row : Row) → only_hop step ≡ Some h → k < length g.steps → step ≡ get_or g.steps k [] → IsBack g format k text choices row
-    → row ≡ price_over (first_row (rows_of g.last (drop (k + 1) g.steps))) h ∷ []
-one_price g format k step h text choices row e inside is found =
-    let cut : drop k g.steps ≡ step ∷ drop (k + 1) g.steps = drop_more g.steps k [] inside ∙ ap (λ s. s ∷ drop (k + 1) g.steps) (sym is) in
-    found.prices ∙ ap (λ steps. first_row (rows_of g.last steps)) cut ∙ sym (only_row (first_row (rows_of g.last (drop (k + 1) g.steps))) step h e)
+row_width : (g : GraphView) (format : Format) (k : ℕ) (text choices : List ℕ) (row : Row) → k < length g.steps → IsBack g format k text choices row → length row ≡ length (get_or g.steps k [])
+row_width g format k text choices row inside found =
+    ap length (found.prices ∙ ap (λ steps. first_row (rows_of g.last steps)) (step_next g.steps k inside)) ∙ length-map (get_or g.steps k []) (best_price (first_row (rows_of g.last (drop (k + 1) g.steps))))
 
-pub along_found : (g : GraphView) (format : Format) (k front n : ℕ) (h : Hop) (text more choices chosen : List ℕ) (row after : Row) → only_hop (get_or g.steps k []) ≡ Some h → leaves_out format (get_or g.steps k []) ≡ true → h.to ≡ 0 → k < length g.steps → front ≤ k → 0 < front → n ≡ k - front
-    → ((j : ℕ) → front ≤ j → j < k → get_or g.steps j [] ≡ get_or g.steps k []) → IsBack g format k text choices row → more ≡ text → chosen ≡ choices → after ≡ over (n * h.len) (get_or row 0 None) ∷ [] → IsBack g format front more chosen after
-along_found g format k front n h text more choices chosen row after e left to inside low some count are found t c r =
-    let p : Option ℕ = price_over (first_row (rows_of g.last (drop (k + 1) g.steps))) h in
-    let one : row ≡ p ∷ [] = one_price g format k (get_or g.steps k []) h text choices row e inside refl found in
-    let start : IsBack g format k text choices (p ∷ []) = subst (IsBack g format k text choices) one found in
+pub along_found : (g : GraphView) (format : Format) (k front n len : ℕ) (text more choices chosen : List ℕ) (row after : Row) → AreStill len (get_or g.steps k []) → leaves_out format (get_or g.steps k []) ≡ true → k < length g.steps → front ≤ k → 0 < front → n ≡ k - front
+    → ((j : ℕ) → front ≤ j → j < k → get_or g.steps j [] ≡ get_or g.steps k []) → IsBack g format k text choices row → more ≡ text → chosen ≡ choices → after ≡ map (over (n * len)) row → IsBack g format front more chosen after
+along_found g format k front n len text more choices chosen row after still left inside low some count are found t c r =
     let end : k - n ≡ front = omega (arith, count) in
-    let all : IsBack g format (k - n) text choices (over (n * h.len) p ∷ []) =
-    back_along g format k n (get_or g.steps k []) h text choices p e left to (omega (arith, count)) (omega arith) (λ j l high. are j (omega (arith, l, end)) high) start in
-    let last : over (n * h.len) p ∷ [] ≡ after = sym (r ∙ ap (λ x. over (n * h.len) (get_or x 0 None) ∷ []) one) in
-    subst (λ A. A) (λ i. IsBack g format (end i) (sym t i) (sym c i) (last i)) all
+    let all : IsBack g format (k - n) text choices (map (over (n * len)) row) =
+    back_along g format k n (get_or g.steps k []) len text choices row still left (row_width g format k text choices row inside found) (omega (arith, count)) (omega arith) (λ j l high. are j (omega (arith, l, end)) high) found in
+    subst (λ A. A) (λ i. IsBack g format (end i) (sym t i) (sym c i) (sym r i)) all
 
-pub along_low : (g : GraphView) (k n : ℕ) (h : Hop) → only_hop (get_or g.steps k []) ≡ Some h → AreLow g.steps → n < 2 ^ 29 → n * h.len < 2 ^ 62
-along_low g k n h e low few =
-    let len : h.len < 2 ^ 33 = only_low (get_or g.steps k []) h e (low_step g.steps k low) in
-    let all : n * h.len < 2 ^ 29 * 2 ^ 33 = mul-lt n h.len (2 ^ 29) (2 ^ 33) few len in all
+pub along_low : (n len : ℕ) → n < 2 ^ 29 → len < 2 ^ 33 → n * len < 2 ^ 62
+along_low n len few low = let all : n * len < 2 ^ 29 * 2 ^ 33 = mul-lt n len (2 ^ 29) (2 ^ 33) few low in all

@@ -38,6 +38,10 @@ forced_choice behind ((x ∷ y ∷ hops) ∷ step) place h = absurd (cc)
 forced_choice behind ((x ∷ []) ∷ step) zero h = sym (ap (λ b. cond b 0 1) (ap (same_price (price_over behind x)) (lesser_none (price_over behind x)) ∙ same_self (price_over behind x)))
 forced_choice behind ((x ∷ []) ∷ step) (suc place) h = forced_choice behind step place h
 
+-- and nothing is chosen
+pub forced_none : (behind : Row) (step : Step) → is_forced step ≡ true → step_choices behind step ≡ []
+forced_none behind step h = ap (λ b. cond b [] (map (choice behind) step)) h
+
 choice_is : (behind : Row) (step : Step) (choices : List ℕ) (place : ℕ) → place < length step → choices ≡ step_choices behind step → get_or choices place 0 ≡ choice behind (get_or step place [])
 choice_is behind step choices place inside is = by_test (is_forced step) refl is
   where

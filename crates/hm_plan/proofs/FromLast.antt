@@ -31,7 +31,7 @@ are_below : (bound more : ℕ) (row : Row) → bound ≤ more → AreBelow bound
 are_below bound more [] h b = tt
 are_below bound more (price ∷ row) h b = (is_below bound more price h b.0, are_below bound more row h b.1)
 
-below_in : (row : Row) (bound k : ℕ) → AreBelow bound row → IsBelow bound (get_or row k None)
+pub below_in : (row : Row) (bound k : ℕ) → AreBelow bound row → IsBelow bound (get_or row k None)
 below_in [] bound k h = tt
 below_in (price ∷ row) bound zero h = h.0
 below_in (price ∷ row) bound (suc k) h = below_in row bound k h.1

@@ -12,7 +12,7 @@ use Rattle.hm_steps.specs.Prices.{price_over, best_price}
 use Rattle.hm_steps.specs.Steps.{Step}
 use Rattle.hm_steps.specs.Ways.{place_over, choice}
 use Rattle.hm_steps.specs.declared.hops.Hop.{Hop}
-use Rattle.hm_plan.specs.Rows.{AreBelow}
+use Rattle.hm_plan.specs.Rows.{IsBelow}
 
 -- a number is the greatest, which stands for a closed price, or the price itself
 pub record IsClosed (n : ℕ) : Type 0 where
@@ -70,27 +70,24 @@ differ a b small low h = by_cases (told_cases a small) (told_cases b low)
 
 -- ---- The price over a hop
 
--- an open price of a row is below the bound of all
-pub below_at : (row : Row) (bound k n : ℕ) → AreBelow bound row → get_or row k None ≡ Some n → n < bound
-below_at [] bound k n h e = absurd (cc)
-below_at (None ∷ row) bound zero n h e = absurd (cc)
-below_at (Some q ∷ row) bound zero n h e = let is : q ≡ n = cc in subst (λ m. m < bound) is h.0
-below_at (price ∷ row) bound (suc k) n h e = below_at row bound k n h.1 e
+below_some : (bound n : ℕ) (price : Option ℕ) → IsBelow bound price → price ≡ Some n → n < bound
+below_some bound n None h e = absurd (cc)
+below_some bound n (Some q) h e = let is : q ≡ n = cc in subst (λ m. m < bound) is h
 
--- the sum of a hop's length and the number behind it tells the price over the hop
-pub price_is : (row : List ℕ) (k price sum len : ℕ) → AreBelow (2 ^ 62) (map told row) → k < length row → price ≡ get_or row k 0 → price < 2 ^ 64 → len < 2 ^ 62 → sum ≡ min (len + price) 18446744073709551615
-    → told sum ≡ over len (get_or (map told row) k None)
-price_is row k price sum len below inside is fits low e = by_cases (told_cases price fits)
+-- the sum of a length and a number tells the price with so many bytes more
+pub more_is : (price sum len : ℕ) → IsBelow (2 ^ 62) (told price) → price < 2 ^ 64 → len < 2 ^ 62 → sum ≡ min (len + price) 18446744073709551615 → told sum ≡ over len (told price)
+more_is price sum len below fits low e = by_cases (told_cases price fits)
   where
-    found : get_or (map told row) k None ≡ told price
-    found = get_or-map told row k 0 None inside ∙ ap told (sym is)
-
-    by_cases : IsClosed price ⊎ IsOpen price → told sum ≡ over len (get_or (map told row) k None)
-    by_cases (inl x) = let all : sum ≡ 18446744073709551615 = omega (arith, e, x.greatest) in rw (found, x.none, all) refl
+    by_cases : IsClosed price ⊎ IsOpen price → told sum ≡ over len (told price)
+    by_cases (inl x) = let all : sum ≡ 18446744073709551615 = omega (arith, e, x.greatest) in rw (x.none, all) refl
     by_cases (inr x) =
-        let few : price < 2 ^ 62 = below_at (map told row) (2 ^ 62) k price below (found ∙ x.some) in
+        let few : price < 2 ^ 62 = below_some (2 ^ 62) price (told price) below x.some in
         let all : sum ≡ len + price = omega (arith, e, few, low) in
-        rw (found, x.some, all) (told_open (len + price) (omega arith))
+        rw (x.some, all) (told_open (len + price) (omega arith))
+
+-- the price that a number of a list tells
+pub told_at : (row : List ℕ) (k price : ℕ) → k < length row → price ≡ get_or row k price → get_or (map told row) k None ≡ told price
+told_at row k price inside is = get_or-map told row k price None inside ∙ ap told (sym is)
 
 -- ---- The best of hops
 

@@ -2,3 +2,4 @@ pub mod Own
 pub mod Paths
 pub mod Plans
 pub mod Rows
+pub mod Still

@@ -1,11 +1,12 @@
 -- The first way, as far as it is written.
-use Rattle.std.specs.Prelude.{◌≡◌, ℕ, ◌+◌, List, [], ◌++◌, drop, length, Option, Some, None}
+use Rattle.std.specs.Prelude.{◌≡◌, ℕ, ◌+◌, true, List, [], ◌∷◌, ◌++◌, drop, length, Option, Some, None, slice_index_or}
 use Rattle.hm_edges.specs.Pieces.{piece_bytes}
 use Rattle.hm_edges.specs.declared.pieces.Piece.TheVariants as pieces
 use Rattle.hm_graph.specs.Prices.{Row}
 use Rattle.hm_layers.specs.Graphs.{GraphView, IsPlace}
 use Rattle.hm_refs.specs.Names.{Entry}
 use Rattle.hm_steps.specs.Prices.{first_row, rows_of}
+use Rattle.hm_steps.specs.Steps.{Step, is_forced}
 use Rattle.hm_steps.specs.Ways.{choices_of, way_from}
 use Rattle.hm_steps.specs.declared.hops.Hop.{Hop}
 use Rattle.hm_units.specs.Units.{TextKind, Unit, character_units}
@@ -37,10 +38,16 @@ pub record Passes (g : GraphView) (count : ℕ) (old new : Way) : Type 0 where
 abbrev pub Goes : List Entry → GraphView → List Unit → Way → Way → Type 0
 Goes t g passed old new = (units : List Unit) → new.out.items ++ way_on t g units new.at.layer new.place ≡ old.out.items ++ way_on t g (passed ++ units) old.at.layer old.place
 
--- the hop copies the unit's own bytes and leads to the first place, where the way stands
-abbrev pub IsCopied : Option Hop → Option ℕ → Type 0
-IsCopied None place = ⊥
-IsCopied (Some hop) place = (hop.piece ≡ pieces.Itself) × (hop.to ≡ 0) × (place ≡ Some 0)
+-- one hop, which copies the unit's own bytes and leads to this place
+abbrev pub Copies : ℕ → List Hop → Type 0
+Copies place [] = ⊥
+Copies place (h ∷ []) = (h.piece ≡ pieces.Itself) × (h.to ≡ place)
+Copies place (h ∷ g ∷ hops) = ⊥
+
+-- there is nothing to choose, and the way goes over such a hop to the place where it stands
+abbrev pub IsCopied : Step → Option ℕ → Type 0
+IsCopied step None = ⊥
+IsCopied step (Some place) = (is_forced step ≡ true) × Copies place (slice_index_or step place [])
 
 -- the way was written over the characters of a text up to the rest of it
 pub record GoesOver (t : List Entry) (g : GraphView) (cs rest : List ℕ) (old new : Way) : Type 0 where

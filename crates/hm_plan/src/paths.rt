@@ -2,14 +2,14 @@
 ghost use Rattle.std.specs.Prelude.{◌≡◌, ◌<◌, ◌≤◌, ◌+◌, ◌++◌, ◌∷◌, [], ℕ, List, length, drop, chars, option_and_then, slice_get, slice_index, slice_index_or, IfOk, IfSome, IsTrue, IsUtf8, OnOk};
 ghost use Rattle.hm_edges.specs.Pieces.{HasName, own_bytes, piece_bytes, piece_text};
 ghost use Rattle.hm_graph.specs.Prices.{Row};
-ghost use Rattle.hm_layers.specs.Graphs.{AreNamed, IsNamedStep, IsPlace, only_hop};
+ghost use Rattle.hm_layers.specs.Graphs.{AreNamed, IsNamedStep, IsPlace};
 ghost use Rattle.hm_parts.specs.Parts.{AreParts, IsPart, part_units, parts_units};
 ghost use Rattle.hm_refs.specs.Names.{Entry};
 ghost use Rattle.hm_steps.specs.Ways.{along, choices_of, hop_taken, step_choices, way_from};
 ghost use Rattle.hm_units.specs.Units as units;
 ghost use Rattle.hm_units.specs.Units.{character_units, units_of};
 ghost use Rattle.hm_plan.specs.Own.{own_text};
-ghost use Rattle.hm_plan.specs.Paths.{Goes, GoesOver, HasChoices, IsCopied, Passes, onward, row_behind};
+ghost use Rattle.hm_plan.specs.Paths.{Copies, Goes, GoesOver, HasChoices, IsCopied, Passes, onward, row_behind};
 
 use crate::pieces::{Own, put_piece};
 use hm_base::{Memory, SpellRules};
@@ -130,13 +130,23 @@ fn take(way: &mut Way, graph: &Graph, table: &Table, own: Own) -> Result<(), Mem
     Ok(())
 }
 
-/// Whether the way goes over the only hop of a step, which copies one byte, to the first state.
-fn is_copied(step: &Step, place: Option<usize>) -> bool
-    ensures { IsTrue result → IsCopied (only_hop step.now) place }
+/// Whether there is one hop, which copies one byte and leads to this place.
+fn copies(hops: &[Hop], place: usize) -> bool
+    ensures { IsTrue result → Copies place hops.now }
 {
-    match (step.only(), place) {
-        (Some(hop), Some(0)) => hop.len == 1 && hop.to == 0 && matches!(hop.piece, Piece::Itself),
+    match hops {
+        [hop] => hop.len == 1 && hop.to == place && matches!(hop.piece, Piece::Itself),
         _ => false,
+    }
+}
+
+/// Whether a step has nothing to choose, and the way goes over a hop that copies one byte and leads to the same place.
+fn is_copied(step: &Step, place: Option<usize>) -> bool
+    ensures { IsTrue result → IsCopied step.now place }
+{
+    match place {
+        Some(place) => place < step.width() && step.is_forced() && copies(step.hops(place), place),
+        None => false,
     }
 }
 

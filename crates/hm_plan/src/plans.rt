@@ -1,14 +1,15 @@
 //! Least prices, from the last layer on: the certificate that tells them, and what the first way chooses.
-ghost use Rattle.std.specs.Prelude.{◌≡◌, ◌++◌, ◌∷◌, [], ◌<◌, ◌≤◌, ◌^◌, length, map, reverse, true, if◌then◌else◌, Some, None, IfOk, OnOk, slice_index_or};
+ghost use Rattle.std.specs.Prelude.{◌≡◌, ◌++◌, ◌∷◌, [], ◌<◌, ◌≤◌, ◌^◌, length, map, reverse, if◌then◌else◌, Some, None, IfOk, IsTrue, OnOk, slice_index_or};
 ghost use Rattle.hm_cert.specs.Certificate.{head_lines, row_line};
 ghost use Rattle.hm_cert.specs.Layout.{told};
-ghost use Rattle.hm_layers.specs.Graphs.{AreLowHops, IsLowStep, IsPlace, only_hop};
+ghost use Rattle.hm_graph.specs.Ways.{over};
+ghost use Rattle.hm_layers.specs.Graphs.{AreLowHops, IsLowStep, IsPlace};
 ghost use Rattle.hm_steps.specs.Prices.{best_price, row_over, zeros};
 ghost use Rattle.hm_steps.specs.Prices as prices;
-ghost use Rattle.hm_steps.specs.Steps.{leaves_out};
 ghost use Rattle.hm_steps.specs.Ways.{choice, step_choices};
 ghost use Rattle.hm_plan.specs.Plans.{IsFound, IsPlan};
-ghost use Rattle.hm_plan.specs.Rows.{AreBelow};
+ghost use Rattle.hm_plan.specs.Rows.{AreBelow, IsBelow};
+ghost use Rattle.hm_plan.specs.Still.{AreStill, Stays};
 
 use hm_base::{Memory, SpellRules};
 use hm_cert::{CLOSED, Format, put_head_reversed, put_line_reversed};
@@ -34,6 +35,15 @@ struct Best {
     place: usize,
 }
 
+/// The price with so many bytes more.
+fn more(price: u64, len: u64) -> u64
+    requires below { IsBelow (2 ^ 62) (told price) }
+    requires low { len < 2 ^ 62 }
+    ensures { told result ≡ over len (told price) }
+{
+    len.saturating_add(price)
+}
+
 /// The price over a hop, by the prices of the layer behind.
 fn price_over(hop: Hop, behind: &[u64]) -> u64
     requires below { AreBelow (2 ^ 62) (map told behind.now) }
@@ -41,7 +51,7 @@ fn price_over(hop: Hop, behind: &[u64]) -> u64
     ensures { told result ≡ prices.price_over (map told behind.now) hop }
 {
     match behind.get(hop.to) {
-        Some(price) => hop.len.saturating_add(*price),
+        Some(price) => more(*price, hop.len),
         None => CLOSED,
     }
 }
@@ -53,6 +63,12 @@ fn find_best(hops: &[Hop], behind: &[u64]) -> Best
     ensures price { told result.price ≡ best_price (map told behind.now) hops.now }
     ensures place { result.place ≡ choice (map told behind.now) hops.now }
 {
+    if let [hop] = hops {
+        return Best {
+            price: price_over(*hop, behind),
+            place: 0,
+        };
+    }
     let mut best = Best {
         price: CLOSED,
         place: hops.len(),
@@ -97,6 +113,19 @@ fn find_row(
         let best = find_best(step.hops(place), behind);
         row.push(best.price)?;
         put_choice(choices, forced, best.place)?;
+    }
+    Ok(())
+}
+
+/// Puts these prices with so many bytes more in place of what the row held.
+fn add_each(prices: &[u64], len: u64, row: &mut Vec<u64>) -> Result<(), Memory>
+    requires below { AreBelow (2 ^ 62) (map told prices.now) }
+    requires low { len < 2 ^ 62 }
+    ensures { OnOk result (map told row.new.items ≡ map (over len) (map told prices.now)) }
+{
+    row.clear();
+    for i in 0..prices.len() {
+        row.push(more(prices[i], len))?;
     }
     Ok(())
 }
@@ -157,7 +186,7 @@ impl Back {
         })
     }
 
-    /// Goes over the only hop of a step, to a layer that is left out.
+    /// Goes over the only hop of a step of one state.
     fn follow(&mut self, hop: Hop) -> Result<(), Memory>
         requires below { AreBelow (2 ^ 62) (map told self.old.row.items) }
         requires low { hop.len < 2 ^ 62 }
@@ -171,6 +200,33 @@ impl Back {
         Ok(())
     }
 
+    /// Finds the prices in front of a step, in place of those behind it.
+    fn find(&mut self, step: &Step) -> Result<(), Memory>
+        requires below { AreBelow (2 ^ 62) (map told self.old.row.items) }
+        requires low { IsLowStep step.now }
+        ensures text { self.new.text ≡ self.old.text }
+        ensures choices { OnOk result (self.new.choices.items ≡ self.old.choices.items ++ step_choices (map told self.old.row.items) step.now) }
+        ensures row { OnOk result (map told self.new.row.items ≡ row_over (map told self.old.row.items) step.now) }
+    {
+        find_row(step, &self.row, &mut self.spare, &mut self.choices)?;
+        mem::swap(&mut self.row, &mut self.spare);
+        Ok(())
+    }
+
+    /// Goes to the layer in front of this step, without its line.
+    fn pass(&mut self, step: &Step) -> Result<(), Memory>
+        requires below { AreBelow (2 ^ 62) (map told self.old.row.items) }
+        requires low { IsLowStep step.now }
+        ensures text { self.new.text ≡ self.old.text }
+        ensures choices { OnOk result (self.new.choices.items ≡ self.old.choices.items ++ step_choices (map told self.old.row.items) step.now) }
+        ensures row { OnOk result (map told self.new.row.items ≡ row_over (map told self.old.row.items) step.now) }
+    {
+        match step.only() {
+            Some(hop) => self.follow(hop),
+            None => self.find(step),
+        }
+    }
+
     /// Goes to layer `k`, the one in front of this step.
     fn go_over(&mut self, format: Format, k: usize, step: &Step) -> Result<(), Memory>
         requires below { AreBelow (2 ^ 62) (map told self.old.row.items) }
@@ -180,15 +236,21 @@ impl Back {
         ensures choices { OnOk result (self.new.choices.items ≡ self.old.choices.items ++ step_choices (map told self.old.row.items) step.now) }
         ensures row { OnOk result (map told self.new.row.items ≡ row_over (map told self.old.row.items) step.now) }
     {
-        let left_out = is_left_out(format, k, step);
-        if left_out {
-            if let Some(hop) = step.only() {
-                return self.follow(hop);
-            }
-        }
-        find_row(step, &self.row, &mut self.spare, &mut self.choices)?;
+        self.pass(step)?;
+        put_line(&mut self.text, is_left_out(format, k, step), &self.row)
+    }
+
+    /// Adds so many bytes to each price.
+    fn add(&mut self, len: u64) -> Result<(), Memory>
+        requires below { AreBelow (2 ^ 62) (map told self.old.row.items) }
+        requires low { len < 2 ^ 62 }
+        ensures text { self.new.text ≡ self.old.text }
+        ensures choices { self.new.choices ≡ self.old.choices }
+        ensures row { OnOk result (map told self.new.row.items ≡ map (over len) (map told self.old.row.items)) }
+    {
+        add_each(&self.row, len, &mut self.spare)?;
         mem::swap(&mut self.row, &mut self.spare);
-        put_line(&mut self.text, left_out, &self.row)
+        Ok(())
     }
 
     /// The plan, when the first layer is reached.
@@ -212,40 +274,52 @@ impl Back {
     }
 }
 
-/// Goes on over layers in front of one that have the same step of one state with one hop, but not to the first layer.
-fn go_along(
-    back: &mut Back,
-    graph: &Graph,
-    format: Format,
-    at: Cursor,
-    hop: Hop,
-) -> Result<Cursor, Memory>
-    requires place { IsPlace graph.now at }
-    requires inside { at.layer < length graph.now.steps }
-    requires some { 0 < at.layer }
-    requires hop { only_hop (slice_index_or graph.now.steps at.layer []) ≡ Some hop }
-    requires left { leaves_out format (slice_index_or graph.now.steps at.layer []) ≡ true }
-    requires found { IsFound graph.now format at.layer back.old }
-    ensures place { IfOk result (λ front. IsPlace graph.now front) }
-    ensures layer { IfOk result (λ front. front.layer ≤ at.layer) }
-    ensures found { IfOk result (λ front. IsFound graph.now format front.layer back.new) }
+/// Whether there is one hop, of this length, to this place.
+fn stays(hops: &[Hop], place: usize, len: u64) -> bool
+    ensures { IsTrue result → Stays len place hops.now }
 {
-    if hop.to != 0 {
-        return Ok(at);
+    match hops {
+        [hop] => hop.len == len && hop.to == place,
+        _ => false,
     }
-    graph.is_small();
-    let front = graph.back_alike(at, at.layer - 1);
-    let count = (at.layer - front.layer) as u64;
-    let hop = Hop {
-        piece: hop.piece,
-        len: count * hop.len,
-        to: 0,
-    };
-    back.follow(hop)?;
-    Ok(front)
 }
 
-/// Goes on over layers in front of one that have the same step, where that is fast.
+/// Whether each state has one hop, of this length, to its own place.
+fn are_still(step: &Step, len: u64) -> bool
+    ensures { IsTrue result → AreStill len step.now }
+{
+    for place in 0..step.width() {
+        if !stays(step.hops(place), place, len) {
+            return false;
+        }
+    }
+    true
+}
+
+/// The length of the first hop, 0 where there is none.
+fn len_of(hops: &[Hop]) -> u64
+    requires { AreLowHops hops.now }
+    ensures { result < 2 ^ 33 }
+{
+    match hops {
+        [hop, ..] => hop.len,
+        [] => 0,
+    }
+}
+
+/// The length of the first hop of the first state, 0 where there is none.
+fn first_len(step: &Step) -> u64
+    requires { IsLowStep step.now }
+    ensures { result < 2 ^ 33 }
+{
+    if step.width() == 0 {
+        return 0;
+    }
+    len_of(step.hops(0))
+}
+
+/// Goes on over layers in front of one that have the same step, where no state changes its place and none is written, but
+/// not to the first layer.
 fn go_on(back: &mut Back, graph: &Graph, format: Format, at: Cursor) -> Result<Cursor, Memory>
     requires place { IsPlace graph.now at }
     requires inside { at.layer < length graph.now.steps }
@@ -254,14 +328,22 @@ fn go_on(back: &mut Back, graph: &Graph, format: Format, at: Cursor) -> Result<C
     ensures layer { IfOk result (λ front. front.layer ≤ at.layer) }
     ensures found { IfOk result (λ front. IsFound graph.now format front.layer back.new) }
 {
-    let step = graph.step(at);
-    if at.layer == 0 || !step.is_left_out(format) {
+    if at.layer == 0 {
         return Ok(at);
     }
-    match step.only() {
-        Some(hop) => go_along(back, graph, format, at, hop),
-        None => Ok(at),
+    let front = graph.back_alike(at, at.layer - 1);
+    let step = graph.step(at);
+    if front.layer == at.layer || !step.is_left_out(format) {
+        return Ok(at);
     }
+    graph.is_small();
+    let len = first_len(step);
+    if !are_still(step, len) {
+        return Ok(at);
+    }
+    let count = (at.layer - front.layer) as u64;
+    back.add(count * len)?;
+    Ok(front)
 }
 
 /// Finds the least prices of a graph, and writes them as a certificate in a format, under these rules.

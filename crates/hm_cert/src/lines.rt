@@ -79,6 +79,13 @@ pub fn read_head(bytes: &[u8]) -> Result<Head<'_>, CertificateFault>
 }
 
 impl<'a> Lines<'a> {
+    /// The text of the lines that are left.
+    pub(crate) fn text(&self) -> &'a [u8]
+        ensures { result.now ≡ self.now.rest.now }
+    {
+        self.rest
+    }
+
     /// Reads the next row into a list, in place of what is there, a closed price as `CLOSED`. False at the end. After a
     /// refusal the lines are as they were.
     pub fn next_row(&mut self, into: &mut Vec<u64>) -> Result<bool, CertificateFault>
@@ -173,7 +180,7 @@ fn behind<'a>(text: &'a [u8], word: &[u8]) -> Option<&'a [u8]>
 }
 
 /// Reads a row into a list, in place of what is there. Whether each word of the line is a price.
-fn read_row(line: &[u8], into: &mut Vec<u64>) -> Result<bool, Memory>
+pub(crate) fn read_row(line: &[u8], into: &mut Vec<u64>) -> Result<bool, Memory>
     ensures { IfOk result (λ good. line_row line.now ≡ (if good then Some (map told into.new.items) else None)) }
 {
     into.clear();

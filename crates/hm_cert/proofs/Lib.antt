@@ -6,4 +6,5 @@ pub mod RuleLines
 pub mod LineRows
 pub mod Before
 pub mod Written
+pub mod ShortPrices
 pub mod Read

@@ -30,13 +30,13 @@ free_parts b mark t h = by_test (b == mark) refl h
     by_test false e f = (e, f)
 
 -- up to the mark
-free_cut : (mark : ℕ) (text rest : List ℕ) → is_free mark text ≡ true → pieces mark (text ++ mark ∷ rest) ≡ text ∷ pieces mark rest
+pub free_cut : (mark : ℕ) (text rest : List ℕ) → is_free mark text ≡ true → pieces mark (text ++ mark ∷ rest) ≡ text ∷ pieces mark rest
 free_cut mark [] rest h = slice_split-cons_yes (λ b. b == mark) mark rest ((Decides-eqb mark mark).1 refl)
 free_cut mark (b ∷ text) rest h =
     let p = free_parts b mark (is_free mark text) h in
     slice_split-cons_no (λ b. b == mark) b (text ++ mark ∷ rest) p.0 ∙ ap (onto_first b) (free_cut mark text rest p.1)
 
-free_whole : (mark : ℕ) (text : List ℕ) → is_free mark text ≡ true → pieces mark text ≡ text ∷ []
+pub free_whole : (mark : ℕ) (text : List ℕ) → is_free mark text ≡ true → pieces mark text ≡ text ∷ []
 free_whole mark [] h = refl
 free_whole mark (b ∷ text) h =
     let p = free_parts b mark (is_free mark text) h in
@@ -66,7 +66,7 @@ free_rules rules =
     (free_append 10 ascii frame (free_flag rules.ascii (codes "ascii") refl) (free_flag rules.frame (codes "frame") refl)))))
 
 -- no digit is a mark
-free_digits : (mark : ℕ) (digits : List ℕ) → mark < 48 → AllDigits 10 digits → is_free mark digits ≡ true
+pub free_digits : (mark : ℕ) (digits : List ℕ) → mark < 48 → AllDigits 10 digits → is_free mark digits ≡ true
 free_digits mark [] low h = refl
 free_digits mark (d ∷ digits) low h =
     let r = digit_at (d ∷ digits) 0 h (omega arith) in

@@ -79,6 +79,28 @@ impl SourceText {
         Ok(text)
     }
 
+    /// What `read` gives, from bytes that are taken over: where the text is the page as it stands, without a mark and
+    /// without CR, nothing is copied.
+    pub fn take(alloc: Global, bytes: Vec<u8>, limit: u32) -> Result<SourceText, TextFault>
+        requires { limit ≤ OUTPUT_LIMIT }
+        ensures read { IfOk result (λ text. text ≡ source_of bytes.items) }
+        ensures sound { OnOk result (HasText limit bytes.items) }
+        ensures refused { IfErr result (λ fault. IsRefusedBy fault limit bytes.items) }
+    {
+        checked(bytes.as_slice(), limit)?;
+        if !is_own_text(bytes.as_slice()) {
+            return SourceText::read(alloc, bytes.as_slice(), limit);
+        }
+        match String::from_utf8(bytes) {
+            Ok(text) => Ok(SourceText {
+                text,
+                has_mark: false,
+                pairs: Vec::new(alloc),
+            }),
+            Err(error) => SourceText::read(alloc, error.into_bytes().as_slice(), limit),
+        }
+    }
+
     /// The text.
     pub fn text(&self) -> &str
         ensures bytes { result.now ≡ map byte_of self.now.placed }
@@ -168,6 +190,20 @@ fn start_of(has_mark: bool) -> u32
     if has_mark { 3 } else { 0 }
 }
 
+// Whether a page without zero bytes is its own text: no line end in it has to be changed, and its front can't be a mark.
+fn is_own_text(page: &[u8]) -> bool
+    ensures unmarked { result ≡ true → without_mark (numbered 0 page.now) ≡ numbered 0 page.now }
+    ensures plain { result ≡ true → all_pass is_nonzero page.now ≡ true → all_pass is_text_byte page.now ≡ true }
+{
+    if page.is_empty() || page[0] == 0xEF {
+        return false;
+    }
+    match memchr(b'\r', page) {
+        Some(_) => false,
+        None => true,
+    }
+}
+
 // Whether the page begins with the mark U+FEFF, and what is left of it.
 fn without_mark(page: &str) -> (bool, &str)
     ensures whole { page.now ≡ mark_of result.0 ++ result.1.now }
@@ -246,6 +282,20 @@ mod tests {
         let empty = SourceText::read(rt.alloc(), b"\xEF\xBB\xBF", 3)?;
         assert_eq!(rt; empty.text(), "");
         assert_eq!(rt; empty.place_of(0), 3);
+        Ok(())
+    }
+
+    #[test]
+    fn taken(rt: HostRuntime) -> Result<(), TextFault> {
+        let pages: [&[u8]; 5] = [b"", b"a\n", b"a\r\nb\r", b"\xEF\xBB\xBFa", b"\xEF\xAC\x81"];
+        for page in pages {
+            let bytes = Vec::from_slice(rt.alloc(), page).map_err(|_| TextFault::Memory)?;
+            let taken = SourceText::take(rt.alloc(), bytes, 5)?;
+            let read = SourceText::read(rt.alloc(), page, 5)?;
+            assert_eq!(rt; taken.text(), read.text());
+            let end = read.text().len() as u32;
+            assert_eq!(rt; taken.place_of(end), read.place_of(end));
+        }
         Ok(())
     }
 }

@@ -4,5 +4,7 @@ pub mod Pieces
 pub mod PriceTexts
 pub mod RuleLines
 pub mod LineRows
+pub mod Before
 pub mod Written
+pub mod ShortPrices
 pub mod Read

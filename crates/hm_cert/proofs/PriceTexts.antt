@@ -13,7 +13,7 @@ use Rattle.std.proofs.lemmas.Str.Parse.{IsNumeralModel, digit_at, digits_value_s
 use Rattle.hm_cert.specs.Certificate.{IsPrice, price_text}
 use Rattle.hm_cert.specs.Layout.{told}
 use Rattle.hm_cert.specs.Reading.{word_price}
-use Rattle.hm_cert.specs.Words.{HasNumberForm, IsNumber}
+use Rattle.hm_cert.specs.Words.{HasNumberForm, IsNumber, IsUpTo}
 
 pub own : IsNumeralModel (AllDigits 10) (digits_value 10)
 own = record { to = λ ds h. h; from = λ ds h. h; same = λ ds h. refl }
@@ -51,6 +51,10 @@ price_back word price h = by_closed (bytes_eq word (45 ∷ [])) refl h
         let is : None ≡ price = cc in
         subst (λ p. (price_text p ≡ word) × IsPrice p) is (sym ((bytes_eq-Decides word (45 ∷ [])).0 e), tt)
     by_closed false e f = by_number (bytes_eq word (decimal (digits_value 10 word))) (nat_lt (digits_value 10 word) (2 ^ 63)) refl refl f
+
+-- digits aren't a closed price
+pub no_dash : (word : List ℕ) → AllDigits 10 word → word ≡ 45 ∷ [] → ⊥
+no_dash word d e = let dash : AllDigits 10 (45 ∷ []) = subst (AllDigits 10) e d in omega (arith, dash.0)
 
 pub no_price : (word : List ℕ) → ((price : Option ℕ) → IsPrice price → price_text price ≡ word → ⊥) → word_price word ≡ None
 no_price word h = by_case (word_price word) refl
@@ -105,20 +109,19 @@ digit_is b l h =
     let high : nat_lt b 58 ≡ true = (Decides-ltb b 58).1 (omega arith) in
     rw (low, high) refl
 
--- the number of the bytes up to a place
-pub record UpTo (word : List ℕ) (i number : ℕ) : Type 0 where
-  pub digits : AllDigits 10 (take i word)
-  pub value : number ≡ digits_value 10 (take i word)
-
 -- at a place whose byte is no digit
 pub other_byte : (word : List ℕ) (i : ℕ) → i < length word → false ≡ is_ascii_digit (get_or word i 0) → AllDigits 10 word → ⊥
 other_byte word i h e d = let r = digit_at word i d h in no_digit (get_or word i 0) e r.0 r.1
 
--- a number of at most 18 digits, with one more
-pub digit_small : (word : List ℕ) (i number : ℕ) → i < length word → length word ≤ 19 → UpTo word i number → number < 10 ^ 18
-digit_small word i number h few u = rw u.value (digits_value_short own (take i word) 18 u.digits (omega (arith, length-take i word)))
+-- a number of at most 18 digits
+pub up_to_small : (word : List ℕ) (i number : ℕ) → i ≤ 18 → IsUpTo word i number → number < 10 ^ 18
+up_to_small word i number few u = rw u.value (digits_value_short own (take i word) 18 u.digits (omega (arith, length-take i word)))
 
-pub digit_more : (word : List ℕ) (i number digit : ℕ) → i < length word → UpTo word i number → true ≡ is_ascii_digit (get_or word i 0) → digit ≡ get_or word i 0 - 48 → (digit ≤ 9) × UpTo word (i + 1) (number * 10 + digit)
+-- and one more
+pub digit_small : (word : List ℕ) (i number : ℕ) → i < length word → length word ≤ 19 → IsUpTo word i number → number < 10 ^ 18
+digit_small word i number h few u = up_to_small word i number (omega (arith, h, few)) u
+
+pub digit_more : (word : List ℕ) (i number digit : ℕ) → i < length word → IsUpTo word i number → true ≡ is_ascii_digit (get_or word i 0) → digit ≡ get_or word i 0 - 48 → (digit ≤ 9) × IsUpTo word (i + 1) (number * 10 + digit)
 digit_more word i number digit h u e is =
     let r = digit_range (get_or word i 0) e in
     let d : digit_value (get_or word i 0) ≡ get_or word i 0 - 48 = digit_is (get_or word i 0) r.0 r.1 in (

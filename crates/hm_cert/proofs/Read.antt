@@ -53,7 +53,7 @@ row_prices line numbers good is well =
     (omega (arith, back.1, length-map numbers told), back.2)
 
 -- lines and the rows whose text they are
-rows_back : (number : ℕ) (lines : List (List ℕ)) (rows : List Row) → lines_rows number lines ≡ Ok rows → (row_lines rows ≡ join_with_byte 10 lines) × AreRows rows
+pub rows_back : (number : ℕ) (lines : List (List ℕ)) (rows : List Row) → lines_rows number lines ≡ Ok rows → (row_lines rows ≡ join_with_byte 10 lines) × AreRows rows
 rows_back number [] rows h = let is : [] ≡ rows = cc in subst (λ r. (row_lines r ≡ []) × AreRows r) is (refl, tt)
 rows_back number ([] ∷ []) rows h = let is : [] ≡ rows = cc in subst (λ r. (row_lines r ≡ []) × AreRows r) is (refl, tt)
 rows_back number ((b ∷ line) ∷ []) rows h = absurd (cc)

@@ -18,11 +18,11 @@ use Rattle.hm_cert.proofs.RuleLines.{rules_back}
 use Rattle.hm_cert.proofs.LineRows.{rows_step, by_second}
 
 -- whether no byte of a text is the mark
-abbrev is_free : ℕ → List ℕ → Bool
+abbrev pub is_free : ℕ → List ℕ → Bool
 is_free mark [] = true
 is_free mark (b ∷ text) = not (b == mark) && is_free mark text
 
-free_parts : (b mark : ℕ) (t : Bool) → not (b == mark) && t ≡ true → ((b == mark) ≡ false) × (t ≡ true)
+pub free_parts : (b mark : ℕ) (t : Bool) → not (b == mark) && t ≡ true → ((b == mark) ≡ false) × (t ≡ true)
 free_parts b mark t h = by_test (b == mark) refl h
   where
     by_test : (s : Bool) → (b == mark) ≡ s → not s && t ≡ true → ((b == mark) ≡ false) × (t ≡ true)
@@ -30,13 +30,13 @@ free_parts b mark t h = by_test (b == mark) refl h
     by_test false e f = (e, f)
 
 -- up to the mark
-free_cut : (mark : ℕ) (text rest : List ℕ) → is_free mark text ≡ true → pieces mark (text ++ mark ∷ rest) ≡ text ∷ pieces mark rest
+pub free_cut : (mark : ℕ) (text rest : List ℕ) → is_free mark text ≡ true → pieces mark (text ++ mark ∷ rest) ≡ text ∷ pieces mark rest
 free_cut mark [] rest h = slice_split-cons_yes (λ b. b == mark) mark rest ((Decides-eqb mark mark).1 refl)
 free_cut mark (b ∷ text) rest h =
     let p = free_parts b mark (is_free mark text) h in
     slice_split-cons_no (λ b. b == mark) b (text ++ mark ∷ rest) p.0 ∙ ap (onto_first b) (free_cut mark text rest p.1)
 
-free_whole : (mark : ℕ) (text : List ℕ) → is_free mark text ≡ true → pieces mark text ≡ text ∷ []
+pub free_whole : (mark : ℕ) (text : List ℕ) → is_free mark text ≡ true → pieces mark text ≡ text ∷ []
 free_whole mark [] h = refl
 free_whole mark (b ∷ text) h =
     let p = free_parts b mark (is_free mark text) h in
@@ -66,7 +66,7 @@ free_rules rules =
     (free_append 10 ascii frame (free_flag rules.ascii (codes "ascii") refl) (free_flag rules.frame (codes "frame") refl)))))
 
 -- no digit is a mark
-free_digits : (mark : ℕ) (digits : List ℕ) → mark < 48 → AllDigits 10 digits → is_free mark digits ≡ true
+pub free_digits : (mark : ℕ) (digits : List ℕ) → mark < 48 → AllDigits 10 digits → is_free mark digits ≡ true
 free_digits mark [] low h = refl
 free_digits mark (d ∷ digits) low h =
     let r = digit_at (d ∷ digits) 0 h (omega arith) in
@@ -79,7 +79,7 @@ free_price mark None low h =
     rw other refl
 free_price mark (Some n) low h = free_digits mark (decimal n) (omega arith) (digits_of_decimal n h).0
 
-free_row : (row : Row) → ArePrices row → is_free 10 (row_text row) ≡ true
+pub free_row : (row : Row) → ArePrices row → is_free 10 (row_text row) ≡ true
 free_row [] h = refl
 free_row (price ∷ []) h = free_price 10 price (omega arith) h.0
 free_row (price ∷ next ∷ row) h = free_append 10 (price_text price) (32 ∷ row_text (next ∷ row)) (free_price 10 price (omega arith) h.0) (free_row (next ∷ row) h.1)
@@ -96,10 +96,10 @@ words_prices : (row : Row) → ArePrices row → words_row (map price_text row) 
 words_prices [] h = refl
 words_prices (price ∷ row) h = rw (text_price price h.0, words_prices row h.1) refl
 
-line_back : (row : Row) → 0 < length row → ArePrices row → line_row (row_text row) ≡ Some row
+pub line_back : (row : Row) → 0 < length row → ArePrices row → line_row (row_text row) ≡ Some row
 line_back row l h = ap words_row (row_words row l h) ∙ words_prices row h
 
-rows_back : (number : ℕ) (rows : List Row) → AreRows rows → rows_in number (row_lines rows) ≡ Ok rows
+pub rows_back : (number : ℕ) (rows : List Row) → AreRows rows → rows_in number (row_lines rows) ≡ Ok rows
 rows_back number [] h = refl
 rows_back number (row ∷ rows) h =
     ap (rows_in number) (append_assoc (row_text row) (10 ∷ []) (row_lines rows))

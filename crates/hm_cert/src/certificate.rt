@@ -1,46 +1,34 @@
 //! A certificate, read.
 ghost use Rattle.std.specs.Prelude.{◌≡◌, IfOk};
 ghost use Rattle.hm_cert.specs.Certificate.{AreRows};
-ghost use Rattle.hm_cert.specs.Reading.{ReadsAs, RowsAre, rows_in};
+ghost use Rattle.hm_cert.specs.Reading.{ReadsAs};
 
-use crate::lines::{CertificateFault, Lines, read_head};
-use crate::prices::Prices;
+use crate::kept::WrittenRows;
+use crate::lines::{CertificateFault, read_head};
 use crate::text::Format;
 use hm_base::SpellRules;
 use std::alloc::Global;
 
 /// A certificate: its format, the rules that it is about, and the prices of the layers that are written.
 #[derive(Drop)]
-pub struct Certificate {
+pub struct Certificate<'a> {
     pub format: Format,
     pub rules: SpellRules,
-    pub prices: Prices,
+    pub prices: WrittenRows<'a>,
 }
 
-impl Certificate {
-    /// Reads the text of a certificate.
-    pub fn read(alloc: Global, bytes: &[u8]) -> Result<Certificate, CertificateFault>
+impl<'a> Certificate<'a> {
+    /// Reads the text of a certificate. Each line is judged; the prices stay in the text until they are asked for.
+    pub fn read(alloc: Global, bytes: &'a [u8]) -> Result<Certificate<'a>, CertificateFault>
         ensures read { ReadsAs bytes.now result }
         ensures rows { IfOk result (λ certificate. AreRows certificate.prices) }
     {
         let head = read_head(bytes)?;
-        let prices = read_rows(alloc, head.lines)?;
+        let prices = WrittenRows::read(alloc, head.lines)?;
         Ok(Certificate {
             format: head.format,
             rules: head.rules,
             prices,
         })
     }
-}
-
-/// Reads the rows of all lines that are left.
-fn read_rows(alloc: Global, mut lines: Lines<'_>) -> Result<Prices, CertificateFault>
-    ensures { RowsAre (rows_in lines.entry.number lines.entry.rest.now) result }
-{
-    let mut prices = Prices::new(alloc);
-    let mut row = Vec::new(alloc);
-    while lines.next_row(&mut row)? {
-        prices.push_row(&row)?;
-    }
-    Ok(prices)
 }

@@ -2,6 +2,7 @@
 #![tactic(auto)]
 
 mod certificate;
+mod kept;
 pub mod laws;
 mod lines;
 mod prices;
@@ -9,6 +10,7 @@ mod reversed;
 mod text;
 
 pub use certificate::Certificate;
+pub use kept::{RowPlace, WrittenRows};
 pub use lines::{CertificateFault, Head, Lines, read_head};
 pub use prices::{CLOSED, Prices, price_of};
 pub use reversed::{put_head_reversed, put_line_reversed};

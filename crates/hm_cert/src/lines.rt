@@ -3,7 +3,8 @@ ghost use Rattle.std.specs.Prelude.{◌≡◌, ℕ, ◌+◌, ◌^◌, ◌<◌, �
 ghost use Rattle.hm_base.specs.Bytes.{strip};
 ghost use Rattle.hm_cert.specs.Certificate.{ArePrices};
 ghost use Rattle.hm_cert.specs.Layout.{told};
-ghost use Rattle.hm_cert.specs.Words.{HasNumberForm, IsNumber};
+ghost use Rattle.hm_cert.specs.First.{IsFirst, IsNoFirst};
+ghost use Rattle.hm_cert.specs.Words.{HasNumberForm, IsNumber, IsUpTo};
 ghost use Rattle.hm_cert.specs.Reading.{IsBadHead, IsNext, given, line_format, line_row, line_rules, pieces, rows_in, with_head, word_price};
 
 use crate::prices::CLOSED;
@@ -79,6 +80,13 @@ pub fn read_head(bytes: &[u8]) -> Result<Head<'_>, CertificateFault>
 }
 
 impl<'a> Lines<'a> {
+    /// The text of the lines that are left.
+    pub(crate) fn text(&self) -> &'a [u8]
+        ensures { result.now ≡ self.now.rest.now }
+    {
+        self.rest
+    }
+
     /// Reads the next row into a list, in place of what is there, a closed price as `CLOSED`. False at the end. After a
     /// refusal the lines are as they were.
     pub fn next_row(&mut self, into: &mut Vec<u64>) -> Result<bool, CertificateFault>
@@ -172,24 +180,93 @@ fn behind<'a>(text: &'a [u8], word: &[u8]) -> Option<&'a [u8]>
     }
 }
 
+/// The price whose text a line begins with.
+#[derive(Drop)]
+struct First<'a> {
+    price: u64,
+    /// What is behind the space behind it, where there is one.
+    more: Option<&'a [u8]>,
+}
+
 /// Reads a row into a list, in place of what is there. Whether each word of the line is a price.
-fn read_row(line: &[u8], into: &mut Vec<u64>) -> Result<bool, Memory>
+pub(crate) fn read_row(line: &[u8], into: &mut Vec<u64>) -> Result<bool, Memory>
     ensures { IfOk result (λ good. line_row line.now ≡ (if good then Some (map told into.new.items) else None)) }
 {
     into.clear();
     let mut rest = line;
-    while let Some((word, more)) = cut(rest, b' ') {
-        match read_price(word) {
-            Some(price) => into.push(price)?,
-            None => return Ok(false),
+    while let Some(first) = first_price(rest) {
+        into.push(first.price)?;
+        match first.more {
+            Some(more) => rest = more,
+            None => return Ok(true),
         }
-        rest = more;
     }
-    match read_price(rest) {
-        Some(price) => into.push(price)?,
-        None => return Ok(false),
+    Ok(false)
+}
+
+/// The price whose text the first word of a line is.
+fn first_price(line: &[u8]) -> Option<First<'_>>
+    ensures { MatchOption result (IsNoFirst line.now) (IsFirst line.now) }
+{
+    match short_price(line) {
+        Some(first) => Some(first),
+        None => any_price(line),
     }
-    Ok(true)
+}
+
+/// The price that a line begins with, where it is the number of at most 18 digits.
+fn short_price(line: &[u8]) -> Option<First<'_>>
+    ensures { IfSome result (IsFirst line.now) }
+{
+    let (price, len) = front_number(&line[..line.len().min(18)]);
+    if !has_number_form(&line[..len]) {
+        return None;
+    }
+    if len == line.len() {
+        return Some(First { price, more: None });
+    }
+    if line[len] != b' ' {
+        return None;
+    }
+    Some(First {
+        price,
+        more: Some(&line[len + 1..]),
+    })
+}
+
+/// The number that the digits in front of at most 18 bytes write, and how many they are.
+fn front_number(text: &[u8]) -> (u64, usize)
+    requires { length text.now ≤ 18 }
+    ensures within { result.1 ≤ length text.now }
+    ensures number { IsUpTo text.now result.1 result.0 }
+{
+    let mut number: u64 = 0;
+    for (len, byte) in text.iter().enumerate() {
+        if !byte.is_ascii_digit() {
+            return (number, len);
+        }
+        number = number * 10 + u64::from(*byte - b'0');
+    }
+    (number, text.len())
+}
+
+/// The price whose text the first word of a line is, whatever its form.
+fn any_price(line: &[u8]) -> Option<First<'_>>
+    ensures { MatchOption result (IsNoFirst line.now) (IsFirst line.now) }
+{
+    match cut(line, b' ') {
+        Some((word, more)) => match read_price(word) {
+            Some(price) => Some(First {
+                price,
+                more: Some(more),
+            }),
+            None => None,
+        },
+        None => match read_price(line) {
+            Some(price) => Some(First { price, more: None }),
+            None => None,
+        },
+    }
 }
 
 /// The price whose text a word is.

@@ -1,5 +1,5 @@
 //! The prices of the layers that a certificate writes.
-ghost use Rattle.std.specs.Prelude.{◌≡◌, ℕ, ◌<◌, ◌≤◌, [], ◌∷◌, ◌++◌, Some, length, map, slice_get, slice_index, slice_index_or, slice_range, OnOk, OnErr};
+ghost use Rattle.std.specs.Prelude.{◌≡◌, ℕ, ◌<◌, ◌≤◌, [], ◌∷◌, ◌++◌, length, map, slice_index, slice_index_or, slice_range, OnOk, OnErr};
 ghost use Rattle.hm_cert.specs.Layout.{told};
 
 use hm_base::Memory;
@@ -79,23 +79,6 @@ impl Prices {
     {
         let (start, end) = span_of(&self.ends, k);
         part_of(&self.numbers, start, end)
-    }
-
-    /// How many prices row `k` has.
-    pub fn width(&self, k: usize) -> usize
-        requires { k < length self.now }
-        ensures { result ≡ length (slice_index_or self.now k []) }
-    {
-        self.row(k).len()
-    }
-
-    /// Price `at` of row `k`, None where it is closed.
-    pub fn get(&self, k: usize, at: usize) -> Option<u64>
-        requires row { k < length self.now }
-        requires price { at < length (slice_index_or self.now k []) }
-        ensures { Some result ≡ slice_get (slice_index_or self.now k []) at }
-    {
-        price_of(self.row(k)[at])
     }
 }
 

@@ -81,27 +81,24 @@ fn wide_rows(rt: HostRuntime) -> Result<(), Memory> {
 fn read(rt: HostRuntime) -> Result<(), CertificateFault> {
     let read = Certificate::read(rt.alloc(), WIDE.as_bytes())?;
     assert!(rt; read.format == Format::Two && read.rules == RULES);
-    assert!(rt; read.prices.rows() == 3);
-    for (k, row) in [
-        [Some(10), None, Some(9_223_372_036_854_775_807)].as_slice(),
-        [None, None].as_slice(),
-        [Some(0)].as_slice(),
-    ]
-    .iter()
-    .enumerate()
-    {
-        assert!(rt; k < read.prices.rows() && read.prices.width(k) == row.len());
-        for (at, price) in row.iter().enumerate() {
-            assert!(rt; at < read.prices.width(k) && read.prices.get(k, at) == *price);
-        }
-    }
+    let mut row = Vec::new(rt.alloc());
+    let place = read.prices.end();
+    assert!(rt; place.row == 3);
+    let place = read.prices.row_before(place, &mut row)?;
+    assert!(rt; place.row == 2 && row.as_slice() == [0].as_slice());
+    let place = read.prices.row_before(place, &mut row)?;
+    assert!(rt; place.row == 1 && row.as_slice() == [CLOSED, CLOSED].as_slice());
+    let place = read.prices.row_before(place, &mut row)?;
+    assert!(rt;
+        place.row == 0 && row.as_slice() == [10, CLOSED, 9_223_372_036_854_775_807].as_slice()
+    );
     let read = Certificate::read(rt.alloc(), EVERY_LAYER.as_bytes())?;
-    assert!(rt; read.format == Format::One && read.rules == RULES && read.prices.rows() == 14);
+    assert!(rt; read.format == Format::One && read.rules == RULES && read.prices.len() == 14);
     let read = Certificate::read(rt.alloc(), SPARSE.as_bytes())?;
-    assert!(rt; read.format == Format::Three && read.rules == RULES && read.prices.rows() == 2);
+    assert!(rt; read.format == Format::Three && read.rules == RULES && read.prices.len() == 2);
     let read = Certificate::read(rt.alloc(), b"html-cert 2\nrules tight ascii frame\n")?;
     assert!(rt; read.rules.tight && read.rules.ascii && read.rules.frame);
-    assert!(rt; !read.rules.omit && !read.rules.unquote && read.prices.rows() == 0);
+    assert!(rt; !read.rules.omit && !read.rules.unquote && read.prices.len() == 0);
     Ok(())
 }
 

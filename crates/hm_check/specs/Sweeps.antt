@@ -1,13 +1,17 @@
 -- What is known of the rows of a certificate from a layer of a graph on.
-use Rattle.std.specs.Prelude.{◌≡◌, ◌<◌, ◌+◌, ◌*◌, ◌^◌, ℕ, Bool, List, [], ◌∷◌, length, map, drop, Option, Some, None, option_map}
+use Rattle.std.specs.Prelude.{◌≡◌, ◌==◌, ◌<◌, ◌+◌, ◌*◌, ◌^◌, ℕ, Bool, true, false, List, [], ◌∷◌, length, map, drop, Option, Some, None, option_map, if◌then◌else◌}
+use Rattle.std.specs.Option.{option_or}
 use Rattle.hm_cert.specs.declared.text.Format.{Format}
 use Rattle.hm_cert.specs.Certificate.{AreRows}
 use Rattle.hm_cert.specs.Layout.{told}
+use Rattle.hm_cert.specs.Places.{IsRowPlace}
 use Rattle.hm_graph.specs.Prices.{Row}
 use Rattle.hm_layers.specs.Graphs.{GraphView}
-use Rattle.hm_steps.specs.Prices.{full_rows}
-use Rattle.hm_check.specs.Rows.{OtherWidth, HighPrice}
+use Rattle.hm_steps.specs.Prices.{row_over, full_rows}
+use Rattle.hm_steps.specs.Steps.{Step}
+use Rattle.hm_check.specs.Rows.{OtherWidth, HighPrice, high_in, high_at_end}
 use Rattle.hm_check.specs.Steps.{count_over, other_width_over, high_price_over}
+use Rattle.hm_check.specs.declared.sweep.Found.{Found}
 use Rattle.hm_check.specs.declared.sweep.Sweep.{Sweep}
 use Rattle.hm_check.specs.declared.verdicts.Why.{Why}
 use Rattle.hm_check.specs.declared.verdicts.Why.TheVariants.{WrongWidth, TooHigh}
@@ -30,19 +34,40 @@ AreBelow n (price ∷ row) = IsBelow n price × AreBelow n row
 
 -- ---- Rows
 
--- As many rows as layers are written, each as wide as its layer, and each price can be written.
+-- as many rows as layers are written, and each price can be written
 pub record AreInPlace (format : Format) (g : GraphView) (rows : List Row) : Type 0 where
   pub prices : AreRows rows
   pub count : length rows ≡ count_over format 0 g.steps
-  pub widths : other_width_over format 0 g.last g.steps rows ≡ None
+
+-- what is found with the row of layer k in front, by the prices behind
+abbrev pub judged : Found → ℕ → Row → Row → Step → Found
+judged found k row behind step =
+    if length row == length step then (if found.right then record { right = true; why = option_or (option_map high_why (high_in k 0 row (row_over behind step))) found.why } else found)
+    else record { right = false; why = Some (WrongWidth k (length row) (length step)) }
+
+-- what is found of the row of the last layer, layer k
+abbrev pub judged_at_end : ℕ → Row → ℕ → Found
+judged_at_end k row last =
+    if length row == last then record { right = true; why = option_map high_why (high_at_end k 0 row) }
+    else record { right = false; why = Some (WrongWidth k (length row) last) }
 
 -- The rows behind the first ones stand for the prices from layer k on, of which those of layer k are at hand, and the first of
 -- them above its bound is found.
-pub record IsSwept (format : Format) (g : GraphView) (rows : List Row) (k : ℕ) (s : Sweep) : Type 0 where
+pub record ArePriced (format : Format) (g : GraphView) (rows : List Row) (k : ℕ) (s : Sweep) : Type 0 where
   pub more : List Row
-  pub full : full_rows format k g.last (drop k g.steps) (drop s.at rows) ≡ Some (map told s.behind.items ∷ more)
-  pub found : s.found ≡ option_map high_why (high_price_over k (drop k g.steps) (map told s.behind.items ∷ more))
-  pub written : s.at + count_over format k (drop k g.steps) ≡ length rows
+  pub full : full_rows format k g.last (drop k g.steps) (drop s.at.row rows) ≡ Some (map told s.behind.items ∷ more)
+  pub found : s.found.why ≡ option_map high_why (high_price_over k (drop k g.steps) (map told s.behind.items ∷ more))
   pub turns : ℕ
   pub turned : turns + k ≡ length g.steps
   pub below : AreBelow (2 ^ 63 + turns * 2 ^ 33) (map told s.behind.items)
+
+-- what is known of the rows behind the first ones, by the first of them that has another width
+abbrev pub AreKnown : Format → GraphView → List Row → ℕ → Sweep → Option OtherWidth → Type 0
+AreKnown format g rows k s None = (s.found.right ≡ true) × ArePriced format g rows k s
+AreKnown format g rows k s (Some w) = (s.found.right ≡ false) × (s.found.why ≡ Some (width_why w))
+
+-- The rows behind a place are those of the layers from layer k on.
+pub record IsSwept (format : Format) (g : GraphView) (rows : List Row) (k : ℕ) (s : Sweep) : Type 0 where
+  pub place : IsRowPlace rows s.at
+  pub written : s.at.row + count_over format k (drop k g.steps) ≡ length rows
+  pub known : AreKnown format g rows k s (other_width_over format k g.last (drop k g.steps) (drop s.at.row rows))

@@ -3,21 +3,25 @@ ghost use Rattle.std.specs.Prelude.{◌≡◌, ◌∷◌, List, map, IfOk};
 ghost use Rattle.hm_cert.specs.Certificate.{AreRows};
 ghost use Rattle.hm_cert.specs.Layout.{told};
 ghost use Rattle.hm_graph.specs.Prices.{Row, first_price};
-ghost use Rattle.hm_steps.specs.Prices.{full_rows};
-ghost use Rattle.hm_check.specs.Steps.{by_full_over, by_rows_over};
+ghost use Rattle.hm_check.specs.Steps.{by_rows_over, by_width_over, other_width_over};
 ghost use Rattle.hm_check.specs.Sweeps.{AreInPlace, IsSwept};
 ghost use Rattle.hm_check.specs.Verdicts as verdicts;
 
-use crate::layers::{count_layers, find_other_width};
+use crate::layers::count_layers;
 use crate::sweep::Sweep;
 use crate::{Verdict, Why};
 use hm_base::Memory;
-use hm_cert::{Format, Prices, price_of};
+use hm_cert::{Format, WrittenRows, price_of};
 use hm_layers::Graph;
 use std::alloc::Global;
 
 /// What is known at the first layer.
-fn sweep(alloc: Global, graph: &Graph, prices: &Prices, format: Format) -> Result<Sweep, Memory>
+fn sweep(
+    alloc: Global,
+    graph: &Graph,
+    prices: &WrittenRows<'_>,
+    format: Format,
+) -> Result<Sweep, Memory>
     requires { AreInPlace format graph.now prices.now }
     ensures { IfOk result (IsSwept format graph.now prices.now 0) }
 {
@@ -60,19 +64,19 @@ fn by_first(length: u64, first: Option<u64>) -> Verdict
     }
 }
 
-/// What is found by all prices, of a text of so many bytes.
+/// What is found by the widths of all rows and by all prices, of a text of so many bytes.
 fn by_prices(
     alloc: Global,
     graph: &Graph,
-    prices: &Prices,
+    prices: &WrittenRows<'_>,
     format: Format,
     length: u64,
 ) -> Result<Verdict, Memory>
     requires { AreInPlace format graph.now prices.now }
-    ensures { IfOk result (λ found. found ≡ by_full_over length graph.now.steps (full_rows format 0 graph.now.last graph.now.steps prices.now)) }
+    ensures { IfOk result (λ found. found ≡ by_width_over format graph.now.last graph.now.steps length prices.now (other_width_over format 0 graph.now.last graph.now.steps prices.now)) }
 {
     let swept = sweep(alloc, graph, prices, format)?;
-    match swept.found {
+    match swept.found.why {
         Some(why) => Ok(Verdict::No { why }),
         None => Ok(by_first(length, first_of(swept.behind.as_slice()))),
     }
@@ -82,7 +86,7 @@ fn by_prices(
 pub(crate) fn by_rows(
     alloc: Global,
     graph: &Graph,
-    prices: &Prices,
+    prices: &WrittenRows<'_>,
     format: Format,
     length: u64,
 ) -> Result<Verdict, Memory>
@@ -90,16 +94,13 @@ pub(crate) fn by_rows(
     ensures { IfOk result (λ found. found ≡ by_rows_over format graph.now.last graph.now.steps length prices.now) }
 {
     let want = count_layers(graph, format);
-    if prices.rows() != want {
+    if prices.len() != want {
         return Ok(Verdict::No {
             why: Why::WrongLayers {
-                got: prices.rows() as u64,
+                got: prices.len() as u64,
                 want: want as u64,
             },
         });
     }
-    match find_other_width(graph, prices, format) {
-        Some(why) => Ok(Verdict::No { why }),
-        None => by_prices(alloc, graph, prices, format, length),
-    }
+    by_prices(alloc, graph, prices, format, length)
 }

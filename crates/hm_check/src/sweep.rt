@@ -1,29 +1,83 @@
 //! The prices of all layers, from the last layer on.
-ghost use Rattle.std.specs.Prelude.{◌≡◌, ◌<◌, ◌+◌, ◌^◌, true, [], length, map, slice_index_or, IfOk, OnOk};
+ghost use Rattle.std.specs.Prelude.{◌≡◌, ◌<◌, ◌+◌, ◌^◌, true, false, [], length, map, slice_index_or, IfOk, OnOk};
 ghost use Rattle.hm_cert.specs.Layout.{told};
 ghost use Rattle.hm_layers.specs.Graphs.{IsLowStep};
 ghost use Rattle.hm_steps.specs.Prices.{row_over};
-ghost use Rattle.hm_check.specs.Sweeps.{AreBelow, AreInPlace, IsSwept};
+ghost use Rattle.hm_steps.specs.Prices as steps;
+ghost use Rattle.hm_check.specs.Sweeps.{AreBelow, AreInPlace, IsSwept, judged, judged_at_end};
 
 use crate::Why;
 use crate::bounds::{best_price, find_high, find_high_at_end};
 use crate::layers::is_left_out;
 use hm_base::Memory;
-use hm_cert::{Format, Prices};
+use hm_cert::{Format, RowPlace, WrittenRows};
 use hm_layers::{Graph, Step};
 use std::alloc::Global;
 use std::mem;
 
+/// What is found of the rows from a layer on.
+#[derive(Clone, Copy)]
+pub(crate) struct Found {
+    /// Whether each has as many prices as its layer has states.
+    pub(crate) right: bool,
+    /// The first row that hasn't, else the first price above its bound.
+    pub(crate) why: Option<Why>,
+}
+
 /// What is known from a layer on.
 #[derive(Drop)]
 pub(crate) struct Sweep {
-    /// How many rows of the certificate are in front.
-    pub(crate) at: usize,
-    /// The prices of the layer.
+    /// Behind this place are the rows of these layers.
+    pub(crate) at: RowPlace,
+    /// The prices of the layer, where all rows have the right widths.
     pub(crate) behind: Vec<u64>,
-    /// The first price above its bound.
-    pub(crate) found: Option<Why>,
+    pub(crate) found: Found,
     spare: Vec<u64>,
+}
+
+/// What is found with the row of layer `k` in front, by the prices behind.
+fn judge(found: Found, k: u64, row: &[u64], behind: &[u64], step: &Step) -> Found
+    requires below { found.right ≡ true → AreBelow (2 ^ 63 + 2 ^ 62) (map told behind.now) }
+    requires low { IsLowStep step.now }
+    ensures { result ≡ judged found k (map told row.now) (map told behind.now) step.now }
+{
+    if row.len() != step.width() {
+        return Found {
+            right: false,
+            why: Some(Why::WrongWidth {
+                layer: k,
+                got: row.len() as u64,
+                want: step.width() as u64,
+            }),
+        };
+    }
+    if !found.right {
+        return found;
+    }
+    Found {
+        right: true,
+        why: find_high(k, row, behind, step).or(found.why),
+    }
+}
+
+/// What is found of the row of the last layer, layer `k`, which has so many states.
+fn judge_at_end(k: u64, row: &[u64], last: usize) -> Found
+    ensures { result ≡ judged_at_end k (map told row.now) last }
+{
+    if row.len() != last {
+        return Found {
+            right: false,
+            why: Some(Why::WrongWidth {
+                layer: k,
+                got: row.len() as u64,
+                want: last as u64,
+            }),
+        };
+    }
+    Found {
+        right: true,
+        why: find_high_at_end(k, row),
+    }
 }
 
 /// Finds the prices of a layer that is left out by those behind it, in place of what the row held.
@@ -50,30 +104,20 @@ fn follow(behind: &mut Vec<u64>, spare: &mut Vec<u64>, step: &Step) -> Result<()
     Ok(())
 }
 
-/// Puts a row in place of the one behind it.
-fn replace(behind: &mut Vec<u64>, row: &[u64]) -> Result<(), Memory>
-    ensures { OnOk result (behind.new.items ≡ row.now) }
-{
-    behind.clear();
-    behind.extend_from_slice(row)?;
-    Ok(())
-}
-
 impl Sweep {
     /// What is known at the last layer.
     pub(crate) fn at_end(
         alloc: Global,
         graph: &Graph,
-        prices: &Prices,
+        prices: &WrittenRows<'_>,
         format: Format,
     ) -> Result<Sweep, Memory>
         requires { AreInPlace format graph.now prices.now }
         ensures { IfOk result (IsSwept format graph.now prices.now (length graph.now.steps)) }
     {
-        let at = prices.rows() - 1;
-        let row = prices.row(at);
-        let found = find_high_at_end(graph.len() as u64, row);
-        let behind = Vec::from_slice(alloc, row)?;
+        let mut behind = Vec::new(alloc);
+        let at = prices.row_before(prices.end(), &mut behind)?;
+        let found = judge_at_end(graph.len() as u64, behind.as_slice(), graph.last());
         Ok(Sweep {
             at,
             behind,
@@ -82,11 +126,62 @@ impl Sweep {
         })
     }
 
+    /// Goes on to layer `k`, which is left out.
+    fn pass_over(
+        &mut self,
+        graph: &Graph,
+        prices: &WrittenRows<'_>,
+        format: Format,
+        k: usize,
+        step: &Step,
+    ) -> Result<(), Memory>
+        requires layer { k < length graph.now.steps }
+        requires step { step.now ≡ slice_index_or graph.now.steps k [] }
+        requires out { steps.is_left_out format k step.now ≡ true }
+        requires swept { IsSwept format graph.now prices.now (k + 1) self.old }
+        ensures { OnOk result (IsSwept format graph.now prices.now k self.new) }
+    {
+        graph.is_small();
+        if !self.found.right {
+            return Ok(());
+        }
+        follow(&mut self.behind, &mut self.spare, step)
+    }
+
+    /// Goes on to layer `k`, which is written.
+    fn read_layer(
+        &mut self,
+        graph: &Graph,
+        prices: &WrittenRows<'_>,
+        format: Format,
+        k: usize,
+        step: &Step,
+    ) -> Result<(), Memory>
+        requires place { AreInPlace format graph.now prices.now }
+        requires layer { k < length graph.now.steps }
+        requires step { step.now ≡ slice_index_or graph.now.steps k [] }
+        requires kept { steps.is_left_out format k step.now ≡ false }
+        requires swept { IsSwept format graph.now prices.now (k + 1) self.old }
+        ensures { OnOk result (IsSwept format graph.now prices.now k self.new) }
+    {
+        graph.is_small();
+        self.at = prices.row_before(self.at, &mut self.spare)?;
+        self.found = judge(
+            self.found,
+            k as u64,
+            self.spare.as_slice(),
+            self.behind.as_slice(),
+            step,
+        );
+        mem::swap(&mut self.behind, &mut self.spare);
+        Ok(())
+    }
+
     /// Goes on to layer `k`, the one in front of the step.
     pub(crate) fn take_layer(
         &mut self,
         graph: &Graph,
-        prices: &Prices,
+        prices: &WrittenRows<'_>,
         format: Format,
         k: usize,
         step: &Step,
@@ -97,13 +192,10 @@ impl Sweep {
         requires swept { IsSwept format graph.now prices.now (k + 1) self.old }
         ensures { OnOk result (IsSwept format graph.now prices.now k self.new) }
     {
-        graph.is_small();
         if is_left_out(format, k, step) {
-            return follow(&mut self.behind, &mut self.spare, step);
+            self.pass_over(graph, prices, format, k, step)
+        } else {
+            self.read_layer(graph, prices, format, k, step)
         }
-        self.at -= 1;
-        let row = prices.row(self.at);
-        self.found = find_high(k as u64, row, self.behind.as_slice(), step).or(self.found);
-        replace(&mut self.behind, row)
     }
 }

@@ -4,8 +4,8 @@ use Rattle.hm_cert.specs.Reading.{line_row}
 use Rattle.hm_cert.proofs.LineRows.{behind}
 use Rattle.hm_cert.proofs.lines.read_row.Given as goal
 
-abbrev pub invariant-loop-word : goal.invariant-loop-word
-invariant-loop-word l = behind (map told l.into.items) (line_row l.rest) ≡ line_row l.line
+abbrev pub invariant-loop-first : goal.invariant-loop-first
+invariant-loop-first l = behind (map told l.into.items) (line_row l.rest) ≡ line_row l.line
 
-abbrev pub decreases-loop-word : goal.decreases-loop-word
-decreases-loop-word l = length l.rest
+abbrev pub decreases-loop-first : goal.decreases-loop-first
+decreases-loop-first l = length l.rest

@@ -11,4 +11,4 @@ pub returns : goal.returns
 returns c =
     c.by_first.ensures
     ∙ none_swept c.args.format c.args.graph.now c.args.prices.now c.args.length c.in_ok-swept.swept c.first_of.result c.requires c.in_ok-swept.ensures c.in-None.is
-    (c.first_of.ensures c.in_ok-swept.ensures.more ∙ ap (λ items. first_price (map told items ∷ c.in_ok-swept.ensures.more)) c.as_slice.ensures.value)
+    (λ more. c.first_of.ensures more ∙ ap (λ items. first_price (map told items ∷ more)) c.as_slice.ensures.value)

@@ -1,20 +1,17 @@
-use Rattle.std.proofs.Common.{map, ap, ◌∙◌, arith}
-use Rattle.std.specs.Option.{option_map}
+use Rattle.std.proofs.Common.{◌≡◌, ◌+◌, ◌-◌, [], length, get_or, map, ap, ◌∙◌, arith}
 use Rattle.hm_cert.specs.Layout.{told}
-use Rattle.hm_check.specs.Rows.{high_at_end}
-use Rattle.hm_check.specs.Sweeps.{high_why}
+use Rattle.hm_check.specs.Sweeps.{judged_at_end}
 use Rattle.hm_check.proofs.Counting.{some_counted}
 use Rattle.hm_check.proofs.Sweeping.{end_swept}
 use Rattle.hm_check.proofs.sweep.Sweep.at_end.Goals as goal
 
-pub overflow_sub-at : goal.overflow_sub-at
-overflow_sub-at c = omega (arith, c.rows-at.ensures, c.requires.count, some_counted c.args.format 0 c.args.graph.now.steps)
-
-pub row-row-requires : goal.row-row-requires
-row-row-requires c = omega (arith, c.rows-at.ensures, c.requires.count, some_counted c.args.format 0 c.args.graph.now.steps)
+pub row_before-requires-clause-some : goal.row_before-requires-clause-some
+row_before-requires-clause-some c = omega (arith, c.end.ensures.row, c.requires.count, some_counted c.args.format 0 c.args.graph.now.steps)
 
 pub returns : goal.returns
 returns c =
-    end_swept c.args.format c.args.graph.now c.args.prices.now _ c.requires (omega (arith, c.rows-at.ensures, c.requires.count, some_counted c.args.format 0 c.args.graph.now.steps))
-    (ap (map told) c.in_ok-behind.ensures.items ∙ c.row-row.ensures)
-    (c.find_high_at_end-found.ensures ∙ (λ i. option_map high_why (high_at_end (c.len.ensures i) 0 (c.row-row.ensures i))))
+    let last : c.end.result.row - 1 ≡ c.in_ok-at.at.row = omega (arith, c.in_ok-at.ensures.before) in
+    let all : c.in_ok-at.at.row + 1 ≡ length c.args.prices.now = c.in_ok-at.ensures.before ∙ c.end.ensures.row in
+    let row : map told c.row_before.new.into.items ≡ get_or c.args.prices.now c.in_ok-at.at.row [] = c.in_ok-at.ensures.row ∙ ap (λ n. get_or c.args.prices.now n []) last in
+    let read : map told c.as_slice.result.now ≡ get_or c.args.prices.now c.in_ok-at.at.row [] = ap (map told) c.as_slice.ensures.value ∙ row in
+    end_swept c.args.format c.args.graph.now c.args.prices.now _ c.requires c.in_ok-at.ensures.place all row (c.judge_at_end-found.ensures ∙ (λ i. judged_at_end (c.len.ensures i) (read i) (c.last.ensures i)))

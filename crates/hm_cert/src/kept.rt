@@ -1,0 +1,111 @@
+//! The rows of prices of a certificate that was read, kept as its lines.
+ghost use Rattle.std.specs.Prelude.{◌≡◌, ◌+◌, ◌-◌, ◌<◌, [], length, map, slice_index_or, slice_range, IfOk};
+ghost use Rattle.hm_cert.specs.Layout.{told};
+ghost use Rattle.hm_cert.specs.Places.{AreCounted, IsLineStart, IsRowPlace};
+ghost use Rattle.hm_cert.specs.Reading.{RowsAre, rows_in};
+
+use crate::lines::{CertificateFault, Lines, read_row};
+use hm_base::Memory;
+use memchr::memrchr;
+use std::alloc::Global;
+use std::marker::Model;
+
+/// The prices of each layer that a certificate writes, in bytes, read from its lines when they are asked for. Contracts see the
+/// list of rows, each the list of its prices, in which a closed one is None.
+#[derive(Drop)]
+pub struct WrittenRows<'a> {
+    lines: &'a [u8],
+    count: usize,
+}
+
+impl<'a> Model for WrittenRows<'a> {
+    ghost use Rattle.std.specs.Prelude.{ℕ, List, Option};
+
+    ghost Value = { List (List (Option ℕ)) };
+
+    ghost use Rattle.hm_cert.specs.Places.{AreLines, rows_of};
+
+    ghost view = { λ r. rows_of r.lines.now };
+
+    ghost invariant = { λ r. AreLines r.lines.now r.count };
+}
+
+/// A place between rows: in front of one, or behind the last one.
+#[derive(Clone, Copy)]
+pub struct RowPlace {
+    /// How many rows are in front.
+    pub row: usize,
+    // how many bytes their lines have
+    at: usize,
+}
+
+impl<'a> WrittenRows<'a> {
+    /// Reads the rows of all lines that are left.
+    pub fn read(alloc: Global, lines: Lines<'a>) -> Result<WrittenRows<'a>, CertificateFault>
+        ensures { RowsAre (rows_in lines.entry.number lines.entry.rest.now) result }
+    {
+        let text = lines.text();
+        let count = count_rows(alloc, lines)?;
+        Ok(WrittenRows { lines: text, count })
+    }
+
+    /// How many rows there are.
+    pub fn len(&self) -> usize
+        ensures { result ≡ length self.now }
+    {
+        self.count
+    }
+
+    /// The place behind the last row.
+    pub fn end(&self) -> RowPlace
+        ensures place { IsRowPlace self.now result }
+        ensures row { result.row ≡ length self.now }
+    {
+        RowPlace {
+            row: self.count,
+            at: self.lines.len(),
+        }
+    }
+
+    /// Reads the row in front of a place into a list, in place of what is there, a closed price as `CLOSED`, and gives the place
+    /// in front of it.
+    pub fn row_before(&self, place: RowPlace, into: &mut Vec<u64>) -> Result<RowPlace, Memory>
+        requires place { IsRowPlace self.now place }
+        requires some { 0 < place.row }
+        ensures row { IfOk result (λ _. map told into.new.items ≡ slice_index_or self.now (place.row - 1) []) }
+        ensures place { IfOk result (λ before. IsRowPlace self.now before) }
+        ensures before { IfOk result (λ before. before.row + 1 ≡ place.row) }
+    {
+        let (at, line) = line_before(self.lines, place.at - 1);
+        read_row(line, into)?;
+        Ok(RowPlace {
+            row: place.row - 1,
+            at,
+        })
+    }
+}
+
+/// The line that ends at a place, and where it begins.
+fn line_before(text: &[u8], end: usize) -> (usize, &[u8])
+    requires { end < length text.now }
+    ensures start { IsLineStart text.now end result.0 }
+    ensures line { result.1.now ≡ slice_range text.now result.0 end }
+{
+    let at = match memrchr(b'\n', &text[..end]) {
+        Some(at) => at + 1,
+        None => 0,
+    };
+    (at, &text[at..end])
+}
+
+/// How many rows the lines have that are left.
+fn count_rows(alloc: Global, mut lines: Lines<'_>) -> Result<usize, CertificateFault>
+    ensures { AreCounted (rows_in lines.entry.number lines.entry.rest.now) result }
+{
+    let mut count = 0;
+    let mut row = Vec::new(alloc);
+    while lines.next_row(&mut row)? {
+        count += 1;
+    }
+    Ok(count)
+}

@@ -70,18 +70,18 @@ pub fn load_table<S: Store>(alloc: Global, store: &mut S, name: &str) -> Result<
 }
 
 /// The text of the bytes of a page, which may be up to the limit.
-fn read_page(alloc: Global, bytes: &[u8]) -> Result<SourceText, TextFault>
-    ensures read { IfOk result (λ text. text ≡ source_of bytes.now) }
-    ensures sound { OnOk result (HasText PAGE_LIMIT bytes.now) }
-    ensures refused { IfErr result (λ fault. IsRefusedBy fault PAGE_LIMIT bytes.now) }
+fn read_page(alloc: Global, bytes: Vec<u8>) -> Result<SourceText, TextFault>
+    ensures read { IfOk result (λ text. text ≡ source_of bytes.items) }
+    ensures sound { OnOk result (HasText PAGE_LIMIT bytes.items) }
+    ensures refused { IfErr result (λ fault. IsRefusedBy fault PAGE_LIMIT bytes.items) }
 {
-    SourceText::read(alloc, bytes, PAGE_LIMIT)
+    SourceText::take(alloc, bytes, PAGE_LIMIT)
 }
 
 /// The text of a page, or why it is refused.
-pub fn text_of(alloc: Global, page: &[u8]) -> Result<SourceText, Unread>
-    ensures ok { IfOk result (IsTextIn page.now) }
-    ensures err { IfErr result (NoTextIn page.now) }
+pub fn text_of(alloc: Global, page: Vec<u8>) -> Result<SourceText, Unread>
+    ensures ok { IfOk result (IsTextIn page.items) }
+    ensures err { IfErr result (NoTextIn page.items) }
 {
     match read_page(alloc, page) {
         Ok(text) => Ok(text),
@@ -115,5 +115,5 @@ pub fn load_text<S: Store>(alloc: Global, store: &mut S, name: &str) -> Result<S
         Err(LoadFault::Store) => return Err(Unread::Store),
         Err(LoadFault::Memory) => return Err(Unread::Memory),
     };
-    text_of(alloc, bytes.as_slice())
+    text_of(alloc, bytes)
 }

@@ -18,8 +18,9 @@ pub fn make_text(alloc: Global, number: u32, size: u32) -> Result<(SourceText, u
         Ok(page) => page,
         Err(Memory) => return Err(Unread::Memory),
     };
-    match text_of(alloc, page.as_bytes()) {
-        Ok(text) => Ok((text, page.len())),
+    let len = page.len();
+    match text_of(alloc, page.into_bytes()) {
+        Ok(text) => Ok((text, len)),
         Err(unread) => Err(unread),
     }
 }

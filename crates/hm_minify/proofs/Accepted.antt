@@ -19,6 +19,8 @@ use Rattle.hm_check.specs.declared.verdicts.Why.{Why}
 use Rattle.hm_elements.specs.Settled.{Settled}
 use Rattle.hm_refs.specs.Names.{Entry}
 use Rattle.hm_refs.specs.Tables.{IsTable}
+use Rattle.hm_minify.specs.Endings.{format_of, judged, own_verdict}
+use Rattle.hm_words.specs.declared.writing.Writing.{Writing}
 use Rattle.hm_shortest.specs.Shortest.{certificate_of, certified_rows, shortest_text}
 
 -- the certificate is read
@@ -50,5 +52,9 @@ found_yes t k r format w s out bytes c v is short good read e =
 pub found_no : (v : Verdict) (n : ℕ) (why : Why) → v ≡ Yes n → v ≡ No why → ⊥
 found_no v n why is other = let h : Yes n ≡ No why = sym is ∙ other in cc
 
-pub found_length : (v : Verdict) (n m : ℕ) → v ≡ Yes n → v ≡ Yes m → m ≡ n
-found_length v n m is other = let h : Yes m ≡ Yes n = sym other ∙ is in cc
+-- what was found of equal bytes is what the check finds of what is written
+pub found_own : (t : List Entry) (x : Writing) (w : List Event) (out bytes : List ℕ) (c : Certificate) (v : Verdict) (n : ℕ) → out ≡ shortest_text t x.rules w → bytes ≡ certificate_of t x.rules (format_of x.sparse) w → given bytes ≡ Ok c → v ≡ verdict t x.rules w out c → v ≡ Yes n
+    → own_verdict x t w ≡ Ok (Yes n)
+found_own t x w out bytes c v n is text read e yes =
+    ap (judged (verdict t x.rules w (shortest_text t x.rules w))) (ap given (sym text) ∙ read)
+    ∙ ap (λ o. Ok (verdict t x.rules w o c)) (sym is) ∙ ap (λ f. Ok f) (sym e ∙ yes)

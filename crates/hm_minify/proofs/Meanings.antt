@@ -1,5 +1,5 @@
 -- What the ending of a run says of its command.
-use Rattle.std.proofs.Common.{◌≡◌, ℕ, ◌⊎◌, inl, inr, true, false, List, Some, None, refl, sym, ap, ◌∙◌, subst}
+use Rattle.std.proofs.Common.{◌≡◌, ℕ, ◌⊎◌, inl, inr, true, false, List, length, Some, None, refl, sym, ap, ◌∙◌, subst}
 use Rattle.std.specs.declared.option.Option.{Option}
 use Rattle.std.specs.Io.KnownBytes.{append_known}
 use Rattle.hm_base.specs.Walks.{Event}
@@ -9,9 +9,10 @@ use Rattle.hm_refs.specs.Names.{Entry}
 use Rattle.hm_store.specs.Contents.{Contents, Sees}
 use Rattle.hm_store.specs.Files.{FileMap}
 use Rattle.hm_input.specs.Inputs.{Input, missing, bad_table, bad_page, tree as tree_input, input_of}
-use Rattle.hm_shortest.specs.Shortest.{certificate_of, shortest_text}
+use Rattle.hm_shortest.specs.Shortest.{certificate_of, layer_count, shortest_text}
+use Rattle.hm_gen.specs.Pages.{page as made_page}
 use Rattle.hm_words.specs.Words.{Command, Asked, asks, minify, check, tree, measure, asked}
-use Rattle.hm_minify.specs.Endings.{format_of, is_fault, with_tree, tree_ending, check_ending, asked_ending, request_ending, ending}
+use Rattle.hm_minify.specs.Endings.{Ending, format_of, is_fault, own_verdict, with_tree, tree_ending, check_ending, asked_ending, request_ending, ending}
 use Rattle.hm_minify.specs.Lines.{usage_line}
 use Rattle.hm_minify.specs.Runs.{EndsAs, Puts, HasMinified, HasChecked, HasDenied, IsDenied, HasShown, HasMeasured, HasRefusedPage, HasRefusedTable}
 use Rattle.hm_minify.specs.Writes.{after_writes}
@@ -19,6 +20,7 @@ use Rattle.hm_minify.specs.declared.status.Status.{Status}
 use Rattle.hm_minify.specs.declared.status.Status.TheVariants as status
 use Rattle.hm_minify.proofs.Found.{check_other, check_writes, checked_yes}
 use Rattle.hm_minify.proofs.Generated.{IsMeasured, asked_limits, page_never_refused}
+use Rattle.hm_minify.proofs.Measured.{measured_answers, measured_done, measured_status}
 use Rattle.hm_minify.proofs.Headline.{command_sound, input_is_shortest}
 
 -- ---- words without a meaning
@@ -27,7 +29,7 @@ tree_is_asked : (c : Command) (r : Writing) (seen : Contents) (t : List Entry) (
 tree_is_asked (minify table page out cert) r seen t w e = cc
 tree_is_asked (check table page out cert) r seen t w e = let h : false ≡ true = check_other r.rules t w (seen out) (seen cert) status.Usage e in cc
 tree_is_asked (tree table page) r seen t w e = cc
-tree_is_asked (measure table number size) r seen t w e = cc
+tree_is_asked (measure table number size) r seen t w e = let h : false ≡ true = measured_status (length (made_page number size)) (layer_count r.rules w) (own_verdict r t w) status.Usage e in cc
 
 input_is_asked : (c : Command) (r : Writing) (seen : Contents) (x : Input) → (with_tree x (tree_ending c r seen)).status ≡ status.Usage → ⊥
 input_is_asked c r seen missing e = cc
@@ -144,7 +146,7 @@ denied_tree : (c : Command) (options : TreeOptions) (writing : Writing) (r : Sta
 denied_tree (minify table page out cert) options writing r o n s s_new seen t v reads w is = let e : status.Done ≡ status.No = sym w.status ∙ is in cc
 denied_tree (check table page out cert) options writing r o n s s_new seen t v reads w is = denied_of (check table page out cert) options writing out cert r o n s s_new seen t v (seen out) (seen cert) reads refl refl w is
 denied_tree (tree table page) options writing r o n s s_new seen t v reads w is = let e : status.Done ≡ status.No = sym w.status ∙ is in cc
-denied_tree (measure table number size) options writing r o n s s_new seen t v reads w is = let e : status.Done ≡ status.No = sym w.status ∙ is in cc
+denied_tree (measure table number size) options writing r o n s s_new seen t v reads w is = let e : false ≡ true = measured_status (length (made_page number size)) (layer_count writing.rules v) (own_verdict writing t v) status.No (sym w.status ∙ is) in cc
 
 denied_input : (c : Command) (options : TreeOptions) (writing : Writing) (r : Status) (o n : Option FileMap) (s s_new : Option (List ℕ)) (seen : Contents) (x : Input) → input_of c options seen ≡ x
     → EndsAs (with_tree x (tree_ending c writing seen)) r o n s s_new → r ≡ status.No → IsDenied c options writing o n s s_new seen
@@ -185,16 +187,19 @@ measured_of : (table : List ℕ) (number size : ℕ) (options : TreeOptions) (wr
 measured_of table number size options writing r o n s s_new seen missing reads w is = let e : status.StoreFault ≡ status.Done = sym w.status ∙ is in cc
 measured_of table number size options writing r o n s s_new seen (bad_table fault) reads w is = let e : status.TableRefused ≡ status.Done = sym w.status ∙ is in cc
 measured_of table number size options writing r o n s s_new seen (bad_page rule at) reads w is = let e : status.PageRefused ≡ status.Done = sym w.status ∙ is in cc
-measured_of table number size options writing r o n s s_new seen (tree_input t v) reads w is = record {
-  table = t;
-  tree = v;
-  reads = reads;
-  out = shortest_text t writing.rules v;
-  cert = certificate_of t writing.rules (format_of writing.sparse) v;
-  shortest = input_is_shortest (measure table number size) options writing seen t v reads;
-  files = w.files;
-  line = w.sink;
-}
+measured_of table number size options writing r o n s s_new seen (tree_input t v) reads w is =
+    let sound = command_sound (measure table number size) options seen t v reads in
+    let done = measured_done t sound.table writing v sound.settled (length (made_page number size)) (layer_count writing.rules v) (own_verdict writing t v) refl (sym w.status ∙ is) in
+    record {
+      table = t;
+      tree = v;
+      reads = reads;
+      out = shortest_text t writing.rules v;
+      cert = certificate_of t writing.rules (format_of writing.sparse) v;
+      shortest = input_is_shortest (measure table number size) options writing seen t v reads;
+      files = w.files ∙ ap (λ (e : Ending). after_writes o e.writes) done;
+      line = w.sink ∙ ap (λ (e : Ending). append_known s e.line) done;
+    }
 
 pub measures : (words : List (List ℕ)) (table : List ℕ) (number size : ℕ) (options : TreeOptions) (writing : Writing) (r : Status) (o n : Option FileMap) (s s_new : Option (List ℕ)) → asked words ≡ Some (asks (measure table number size) options writing)
     → Sees o (λ seen. EndsAs (ending words seen) r o n s s_new) → r ≡ status.Done → Sees o (HasMeasured (measure table number size) number size options writing o n s s_new)
@@ -209,7 +214,7 @@ always_input : (table : List ℕ) (number size : ℕ) (options : TreeOptions) (w
 always_input table number size options writing r o n s s_new seen missing m reads w a = let h : is_fault r ≡ true = ap is_fault w.status in cc
 always_input table number size options writing r o n s s_new seen (bad_table fault) m reads w a = inl w.status
 always_input table number size options writing r o n s s_new seen (bad_page rule at) m reads w a = absurd (page_never_refused options seen table number size m rule at reads)
-always_input table number size options writing r o n s s_new seen (tree_input t v) m reads w a = inr w.status
+always_input table number size options writing r o n s s_new seen (tree_input t v) m reads w a = inr (measured_answers (length (made_page number size)) (layer_count writing.rules v) (own_verdict writing t v) r w.status a)
 
 -- every answer to `measure` but a refused table is that it is done
 pub always_measures : (words : List (List ℕ)) (table : List ℕ) (number size : ℕ) (options : TreeOptions) (writing : Writing) (r : Status) (o n : Option FileMap) (s s_new : Option (List ℕ)) → asked words ≡ Some (asks (measure table number size) options writing)
@@ -224,13 +229,13 @@ refuses_no_page : (c : Command) (writing : Writing) (seen : Contents) (t : List 
 refuses_no_page (minify table page out cert) writing seen t v e = cc
 refuses_no_page (check table page out cert) writing seen t v e = let h : false ≡ true = check_other writing.rules t v (seen out) (seen cert) status.PageRefused e in cc
 refuses_no_page (tree table page) writing seen t v e = cc
-refuses_no_page (measure table number size) writing seen t v e = cc
+refuses_no_page (measure table number size) writing seen t v e = let h : false ≡ true = measured_status (length (made_page number size)) (layer_count writing.rules v) (own_verdict writing t v) status.PageRefused e in cc
 
 refuses_no_table : (c : Command) (writing : Writing) (seen : Contents) (t : List Entry) (v : List Event) → (tree_ending c writing seen t v).status ≡ status.TableRefused → ⊥
 refuses_no_table (minify table page out cert) writing seen t v e = cc
 refuses_no_table (check table page out cert) writing seen t v e = let h : false ≡ true = check_other writing.rules t v (seen out) (seen cert) status.TableRefused e in cc
 refuses_no_table (tree table page) writing seen t v e = cc
-refuses_no_table (measure table number size) writing seen t v e = cc
+refuses_no_table (measure table number size) writing seen t v e = let h : false ≡ true = measured_status (length (made_page number size)) (layer_count writing.rules v) (own_verdict writing t v) status.TableRefused e in cc
 
 page_of : (c : Command) (options : TreeOptions) (writing : Writing) (r : Status) (o n : Option FileMap) (s s_new : Option (List ℕ)) (seen : Contents) (x : Input) → input_of c options seen ≡ x → EndsAs (with_tree x (tree_ending c writing seen)) r o n s s_new → r ≡ status.PageRefused
     → HasRefusedPage c options o n s s_new seen

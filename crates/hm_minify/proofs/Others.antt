@@ -1,5 +1,5 @@
 -- Writing changes no other file.
-use Rattle.std.proofs.Common.{◌≡◌, ℕ, inl, inr, Bool, true, false, cond, ◌||◌, List, [], ◌∷◌, Some, None, refl, ap, ◌∙◌}
+use Rattle.std.proofs.Common.{◌≡◌, ℕ, inl, inr, Bool, true, false, cond, ◌||◌, List, [], ◌∷◌, length, Some, None, refl, ap, ◌∙◌}
 use Rattle.std.specs.declared.option.Option.{Option}
 use Rattle.std.specs.Str.{bytes_eq}
 use Rattle.std.specs.Cmp.Lexicographic.{nat_list_cmp_total}
@@ -13,9 +13,12 @@ use Rattle.hm_store.specs.Contents.{Contents, Sees}
 use Rattle.hm_store.specs.Files.{FileMap, file_of, with_file, HasFront}
 use Rattle.hm_input.specs.Inputs.{Input, missing, bad_table, bad_page, tree as tree_input, input_of}
 use Rattle.hm_words.specs.Words.{Command, Asked, minify, check, tree, measure, asked, has}
-use Rattle.hm_minify.specs.Endings.{with_tree, tree_ending, request_ending, ending, outputs, asked_outputs}
+use Rattle.hm_gen.specs.Pages.{page as made_page}
+use Rattle.hm_shortest.specs.Shortest.{layer_count}
+use Rattle.hm_minify.specs.Endings.{own_verdict, with_tree, tree_ending, request_ending, ending, outputs, asked_outputs}
 use Rattle.hm_minify.specs.Writes.{Write, IsLeft}
 use Rattle.hm_minify.proofs.Found.{check_writes}
+use Rattle.hm_minify.proofs.Measured.{measured_writes}
 
 abbrev names_of : List Write → List (List ℕ)
 names_of [] = []
@@ -55,7 +58,7 @@ tree_names : (c : Command) (r : Writing) (seen : Contents) (t : List Entry) (w :
 tree_names (minify table page out cert) r seen t w name h = h
 tree_names (check table page out cert) r seen t w name h = ap (λ ws. has (names_of ws) name) (check_writes r.rules t w (seen out) (seen cert))
 tree_names (tree table page) r seen t w name h = refl
-tree_names (measure table number size) r seen t w name h = refl
+tree_names (measure table number size) r seen t w name h = ap (λ ws. has (names_of ws) name) (measured_writes (length (made_page number size)) (layer_count r.rules w) (own_verdict r t w))
 
 input_names : (c : Command) (r : Writing) (seen : Contents) (x : Input) (name : List ℕ) → has (outputs c) name ≡ false → has (names_of (with_tree x (tree_ending c r seen)).writes) name ≡ false
 input_names c r seen missing name h = refl

@@ -86,16 +86,32 @@ check_ending r t w None cert = store_fault
 check_ending r t w (Some out) None = store_fault
 check_ending r t w (Some out) (Some cert) = checked_ending r t w out cert
 
--- the tree of a page of so many bytes was written shortest, and the check said yes
-abbrev pub measured_ending : ℕ → SpellRules → List Entry → List Event → Ending
-measured_ending bytes r t w = says status.Done (measured_line bytes (length (shortest_text t r w)) (layer_count r w))
+-- what is found of a certificate, or its first bad line
+abbrev pub judged : (Certificate → Verdict) → Result Certificate ℕ → Result Verdict ℕ
+judged find (Err line) = Err line
+judged find (Ok c) = Ok (find c)
+
+-- what the check finds of what is written of a tree
+abbrev pub own_verdict : Writing → List Entry → List Event → Result Verdict ℕ
+own_verdict x t w = judged (verdict t x.rules w (shortest_text t x.rules w)) (given (certificate_of t x.rules (format_of x.sparse) w))
+
+-- The check's yes is said, with the bytes of the page, those of the text and the layers. There is no other verdict on a text
+-- within the limit of a check, and a longer one is refused as memory is.
+abbrev pub measured_by : ℕ → ℕ → Result Verdict ℕ → Ending
+measured_by bytes layers (Ok (Yes n)) = says status.Done (measured_line bytes n layers)
+measured_by bytes layers (Ok (No why)) = says status.Memory []
+measured_by bytes layers (Err line) = says status.Memory []
+
+-- the tree of a page of so many bytes is written shortest, and what was written is checked
+abbrev pub measured_ending : ℕ → Writing → List Entry → List Event → Ending
+measured_ending bytes x t w = measured_by bytes (layer_count x.rules w) (own_verdict x t w)
 
 -- what a command makes of a tree, by what further files hold
 abbrev pub tree_ending : Command → Writing → Contents → List Entry → List Event → Ending
 tree_ending (minify table page out cert) x seen t w = minified_ending x out cert t w
 tree_ending (check table page out cert) x seen t w = check_ending x.rules t w (seen out) (seen cert)
 tree_ending (tree table page) x seen t w = says status.Done (dump_of w)
-tree_ending (measure table number size) x seen t w = measured_ending (length (made_page number size)) x.rules t w
+tree_ending (measure table number size) x seen t w = measured_ending (length (made_page number size)) x t w
 
 -- the page of a command is a file
 abbrev pub has_page : Command → Bool

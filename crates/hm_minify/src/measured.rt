@@ -1,9 +1,10 @@
 //! A page that is made of a number, written shortest and checked in memory.
-ghost use Rattle.std.specs.Prelude.{◌≡◌, ◌≢◌, ◌⊎◌, ◌≤◌, IfOk, Err, false, length};
+ghost use Rattle.std.specs.Prelude.{◌≡◌, ◌≢◌, ◌⊎◌, ◌≤◌, IfOk, Ok, Err, false};
 ghost use Rattle.hm_cert.specs.Certificate.{AreRows};
+ghost use Rattle.hm_check.specs.declared.verdicts.Verdict.TheVariants.{Yes};
 ghost use Rattle.hm_elements.specs.Settled.{Settled};
 ghost use Rattle.hm_shortest.specs.Minified.{IsMinifiedBy};
-ghost use Rattle.hm_shortest.specs.Shortest.{certified_rows, shortest_text};
+ghost use Rattle.hm_shortest.specs.Shortest.{certified_rows};
 ghost use Rattle.hm_store.specs.Causes.{Rose};
 ghost use Rattle.hm_store.specs.Contents.{Sees, Tells};
 ghost use Rattle.hm_words.specs.Words as request;
@@ -23,8 +24,8 @@ use hm_store::Store;
 use hm_words::Writing;
 use std::alloc::Global;
 
-/// Checks what was written of a tree, and gives how many bytes the text has. The check says yes; a text or a certificate above
-/// the limits of a check is refused as memory is.
+/// Checks what was written of a tree, and gives how many bytes the text has by the check's yes. There is no other verdict; a text
+/// or a certificate above the limits of a check is refused as memory is.
 fn check_minified(
     alloc: Global,
     input: &Input,
@@ -34,7 +35,7 @@ fn check_minified(
     requires settled { Settled input.now.tree }
     requires minified { IsMinifiedBy input.now.table.entries writing.rules (spec.format_of writing.sparse) input.now.tree minified.now }
     requires readable { AreRows (certified_rows input.now.table.entries writing.rules (spec.format_of writing.sparse) input.now.tree) }
-    ensures length { IfOk result (λ count. count ≡ length (shortest_text input.now.table.entries writing.rules input.now.tree)) }
+    ensures found { IfOk result (λ count. spec.own_verdict writing input.now.table.entries input.now.tree ≡ Ok (Yes count)) }
     ensures memory { result ≢ Err Stop.Store }
 {
     every_table(&input.table);
@@ -62,7 +63,7 @@ fn check_minified(
 /// Writes the tree of a page that was made shortest, and checks that.
 fn measure_tree<'w>(alloc: Global, made: &Made, writing: Writing) -> Result<Ended<'w>, Stop>
     requires settled { Settled made.now.input.tree }
-    ensures ended { IfOk result (λ ended. ended ≡ spec.measured_ending made.now.bytes writing.rules made.now.input.table.entries made.now.input.tree) }
+    ensures ended { IfOk result (λ ended. ended ≡ spec.measured_ending made.now.bytes writing made.now.input.table.entries made.now.input.tree) }
     ensures memory { result ≢ Err Stop.Store }
 {
     let minified = minify_tree(

@@ -9,4 +9,4 @@ pub mod Courses
 pub mod Steps
 pub mod Others
 pub mod Meanings
-pub mod Measured
+pub mod MeasuredYes

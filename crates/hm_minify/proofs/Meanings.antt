@@ -20,7 +20,7 @@ use Rattle.hm_minify.specs.declared.status.Status.{Status}
 use Rattle.hm_minify.specs.declared.status.Status.TheVariants as status
 use Rattle.hm_minify.proofs.Found.{check_other, check_writes, checked_yes}
 use Rattle.hm_minify.proofs.Generated.{IsMeasured, asked_limits, page_never_refused}
-use Rattle.hm_minify.proofs.Measured.{measured_answers, measured_done, measured_status}
+use Rattle.hm_minify.proofs.MeasuredYes.{measured_answers, measured_done, measured_status}
 use Rattle.hm_minify.proofs.Headline.{command_sound, input_is_shortest}
 
 -- ---- words without a meaning

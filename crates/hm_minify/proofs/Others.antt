@@ -18,7 +18,7 @@ use Rattle.hm_shortest.specs.Shortest.{layer_count}
 use Rattle.hm_minify.specs.Endings.{own_verdict, with_tree, tree_ending, request_ending, ending, outputs, asked_outputs}
 use Rattle.hm_minify.specs.Writes.{Write, IsLeft}
 use Rattle.hm_minify.proofs.Found.{check_writes}
-use Rattle.hm_minify.proofs.Measured.{measured_writes}
+use Rattle.hm_minify.proofs.MeasuredYes.{measured_writes}
 
 abbrev names_of : List Write → List (List ℕ)
 names_of [] = []

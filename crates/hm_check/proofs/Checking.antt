@@ -1,5 +1,5 @@
 -- What the parts of a check find is its verdict.
-use Rattle.std.proofs.Common.{◌≡◌, ◌≤◌, ◌<◌, ℕ, Bool, true, false, List, length, nat_lt, Option, Some, None, refl, sym, ap, ◌∙◌, subst}
+use Rattle.std.proofs.Common.{◌≡◌, ◌≤◌, ◌<◌, ℕ, true, false, List, length, nat_lt, Option, Some, None, refl, sym, ap, ◌∙◌, subst}
 use Rattle.std.specs.Option.{option_map, MatchOption}
 use Rattle.std.specs.declared.result.Result.{Result}
 use Rattle.std.specs.declared.result.Result.TheVariants.{Ok, Err}
@@ -17,11 +17,9 @@ use Rattle.hm_base.specs.declared.rules.Rule.TheVariants as rules
 use Rattle.hm_build.specs.Parsing.{IsRefusedAs}
 use Rattle.hm_cert.specs.declared.certificate.Certificate.{Certificate}
 use Rattle.hm_construction.specs.Trees.{Outcome, built, refused_by, page_tree, tree_of_source}
-use Rattle.hm_edges.specs.Found.{spelling}
 use Rattle.hm_edges.specs.declared.pieces.Piece.{Piece}
 use Rattle.hm_graph.specs.Layers.{first_layer}
 use Rattle.hm_graph.specs.Prices.{Row}
-use Rattle.hm_graph.specs.UnitEdges.{edges_of}
 use Rattle.hm_graph.specs.Ways.{Edges}
 use Rattle.hm_layers.specs.Graphs.{GraphView, tree_edges}
 use Rattle.hm_refs.specs.Names.{Entry}

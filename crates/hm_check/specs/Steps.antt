@@ -1,5 +1,5 @@
 -- What is found of the rows of a certificate, over the steps of the graph.
-use Rattle.std.specs.Prelude.{ℕ, suc, Bool, ◌==◌, List, [], ◌∷◌, length, Option, Some, None, if◌then◌else◌}
+use Rattle.std.specs.Prelude.{ℕ, suc, ◌==◌, List, [], ◌∷◌, length, Option, Some, None, if◌then◌else◌}
 use Rattle.hm_cert.specs.declared.text.Format.{Format}
 use Rattle.hm_graph.specs.Prices.{Row}
 use Rattle.hm_steps.specs.Prices.{row_over, is_left_out, full_rows}

@@ -1,8 +1,7 @@
 -- Runs of equal numbers, and places among them.
 use Rattle.std.proofs.Common.{◌≡◌, ◌∙◌, ℕ, zero, suc, ◌+◌, ◌-◌, ◌<◌, ◌≤◌, List, [], ◌∷◌, ◌++◌, length, get_or, refl, sym, ap, subst, arith, append_assoc, append-nil, length-append}
 use Rattle.std.proofs.Math.ListN.{replicate}
-use Rattle.std.proofs.lemmas.Grind.{replicate_next}
-use Rattle.std.proofs.lemmas.List.{length-replicate, get_or-map, get_or-replicate, get_or_append_left, get_or-append_right}
+use Rattle.std.proofs.lemmas.List.{length-replicate, replicate-append-replicate, get_or-map, get_or-replicate, get_or_append_left, get_or-append_right}
 use Rattle.hm_steps.specs.Steps.{Step}
 use Rattle.hm_layers.specs.Graphs.{spread}
 use Rattle.hm_layers.specs.Runs.{unroll, AreRuns, IsAt}
@@ -21,8 +20,8 @@ runs_more (x ∷ runs) r are some = (are.0, runs_more runs r are.1 some)
 pub no_more : (runs : List Run) (count number : ℕ) → count ≡ 0 → unroll runs ≡ unroll runs ++ replicate count number
 no_more runs count number none = sym (append-nil (unroll runs)) ∙ ap (λ n. unroll runs ++ replicate n number) (sym none)
 
-pub one_same : (ns : List ℕ) (count number : ℕ) → ns ++ replicate (count + 1) number ≡ (ns ++ replicate count number) ++ number ∷ []
-one_same ns count number = ap (λ ms. ns ++ ms) (replicate_next count number) ∙ sym (append_assoc ns (replicate count number) (number ∷ []))
+pub more_same : (ns : List ℕ) (n m number : ℕ) → ns ++ replicate (n + m) number ≡ (ns ++ replicate n number) ++ replicate m number
+more_same ns n m number = ap (λ ms. ns ++ ms) (sym (replicate-append-replicate n m number)) ∙ sym (append_assoc ns (replicate n number) (replicate m number))
 
 -- ---- Places
 

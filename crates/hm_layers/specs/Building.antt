@@ -1,11 +1,12 @@
 -- What is built of a tree's graph: the steps so far, and the states behind them.
-use Rattle.std.specs.Prelude.{◌≡◌, ℕ, ◌<◌, ◌^◌, List, [], ◌∷◌, ◌++◌, length, map, Option, Some, None}
+use Rattle.std.specs.Prelude.{◌≡◌, ℕ, ◌<◌, ◌^◌, List, [], ◌∷◌, ◌++◌, length, map}
 use Rattle.std.specs.List.{All}
 use Rattle.hm_graph.specs.Layers.{first_layer, states_behind}
 use Rattle.hm_graph.specs.Ways.{Edges}
 use Rattle.hm_refs.specs.Tables.{TableView}
 use Rattle.hm_units.specs.States as graph
 use Rattle.hm_units.specs.Units as units
+use Rattle.hm_units.specs.Units.{character_units}
 use Rattle.hm_edges.specs.Pieces.{piece_bytes}
 use Rattle.hm_edges.specs.declared.pieces.Piece.{Piece}
 use Rattle.hm_edges.specs.declared.states.State.{State}
@@ -56,7 +57,8 @@ pub record Adds (old new : BuildingView) (more : List units.Unit) : Type 0 where
   pub rules : new.rules ≡ old.rules
   pub units : (us : List units.Unit) → IsBuilt old us → IsBuilt new (us ++ more)
 
--- the unit of a character, where there is one, and the next one
-abbrev pub character_before : units.TextKind → Option ℕ → Option ℕ → List units.Unit
-character_before kind None next = []
-character_before kind (Some c) next = units.character kind c next ∷ []
+-- the steps of characters are added, of which the rest is left
+pub record AddsFront (old new : BuildingView) (kind : units.TextKind) (cs rest : List ℕ) : Type 0 where
+  pub done : List units.Unit
+  pub adds : Adds old new done
+  pub whole : done ++ character_units kind rest ≡ character_units kind cs

@@ -6,6 +6,7 @@ use Rattle.hm_edges.specs.Units.{has_pair}
 use Rattle.hm_edges.specs.declared.states.Pending.TheVariants.{Nothing}
 use Rattle.hm_edges.specs.declared.states.State.{State}
 use Rattle.hm_edges.specs.declared.states.Where.TheVariants.{Outside}
+use Rattle.hm_edges.specs.declared.units.TextKind.{TextKind}
 use Rattle.hm_edges.specs.declared.units.Unit.{Unit}
 use Rattle.hm_edges.specs.declared.units.Unit.TheVariants.{Character}
 use Rattle.hm_layers.specs.Layers.{HaveNodes, IsLayer}
@@ -81,3 +82,10 @@ pub record IsPlainStep (m : MetView) (x : CharacterStep) : Type 0 where
   pub step : IsStepOf m x.list (Character x.kind x.c None true) x.number
   pub behind : x.behind ≡ (made_at m x.number).behind
   pub lone : BeginsNoPair m.table.entries x.c
+
+-- a character of ASCII that begins no name's two code points, with another one behind it, leads back to its list by this step
+pub record LeadsBack (m : MetView) (list : ℕ) (kind : TextKind) (n c : ℕ) : Type 0 where
+  pub ascii : c < 128
+  pub step : IsStepOf m list (Character kind c None true) n
+  pub behind : (made_at m n).behind ≡ list
+  pub lone : BeginsNoPair m.table.entries c

@@ -1,12 +1,12 @@
 //! A graph while it is built.
-ghost use Rattle.std.specs.Prelude.{◌≡◌, ◌<◌, ◌∷◌, [], None, Some, length, IfOk, OnOk};
-ghost use Rattle.std.specs.Str.{chars};
+ghost use Rattle.std.specs.Prelude.{◌≡◌, ◌<◌, ◌≤◌, ◌∷◌, [], None, Some, length, IfOk, OnOk};
+ghost use Rattle.std.specs.Str.{IsUtf8, chars};
 ghost use Rattle.hm_units.specs.Units as units;
 ghost use Rattle.hm_units.specs.Units.{character_units};
 ghost use Rattle.hm_edges.specs.Units.{StandsFor, kind_of};
 ghost use Rattle.hm_parts.specs.Parts.{AreParts, IsPart, part_units, parts_units};
 ghost use Rattle.hm_layers.specs.Graphs.{AreNamed};
-ghost use Rattle.hm_layers.specs.Building.{Adds, IsBuilt, character_before};
+ghost use Rattle.hm_layers.specs.Building.{Adds, AddsFront, IsBuilt};
 
 use crate::graph::Graph;
 use crate::met::{LIMIT, Met};
@@ -84,41 +84,62 @@ impl<'t> Building<'t> {
         Ok(())
     }
 
-    /// Adds the step of a character in front of the next one, where there is one.
-    fn add_before(&mut self, kind: TextKind, before: Option<char>, next: char) -> Result<(), Memory>
-        ensures { OnOk result (Adds self.old self.new (character_before (kind_of kind) before (Some next))) }
+    /// Adds the step of the last character of a text.
+    fn add_last(&mut self, kind: TextKind, c: char) -> Result<(), Memory>
+        ensures { OnOk result (Adds self.old self.new (units.character (kind_of kind) c None ∷ [])) }
     {
-        match before {
-            None => Ok(()),
-            Some(c) => self.add_character(kind, c, next),
-        }
+        self.add(Unit::Character {
+            kind,
+            c,
+            pair: None,
+            more: false,
+        })
     }
 
-    /// Adds the step of the last character of a text, where there is one.
-    fn add_last(&mut self, kind: TextKind, last: Option<char>) -> Result<(), Memory>
-        ensures { OnOk result (Adds self.old self.new (character_before (kind_of kind) last None)) }
+    /// Adds the step of the first character of a text, where there is one, and gives the rest of the text.
+    fn add_first<'s>(&mut self, kind: TextKind, text: &'s str) -> Result<&'s str, Memory>
+        ensures adds { IfOk result (λ rest. AddsFront self.old self.new (kind_of kind) (chars text.now) (chars rest.now)) }
+        ensures shorter { IfOk result (λ rest. 0 < length text.now → length rest.now < length text.now) }
+        ensures utf8 { IfOk result (λ rest. IsUtf8 rest.now) }
     {
-        match last {
-            None => Ok(()),
-            Some(c) => self.add(Unit::Character {
-                kind,
-                c,
-                pair: None,
-                more: false,
-            }),
+        let mut characters = text.chars();
+        let first = characters.next();
+        let rest = characters.as_str();
+        if let Some(c) = first {
+            match characters.next() {
+                Some(next) => self.add_character(kind, c, next)?,
+                None => self.add_last(kind, c)?,
+            }
         }
+        Ok(rest)
+    }
+
+    /// Adds the steps of characters that a text begins with, as far as they are the last one that was added, each time from
+    /// the same list, and gives the rest of the text.
+    fn add_alike<'s>(&mut self, kind: TextKind, text: &'s str) -> Result<&'s str, Memory>
+        ensures adds { IfOk result (λ rest. AddsFront self.old self.new (kind_of kind) (chars text.now) (chars rest.now)) }
+        ensures within { IfOk result (λ rest. length rest.now ≤ length text.now) }
+        ensures utf8 { IfOk result (λ rest. IsUtf8 rest.now) }
+    {
+        let number = self.numbers.latest();
+        let count = self.met.back_run(self.last, kind, number, text.as_bytes());
+        if count >= LIMIT || self.numbers.len() >= LIMIT - count {
+            return Err(Memory);
+        }
+        self.numbers.push_alike(number, count as u32)?;
+        Ok(&text[count..])
     }
 
     /// Adds the steps of the characters of a text.
     fn add_characters(&mut self, kind: TextKind, text: &str) -> Result<(), Memory>
         ensures { OnOk result (Adds self.old self.new (character_units (kind_of kind) (chars text.now))) }
     {
-        let mut before = None;
-        for c in text.chars() {
-            self.add_before(kind, before, c)?;
-            before = Some(c);
+        let mut rest = text;
+        while !rest.is_empty() {
+            let behind = self.add_first(kind, rest)?;
+            rest = self.add_alike(kind, behind)?;
         }
-        self.add_last(kind, before)
+        Ok(())
     }
 
     /// Adds the steps of a part.

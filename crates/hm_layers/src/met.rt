@@ -1,10 +1,10 @@
 //! Lists of states and steps that are met while a graph is built.
-ghost use Rattle.std.specs.Prelude.{◌≡◌, ◌<◌, ◌∷◌, [], true, None, Some, length, map, IfOk, IfSome, IsTrue, OnOk};
-ghost use Rattle.std.specs.List.{HoldsAt};
+ghost use Rattle.std.specs.Prelude.{◌≡◌, ◌<◌, ◌≤◌, ◌∷◌, [], true, None, Some, length, map, take, IfOk, IfSome, IsTrue, OnOk};
+ghost use Rattle.std.specs.List.{All, HoldsAt};
 ghost use Rattle.hm_edges.specs.Units as units;
 ghost use Rattle.hm_layers.specs.Layers.{HaveNodes};
 ghost use Rattle.hm_edges.specs.declared.units.Unit.TheVariants.{Character};
-ghost use Rattle.hm_layers.specs.Met.{BeginsNoPair, Grows, IsListOf, IsPlainStep, IsStepOf, list_at, first_states, made_at, only_first};
+ghost use Rattle.hm_layers.specs.Met.{BeginsNoPair, Grows, IsListOf, LeadsBack, IsPlainStep, IsStepOf, list_at, first_states, made_at, only_first};
 
 use crate::layer::{Layer, find_layer, is_state};
 use crate::made::{CharacterStep, Front, Made, Reached, Seen, equal_made};
@@ -374,6 +374,34 @@ impl<'t> Met<'t> {
         } else {
             None
         }
+    }
+
+    /// Whether a byte is a plain character that has another one behind it, and leads back to the list by this step.
+    fn leads_back(&self, list: u32, kind: TextKind, byte: u8, number: u32) -> bool
+        ensures { IsTrue result → LeadsBack self.now list kind number byte }
+    {
+        match self.plain.get(plain_place(list, char::from(byte))) {
+            Some(step) => {
+                byte < 128
+                    && step.number == number
+                    && step.behind == list
+                    && step.is_from(list, kind, char::from(byte))
+            }
+            None => false,
+        }
+    }
+
+    /// How many plain characters at the front of a text lead back to the list by this step, each with another one behind it.
+    pub(crate) fn back_run(&self, list: u32, kind: TextKind, number: u32, text: &[u8]) -> usize
+        ensures within { result ≤ length text.now }
+        ensures short { 0 < result → result < length text.now }
+        ensures plain { All (LeadsBack self.now list kind number) (take result text.now) }
+    {
+        let mut count = 0;
+        while count + 1 < text.len() && self.leads_back(list, kind, text[count], number) {
+            count += 1;
+        }
+        count
     }
 
     /// Keeps the step of such a character. The first one is kept at all places.

@@ -1,5 +1,5 @@
 //! Numbers that come in runs of equal ones.
-ghost use Rattle.std.specs.Prelude.{◌≡◌, ◌<◌, ◌^◌, ◌++◌, ◌∷◌, [], length, IfOk, OnErr, OnOk};
+ghost use Rattle.std.specs.Prelude.{◌≡◌, ◌<◌, ◌+◌, ◌-◌, ◌^◌, ◌++◌, ◌∷◌, [], length, IfOk, OnErr, OnOk};
 ghost use Rattle.std.proofs.Math.ListN.{replicate};
 ghost use Rattle.hm_layers.specs.Runs.{AreRuns, unroll};
 
@@ -75,18 +75,32 @@ impl Numbers {
     /// Adds a number behind.
     #[inline(always)]
     pub(crate) fn push(&mut self, number: u32) -> Result<(), Memory>
-        requires { length self.old < 2 ^ 29 }
+        requires { length self.old < 2 ^ 29 - 1 }
         ensures ok { OnOk result (self.new ≡ self.old ++ number ∷ []) }
         ensures err { OnErr result (self.new ≡ self.old) }
     {
+        self.push_alike(number, 1)
+    }
+
+    /// The last number; 0 where there is none.
+    pub(crate) fn latest(&self) -> u32 {
+        self.latest.number
+    }
+
+    /// Adds a number so many times behind.
+    pub(crate) fn push_alike(&mut self, number: u32, count: u32) -> Result<(), Memory>
+        requires { length self.old + count < 2 ^ 29 }
+        ensures ok { OnOk result (self.new ≡ self.old ++ replicate count number) }
+        ensures err { OnErr result (self.new ≡ self.old) }
+    {
         if self.latest.number == number {
-            self.latest.count += 1;
-            self.len += 1;
+            self.latest.count += count;
+            self.len += count as usize;
             return Ok(());
         }
         push_run(&mut self.runs, self.latest)?;
-        self.latest = Run { number, count: 1 };
-        self.len += 1;
+        self.latest = Run { number, count };
+        self.len += count as usize;
         Ok(())
     }
 

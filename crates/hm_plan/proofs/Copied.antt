@@ -1,12 +1,13 @@
 -- Over equal steps that copy the characters of a text.
 use Rattle.std.proofs.Common.{◌≡◌, ◌∙◌, ℕ, zero, suc, ◌+◌, ◌<◌, ◌≤◌, List, [], ◌∷◌, ◌++◌, length, get_or, take, drop, chars, Option, Some, None, slice_get, refl, sym, ap, subst, arith, append_assoc, append-nil}
-use Rattle.std.specs.Prelude.{encode_utf8, encode_utf8_all}
-use Rattle.std.specs.Str.{IsAscii, IsUtf8, IsCharBoundary}
-use Rattle.std.proofs.lemmas.List.{length-append, length-take-le, take-append-drop}
-use Rattle.std.proofs.lemmas.Str.{IsCharBoundary-from_take, IsUtf8-from_ascii, chars-IsAscii, chars-append, encode_ascii, encodes-chars}
+use Rattle.std.specs.Prelude.{encode_utf8}
+use Rattle.std.specs.Str.{IsAscii}
+use Rattle.std.proofs.lemmas.List.{length-append, length-take-le}
+use Rattle.std.proofs.lemmas.Str.{encode_ascii}
 use Rattle.hm_edges.specs.Pieces.{piece_bytes, piece_text}
 use Rattle.hm_edges.specs.declared.pieces.Piece.TheVariants as pieces
 use Rattle.hm_graph.specs.Prices.{Row}
+use Rattle.hm_layers.proofs.Characters.{text_cut}
 use Rattle.hm_layers.specs.Graphs.{GraphView, IsPlace}
 use Rattle.hm_refs.specs.Names.{Entry}
 use Rattle.hm_steps.specs.Steps.{Step}
@@ -16,23 +17,6 @@ use Rattle.hm_units.specs.Units.{TextKind, Unit, character, character_units, nex
 use Rattle.hm_plan.specs.Paths.{Copies, GoesOver, HasChoices, IsCopied, row_behind, way_on}
 use Rattle.hm_plan.specs.declared.paths.Way.{Way}
 use Rattle.hm_plan.proofs.FirstWay.{forced_choice, forced_none, step_next, way_next}
-
--- ---- Texts
-
-pub text_cut : (text : List ℕ) (n : ℕ) → IsAscii (take n text) → chars text ≡ take n text ++ chars (drop n text)
-text_cut text n ascii =
-    ap chars (sym (take-append-drop n text)) ∙ chars-append (take n text) (drop n text) (IsUtf8-from_ascii (take n text) ascii) ∙ ap (λ x. x ++ chars (drop n text)) (chars-IsAscii (take n text) ascii)
-
-pub ascii_boundary : (text : List ℕ) (n : ℕ) → IsUtf8 text → n ≤ length text → IsAscii (take n text) → IsCharBoundary text n
-ascii_boundary text n utf8 inside ascii = IsCharBoundary-from_take text n utf8 inside (IsUtf8-from_ascii (take n text) ascii)
-
-some_of : (text cs : List ℕ) → chars text ≡ cs → IsUtf8 text → 0 < length text → 0 < length cs
-some_of text [] is utf8 some = absurd (omega (arith, some, ap length (sym (encodes-chars text utf8) ∙ ap encode_utf8_all is)))
-some_of text (c ∷ cs) is utf8 some = omega arith
-
--- a text with a byte has a character
-pub some_chars : (text : List ℕ) → IsUtf8 text → 0 < length text → 0 < length (chars text)
-some_chars text utf8 some = some_of text (chars text) refl utf8 some
 
 -- ---- Steps
 

@@ -2,7 +2,8 @@ use Rattle.std.proofs.Common.{◌≡◌, ◌∙◌, ℕ, ◌-◌, [], ◌++◌, 
 use Rattle.std.specs.Str.{IsAscii}
 use Rattle.hm_plan.specs.Paths.{GoesOver, IsCopied}
 use Rattle.hm_plan.specs.declared.paths.Way.{Way}
-use Rattle.hm_plan.proofs.Copied.{ascii_boundary, some_chars, text_copied}
+use Rattle.hm_layers.proofs.Characters.{ascii_boundary, some_chars}
+use Rattle.hm_plan.proofs.Copied.{text_copied}
 use Rattle.hm_plan.proofs.paths.copy_alike.Goals as goal
 
 pub step-requires-clause-inside : goal.step-requires-clause-inside

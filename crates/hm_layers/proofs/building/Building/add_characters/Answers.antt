@@ -1,20 +1,20 @@
-use Rattle.std.proofs.Common.{Some, length, drop, chars, sym, subst, arith}
-use Rattle.std.proofs.lemmas.Iterator.{YieldsList-from_chars}
-use Rattle.std.proofs.lemmas.Iterator.Consumers.{YieldsList-turn, YieldsList-end}
-use Rattle.std.proofs.lemmas.List.{length_push}
-use Rattle.std.proofs.lemmas.Result.{on_ok_weaker}
+use Rattle.std.proofs.Common.{◌≡◌, ◌∙◌, [], chars, length, sym, ap}
+use Rattle.std.proofs.lemmas.Bool.Decides.{Decides-eqb}
+use Rattle.std.proofs.lemmas.List.{nil_from_length}
+use Rattle.std.proofs.lemmas.Str.{chars-nil}
 use Rattle.hm_edges.specs.Units.{kind_of}
-use Rattle.hm_layers.proofs.Characters.{SomeCharacters, characters_next, characters_end}
+use Rattle.hm_layers.proofs.Characters.{front_all, front_none, front_on}
 use Rattle.hm_layers.proofs.building.Building.add_characters.Goals as goal
 
-pub loop-c-preserved : goal.loop-c-preserved
-loop-c-preserved c =
-    let t = YieldsList-turn (YieldsList-from_chars c.args.text.now c.utf8.text cc) c.loop-c.yielded _ c.loop-c.yielded_by _ _ c.in-Some.c c.in-Some.is c.next.ensures.steps in
-    subst (λ n. SomeCharacters c.args.self.now c.add_before.new.self (kind_of c.args.kind) (Some c.in-Some.c) (drop n (chars c.args.text.now)) (chars c.args.text.now)) (sym (length_push c.loop-c.yielded c.in-Some.c))
-    (characters_next c.args.self.now c.loop-c.self c.add_before.new.self (kind_of c.args.kind) c.loop-c.before c.in-Some.c (chars c.args.text.now) (length c.loop-c.yielded) t.0 t.1 c.loop-c.invariant c.in_ok-add_before.ensures)
+pub loop-rest-init : goal.loop-rest-init
+loop-rest-init c = (c.utf8.text, front_none c.args.self.now (kind_of c.args.kind) (chars c.args.text.now))
+
+pub loop-rest-preserved : goal.loop-rest-preserved
+loop-rest-preserved c =
+    let both = front_on c.loop-rest.self c.add_first.new.self c.add_alike.new.self (kind_of c.args.kind) (chars c.loop-rest.rest.now) (chars c.in_ok-behind.behind.now) (chars c.in_ok-rest.rest.now) c.in_ok-behind.ensures.adds c.in_ok-rest.ensures.adds in
+    (c.in_ok-rest.ensures.utf8, front_on c.args.self.now c.loop-rest.self c.add_alike.new.self (kind_of c.args.kind) (chars c.args.text.now) (chars c.loop-rest.rest.now) (chars c.in_ok-rest.rest.now) c.loop-rest.invariant.1 both)
 
 pub returns : goal.returns
 returns c =
-    let t = YieldsList-end (YieldsList-from_chars c.args.text.now c.utf8.text cc) c.loop-c.yielded _ c.loop-c.yielded_by _ _ c.in-None.is c.next.ensures.steps in
-    on_ok_weaker c.add_last.result
-    (characters_end c.args.self.now c.loop-c.self c.add_last.new.self (kind_of c.args.kind) c.loop-c.before (chars c.args.text.now) (length c.loop-c.yielded) (omega (arith, t.1)) c.loop-c.invariant) c.add_last.ensures
+    let none : chars c.loop-rest.rest.now ≡ [] = ap chars (nil_from_length c.loop-rest.rest.now ((Decides-eqb (length c.loop-rest.rest.now) 0).0 (sym c.loop-rest-test.ensures))) ∙ chars-nil in
+    front_all c.args.self.now c.loop-rest.self (kind_of c.args.kind) (chars c.args.text.now) (chars c.loop-rest.rest.now) none c.loop-rest.invariant.1

@@ -9,6 +9,10 @@ pub loop-count-preserved : goal.loop-count-preserved
 loop-count-preserved c =
     let n = c.loop-count.count in
     let text = c.args.text.now in
-    let leads = LeadsBack c.args.self.now c.args.list c.args.kind c.args.number in
-    (omega (arith, c.loop-count-test.true), ((λ some. omega (arith, c.loop-count-test.true)),
-    subst (All leads) (sym (take_more text n 0 (omega (arith, c.loop-count-test.true)))) (All-push leads (take n text) (get_or text n 0) c.loop-count.invariant.1.1 (c.if-leads_back.ensures refl))))
+    let leads = LeadsBack c.args.self.now c.args.list c.args.kind c.args.number in (
+      omega (arith, c.loop-count-test.true),
+      (
+        (λ some. omega (arith, c.loop-count-test.true)),
+        subst (All leads) (sym (take_more text n 0 (omega (arith, c.loop-count-test.true)))) (All-push leads (take n text) (get_or text n 0) c.loop-count.invariant.1.1 (c.if-leads_back.ensures refl)),
+      ),
+    )

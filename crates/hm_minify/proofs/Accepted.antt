@@ -55,6 +55,6 @@ found_no v n why is other = let h : Yes n ≡ No why = sym is ∙ other in cc
 -- what was found of equal bytes is what the check finds of what is written
 pub found_own : (t : List Entry) (x : Writing) (w : List Event) (out bytes : List ℕ) (c : Certificate) (v : Verdict) (n : ℕ) → out ≡ shortest_text t x.rules w → bytes ≡ certificate_of t x.rules (format_of x.sparse) w → given bytes ≡ Ok c → v ≡ verdict t x.rules w out c → v ≡ Yes n
     → own_verdict x t w ≡ Ok (Yes n)
-found_own t x w out bytes c v n is text read e yes =
+found_own t x w out bytes c v n is text read e found =
     ap (judged (verdict t x.rules w (shortest_text t x.rules w))) (ap given (sym text) ∙ read)
-    ∙ ap (λ o. Ok (verdict t x.rules w o c)) (sym is) ∙ ap (λ f. Ok f) (sym e ∙ yes)
+    ∙ ap (λ o. Ok (verdict t x.rules w o c)) (sym is) ∙ ap (λ f. Ok f) (sym e ∙ found)

@@ -64,6 +64,7 @@ fn check_minified(
 fn measure_tree<'w>(alloc: Global, made: &Made, writing: Writing) -> Result<Ended<'w>, Stop>
     requires settled { Settled made.now.input.tree }
     ensures ended { IfOk result (λ ended. ended ≡ spec.measured_ending made.now.bytes writing made.now.input.table.entries made.now.input.tree) }
+    ensures answers { IfOk result (λ ended. spec.is_fault ended.status ≡ false) }
     ensures memory { result ≢ Err Stop.Store }
 {
     let minified = minify_tree(

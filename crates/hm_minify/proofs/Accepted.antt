@@ -1,5 +1,5 @@
 -- What was written of a settled tree is accepted.
-use Rattle.std.proofs.Common.{◌≡◌, ◌∙◌, ℕ, ◌≤◌, List, length, Ok, Err, sym, ap, subst}
+use Rattle.std.proofs.Common.{◌≡◌, ◌∙◌, ℕ, ◌≤◌, List, length, Ok, Err, refl, sym, ap, subst}
 use Rattle.hm_base.specs.Walks.{Event}
 use Rattle.hm_base.specs.declared.limits.TheConstants.{OUTPUT_LIMIT}
 use Rattle.hm_base.specs.declared.plain.SpellRules.{SpellRules}
@@ -20,6 +20,7 @@ use Rattle.hm_elements.specs.Settled.{Settled}
 use Rattle.hm_refs.specs.Names.{Entry}
 use Rattle.hm_refs.specs.Tables.{IsTable}
 use Rattle.hm_minify.specs.Endings.{format_of, judged, own_verdict}
+use Rattle.hm_minify.specs.Laws.{OwnIsAccepted}
 use Rattle.hm_words.specs.declared.writing.Writing.{Writing}
 use Rattle.hm_shortest.specs.Shortest.{certificate_of, certified_rows, shortest_text}
 
@@ -58,3 +59,12 @@ pub found_own : (t : List Entry) (x : Writing) (w : List Event) (out bytes : Lis
 found_own t x w out bytes c v n is text read e found =
     ap (judged (verdict t x.rules w (shortest_text t x.rules w))) (ap given (sym text) ∙ read)
     ∙ ap (λ o. Ok (verdict t x.rules w o c)) (sym is) ∙ ap (λ f. Ok f) (sym e ∙ found)
+
+-- so what the check finds of what is written is a yes
+pub own_is_accepted : OwnIsAccepted
+own_is_accepted t k x w s short rows =
+    let out : List ℕ = shortest_text t x.rules w in
+    let cert : List ℕ = certificate_of t x.rules (format_of x.sparse) w in
+    let c : Certificate = least_certificate t x.rules (format_of x.sparse) w in
+    found_own t x w out cert c (verdict t x.rules w out c) (length out) refl refl (certificate_read t x.rules (format_of x.sparse) w cert refl rows) refl
+    (accepted t k x.rules (format_of x.sparse) w s out c refl refl short)

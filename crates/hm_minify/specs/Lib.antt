@@ -3,5 +3,6 @@ pub mod Lines
 pub mod Writes
 pub mod Stops
 pub mod Endings
+pub mod Laws
 pub mod Runs
 pub mod Examples

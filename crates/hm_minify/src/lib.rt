@@ -3,6 +3,7 @@
 
 mod checked;
 mod ended;
+pub mod laws;
 mod lines;
 mod measured;
 mod saved;

@@ -241,6 +241,149 @@ fn sections(rt: HostRuntime) -> Result<(), Fail> {
     Ok(())
 }
 
+/// `<table><thead><tr><td>a</td></tr></thead><tbody><tr><td>b</td></tr></tbody></table>`: the start tag of the second section
+/// may be left out, but not where the end tag of the first one is.
+#[test]
+fn second_section(rt: HostRuntime) -> Result<(), Fail> {
+    let steps = [
+        Step::Start("table"),
+        Step::Start("thead"),
+        Step::Start("tr"),
+        Step::Start("td"),
+        Step::Text("a"),
+        Step::End,
+        Step::End,
+        Step::End,
+        Step::Start("tbody"),
+        Step::Start("tr"),
+        Step::Start("td"),
+        Step::Text("b"),
+        Step::End,
+        Step::End,
+        Step::End,
+        Step::End,
+    ];
+    let wanted = [
+        start_tag(5, false, false, false, "table"),
+        start_tag(5, false, false, false, "thead"),
+        start_tag(2, false, false, false, "tr"),
+        start_tag(2, false, false, false, "td"),
+        chars(TextKind::Text, "a"),
+        end_tag(2, true, false, "td"),
+        end_tag(2, true, false, "tr"),
+        end_tag(5, true, true, "thead"),
+        start_tag(5, true, true, false, "tbody"),
+        start_tag(2, false, false, false, "tr"),
+        start_tag(2, false, false, false, "td"),
+        chars(TextKind::Text, "b"),
+        end_tag(2, true, false, "td"),
+        end_tag(2, true, false, "tr"),
+        end_tag(5, true, true, "tbody"),
+        end_tag(5, false, false, "table"),
+    ];
+    assert!(rt; has_parts(rt.alloc(), &steps, &wanted)?);
+    Ok(())
+}
+
+/// `<table><caption>x</caption><script></script><tr><td>y</td></tr></table>`: a script behind a caption keeps its end tag.
+#[test]
+fn caption_before_a_script(rt: HostRuntime) -> Result<(), Fail> {
+    let steps = [
+        Step::Start("table"),
+        Step::Start("caption"),
+        Step::Text("x"),
+        Step::End,
+        Step::Start("script"),
+        Step::End,
+        Step::Start("tbody"),
+        Step::Start("tr"),
+        Step::Start("td"),
+        Step::Text("y"),
+        Step::End,
+        Step::End,
+        Step::End,
+        Step::End,
+    ];
+    let wanted = [
+        start_tag(5, false, false, false, "table"),
+        start_tag(7, false, false, false, "caption"),
+        chars(TextKind::Text, "x"),
+        end_tag(7, false, false, "caption"),
+        start_tag(6, false, false, false, "script"),
+        end_tag(6, false, false, "script"),
+        start_tag(5, true, false, false, "tbody"),
+        start_tag(2, false, false, false, "tr"),
+        start_tag(2, false, false, false, "td"),
+        chars(TextKind::Text, "y"),
+        end_tag(2, true, false, "td"),
+        end_tag(2, true, false, "tr"),
+        end_tag(5, true, true, "tbody"),
+        end_tag(5, false, false, "table"),
+    ];
+    assert!(rt; has_parts(rt.alloc(), &steps, &wanted)?);
+    Ok(())
+}
+
+/// `<span><p>x</p></span>`: a paragraph keeps its end tag in an element that may hold no other one behind it.
+#[test]
+fn paragraph_in_a_span(rt: HostRuntime) -> Result<(), Fail> {
+    let steps = [
+        Step::Start("span"),
+        Step::Start("p"),
+        Step::Text("x"),
+        Step::End,
+        Step::End,
+    ];
+    let wanted = [
+        start_tag(4, false, false, false, "span"),
+        start_tag(1, false, false, false, "p"),
+        chars(TextKind::Text, "x"),
+        end_tag(1, false, false, "p"),
+        end_tag(4, false, false, "span"),
+    ];
+    assert!(rt; has_parts(rt.alloc(), &steps, &wanted)?);
+    Ok(())
+}
+
+/// `<html><head></head><body><div><p>x</p></div><p>y</p></body></html>`: both paragraphs may leave out their end tags.
+#[test]
+fn paragraphs(rt: HostRuntime) -> Result<(), Fail> {
+    let steps = [
+        Step::Start("html"),
+        Step::Start("head"),
+        Step::End,
+        Step::Start("body"),
+        Step::Start("div"),
+        Step::Start("p"),
+        Step::Text("x"),
+        Step::End,
+        Step::End,
+        Step::Start("p"),
+        Step::Text("y"),
+        Step::End,
+        Step::End,
+        Step::End,
+    ];
+    let wanted = [
+        start_tag(4, true, false, false, "html"),
+        start_tag(4, true, false, false, "head"),
+        end_tag(4, true, false, "head"),
+        start_tag(4, true, false, false, "body"),
+        start_tag(3, false, false, false, "div"),
+        start_tag(1, false, false, false, "p"),
+        chars(TextKind::Text, "x"),
+        end_tag(1, true, false, "p"),
+        end_tag(3, false, false, "div"),
+        start_tag(1, false, false, false, "p"),
+        chars(TextKind::Text, "y"),
+        end_tag(1, true, false, "p"),
+        end_tag(4, true, false, "body"),
+        end_tag(4, true, false, "html"),
+    ];
+    assert!(rt; has_parts(rt.alloc(), &steps, &wanted)?);
+    Ok(())
+}
+
 /// `<svg><path></path>a</svg><title>b</title>`: an element of SVG that ends at once may close itself.
 #[test]
 fn svg(rt: HostRuntime) -> Result<(), Fail> {

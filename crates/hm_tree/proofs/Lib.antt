@@ -9,6 +9,7 @@ pub mod OpenLemmas
 pub mod PairLemmas
 pub mod PieceLemmas
 pub mod RoomLemmas
+pub mod RunLemmas
 pub mod ShownLemmas
 pub mod StartLemmas
 pub mod TableLemmas

@@ -4,6 +4,7 @@ pub mod Lexemes
 pub mod Pairs
 pub mod Pieces
 pub mod Rows
+pub mod Runs
 pub mod Sources
 pub mod Tokens
 pub mod Trees

@@ -10,6 +10,7 @@ mod maker;
 mod names;
 mod pieces;
 mod rows;
+mod runs;
 mod sources;
 mod tokens;
 mod tree;

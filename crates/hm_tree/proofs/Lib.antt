@@ -7,6 +7,7 @@ pub mod MakingLemmas
 pub mod ListLemmas
 pub mod OpenLemmas
 pub mod PairLemmas
+pub mod ParentLemmas
 pub mod PieceLemmas
 pub mod RoomLemmas
 pub mod RunLemmas

@@ -2,6 +2,7 @@ pub mod Attributes
 pub mod Dump
 pub mod Lexemes
 pub mod Pairs
+pub mod Parents
 pub mod Pieces
 pub mod Rows
 pub mod Runs

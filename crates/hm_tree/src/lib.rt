@@ -8,6 +8,7 @@ mod dump;
 mod events;
 mod maker;
 mod names;
+mod parent;
 mod pieces;
 mod rows;
 mod runs;

@@ -8,6 +8,7 @@ ghost use Rattle.hm_tree.specs.Trees.{IsTold, end_of, innermost, last_agrees, pa
 ghost use Rattle.hm_tree.specs.Views.{event_of};
 
 use crate::appended::{AttrsRange, append, append_attributes, text_len};
+use crate::parent::Parent;
 use crate::pieces::{AttributePieces, Piece, cut};
 use crate::sources::{AttributeSource, count};
 use crate::{AttrsView, EventView};
@@ -44,7 +45,7 @@ enum Part {
 #[derive(Clone, Copy, Debug)]
 struct Row {
     part: Part,
-    parent: Option<u32>,
+    parent: Parent,
 }
 
 // A list of events.
@@ -153,7 +154,7 @@ impl Rows {
         requires { i < length self.now }
         ensures { result ≡ parent_of self.now i }
     {
-        self.rows[i as usize].parent
+        self.rows[i as usize].parent.index()
     }
 
     pub(crate) fn push_doctype(&mut self, legacy: bool, parent: Option<u32>) -> Result<(), Memory>
@@ -163,6 +164,7 @@ impl Rows {
         ensures err { OnErr result (self.new ≡ self.old) }
     {
         let part = Part::Doctype { legacy };
+        let parent = Parent::of(parent);
         self.rows.push(Row { part, parent })?;
         Ok(())
     }
@@ -190,6 +192,7 @@ impl Rows {
             foreign,
             attrs,
         };
+        let parent = Parent::of(parent);
         self.rows.push(Row { part, parent }).unwrap();
         Ok(())
     }
@@ -210,6 +213,7 @@ impl Rows {
         self.text.reserve(text.len())?;
         let text = append(&mut self.text, text);
         let part = Part::Text { text, raw };
+        let parent = Parent::of(parent);
         self.rows.push(Row { part, parent }).unwrap();
         Ok(())
     }
@@ -225,6 +229,7 @@ impl Rows {
         self.text.reserve(text.len())?;
         let text = append(&mut self.text, text);
         let part = Part::Comment { text };
+        let parent = Parent::of(parent);
         self.rows.push(Row { part, parent }).unwrap();
         Ok(())
     }
@@ -301,7 +306,7 @@ impl Rows {
             unreachable!()
         };
         let part = Part::End { name, foreign };
-        let parent = Some(start);
+        let parent = Parent::of(Some(start));
         self.rows.push(Row { part, parent })?;
         Ok(())
     }

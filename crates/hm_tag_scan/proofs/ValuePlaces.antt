@@ -9,7 +9,7 @@ use Rattle.hm_base.specs.Bytes.{front, behind, is_space}
 use Rattle.hm_tag_scan.specs.Tags.{is_later_byte, is_unquoted_byte, is_inside, is_quote, cut_behind, cut_quoted, cut_value, cut_assigned, named, attribute_at}
 use Rattle.hm_refs.specs.Reads.{IsEndOf}
 use Rattle.hm_refs.proofs.RunEnds.{rest_cons}
-use Rattle.hm_tag_scan.specs.Places.{IsCutAt, IsAttributeAt}
+use Rattle.hm_tag_scan.specs.Places.{IsCutAt, IsAttributeAt, IsOrdinaryName}
 use Rattle.hm_tag_scan.specs.declared.attribute.Attribute.{Attribute}
 use Rattle.hm_tag_scan.specs.declared.attribute.Value.{Value}
 use Rattle.hm_tag_scan.proofs.Boundaries.{later_ends, unquoted_ends}
@@ -115,15 +115,23 @@ assigned_at s from equals at v e h is f k =
     ap (cut_assigned (drop from s)) (e.behind ∙ rest_cons s equals h) ∙ rw same (ap cut_value f.behind) in
     rw cut k
 
+-- a part of a list by its first byte and the others
+pub range_cons : (s : List ℕ) (at to : ℕ) → at < length s → at + 1 ≤ to → slice_range s at to ≡ get_or s at 0 ∷ slice_range s (at + 1) to
+range_cons s at to h low =
+    let n : to - at ≡ suc (to - (at + 1)) = omega arith in
+    ap (λ m. take m (drop at s)) n ∙ ap (take (suc (to - (at + 1)))) (rest_cons s at h)
+
 -- a whole attribute
 pub attribute_is : (s : List ℕ) (at : ℕ) (a : Attribute) → at < length s → IsEndOf is_later_byte s (at + 1) a.name_to
+    → (a.plain ≡ true → IsOrdinaryName (slice_range s at a.name_to))
     → IsCutAt (cut_assigned (drop a.name_to s) (behind is_space (drop a.name_to s))) s a.value → a.name_to ≤ a.value.behind → IsAttributeAt s at a
 unfolding attribute_at
-attribute_is s at a h e k forward =
+attribute_is s at a h e plain k forward =
     let name : slice_range s at a.name_to ≡ get_or s at 0 ∷ slice_range s (at + 1) a.name_to = range_cons s at a.name_to h (omega (arith, e.forward)) in
     record {
       is = ap₂ named (ap (λ r. get_or s at 0 ∷ r) e.front ∙ sym name) e.behind
           ∙ ap₂ (λ v r. record { attribute = record { name = slice_range s at a.name_to; value = v }; rest = r }) k.before k.behind;
+      plain = plain;
       forward = omega (arith, e.forward);
       behind = forward;
       ordered = k.ordered;
@@ -132,8 +140,3 @@ attribute_is s at a h e k forward =
       value_ends = k.ends;
       rest = k.rest;
     }
-  where
-    range_cons : (s : List ℕ) (at to : ℕ) → at < length s → at + 1 ≤ to → slice_range s at to ≡ get_or s at 0 ∷ slice_range s (at + 1) to
-    range_cons s at to h low =
-        let n : to - at ≡ suc (to - (at + 1)) = omega arith in
-        ap (λ m. take m (drop at s)) n ∙ ap (take (suc (to - (at + 1)))) (rest_cons s at h)

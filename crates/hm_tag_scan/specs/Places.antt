@@ -1,8 +1,9 @@
 -- Places in a text at which parts of it end.
-use Rattle.std.specs.Prelude.{◌≡◌, ℕ, ◌+◌, ◌≤◌, ◌<◌, Bool, ◌||◌, true, ◌==◌, List, map, drop, slice_index, slice_range, IsCharBoundary}
+use Rattle.std.specs.Prelude.{◌≡◌, ℕ, ◌+◌, ◌≤◌, ◌<◌, Bool, ◌||◌, true, false, ◌==◌, List, map, drop, slice_index, slice_range, IsCharBoundary}
 use Rattle.hm_base.specs.Bytes.{Cut, is_space, lower}
 use Rattle.hm_base.specs.Forms.{is_tag_byte, is_tag_name}
 use Rattle.hm_tag_scan.specs.Tags.{is_name_byte, is_later_byte, is_unquoted_byte, attribute_at}
+use Rattle.hm_tag_scan.specs.Reading.{is_bad_name}
 use Rattle.hm_tag_scan.specs.declared.attribute.Attribute.{Attribute}
 use Rattle.hm_tag_scan.specs.declared.attribute.Value.{Value}
 use Rattle.hm_tag_scan.specs.declared.runs.Run.{Run}
@@ -26,6 +27,11 @@ pub record IsPlainName (name : List ℕ) : Type 0 where
   pub is : is_tag_name name ≡ true
   pub lowered : map lower name ≡ name
 
+-- a name of an attribute that isn't refused, and is read as it is written
+pub record IsOrdinaryName (name : List ℕ) : Type 0 where
+  pub good : is_bad_name name ≡ false
+  pub lowered : map lower name ≡ name
+
 -- a cut of the rest of the text: what is before it stands between two places, and what is behind it begins at a third
 pub record IsCutAt (k : Cut) (s : List ℕ) (v : Value) : Type 0 where
   pub before : k.before ≡ slice_range s v.from v.to
@@ -39,6 +45,7 @@ pub record IsCutAt (k : Cut) (s : List ℕ) (v : Value) : Type 0 where
 -- the attribute that begins at a place
 pub record IsAttributeAt (s : List ℕ) (at : ℕ) (a : Attribute) : Type 0 where
   pub is : attribute_at (slice_index s at) (drop (at + 1) s) ≡ record { attribute = record { name = slice_range s at a.name_to; value = slice_range s a.value.from a.value.to }; rest = drop a.value.behind s }
+  pub plain : a.plain ≡ true → IsOrdinaryName (slice_range s at a.name_to)
   pub forward : at < a.name_to
   pub behind : a.name_to ≤ a.value.behind
   pub ordered : a.value.from ≤ a.value.to

@@ -1,5 +1,5 @@
 -- Tags as tokens, or why they are refused.
-use Rattle.std.specs.Prelude.{ℕ, Bool, true, false, not, ◌&&◌, ◌||◌, ◌==◌, nat_le, nat_lt, List, [], ◌∷◌, map, length, drop, Option, Some, None, if◌then◌else◌, bytes_eq, codes}
+use Rattle.std.specs.Prelude.{ℕ, Bool, false, not, ◌&&◌, ◌||◌, ◌==◌, nat_le, nat_lt, List, [], ◌∷◌, map, length, drop, Option, Some, None, if◌then◌else◌, bytes_eq, codes}
 use Rattle.hm_base.specs.Bytes.{front, behind, strip, head_is, some_passes, lower, is_letter}
 use Rattle.hm_base.specs.Forms.{is_tag_name}
 use Rattle.hm_base.specs.Walks.{Attribute}

@@ -1,10 +1,12 @@
 //! The parts of an attribute as it is written, by their places in the text.
-ghost use Rattle.std.specs.Prelude.{◌≡◌, ◌≤◌, ◌<◌, length, drop, true, IsUtf8, IsCharBoundary};
+ghost use Rattle.std.specs.Prelude.{◌≡◌, ◌+◌, ◌≤◌, ◌<◌, length, drop, true, false, slice_index, slice_range, IsUtf8, IsCharBoundary};
 ghost use Rattle.hm_base.specs.Bytes.{behind, is_space};
 ghost use Rattle.hm_tag_scan.specs.Tags as tags;
 ghost use Rattle.hm_tag_scan.specs.Tags.{cut_assigned, cut_quoted, cut_value};
-ghost use Rattle.hm_tag_scan.specs.Places.{IsAttributeAt, IsCutAt};
+ghost use Rattle.hm_tag_scan.specs.Places.{IsAttributeAt, IsCutAt, IsOrdinaryName};
+ghost use Rattle.hm_refs.specs.Reads.{IsEndOf};
 
+use crate::names::is_tag_byte;
 use crate::runs::{Run, run_end};
 use memchr::memchr;
 
@@ -16,11 +18,19 @@ pub(crate) struct Value {
     pub(crate) behind: usize,
 }
 
-/// An attribute whose name ends at `name_to`.
+/// An attribute whose name ends at `name_to`. `plain` tells that its name isn't refused, and is read as it is written.
 #[derive(Clone, Copy)]
 pub(crate) struct Attribute {
     pub(crate) name_to: usize,
+    pub(crate) plain: bool,
     pub(crate) value: Value,
+}
+
+/// Where the name of an attribute ends. `plain` tells that it isn't refused, and is read as it is written.
+#[derive(Clone, Copy)]
+struct NamePart {
+    to: usize,
+    plain: bool,
 }
 
 /// An empty value at a place.
@@ -102,15 +112,40 @@ fn assigned_value(bytes: &[u8], from: usize) -> Value
     value_at(bytes, run_end(bytes, equals + 1, Run::Space))
 }
 
+/// Whether a byte stands at `to` that ends the name of an attribute.
+fn ends_name(bytes: &[u8], to: usize) -> bool
+    ensures inside { result ≡ true → to < length bytes.now }
+    ensures ends { result ≡ true → tags.is_later_byte (slice_index bytes.now to) ≡ false }
+{
+    to < bytes.len() && !Run::AttributeName.has(bytes[to])
+}
+
+/// Where the name of the attribute ends that begins at `at`.
+fn name_part(bytes: &[u8], at: usize) -> NamePart
+    requires { at < length bytes.now }
+    ensures end { IsEndOf tags.is_later_byte bytes.now (at + 1) result.to }
+    ensures plain { result.plain ≡ true → IsOrdinaryName (slice_range bytes.now at result.to) }
+{
+    let to = run_end(bytes, at + 1, Run::PlainName);
+    if is_tag_byte(bytes[at]) && ends_name(bytes, to) {
+        return NamePart { to, plain: true };
+    }
+    NamePart {
+        to: run_end(bytes, at + 1, Run::AttributeName),
+        plain: false,
+    }
+}
+
 /// The attribute that begins at `at` (13.2.5.33).
 pub(crate) fn attribute_at(bytes: &[u8], at: usize) -> Attribute
     requires utf8 { IsUtf8 bytes.now }
     requires inside { at < length bytes.now }
     ensures { IsAttributeAt bytes.now at result }
 {
-    let name_to = run_end(bytes, at + 1, Run::AttributeName);
+    let name = name_part(bytes, at);
     Attribute {
-        name_to,
-        value: assigned_value(bytes, name_to),
+        name_to: name.to,
+        plain: name.plain,
+        value: assigned_value(bytes, name.to),
     }
 }

@@ -1,10 +1,12 @@
 //! The attributes that were read of a tag.
-ghost use Rattle.std.specs.Prelude.{◌≡◌, ◌+◌, ◌^◌, ◌<◌, ◌≤◌, ◌&&◌, nat_le, not, true, false, [], ◌∷◌, ◌++◌, List, length, OnOk};
+ghost use Rattle.std.specs.Prelude.{◌≡◌, ◌+◌, ◌^◌, ◌<◌, ◌≤◌, ◌&&◌, nat_le, not, true, false, [], ◌∷◌, ◌++◌, List, length, map, OnOk};
 ghost use Rattle.hm_base.specs.Walks.{Attribute};
 ghost use Rattle.hm_tag_scan.specs.Collected.{IsCollected, added};
+ghost use Rattle.hm_base.specs.Bytes.{lower};
+ghost use Rattle.hm_tag_scan.specs.Places.{IsOrdinaryName};
 ghost use Rattle.hm_tag_scan.specs.Reading as reading;
 
-use crate::names::{has_capital, is_bad_name, lowered};
+use crate::names::{is_bad_name, lowered};
 use crate::values::{has_reference, read_value};
 use hm_base::{ATTRIBUTE_LIMIT, Memory};
 use hm_refs::Table;
@@ -39,16 +41,19 @@ impl Collected {
         self.keeps && !self.has_bad_name && self.count <= ATTRIBUTE_LIMIT
     }
 
-    /// Takes one more attribute, name and value as they are written.
+    /// Takes one more attribute, name and value as they are written. `plain` tells that its name isn't refused, and is
+    /// read as it is written.
     pub(crate) fn take(
         &mut self,
         alloc: Global,
         name: &str,
+        plain: bool,
         value: &str,
         table: &Table,
         attrs: &mut Attrs,
     ) -> Result<(), Memory>
         requires room { self.old.count + 1 < 2 ^ 32 }
+        requires plain { plain ≡ true → IsOrdinaryName name.now }
         requires few { length attrs.old ≤ self.old.count }
         ensures taken { OnOk result
             ((written : List Attribute) → IsCollected table.now.entries written self.old attrs.old
@@ -56,29 +61,38 @@ impl Collected {
         ensures keeps { self.new.keeps ≡ self.old.keeps }
     {
         self.count += 1;
-        self.has_bad_name = self.has_bad_name || is_bad_name(name.as_bytes());
+        self.has_bad_name = self.has_bad_name || is_refused(name, plain);
         if self.wants() {
-            keep(attrs, alloc, name, value, table)?;
+            keep(attrs, alloc, name, plain, value, table)?;
         }
         Ok(())
     }
 }
 
-/// Adds an attribute as it is read, unless its name is there. One that is read as it is written isn't copied before.
+/// Whether this name of an attribute isn't read; `plain` tells that it is.
+fn is_refused(name: &str, plain: bool) -> bool
+    requires { plain ≡ true → IsOrdinaryName name.now }
+    ensures { result ≡ reading.is_bad_name name.now }
+{
+    !plain && is_bad_name(name.as_bytes())
+}
+
+/// Adds an attribute as it is read, unless its name is there. A name that is read as it is written isn't copied before.
 fn keep(
     attrs: &mut Attrs,
     alloc: Global,
     name: &str,
+    plain: bool,
     value: &str,
     table: &Table,
 ) -> Result<(), Memory>
-    requires { length attrs.old + 1 < 2 ^ 32 }
+    requires room { length attrs.old + 1 < 2 ^ 32 }
+    requires plain { plain ≡ true → IsOrdinaryName name.now }
     ensures { OnOk result
         (attrs.new ≡ added attrs.old (reading.read_attribute table.now.entries (record { name = name.now; value = value.now }))) }
 {
-    if is_plain(name, value, table) {
-        attrs.put(name, value)?;
-        return Ok(());
+    if plain {
+        return keep_plain(attrs, alloc, name, value, table);
     }
     let name = lowered(alloc, name)?;
     let value = read_value(alloc, value, table)?;
@@ -86,9 +100,24 @@ fn keep(
     Ok(())
 }
 
-/// Whether an attribute is read as it is written.
-fn is_plain(name: &str, value: &str, table: &Table) -> bool
-    ensures { result ≡ true → reading.read_attribute table.now.entries (record { name = name.now; value = value.now }) ≡ record { name = name.now; value = value.now } }
+/// The same where the name is read as it is written. A value that is isn't copied before either.
+fn keep_plain(
+    attrs: &mut Attrs,
+    alloc: Global,
+    name: &str,
+    value: &str,
+    table: &Table,
+) -> Result<(), Memory>
+    requires room { length attrs.old + 1 < 2 ^ 32 }
+    requires plain { map lower name.now ≡ name.now }
+    ensures { OnOk result
+        (attrs.new ≡ added attrs.old (reading.read_attribute table.now.entries (record { name = name.now; value = value.now }))) }
 {
-    !has_capital(name.as_bytes()) && !has_reference(value, table)
+    if !has_reference(value, table) {
+        attrs.put(name, value)?;
+        return Ok(());
+    }
+    let value = read_value(alloc, value, table)?;
+    attrs.put(name, value.as_str())?;
+    Ok(())
 }

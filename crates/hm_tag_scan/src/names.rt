@@ -41,26 +41,6 @@ pub(crate) fn lowered(alloc: Global, name: &str) -> Result<String, Memory>
     Ok(text)
 }
 
-/// Whether the byte is an ASCII capital.
-#[tactic(auto, unfolding(crate::specs::Reading::is_capital))]
-fn is_capital(byte: u8) -> bool
-    ensures { result ≡ reading.is_capital byte }
-{
-    byte >= b'A' && byte <= b'Z'
-}
-
-/// Whether an ASCII capital is among the bytes.
-pub(crate) fn has_capital(name: &[u8]) -> bool
-    ensures { result ≡ some_passes reading.is_capital name.now }
-{
-    for byte in name {
-        if is_capital(*byte) {
-            return true;
-        }
-    }
-    false
-}
-
 /// Whether the byte is an ASCII small letter.
 #[tactic(auto, unfolding(hm_base::specs::Forms::is_small))]
 pub(crate) fn is_small(byte: u8) -> bool

@@ -52,7 +52,7 @@ pub(crate) fn read_body(
             } => {
                 let name = &text[start..attribute.name_to];
                 let value = &text[attribute.value.from..attribute.value.to];
-                collected.take(alloc, name, value, table, attrs)?;
+                collected.take(alloc, name, attribute.plain, value, table, attrs)?;
                 at = attribute.value.behind;
             }
         }

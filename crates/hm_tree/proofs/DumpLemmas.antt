@@ -1,10 +1,12 @@
 -- Quoting a text byte by byte, and lines event by event.
-use Rattle.std.proofs.Common.{◌≡◌, ℕ, ◌+◌, ◌-◌, ◌<◌, ◌≤◌, List, [], ◌∷◌, ◌++◌, length, take, drop, get_or, slice_get, flat_map, IsUtf8, IsCharBoundary, Some, refl, arith, append_assoc, length-drop}
+use Rattle.std.proofs.Common.{◌≡◌, ℕ, zero, suc, false, ◌+◌, ◌-◌, ◌<◌, ◌≤◌, List, [], ◌∷◌, ◌++◌, length, take, drop, get_or, slice_get, flat_map, IsUtf8, IsCharBoundary, Some, refl, subst, arith, append_assoc, length-drop}
 use Rattle.std.proofs.lemmas.Grind.{flat_map-append}
 use Rattle.std.proofs.lemmas.List.{append-nil, take_more, drop_more, get_or-drop}
 use Rattle.std.proofs.lemmas.Option.{slice_get_within, get_or_from_slice_get}
 use Rattle.std.proofs.lemmas.Str.{IsCharBoundary-after_ascii}
+use native.Mathlib.Numerals.{unary_clauses}
 use Rattle.hm_base.specs.Walks.{Event, Element, path_behind, path_after}
+use Rattle.hm_tree.specs.Runs.{is_escaped, IsPlainRun}
 use Rattle.hm_tree.specs.Dump.{quoted_byte, spaces_for, line_of, lines_from, dump_of}
 use Rattle.hm_tree.proofs.WalkLemmas.{path_after-push}
 
@@ -41,6 +43,21 @@ module _ (before s : List ℕ) (from at : ℕ) (out : List ℕ) (h : IsQuoted be
     boundary = IsCharBoundary-after_ascii s at utf8 within ascii;
     whole = let none : at + 1 - (at + 1) ≡ 0 = omega arith in rw (none, append-nil, b, a, h.whole, more, is) (append_assoc before (flat_map quoted_byte (take at s)) escape);
   }
+
+plain_byte : (c : ℕ) → is_escaped c ≡ false → quoted_byte c ≡ c ∷ []
+unfolding is_escaped
+plain_byte c h = grind arith
+
+-- bytes that stand for themselves
+pub IsQuoted-run : (before s : List ℕ) (from at to : ℕ) (out : List ℕ) → IsQuoted before s from at out → at ≤ to → to ≤ length s → IsPlainRun s at to → IsQuoted before s from to out
+IsQuoted-run before s from at to out h ordered inside plain = subst (λ n. IsQuoted before s from n out) (let e : at + (to - at) ≡ to = omega arith in e) (go (to - at) (omega arith))
+  where
+    go : (n : ℕ) → at + n ≤ to → IsQuoted before s from (at + n) out
+    go zero low = simp unary_clauses h
+    go (suc n) low =
+        let more : IsQuoted before s from (at + n + 1) out = IsQuoted-plain before s from (at + n) out (go n (omega (arith, low))) (omega (arith, low)) (plain_byte (get_or s (at + n) 0) (plain (at + n) (omega arith) (omega (arith, low)))) in
+        let next : at + n + 1 ≡ at + suc n = omega arith in
+        subst (λ k. IsQuoted before s from k out) next more
 
 -- one more element of a list that is written out element by element
 pub flat_map_step : {X : Type 0} (f : X → List ℕ) (before : List ℕ) (xs : List X) (i : ℕ) (x : X) → slice_get xs i ≡ Some x

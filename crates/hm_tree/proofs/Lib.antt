@@ -7,8 +7,10 @@ pub mod MakingLemmas
 pub mod ListLemmas
 pub mod OpenLemmas
 pub mod PairLemmas
+pub mod ParentLemmas
 pub mod PieceLemmas
 pub mod RoomLemmas
+pub mod RunLemmas
 pub mod ShownLemmas
 pub mod StartLemmas
 pub mod TableLemmas

@@ -4,6 +4,7 @@ ghost use Rattle.hm_base.specs.Walks.{Element, path_behind};
 ghost use Rattle.hm_tree.specs.Dump.{attribute_text, dump_of, event_text, line_of, quoted, quoted_byte, spaces_for};
 ghost use Rattle.hm_tree.specs.Views.{event_of, attributes_shown};
 
+use crate::runs::plain_end;
 use crate::{AttrsView, EventView, Tree};
 use hm_base::Memory;
 use std::alloc::Global;
@@ -107,12 +108,14 @@ fn push_quoted(out: &mut String, text: &str) -> Result<(), Memory>
     out.push('"')?;
     let bytes = text.as_bytes();
     let mut from = 0;
-    for at in 0..bytes.len() {
+    let mut at = plain_end(bytes, 0);
+    while at < bytes.len() {
         if let Some(escape) = escape_of(bytes[at]) {
             out.push_str(&text[from..at])?;
             out.push_str(escape)?;
             from = at + 1;
         }
+        at = plain_end(bytes, at + 1);
     }
     out.push_str(&text[from..])?;
     out.push('"')?;

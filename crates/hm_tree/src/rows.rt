@@ -8,6 +8,7 @@ ghost use Rattle.hm_tree.specs.Trees.{IsTold, end_of, innermost, last_agrees, pa
 ghost use Rattle.hm_tree.specs.Views.{event_of};
 
 use crate::appended::{AttrsRange, append, append_attributes, text_len};
+use crate::parent::Parent;
 use crate::pieces::{AttributePieces, Piece, cut};
 use crate::sources::{AttributeSource, count};
 use crate::{AttrsView, EventView};
@@ -44,7 +45,7 @@ enum Part {
 #[derive(Clone, Copy, Debug)]
 struct Row {
     part: Part,
-    parent: Option<u32>,
+    parent: Parent,
 }
 
 // A list of events.
@@ -86,11 +87,25 @@ impl Rows {
         self.rows.len() as u32
     }
 
-    // The bytes of all names, values, texts and comments.
-    pub(crate) fn text_len(&self) -> u32
-        ensures { result < 2 ^ 29 }
-    {
-        self.text.len() as u32
+    // About how many bytes the lines of a dump take, and seldom fewer: the bytes of the texts, what each line says beside
+    // them, and some more for what is escaped.
+    pub(crate) fn lines_len(&self) -> usize {
+        let mut len = self.text.len();
+        let mut spaces = 0usize;
+        for row in self.rows.as_slice() {
+            match row.part {
+                Part::Start { attrs, .. } => {
+                    let count = attrs.to.wrapping_sub(attrs.from) as usize;
+                    len = len.wrapping_add(
+                        spaces.wrapping_add(9).wrapping_add(count.wrapping_mul(4)),
+                    );
+                    spaces = spaces.wrapping_add(2);
+                }
+                Part::End { .. } => spaces = spaces.wrapping_sub(2),
+                _ => len = len.wrapping_add(spaces.wrapping_add(15)),
+            }
+        }
+        len.saturating_add(len / 16)
     }
 
     // Gives back the room that isn't needed.
@@ -139,7 +154,7 @@ impl Rows {
         requires { i < length self.now }
         ensures { result ≡ parent_of self.now i }
     {
-        self.rows[i as usize].parent
+        self.rows[i as usize].parent.index()
     }
 
     pub(crate) fn push_doctype(&mut self, legacy: bool, parent: Option<u32>) -> Result<(), Memory>
@@ -149,6 +164,7 @@ impl Rows {
         ensures err { OnErr result (self.new ≡ self.old) }
     {
         let part = Part::Doctype { legacy };
+        let parent = Parent::of(parent);
         self.rows.push(Row { part, parent })?;
         Ok(())
     }
@@ -176,6 +192,7 @@ impl Rows {
             foreign,
             attrs,
         };
+        let parent = Parent::of(parent);
         self.rows.push(Row { part, parent }).unwrap();
         Ok(())
     }
@@ -196,6 +213,7 @@ impl Rows {
         self.text.reserve(text.len())?;
         let text = append(&mut self.text, text);
         let part = Part::Text { text, raw };
+        let parent = Parent::of(parent);
         self.rows.push(Row { part, parent }).unwrap();
         Ok(())
     }
@@ -211,6 +229,7 @@ impl Rows {
         self.text.reserve(text.len())?;
         let text = append(&mut self.text, text);
         let part = Part::Comment { text };
+        let parent = Parent::of(parent);
         self.rows.push(Row { part, parent }).unwrap();
         Ok(())
     }
@@ -287,7 +306,7 @@ impl Rows {
             unreachable!()
         };
         let part = Part::End { name, foreign };
-        let parent = Some(start);
+        let parent = Parent::of(Some(start));
         self.rows.push(Row { part, parent })?;
         Ok(())
     }

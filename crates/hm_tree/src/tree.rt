@@ -55,9 +55,9 @@ impl Tree {
         self.rows.len()
     }
 
-    /// About how many bytes the lines of the tree take.
+    /// About how many bytes the lines of the tree take, and seldom fewer.
     pub(crate) fn lines_len(&self) -> usize {
-        self.rows.text_len() as usize + 16 * self.len() as usize
+        self.rows.lines_len()
     }
 
     /// Event `i`.

@@ -1,4 +1,4 @@
-use Rattle.std.proofs.Common.{drop, ◌∙◌, sym, subst, Option, Some, None, ℕ}
+use Rattle.std.proofs.Common.{drop, Some, None}
 use Rattle.memchr.specs.Find.{IsFirstByte, is_byte}
 use Rattle.hm_tag_scan.proofs.ValuePlaces.{rest_all, quoted_found, quoted_missing}
 use Rattle.hm_tag_scan.proofs.attribute.quoted_value.Goals as goal

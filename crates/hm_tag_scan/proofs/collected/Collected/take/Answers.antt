@@ -9,7 +9,7 @@ returns-in_ok-keep-clause-taken c =
     let bad : c.if-self.self ≡ c.args.self.now.has_bad_name || reading.is_bad_name c.args.name.now =
     elim c.if-self.branch [
       | then-self w ↦ rw w.if-self.true (w.self-is ∙ w.if-self.true)
-      | else-self w ↦ rw (w.if-self.false, ← w.as_bytes.ensures.value) (w.self-is ∙ w.is_bad_name-self.ensures)
+      | else-self w ↦ rw w.if-self.false (w.self-is ∙ w.is_refused-self.ensures)
     ] in
     λ written old. collected_more c.args.table.now.entries written (record { name = c.args.name.now; value = c.args.value.now }) c.args.self.now c.args.attrs.now _ _ old (record {
       keeps = refl;
@@ -23,7 +23,7 @@ returns-else-wants-clause-taken c =
     let bad : c.if-self.self ≡ c.args.self.now.has_bad_name || reading.is_bad_name c.args.name.now =
     elim c.if-self.branch [
       | then-self w ↦ rw w.if-self.true (w.self-is ∙ w.if-self.true)
-      | else-self w ↦ rw (w.if-self.false, ← w.as_bytes.ensures.value) (w.self-is ∙ w.is_bad_name-self.ensures)
+      | else-self w ↦ rw w.if-self.false (w.self-is ∙ w.is_refused-self.ensures)
     ] in
     λ written old. collected_more c.args.table.now.entries written (record { name = c.args.name.now; value = c.args.value.now }) c.args.self.now c.args.attrs.now _ _ old (record {
       keeps = refl;

@@ -7,7 +7,11 @@ use Rattle.hm_tree.specs.Pieces.{HasPieces}
 use Rattle.hm_tree.specs.declared.rows.Part.TheVariants.{Comment}
 use Rattle.hm_tree.proofs.PieceLemmas.{IsPiece-new, bytes_of-new}
 use Rattle.hm_tree.proofs.TableLemmas.{IsTableOf, IsTableOf-push}
+use Rattle.hm_tree.proofs.ParentLemmas.{no_last}
 use Rattle.hm_tree.proofs.rows.Rows.push_comment.Goals as goal
+
+pub of-parent-requires : goal.of-parent-requires
+of-parent-requires c = no_last c.args.self.now c.args.parent c.requires.parent c.requires.room
 
 pushed : (c : goal.After-unwrap)
     → IsTableOf (string_bytes c.append-text.new.text) (c.self.inside.attributes.items) (c.self.inside.rows.items ++ record { part = Comment c.append-text.result; parent = c.args.parent } ∷ []) (c.args.self.now ++ comment c.args.text.now ∷ [])
@@ -34,7 +38,7 @@ pushed c =
 
 -- the rows that are then there
 items : (c : goal.After-unwrap) → c.push.new.self.items ≡ c.self.inside.rows.items ++ record { part = Comment c.append-text.result; parent = c.args.parent } ∷ []
-items c = rw (c.unwrap.ensures, c.reserve.ensures.items) at c.push.ensures.items
+items c = rw (c.unwrap.ensures, c.reserve.ensures.items, c.of-parent.ensures) at c.push.ensures.items
 
 pub invariant_of-self-2 : goal.invariant_of-self-2
 invariant_of-self-2 c = rw (items c) (pushed c).0

@@ -6,7 +6,11 @@ use Rattle.hm_base.specs.Walks.{doctype, walk_size}
 use Rattle.hm_tree.specs.Pieces.{HasPieces}
 use Rattle.hm_tree.specs.declared.rows.Part.TheVariants.{Doctype}
 use Rattle.hm_tree.proofs.TableLemmas.{IsTableOf, IsTableOf-push}
+use Rattle.hm_tree.proofs.ParentLemmas.{no_last}
 use Rattle.hm_tree.proofs.rows.Rows.push_doctype.Goals as goal
+
+pub of-parent-requires : goal.of-parent-requires
+of-parent-requires c = no_last c.args.self.now c.args.parent c.requires.parent c.requires.room
 
 pushed : (c : goal.In_ok-push)
     → IsTableOf (string_bytes c.self.inside.text) c.self.inside.attributes.items (c.self.inside.rows.items ++ record { part = Doctype c.args.legacy; parent = c.args.parent } ∷ []) (c.args.self.now ++ doctype c.args.legacy ∷ [])
@@ -29,4 +33,7 @@ pushed c =
     })
 
 pub invariant_of-self-2 : goal.invariant_of-self-2
-invariant_of-self-2 c = rw c.in_ok-push.ensures.items (pushed c).0
+invariant_of-self-2 c = rw (c.in_ok-push.ensures.items, c.of-parent.ensures) (pushed c).0
+
+pub returns-clause-ok : goal.returns-clause-ok
+returns-clause-ok c = rw (c.in_ok-push.ensures.items, c.of-parent.ensures) (pushed c).1

@@ -5,6 +5,7 @@ use Rattle.hm_tree.specs.Trees.{end_of}
 use Rattle.hm_tree.specs.declared.rows.Part.TheVariants.{End}
 use Rattle.hm_tree.proofs.EndLemmas.{start_within, start_row, IsTableOf-end}
 use Rattle.hm_tree.proofs.TableLemmas.{IsTableOf}
+use Rattle.hm_tree.proofs.ParentLemmas.{no_last}
 use Rattle.hm_tree.proofs.rows.Rows.push_end.Goals as goal
 
 pub index-row-requires : goal.index-row-requires
@@ -12,6 +13,9 @@ index-row-requires c = omega (arith, start_within (string_bytes c.self.inside.te
 
 pub unreachable-requires : goal.unreachable-requires
 unreachable-requires c = start_row (string_bytes c.self.inside.text) c.self.inside.attributes.items c.self.inside.rows.items c.args.self.now c.self.view_is c.args.start c.requires.parent c.self.invariant c.index-row.result.now c.index-row.ensures c.in_default.not-Start
+
+pub of-parent-requires : goal.of-parent-requires
+of-parent-requires c = no_last c.args.self.now (Some c.args.start) c.requires.parent c.requires.room
 
 pushed : (c : goal.In_ok-push)
     → IsTableOf (string_bytes c.self.inside.text) c.self.inside.attributes.items
@@ -21,7 +25,7 @@ pushed c =
     c.in-Start.foreign c.in-Start.name c.in-Start.attrs c.in-Start.is (IsUtf8-string_bytes c.self.inside.text) c.requires.room
 
 pub invariant_of-self-2 : goal.invariant_of-self-2
-invariant_of-self-2 c = rw c.in_ok-push.ensures.items (pushed c).0
+invariant_of-self-2 c = rw (c.in_ok-push.ensures.items, c.of-parent.ensures) (pushed c).0
 
 pub returns-clause-ok : goal.returns-clause-ok
-returns-clause-ok c = rw c.in_ok-push.ensures.items (pushed c).1
+returns-clause-ok c = rw (c.in_ok-push.ensures.items, c.of-parent.ensures) (pushed c).1

@@ -6,11 +6,15 @@ use Rattle.hm_tree.specs.declared.rows.Part.TheVariants.{Start}
 use Rattle.hm_tree.proofs.ShownLemmas.{few_attributes}
 use Rattle.hm_tree.proofs.StartLemmas.{IsTableOf-start}
 use Rattle.hm_tree.proofs.TableLemmas.{IsTableOf, row_count}
+use Rattle.hm_tree.proofs.ParentLemmas.{no_last}
 use Rattle.hm_tree.proofs.rows.Rows.push_start.Goals as goal
 
 pub append_attributes-attrs-requires-clause-indices : goal.append_attributes-attrs-requires-clause-indices
 append_attributes-attrs-requires-clause-indices c =
     omega (arith, ap length c.reserve-2.ensures.items, row_count c.self.invariant, few_attributes (listed c.args.attrs.now) c.count.ensures.distinct, c.requires.bytes)
+
+pub of-parent-requires : goal.of-parent-requires
+of-parent-requires c = no_last c.args.self.now c.args.parent c.requires.parent c.requires.room
 
 pushed : (c : goal.After-unwrap)
     → IsTableOf (string_bytes c.append_attributes-attrs.new.text) c.append_attributes-attrs.new.attributes.items
@@ -30,7 +34,7 @@ pushed c =
 
 -- the rows that are then there
 items : (c : goal.After-unwrap) → c.push.new.self.items ≡ c.self.inside.rows.items ++ record { part = Start c.args.foreign c.append-name.result c.append_attributes-attrs.result; parent = c.args.parent } ∷ []
-items c = rw (c.unwrap.ensures, c.reserve.ensures.items) at c.push.ensures.items
+items c = rw (c.unwrap.ensures, c.reserve.ensures.items, c.of-parent.ensures) at c.push.ensures.items
 
 pub invariant_of-self-2 : goal.invariant_of-self-2
 invariant_of-self-2 c = rw (items c) (pushed c).0

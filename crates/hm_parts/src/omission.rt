@@ -6,6 +6,7 @@ ghost use Rattle.hm_elements.specs.Tables as tables;
 ghost use Rattle.hm_spellings.specs.Omission as spellings;
 ghost use Rattle.hm_units.specs.Units as units;
 
+use crate::likely::is_like_part;
 use hm_elements::{is_one_of, is_section, same_name};
 
 /// Blocks, before whose start tags the end tag of a paragraph may be left out.
@@ -195,5 +196,5 @@ pub(crate) fn is_rcdata(name: &str) -> bool
 pub(crate) fn is_loose_end(name: &str) -> bool
     ensures { result ≡ units.is_loose_end name.now }
 {
-    is_section(name) || same_name(name, "colgroup")
+    is_like_part(name) && (is_section(name) || same_name(name, "colgroup"))
 }

@@ -1,5 +1,5 @@
 -- A name that isn't like those that a rule lists is none of them.
-use Rattle.std.proofs.Common.{◌≡◌, ℕ, Bool, true, false, ◌&&◌, List, [], ◌∷◌, bytes_eq, refl, Some, None}
+use Rattle.std.proofs.Common.{◌≡◌, ℕ, Bool, true, false, ◌&&◌, ◌||◌, List, [], ◌∷◌, bytes_eq, refl, Some, None}
 use Rattle.std.specs.List.{list_all}
 use Rattle.std.proofs.lemmas.Bool.{and_parts, false_from_ne_true, both_ways}
 use Rattle.hm_base.specs.Walks.{Event, doctype, start, text, comment, end}
@@ -90,3 +90,25 @@ no_end n parent w unlikely = rw (unlike like_ended n html unlikely refl, unlike 
 pub no_loose : (n : List ℕ) → like_part n ≡ false → is_loose_end n ≡ false
 unfolding is_section sections is_among
 no_loose n unlikely = rw (unlike_all like_part n sections unlikely refl, unlike like_part n colgroup unlikely refl) refl
+
+-- ---- The parent, which the rules of p and option ask for alone
+
+other_goes : (n one other : List ℕ) (w : List Event) → bytes_eq n p ≡ false → bytes_eq n option ≡ false → end_goes n one w ≡ end_goes n other w
+unfolding goes_up
+other_goes n one other [] no_p no_option = refl
+other_goes n one other (doctype legacy ∷ w) no_p no_option = refl
+other_goes n one other (start m foreign attributes ∷ w) no_p no_option = refl
+other_goes n one other (text s raw ∷ w) no_p no_option = refl
+other_goes n one other (comment s ∷ w) no_p no_option = refl
+other_goes n one other (end m foreign ∷ w) no_p no_option = rw (no_p, no_option) refl
+
+neither : (a b : Bool) → a || b ≡ false → (a ≡ false) × (b ≡ false)
+neither false false none = (refl, refl)
+neither false true none = absurd (cc)
+neither true b none = absurd (cc)
+
+pub other_parent : (n one other : List ℕ) (w : List Event) → bytes_eq n p || bytes_eq n option ≡ false → end_falls n one w ≡ end_falls n other w
+unfolding end_falls
+other_parent n one other w none =
+    let both = neither (bytes_eq n p) (bytes_eq n option) none in
+    rw (other_goes n one other w both.0 both.1) refl

@@ -1,10 +1,10 @@
 //! Which tags may be left out, by what stands around them (HTML Standard, 13.1.2.4).
-ghost use Rattle.std.specs.Prelude.{◌≡◌, ◌<◌, ◌+◌, ◌&&◌, [], not, length, take, drop};
+ghost use Rattle.std.specs.Prelude.{◌≡◌, ◌<◌, ◌+◌, ◌&&◌, ◌||◌, List, [], not, bytes_eq, length, take, drop};
 ghost use Rattle.hm_base.specs.Bytes as bytes;
 ghost use Rattle.hm_base.specs.Bytes.{head_is};
 ghost use Rattle.hm_base.specs.Walks as walks;
-ghost use Rattle.hm_base.specs.Walks.{path_after};
-ghost use Rattle.hm_elements.specs.Names.{head};
+ghost use Rattle.hm_base.specs.Walks.{Event, path_after};
+ghost use Rattle.hm_elements.specs.Names.{head, option, p};
 ghost use Rattle.hm_elements.specs.Paths.{current, outer};
 ghost use Rattle.hm_spellings.specs.Omission as spellings;
 ghost use Rattle.hm_units.specs.Units as units;
@@ -170,12 +170,32 @@ fn start_falls_at(tree: &Tree, i: u32, frame: bool, name: &str) -> bool
     is_like_part(name) && start_falls(frame, name, next_event(tree, i))
 }
 
+/// Whether a rule for the end tag of the HTML element asks for its parent.
+fn asks_for_parent(name: &str) -> bool
+    ensures { result ≡ bytes_eq name.now p || bytes_eq name.now option }
+{
+    same_name(name, "p") || same_name(name, "option")
+}
+
+/// The name of the parent of the element whose end is event `i`, where a rule for its end tag asks for the parent; any name
+/// else.
+fn asked_parent<'t>(tree: &'t Tree, i: u32, name: &str) -> &'t str
+    requires { i < length tree.now }
+    ensures { (w : List Event) → spellings.end_falls name.now result.now w ≡ spellings.end_falls name.now (current (outer (path_after [] (take i tree.now)))) w }
+{
+    if asks_for_parent(name) {
+        parent_name(tree, i)
+    } else {
+        ""
+    }
+}
+
 /// Whether the end tag of the HTML element, which is event `i`, may be left out there.
 fn end_falls_at(tree: &Tree, i: u32, name: &str) -> bool
     requires { i < length tree.now }
     ensures { result ≡ spellings.end_falls name.now (current (outer (path_after [] (take i tree.now)))) (take 1 (drop (i + 1) tree.now)) }
 {
-    is_like_ended(name) && end_falls(name, parent_name(tree, i), next_event(tree, i))
+    is_like_ended(name) && end_falls(name, asked_parent(tree, i, name), next_event(tree, i))
 }
 
 /// Whether the start tag of an element without attributes, which is event `i`, may be left out.

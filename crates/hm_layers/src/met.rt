@@ -356,7 +356,21 @@ impl<'t> Met<'t> {
         Ok(number)
     }
 
+    /// The step of a unit from the states of a list that has no hint: an earlier one, or one that is made.
+    #[inline(never)]
+    fn step_without_hint(&mut self, front: Front) -> Result<u32, Memory>
+        requires { front.list < length self.old.lists }
+        ensures step { IfOk result (IsStepOf self.new front.list front.unit) }
+        ensures kept { Grows self.old self.new }
+    {
+        if let Some(number) = self.known_step(&front) {
+            return Ok(number);
+        }
+        self.make(front)
+    }
+
     /// The step of a unit from the states of a list: an earlier one, or one that is made.
+    #[inline(always)]
     pub(crate) fn step(&mut self, list: u32, unit: Unit) -> Result<u32, Memory>
         requires { list < length self.old.lists }
         ensures step { IfOk result (IsStepOf self.new list unit) }
@@ -366,10 +380,7 @@ impl<'t> Met<'t> {
         if let Some(number) = self.hinted(&front) {
             return Ok(number);
         }
-        if let Some(number) = self.known_step(&front) {
-            return Ok(number);
-        }
-        self.make(front)
+        self.step_without_hint(front)
     }
 
     /// Where the step of a character leads that begins no name's two code points and has another one behind it, if it is

@@ -65,6 +65,10 @@ pub front_all : (a b : BuildingView) (kind : TextKind) (cs rest : List ℕ) → 
 front_all a b kind cs rest none front =
     subst (Adds a b) (sym (append-nil front.done) ∙ ap (λ r. front.done ++ character_units kind r) (sym none) ∙ front.whole) front.adds
 
+-- and then the characters of the rest
+pub front_then : (a b d : BuildingView) (kind : TextKind) (cs rest : List ℕ) → AddsFront a b kind cs rest → Adds b d (character_units kind rest) → Adds a d (character_units kind cs)
+front_then a b d kind cs rest front adds = subst (Adds a d) front.whole (adds_on a b d front.done (character_units kind rest) front.adds adds)
+
 -- ---- Characters that lead back
 
 grows_self : (m : MetView) → Grows m m

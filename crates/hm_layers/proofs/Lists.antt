@@ -10,10 +10,12 @@ use Rattle.hm_edges.specs.declared.states.State.{State}
 use Rattle.hm_edges.specs.declared.units.Unit.{Unit}
 use Rattle.hm_edges.specs.declared.units.Unit.TheVariants.{Character}
 use Rattle.hm_layers.specs.Layers.{HaveNodes, IsLayer}
-use Rattle.hm_layers.specs.Met.{MetView, none_made, list_at, made_at, BeginsNoPair, IsListOf, IsMet, IsPlainStep, IsSeen, Grows, IsStepOf}
+use Rattle.hm_layers.specs.Met.{MetView, none_made, list_at, made_at, BeginsNoPair, IsListOf, IsMet, IsPlainStep, IsSeen, Grows, IsStepOf, LeadsBack, AreMarks}
 use Rattle.hm_layers.specs.declared.made.CharacterStep.{CharacterStep}
 use Rattle.hm_layers.specs.declared.made.Made.{Made}
 use Rattle.hm_layers.specs.declared.made.Seen.{Seen}
+use Rattle.hm_layers.specs.declared.marks.Marks.{Marks}
+use Rattle.hm_edges.specs.declared.units.TextKind.{TextKind}
 
 abbrev pub met : TableView → EdgeRules → List (List State) → List Made → MetView
 met v rules lists made = record { table = v; rules = rules; lists = lists; made = made }
@@ -69,6 +71,20 @@ plain_kept a b x grows is =
 
 pub all_plain_kept : (a b : MetView) (plain : List CharacterStep) → Grows a b → All (IsPlainStep a) plain → All (IsPlainStep b) plain
 all_plain_kept a b plain grows are = λ n d within. plain_kept a b (get_or plain n d) grows (are n d within)
+
+leads_kept : (a b : MetView) (list : ℕ) (kind : TextKind) (n c : ℕ) → Grows a b → LeadsBack a list kind n c → LeadsBack b list kind n c
+leads_kept a b list kind n c grows is =
+    record {
+      ascii = is.ascii;
+      step = step_kept a b list (Character kind c None true) n grows (subst (λ k. k < length a.lists) is.behind is.step.behind) is.step;
+      behind = ap (λ y. y.behind) (grows.made n is.step.there).1 ∙ is.behind;
+      lone = subst (λ t. BeginsNoPair t.entries c) (sym grows.table) is.lone;
+    }
+
+pub all_marks_kept : (a b : MetView) (marks : List Marks) → Grows a b → All (AreMarks a) marks → All (AreMarks b) marks
+all_marks_kept a b marks grows are = λ n d within c is.
+    let x : Marks = get_or marks n d in
+    leads_kept a b x.list x.kind x.number c grows (are n d within c is)
 
 pub all_noted : (m : MetView) (seen : List Seen) (x : Seen) → All (IsSeen m) seen → x.list < length m.lists → IsStepOf m x.list x.unit x.number → All (IsSeen m) (seen ++ x ∷ [])
 all_noted m seen x are from step = All-append (IsSeen m) seen (x ∷ []) are (λ n d within. only n d within)

@@ -13,6 +13,7 @@ use Rattle.hm_layers.specs.Layers.{HaveNodes, IsLayer}
 use Rattle.hm_layers.specs.declared.made.CharacterStep.{CharacterStep}
 use Rattle.hm_layers.specs.declared.made.Made.{Made}
 use Rattle.hm_layers.specs.declared.made.Seen.{Seen}
+use Rattle.hm_layers.specs.declared.marks.Marks.{Marks}
 use Rattle.hm_layers.specs.declared.rules.EdgeRules.{EdgeRules}
 
 -- lists of states, and what was made from them
@@ -89,3 +90,10 @@ pub record LeadsBack (m : MetView) (list : ℕ) (kind : TextKind) (n c : ℕ) : 
   pub step : IsStepOf m list (Character kind c None true) n
   pub behind : (made_at m n).behind ≡ list
   pub lone : BeginsNoPair m.table.entries c
+
+abbrev pub IsMarked : List Bool → ℕ → Type 0
+IsMarked marked c = slice_index_or marked c false ≡ true
+
+-- with each character that is marked it is so
+abbrev pub AreMarks : MetView → Marks → Type 0
+AreMarks m x = (c : ℕ) → IsMarked x.marked.items c → LeadsBack m x.list x.kind x.number c

@@ -114,14 +114,18 @@ impl<'t> Building<'t> {
         Ok(rest)
     }
 
-    /// Adds the steps of characters that a text begins with, as far as they are the last one that was added, each time from
-    /// the same list, and gives the rest of the text.
-    fn add_alike<'s>(&mut self, kind: TextKind, text: &'s str) -> Result<&'s str, Memory>
+    /// Adds the steps of characters that a text begins with, as far as they are the step of this number, each time from the
+    /// same list, and gives the rest of the text.
+    fn add_alike<'s>(
+        &mut self,
+        kind: TextKind,
+        number: u32,
+        text: &'s str,
+    ) -> Result<&'s str, Memory>
         ensures adds { IfOk result (λ rest. AddsFront self.old self.new (kind_of kind) (chars text.now) (chars rest.now)) }
         ensures within { IfOk result (λ rest. length rest.now ≤ length text.now) }
         ensures utf8 { IfOk result (λ rest. IsUtf8 rest.now) }
     {
-        let number = self.numbers.latest();
         let count = self.met.back_run(self.last, kind, number, text.as_bytes());
         if count >= LIMIT || self.numbers.len() >= LIMIT - count {
             return Err(Memory);
@@ -130,16 +134,26 @@ impl<'t> Building<'t> {
         Ok(&text[count..])
     }
 
-    /// Adds the steps of the characters of a text.
-    fn add_characters(&mut self, kind: TextKind, text: &str) -> Result<(), Memory>
+    /// Adds the steps of the characters of a text, the first one by itself.
+    fn add_from_first(&mut self, kind: TextKind, text: &str) -> Result<(), Memory>
         ensures { OnOk result (Adds self.old self.new (character_units (kind_of kind) (chars text.now))) }
     {
         let mut rest = text;
         while !rest.is_empty() {
             let behind = self.add_first(kind, rest)?;
-            rest = self.add_alike(kind, behind)?;
+            let number = self.numbers.latest();
+            rest = self.add_alike(kind, number, behind)?;
         }
         Ok(())
+    }
+
+    /// Adds the steps of the characters of a text.
+    fn add_characters(&mut self, kind: TextKind, text: &str) -> Result<(), Memory>
+        ensures { OnOk result (Adds self.old self.new (character_units (kind_of kind) (chars text.now))) }
+    {
+        let usual = self.met.usual_number(self.last, kind);
+        let rest = self.add_alike(kind, usual, text)?;
+        self.add_from_first(kind, rest)
     }
 
     /// Adds the steps of a part.

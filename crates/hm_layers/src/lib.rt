@@ -6,6 +6,7 @@ mod building;
 mod graph;
 mod layer;
 mod made;
+mod marks;
 mod met;
 mod numbers;
 mod outdone;

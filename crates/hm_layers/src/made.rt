@@ -48,7 +48,7 @@ pub(crate) struct CharacterStep {
 }
 
 /// Whether the two are equal.
-fn is_kind(one: TextKind, other: TextKind) -> bool
+pub(crate) fn is_kind(one: TextKind, other: TextKind) -> bool
     ensures { IsTrue result → one ≡ other }
 {
     one == other

@@ -8,6 +8,7 @@ ghost use Rattle.hm_layers.specs.Met.{BeginsNoPair, Grows, IsListOf, LeadsBack, 
 
 use crate::layer::{Layer, find_layer, is_state};
 use crate::made::{CharacterStep, Front, Made, Reached, Seen, equal_made};
+use crate::marks::{Marks, mark_at, marked_run, place_of, usual_number};
 use crate::pairs::{lone_characters, pair_of};
 use crate::rules::EdgeRules;
 use crate::step::Step;
@@ -41,6 +42,8 @@ pub(crate) struct Met<'t> {
     lone: Vec<bool>,
     /// Steps of such characters with another one behind them, each at the place of its list and character.
     plain: Vec<CharacterStep>,
+    /// Which of them lead back to their list, for some lists and steps.
+    marks: Vec<Marks>,
 }
 
 impl<'t> Model for Met<'t> {
@@ -50,14 +53,15 @@ impl<'t> Model for Met<'t> {
 
     ghost use Rattle.std.specs.Prelude.{map};
     ghost use Rattle.std.specs.List.{All};
-    ghost use Rattle.hm_layers.specs.Met.{AreLone, IsMet, IsPlainStep, IsSeen};
+    ghost use Rattle.hm_layers.specs.Met.{AreLone, AreMarks, IsMet, IsPlainStep, IsSeen};
 
     ghost view = { λ m. record { table = m.table.now; rules = m.rules; lists = map (λ l. l.items) m.lists.items; made = m.made.items } };
 
     ghost invariant = { λ m. IsMet (record { table = m.table.now; rules = m.rules; lists = map (λ l. l.items) m.lists.items; made = m.made.items })
         × All (IsSeen (record { table = m.table.now; rules = m.rules; lists = map (λ l. l.items) m.lists.items; made = m.made.items })) m.seen.items
         × AreLone m.table.now.entries m.lone.items
-        × All (IsPlainStep (record { table = m.table.now; rules = m.rules; lists = map (λ l. l.items) m.lists.items; made = m.made.items })) m.plain.items };
+        × All (IsPlainStep (record { table = m.table.now; rules = m.rules; lists = map (λ l. l.items) m.lists.items; made = m.made.items })) m.plain.items
+        × All (AreMarks (record { table = m.table.now; rules = m.rules; lists = map (λ l. l.items) m.lists.items; made = m.made.items })) m.marks.items };
 }
 
 /// How many places there are for hints.
@@ -102,6 +106,13 @@ fn no_hints(alloc: Global) -> Result<Vec<u32>, Memory> {
     Ok(hints)
 }
 
+/// Puts a hint to its place.
+fn put_hint(hints: &mut Vec<u32>, at: usize, place: u32) {
+    if let Some(hint) = hints.get_mut(at) {
+        *hint = place;
+    }
+}
+
 /// How many places there are for steps of plain characters.
 const PLAIN: usize = 4096;
 
@@ -109,6 +120,9 @@ const PLAIN: usize = 4096;
 fn plain_place(list: u32, c: char) -> usize {
     (list.wrapping_mul(128) ^ c as u32) as usize % PLAIN
 }
+
+/// How many lists and steps have marks.
+const MARKED: usize = 16;
 
 /// Whether the lists are the same.
 fn are_same(one: &[State], other: &[State]) -> bool
@@ -171,6 +185,7 @@ impl<'t> Met<'t> {
             hints: no_hints(alloc)?,
             lone: lone_characters(alloc, table)?,
             plain: Vec::new(alloc),
+            marks: Vec::new(alloc),
         })
     }
 
@@ -226,6 +241,7 @@ impl<'t> Met<'t> {
             hints: _,
             lone: _,
             plain: _,
+            marks: _,
         } = self;
         let mut steps = Vec::new(alloc);
         for made in made {
@@ -261,9 +277,7 @@ impl<'t> Met<'t> {
         ensures same { self.new ≡ self.old }
     {
         let place = *self.known.get(front)?;
-        if let Some(hint) = self.hints.get_mut(hint_place(front)) {
-            *hint = place;
-        }
+        put_hint(&mut self.hints, hint_place(front), place);
         self.seen_at(place, front)
     }
 
@@ -342,7 +356,21 @@ impl<'t> Met<'t> {
         Ok(number)
     }
 
+    /// The step of a unit from the states of a list that has no hint: an earlier one, or one that is made.
+    #[inline(never)]
+    fn step_without_hint(&mut self, front: Front) -> Result<u32, Memory>
+        requires { front.list < length self.old.lists }
+        ensures step { IfOk result (IsStepOf self.new front.list front.unit) }
+        ensures kept { Grows self.old self.new }
+    {
+        if let Some(number) = self.known_step(&front) {
+            return Ok(number);
+        }
+        self.make(front)
+    }
+
     /// The step of a unit from the states of a list: an earlier one, or one that is made.
+    #[inline(always)]
     pub(crate) fn step(&mut self, list: u32, unit: Unit) -> Result<u32, Memory>
         requires { list < length self.old.lists }
         ensures step { IfOk result (IsStepOf self.new list unit) }
@@ -352,10 +380,7 @@ impl<'t> Met<'t> {
         if let Some(number) = self.hinted(&front) {
             return Ok(number);
         }
-        if let Some(number) = self.known_step(&front) {
-            return Ok(number);
-        }
-        self.make(front)
+        self.step_without_hint(front)
     }
 
     /// Where the step of a character leads that begins no name's two code points and has another one behind it, if it is
@@ -391,8 +416,8 @@ impl<'t> Met<'t> {
         }
     }
 
-    /// How many plain characters at the front of a text lead back to the list by this step, each with another one behind it.
-    pub(crate) fn back_run(&self, list: u32, kind: TextKind, number: u32, text: &[u8]) -> usize
+    /// The same, told character by character.
+    fn slow_back_run(&self, list: u32, kind: TextKind, number: u32, text: &[u8]) -> usize
         ensures within { result ≤ length text.now }
         ensures short { 0 < result → result < length text.now }
         ensures plain { All (LeadsBack self.now list kind number) (take result text.now) }
@@ -402,6 +427,49 @@ impl<'t> Met<'t> {
             count += 1;
         }
         count
+    }
+
+    /// How many plain characters at the front of a text lead back to the list by this step, each with another one behind it.
+    pub(crate) fn back_run(&self, list: u32, kind: TextKind, number: u32, text: &[u8]) -> usize
+        ensures within { result ≤ length text.now }
+        ensures short { 0 < result → result < length text.now }
+        ensures plain { All (LeadsBack self.now list kind number) (take result text.now) }
+    {
+        match place_of(self.marks.as_slice(), list, kind, number) {
+            Some(place) => marked_run(self.marks[place].marked.as_slice(), text),
+            None => self.slow_back_run(list, kind, number, text),
+        }
+    }
+
+    /// The number of the step by which most characters of such a text lead back to the list, if it is known; any number else.
+    pub(crate) fn usual_number(&self, list: u32, kind: TextKind) -> u32 {
+        usual_number(self.marks.as_slice(), list, kind)
+    }
+
+    /// Marks the character of a step that leads back to its list.
+    fn mark(&mut self, step: &CharacterStep) -> Result<(), Memory>
+        requires { IsPlainStep self.old step.now }
+        ensures { self.new ≡ self.old }
+    {
+        if step.behind != step.list || step.c as u32 >= 128 {
+            return Ok(());
+        }
+        match place_of(self.marks.as_slice(), step.list, step.kind, step.number) {
+            Some(place) => mark_at(&mut self.marks, place, step),
+            None => self.add_marks(step)?,
+        }
+        Ok(())
+    }
+
+    /// Adds marks of a step that leads back to its list, where there is room.
+    fn add_marks(&mut self, step: &CharacterStep) -> Result<(), Memory>
+        requires { LeadsBack self.old step.now.list step.now.kind step.now.number step.now.c }
+        ensures { self.new ≡ self.old }
+    {
+        if self.marks.len() < MARKED {
+            self.marks.push(Marks::of(self.alloc, step)?)?;
+        }
+        Ok(())
     }
 
     /// Keeps the step of such a character. The first one is kept at all places.
@@ -441,13 +509,15 @@ impl<'t> Met<'t> {
         let number = self.step(list, unit)?;
         let behind = self.behind(number);
         if self.is_lone(c) {
-            self.keep_plain(CharacterStep {
+            let step = CharacterStep {
                 list,
                 kind,
                 c,
                 number,
                 behind,
-            })?;
+            };
+            self.mark(&step)?;
+            self.keep_plain(step)?;
         }
         Ok(Reached { number, behind })
     }

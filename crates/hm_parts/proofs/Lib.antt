@@ -5,4 +5,6 @@ pub mod PartsAdded
 pub mod Sizes
 pub mod Surroundings
 pub mod TagUnits
+pub mod TextUnits
 pub mod UnitsLeft
+pub mod Unlike

@@ -2,4 +2,5 @@ pub mod Adding
 pub mod Around
 pub mod Events
 pub mod Laws
+pub mod Likely
 pub mod Parts

@@ -12,7 +12,8 @@ ghost use Rattle.hm_parts.specs.Parts.{AreParts, parts_units};
 use crate::adding::{add, add_fixed, add_one, len_of};
 use crate::attributes::add_tag;
 use crate::left_out::{is_firm, may_close_itself, may_omit_end, may_omit_start};
-use crate::neighbours::{element_around, next_event, parent_name, previous_event};
+use crate::likely::is_like_void;
+use crate::neighbours::element_around;
 use crate::omission::is_loose_end;
 use crate::parts::Part;
 use crate::texts::{is_line_feed_due, text_kind};
@@ -49,7 +50,7 @@ fn add_text<'t>(
         return add_fixed(into, text);
     }
     let around = element_around(tree, i);
-    if is_line_feed_due(previous_event(tree, i), around, text) {
+    if is_line_feed_due(tree, i, around, text) {
         add_fixed(into, "\n")?;
     }
     let kind = text_kind(around);
@@ -70,25 +71,31 @@ fn add_start<'t>(
     requires short { length name.now + attributes_size (attributes_shown attrs) < 2 ^ 32 }
     ensures { Adds result into.old.items into.new.items (units.start_units rules (previous_at tree.now i) name.now foreign (attributes_shown attrs.entry) (drop (i + 1) tree.now)) }
 {
-    let next = next_event(tree, i);
-    let closes = may_close_itself(foreign, next);
+    let closes = may_close_itself(tree, i, foreign);
     if attrs.len() > 0 {
         return add_tag(into, name, attrs, closes);
     }
     let unit = Unit::StartTag {
         len: len_of(name),
-        omits: may_omit_start(rules, name, foreign, next),
-        firm: is_firm(previous_event(tree, i), name),
+        omits: may_omit_start(tree, rules, i, name, foreign),
+        firm: is_firm(tree, i, name),
         closes,
     };
     add_one(into, unit, name)
+}
+
+/// Whether the HTML element is a void one.
+fn is_void_element(name: &str) -> bool
+    ensures { result ≡ tables.is_void name.now }
+{
+    is_like_void(name) && is_void(name)
 }
 
 /// Whether the element is a void one.
 fn has_no_end_tag(name: &str, foreign: bool) -> bool
     ensures { result ≡ not foreign && tables.is_void name.now }
 {
-    !foreign && is_void(name)
+    !foreign && is_void_element(name)
 }
 
 /// Adds the end of an element, which is event `i`. A void element has no end tag.
@@ -107,10 +114,9 @@ fn add_end<'t>(
     if has_no_end_tag(name, foreign) {
         return Ok(());
     }
-    let parent = parent_name(tree, i);
     let unit = Unit::EndTag {
         len: len_of(name),
-        omits: may_omit_end(rules, name, foreign, parent, next_event(tree, i)),
+        omits: may_omit_end(tree, rules, i, name, foreign),
         loosens: is_loose_end(name),
     };
     add_one(into, unit, name)

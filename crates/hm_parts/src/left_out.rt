@@ -1,17 +1,22 @@
 //! Which tags may be left out, by what stands around them (HTML Standard, 13.1.2.4).
-ghost use Rattle.std.specs.Prelude.{◌≡◌, ◌&&◌, not};
+ghost use Rattle.std.specs.Prelude.{◌≡◌, ◌<◌, ◌+◌, ◌&&◌, ◌||◌, List, [], not, bytes_eq, length, take, drop};
 ghost use Rattle.hm_base.specs.Bytes as bytes;
 ghost use Rattle.hm_base.specs.Bytes.{head_is};
 ghost use Rattle.hm_base.specs.Walks as walks;
-ghost use Rattle.hm_elements.specs.Names.{head};
+ghost use Rattle.hm_base.specs.Walks.{Event, path_after};
+ghost use Rattle.hm_elements.specs.Names.{head, option, p};
+ghost use Rattle.hm_elements.specs.Paths.{current, outer};
 ghost use Rattle.hm_spellings.specs.Omission as spellings;
 ghost use Rattle.hm_units.specs.Units as units;
 ghost use Rattle.hm_parts.specs.Around.{previous_shown, shown};
+ghost use Rattle.hm_parts.specs.Events.{previous_at};
 
+use crate::likely::{is_like_ended, is_like_part};
+use crate::neighbours::{next_event, parent_name, previous_event};
 use crate::omission::{bars_start, goes_before, goes_up, head_takes, start_goes_before};
 use hm_base::{SpellRules, is_space};
 use hm_elements::same_name;
-use hm_tree::EventView;
+use hm_tree::{EventView, Tree};
 
 fn is_comment(next: Option<EventView<'_>>) -> bool
     ensures { result ≡ walks.begins_comment (shown next.entry) }
@@ -134,8 +139,8 @@ fn end_falls(name: &str, parent: &str, next: Option<EventView<'_>>) -> bool
     }
 }
 
-/// Whether the start tag isn't left out where the tag of the end directly before it was.
-pub(crate) fn is_firm(previous: Option<EventView<'_>>, name: &str) -> bool
+/// Whether the start tag isn't left out where this is directly before it, an end whose tag was left out.
+fn is_barred(previous: Option<EventView<'_>>, name: &str) -> bool
     ensures { result ≡ units.is_firm (previous_shown previous.entry) name.now }
 {
     match previous {
@@ -149,34 +154,82 @@ pub(crate) fn is_firm(previous: Option<EventView<'_>>, name: &str) -> bool
     }
 }
 
-/// Whether the start tag of an element without attributes may be left out.
+/// Whether the start tag of this name, which is event `i`, isn't left out where the tag of the end directly before it was.
+pub(crate) fn is_firm(tree: &Tree, i: u32, name: &str) -> bool
+    requires { i < length tree.now }
+    ensures { result ≡ units.is_firm (previous_at tree.now i) name.now }
+{
+    is_like_part(name) && is_barred(previous_event(tree, i), name)
+}
+
+/// Whether the start tag of the HTML element without attributes, which is event `i`, may be left out there.
+fn start_falls_at(tree: &Tree, i: u32, frame: bool, name: &str) -> bool
+    requires { i < length tree.now }
+    ensures { result ≡ spellings.start_falls frame name.now (take 1 (drop (i + 1) tree.now)) }
+{
+    is_like_part(name) && start_falls(frame, name, next_event(tree, i))
+}
+
+/// Whether a rule for the end tag of the HTML element asks for its parent.
+fn asks_for_parent(name: &str) -> bool
+    ensures { result ≡ bytes_eq name.now p || bytes_eq name.now option }
+{
+    same_name(name, "p") || same_name(name, "option")
+}
+
+/// The name of the parent of the element whose end is event `i`, where a rule for its end tag asks for the parent; any name
+/// else.
+fn asked_parent<'t>(tree: &'t Tree, i: u32, name: &str) -> &'t str
+    requires { i < length tree.now }
+    ensures { (w : List Event) → spellings.end_falls name.now result.now w ≡ spellings.end_falls name.now (current (outer (path_after [] (take i tree.now)))) w }
+{
+    if asks_for_parent(name) {
+        parent_name(tree, i)
+    } else {
+        ""
+    }
+}
+
+/// Whether the end tag of the HTML element, which is event `i`, may be left out there.
+fn end_falls_at(tree: &Tree, i: u32, name: &str) -> bool
+    requires { i < length tree.now }
+    ensures { result ≡ spellings.end_falls name.now (current (outer (path_after [] (take i tree.now)))) (take 1 (drop (i + 1) tree.now)) }
+{
+    is_like_ended(name) && end_falls(name, asked_parent(tree, i, name), next_event(tree, i))
+}
+
+/// Whether the start tag of an element without attributes, which is event `i`, may be left out.
 pub(crate) fn may_omit_start(
+    tree: &Tree,
     rules: SpellRules,
+    i: u32,
     name: &str,
     foreign: bool,
-    next: Option<EventView<'_>>,
 ) -> bool
-    ensures { result ≡ rules.omit && (not foreign && spellings.start_falls rules.frame name.now (shown next.entry)) }
+    requires { i < length tree.now }
+    ensures { result ≡ rules.omit && (not foreign && spellings.start_falls rules.frame name.now (take 1 (drop (i + 1) tree.now))) }
 {
-    rules.omit && !foreign && start_falls(rules.frame, name, next)
+    rules.omit && !foreign && start_falls_at(tree, i, rules.frame, name)
 }
 
-/// Whether the end tag of an element in this parent may be left out.
+/// Whether the end tag of an element, which is event `i`, may be left out.
 pub(crate) fn may_omit_end(
+    tree: &Tree,
     rules: SpellRules,
+    i: u32,
     name: &str,
     foreign: bool,
-    parent: &str,
-    next: Option<EventView<'_>>,
 ) -> bool
-    ensures { result ≡ rules.omit && (not foreign && spellings.end_falls name.now parent.now (shown next.entry)) }
+    requires { i < length tree.now }
+    ensures { result ≡ rules.omit && (not foreign && spellings.end_falls name.now (current (outer (path_after [] (take i tree.now)))) (take 1 (drop (i + 1) tree.now))) }
 {
-    rules.omit && !foreign && end_falls(name, parent, next)
+    rules.omit && !foreign && end_falls_at(tree, i, name)
 }
 
-/// Whether the element may close itself: one of SVG that ends at once.
-pub(crate) fn may_close_itself(foreign: bool, next: Option<EventView<'_>>) -> bool
-    ensures { result ≡ units.may_close_itself foreign (shown next.entry) }
+/// Whether the element whose start is event `i` may close itself: one of SVG that ends at once.
+pub(crate) fn may_close_itself(tree: &Tree, i: u32, foreign: bool) -> bool
+    requires { i < length tree.now }
+    ensures { result ≡ units.may_close_itself foreign (take 1 (drop (i + 1) tree.now)) }
 {
-    foreign && is_end(next)
+    foreign && is_end(next_event(tree, i))
 }

@@ -6,6 +6,7 @@ mod attributes;
 mod find;
 pub mod laws;
 mod left_out;
+mod likely;
 mod neighbours;
 mod omission;
 mod parts;

@@ -6,7 +6,8 @@ ghost use Rattle.hm_elements.specs.Tables as tables;
 ghost use Rattle.hm_spellings.specs.Omission as spellings;
 ghost use Rattle.hm_units.specs.Units as units;
 
-use hm_elements::{is_one_of, is_section, same_name};
+use crate::likely::is_like_part;
+use hm_elements::{is_cell, is_one_of, is_section, same_name};
 
 /// Blocks, before whose start tags the end tag of a paragraph may be left out.
 const BLOCKS: [&str; 35] = [
@@ -52,7 +53,9 @@ const BLOCKS: [&str; 35] = [
 pub(crate) fn goes_before(name: &str, next: &str) -> bool
     ensures { result ≡ omission.goes_before name.now next.now }
 {
-    if same_name(name, "colgroup") {
+    if is_cell(name) {
+        is_cell(next)
+    } else if same_name(name, "colgroup") {
         true
     } else if is_one_of(name, &["caption"]) {
         is_one_of(next, &["colgroup", "thead", "tbody", "tfoot"])
@@ -60,8 +63,6 @@ pub(crate) fn goes_before(name: &str, next: &str) -> bool
         is_one_of(next, &["tbody", "tfoot"])
     } else if is_one_of(name, &["tr"]) {
         is_one_of(next, &["tr"])
-    } else if is_one_of(name, &["td", "th"]) {
-        is_one_of(next, &["td", "th"])
     } else if is_one_of(name, &["li"]) {
         is_one_of(next, &["li"])
     } else if is_one_of(name, &["dt", "dd"]) {
@@ -195,5 +196,5 @@ pub(crate) fn is_rcdata(name: &str) -> bool
 pub(crate) fn is_loose_end(name: &str) -> bool
     ensures { result ≡ units.is_loose_end name.now }
 {
-    is_section(name) || same_name(name, "colgroup")
+    is_like_part(name) && (is_section(name) || same_name(name, "colgroup"))
 }

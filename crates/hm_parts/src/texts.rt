@@ -1,17 +1,18 @@
 //! The characters of a text.
-ghost use Rattle.std.specs.Prelude.{◌≡◌, List, chars, if◌then◌else◌};
+ghost use Rattle.std.specs.Prelude.{◌≡◌, ◌<◌, List, length, chars, if◌then◌else◌};
 ghost use Rattle.hm_base.specs.Bytes.{head_is};
 ghost use Rattle.hm_base.specs.Walks.{Element};
 ghost use Rattle.hm_edges.specs.Units.{kind_of};
 ghost use Rattle.hm_spellings.specs.Spellings as spellings;
 ghost use Rattle.hm_units.specs.Units as units;
 ghost use Rattle.hm_parts.specs.Around.{IsAround, previous_shown};
+ghost use Rattle.hm_parts.specs.Events.{previous_at};
 
-use crate::neighbours::Around;
+use crate::neighbours::{Around, previous_event};
 use crate::omission::is_rcdata;
 use hm_edges::TextKind;
 use hm_elements::is_preformatted;
-use hm_tree::EventView;
+use hm_tree::{EventView, Tree};
 
 /// In what kind of text the characters stand directly in this element.
 pub(crate) fn text_kind(around: Around<'_>) -> TextKind
@@ -46,14 +47,15 @@ fn drops_first_line_feed(around: Around<'_>) -> bool
     !around.foreign && is_preformatted(around.name)
 }
 
-/// Whether one more line feed is due in front of the text: it comes first in such an element and begins with one.
-pub(crate) fn is_line_feed_due(
-    previous: Option<EventView<'_>>,
-    around: Around<'_>,
-    text: &str,
-) -> bool
+/// Whether one more line feed is due in front of the text, which is event `i`: it begins with one and comes first in such an
+/// element.
+#[tactic(auto, using(crate::proofs::TextUnits::due))]
+pub(crate) fn is_line_feed_due(tree: &Tree, i: u32, around: Around<'_>, text: &str) -> bool
+    requires { i < length tree.now }
     ensures { (path : List Element) → IsAround around.entry path
-        → result ≡ spellings.wants_line_feed (if units.is_behind_start (previous_shown previous.entry) then spellings.opening else spellings.other) path (chars text.now) }
+        → result ≡ spellings.wants_line_feed (if units.is_behind_start (previous_at tree.now i) then spellings.opening else spellings.other) path (chars text.now) }
 {
-    is_start(previous) && drops_first_line_feed(around) && begins_with_line_feed(text)
+    begins_with_line_feed(text)
+        && drops_first_line_feed(around)
+        && is_start(previous_event(tree, i))
 }

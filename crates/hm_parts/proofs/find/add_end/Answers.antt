@@ -1,12 +1,13 @@
-use Rattle.std.proofs.Common.{◌+◌, [], take, drop}
+use Rattle.std.proofs.Common.{◌+◌, [], take, drop, refl}
 use Rattle.hm_base.specs.Walks.{path_after}
-use Rattle.hm_elements.specs.Paths.{outer}
-use Rattle.hm_parts.specs.Around.{shown}
+use Rattle.hm_elements.specs.Paths.{current, outer}
 use Rattle.hm_parts.proofs.PartsAdded.{adds_as}
 use Rattle.hm_parts.proofs.TagUnits.{end_there}
 use Rattle.hm_parts.proofs.find.add_end.Goals as goal
 
 pub returns : goal.returns
 returns c =
-    adds_as _ _ _ _ _ (end_there c.args.rules c.args.name.now c.args.foreign (shown c.next_event.result) (drop (c.args.i + 1) c.args.tree.now) c.next_event.ensures (outer (path_after [] (take c.args.i c.args.tree.now))) c.parent_name-parent.result.now
-    c.has_no_end_tag.result c.may_omit_end.result c.is_loose_end.result c.has_no_end_tag.ensures c.if-has_no_end_tag.false c.parent_name-parent.ensures c.may_omit_end.ensures c.is_loose_end.ensures) c.add_one.ensures
+    let around = outer (path_after [] (take c.args.i c.args.tree.now)) in
+    let behind = drop (c.args.i + 1) c.args.tree.now in
+    adds_as _ _ _ _ _ (end_there c.args.rules c.args.name.now c.args.foreign (take 1 behind) behind refl around (current around)
+    c.has_no_end_tag.result c.may_omit_end.result c.is_loose_end.result c.has_no_end_tag.ensures c.if-has_no_end_tag.false refl c.may_omit_end.ensures c.is_loose_end.ensures) c.add_one.ensures

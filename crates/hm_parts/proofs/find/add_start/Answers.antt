@@ -1,7 +1,5 @@
-use Rattle.std.proofs.Common.{◌≡◌, ◌+◌, length, drop, ap, ◌∙◌, arith}
+use Rattle.std.proofs.Common.{◌≡◌, ◌+◌, length, take, drop, refl, arith}
 use Rattle.hm_tree.specs.Views.{attributes_shown}
-use Rattle.hm_units.specs.Units.{is_firm}
-use Rattle.hm_parts.specs.Around.{shown}
 use Rattle.hm_parts.specs.Events.{previous_at}
 use Rattle.hm_parts.proofs.PartsAdded.{adds_as}
 use Rattle.hm_parts.proofs.TagUnits.{start_alone}
@@ -10,4 +8,5 @@ use Rattle.hm_parts.proofs.find.add_start.Goals as goal
 pub returns : goal.returns
 returns c =
     let none : length (attributes_shown c.args.attrs) ≡ 0 = omega (arith, c.len.ensures.len, c.if-len-gt0.false) in
-    adds_as _ _ _ _ _ (start_alone c.args.rules c.args.name.now c.args.foreign (shown c.next_event-next.result) (drop (c.args.i + 1) c.args.tree.now) c.next_event-next.ensures (previous_at c.args.tree.now c.args.i) c.may_close_itself-closes.result c.may_close_itself-closes.ensures (attributes_shown c.args.attrs) c.may_omit_start.result c.is_firm.result none c.may_omit_start.ensures (c.is_firm.ensures ∙ ap (λ p. is_firm p c.args.name.now) c.previous_event.ensures)) c.add_one.ensures
+    let behind = drop (c.args.i + 1) c.args.tree.now in
+    adds_as _ _ _ _ _ (start_alone c.args.rules c.args.name.now c.args.foreign (take 1 behind) behind refl (previous_at c.args.tree.now c.args.i) c.may_close_itself-closes.result c.may_close_itself-closes.ensures (attributes_shown c.args.attrs) c.may_omit_start.result c.is_firm.result none c.may_omit_start.ensures c.is_firm.ensures) c.add_one.ensures

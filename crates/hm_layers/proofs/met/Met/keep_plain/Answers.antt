@@ -12,6 +12,7 @@ invariant_of-self c =
       c.self.invariant.1,
       c.self.invariant.2,
       All-set (IsPlainStep m) c.self.inside.plain.items c.plain_place-place.result c.args.step (subst (λ w. IsPlainStep w c.args.step) (sym c.self.view_is) c.requires) c.self.invariant.3,
+      c.self.invariant.4,
     )
 
 pub invariant_of-self-2 : goal.invariant_of-self-2
@@ -22,4 +23,5 @@ invariant_of-self-2 c =
       c.self.invariant.2,
       subst (All (IsPlainStep m)) (sym (c.in_ok-self-inside.ensures.items_if_clones_equal (λ y e. e)))
           (All-replicate (IsPlainStep m) 4096 c.args.step (subst (λ w. IsPlainStep w c.args.step) (sym c.self.view_is) c.requires)),
+      c.self.invariant.4,
     )

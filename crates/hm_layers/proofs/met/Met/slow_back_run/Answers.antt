@@ -3,7 +3,7 @@ use Rattle.std.specs.List.{All}
 use Rattle.std.proofs.lemmas.List.{take_more}
 use Rattle.std.proofs.lemmas.List.Elements.{All-push}
 use Rattle.hm_layers.specs.Met.{LeadsBack}
-use Rattle.hm_layers.proofs.met.Met.back_run.Goals as goal
+use Rattle.hm_layers.proofs.met.Met.slow_back_run.Goals as goal
 
 pub loop-count-preserved : goal.loop-count-preserved
 loop-count-preserved c =

@@ -8,8 +8,11 @@ use Rattle.std.proofs.lemmas.List.Splits.{join_with_byte-slice_split}
 use Rattle.hm_cert.specs.Certificate.{Row, ArePrices, AreRows, row_text, row_line, row_lines}
 use Rattle.hm_cert.specs.Layout.{told}
 use Rattle.hm_cert.specs.Places.{rows_or_none, rows_of, AreLines, IsRowPlace, IsLineStart, AreSoMany}
-use Rattle.hm_cert.specs.Reading.{IsNext, pieces, line_row, and_row, rows_in}
+use Rattle.hm_cert.specs.Reading.{IsNext, IsPassed, pieces, line_row, and_row, rows_in}
+use Rattle.hm_cert.specs.Short.{IsAlone}
 use Rattle.hm_cert.specs.declared.kept.RowPlace.{RowPlace}
+use Rattle.hm_cert.specs.declared.lines.CertificateFault.{CertificateFault}
+use Rattle.hm_cert.specs.declared.lines.CertificateFault.TheVariants.{TooLong, BadLine, Memory}
 use Rattle.hm_cert.proofs.LineRows.{rows_behind, row_more, no_row_more, bad_more}
 use Rattle.hm_cert.proofs.Read as read
 use Rattle.hm_cert.proofs.Written.{is_free, free_parts, free_row, line_back, rows_back}
@@ -196,6 +199,22 @@ all_done all left count h e = record {
 pub bad_done : (all left : Result (List Row) ℕ) (count bad : ℕ) → AreDone all left count → left ≡ Err bad → all ≡ Err bad
 bad_done all left count bad h e = sym h.are ∙ bad_more h.rows left bad e
 
-pub next_done : (all left next : Result (List Row) ℕ) (row : Row) (more : Bool) (count : ℕ) → AreDone all left count → IsNext left row next (Ok more) → more ≡ true → AreDone all next (count + 1)
-next_done all left next row true count h e is = one_done all left next row count h e
-next_done all left next row false count h e is = absurd (cc)
+pub passed_done : (all left next : Result (List Row) ℕ) (more : Bool) (count : ℕ) → AreDone all left count → IsPassed left next (Ok more) → more ≡ true → AreDone all next (count + 1)
+passed_done all left next true count h e is = one_done all left next e.0 count h e.1
+passed_done all left next false count h e is = absurd (cc)
+
+-- a row that was read was passed
+pub read_passed : (left next : Result (List Row) ℕ) (row : Row) (answer : Result Bool CertificateFault) → IsNext left row next answer → IsPassed left next answer
+read_passed left next row (Ok true) h = (row, h)
+read_passed left next row (Ok false) h = h
+read_passed left next row (Err (BadLine line)) h = h
+read_passed left next row (Err TooLong) h = h
+read_passed left next row (Err Memory) h = tt
+
+-- ---- A price that is alone in its row
+
+pub alone_before : (text : List ℕ) (rows : List Row) (place : RowPlace) (at price : ℕ) → row_lines rows ≡ text → AreRows rows → IsRowPlace rows place → 0 < place.row → IsAlone text (place.at - 1) at price
+    → (told price ∷ [] ≡ get_or rows (place.row - 1) []) × (at ≡ length (row_lines (take (place.row - 1) rows)))
+alone_before text rows place at price lines written is some h =
+    let before = is_before text rows place at (slice_range text at (place.at - 1)) lines written is some h.start refl in
+    (before.row (price ∷ []) true h.read, before.front)

@@ -1,7 +1,7 @@
 use Rattle.std.proofs.Common.{sym, subst, ap, ◌∙◌, arith}
 use Rattle.hm_cert.specs.Certificate.{AreRows, row_lines}
 use Rattle.hm_cert.proofs.Before.{end_inside, is_before}
-use Rattle.hm_cert.proofs.kept.WrittenRows.row_before.Goals as goal
+use Rattle.hm_cert.proofs.kept.WrittenRows.any_row_before.Goals as goal
 
 pub line_before-at-requires : goal.line_before-at-requires
 line_before-at-requires c = end_inside c.self.inside.lines.now c.args.self.now c.args.place (ap row_lines (sym c.self.view_is) ∙ c.self.invariant.lines) c.requires.place c.requires.some

@@ -1,0 +1,17 @@
+use Rattle.std.proofs.Common.{sym, subst, ap, ◌∙◌, arith}
+use Rattle.hm_cert.specs.Certificate.{AreRows, row_lines}
+use Rattle.hm_cert.proofs.Before.{end_inside, alone_before}
+use Rattle.hm_cert.proofs.kept.WrittenRows.price_before.Goals as goal
+
+pub short_before-requires : goal.short_before-requires
+short_before-requires c = end_inside c.self.inside.lines.now c.args.self.now c.args.place (ap row_lines (sym c.self.view_is) ∙ c.self.invariant.lines) c.requires.place c.requires.some
+
+pub returns-in-Some-clause-row : goal.returns-in-Some-clause-row
+returns-in-Some-clause-row c =
+    (alone_before c.self.inside.lines.now c.args.self.now c.args.place _ _ (ap row_lines (sym c.self.view_is) ∙ c.self.invariant.lines) (subst AreRows c.self.view_is c.self.invariant.written) c.requires.place c.requires.some c.in-Some.ensures).0
+
+pub returns-in-Some-clause-place : goal.returns-in-Some-clause-place
+returns-in-Some-clause-place c = (
+  omega (arith, c.requires.place.0),
+  (alone_before c.self.inside.lines.now c.args.self.now c.args.place _ _ (ap row_lines (sym c.self.view_is) ∙ c.self.invariant.lines) (subst AreRows c.self.view_is c.self.invariant.written) c.requires.place c.requires.some c.in-Some.ensures).1,
+)

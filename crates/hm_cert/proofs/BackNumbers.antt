@@ -1,20 +1,24 @@
 -- Lines of one price of few digits, from the end.
-use Rattle.std.proofs.Common.{◌≡◌, ◌+◌, ◌-◌, ◌*◌, ◌^◌, ◌<◌, ◌≤◌, ℕ, ◌≢◌, suc, true, List, [], ◌∷◌, get_or, length, take, drop, refl, sym, ap, ◌∙◌, subst, arith, length-drop, length-take}
+use Rattle.hm_cert.proofs.Before.{free_at}
+use Rattle.hm_cert.proofs.Texts.{row_text_cons}
+use Rattle.std.proofs.lemmas.Fmt.{decimal-digits_value}
+use Rattle.std.specs.Fmt.{decimal}
+use Rattle.hm_cert.specs.Certificate.{Row, IsPrice, ArePrices, more_prices, price_text, row_text}
+use Rattle.std.proofs.Common.{◌≡◌, ◌+◌, ◌-◌, ◌*◌, ◌^◌, ◌<◌, ◌≤◌, ℕ, ◌≢◌, suc, true, List, [], ◌∷◌, get_or, length, take, drop, sym, ap, ◌∙◌, subst, arith, length-drop, length-take, ◌++◌, map, reverse}
 use Rattle.std.specs.Prelude.{Some, slice_range}
 use Rattle.std.specs.Char.{digit_value, is_ascii_digit}
 use Rattle.std.specs.Str.Parse.{AllDigits, digits_value, digits_value_after}
 use Rattle.std.proofs.Math.Nat.{pow-le-pow_right, pow-suc}
-use Rattle.std.proofs.Math.Seq.{drop-length}
+use Rattle.std.proofs.Math.Seq.{drop-length, take-add}
 use Rattle.std.proofs.lemmas.Nat.{mul-lt}
 use Rattle.std.proofs.lemmas.Int.Digits.{digits_value-lt}
-use Rattle.std.proofs.lemmas.List.{drop_more, drop-take, get_or-drop, get_or-take}
-use Rattle.std.proofs.lemmas.Str.Parse.{digit_at, digits_value_short}
+use Rattle.std.proofs.lemmas.List.{drop_more, drop-take, get_or-drop, get_or-take, drop-drop, reverse-append}
+use Rattle.std.proofs.lemmas.Str.Parse.{digits_value_short}
 use Rattle.hm_cert.specs.Layout.{told}
-use Rattle.hm_cert.specs.Reading.{line_row, word_price}
-use Rattle.hm_cert.specs.Short.{IsAlone, IsBackTo}
+use Rattle.hm_cert.specs.Short.{IsBackTo, IsLastPrice, IsShortRow}
 use Rattle.hm_cert.specs.Words.{HasNumberForm}
-use Rattle.hm_cert.proofs.PriceTexts.{digit_is, digit_range, no_dash, number_read, own}
-use Rattle.hm_cert.proofs.Written.{free_digits, free_whole}
+use Rattle.hm_cert.proofs.PriceTexts.{digit_is, digit_range, own, told_number}
+use Rattle.hm_cert.proofs.Written.{free_row}
 
 -- ---- One digit more in front
 
@@ -84,42 +88,99 @@ behind_more text at number power digit some few h e is =
       },
     )
 
--- ---- The line
+-- ---- A price
 
-price_read : (line : List ℕ) (number : ℕ) → AllDigits 10 line → number ≡ digits_value 10 line → length line ≤ 18 → HasNumberForm line → line_row line ≡ Some (told number ∷ [])
-price_read line number digits value few form =
-    let small : digits_value 10 line < 10 ^ 18 = digits_value_short own line 18 digits few in
-    let read : Some (told number) ≡ word_price line = number_read line (Some number) (no_dash line digits) form (digits, sym value, omega (arith, small, value)) in
-    rw (free_whole 32 line (free_digits 32 line (omega arith) digits), sym read) refl
+pub last_number : (text : List ℕ) (at number : ℕ) → IsBackTo text at number → HasNumberForm (drop at text) → IsLastPrice text at number
+last_number text at number h form =
+    let small : digits_value 10 (drop at text) < 10 ^ 18 = digits_value_short own (drop at text) 18 h.digits (omega (arith, h.few, length-drop at text)) in
+    let low : number < 2 ^ 63 = omega (arith, small, h.value) in
+    let is : told number ≡ Some number = told_number number low in
+    record {
+      within = h.within;
+      can = subst IsPrice (sym is) low;
+      written = sym (ap price_text is ∙ ap decimal h.value ∙ decimal-digits_value own (drop at text) h.digits form.0 form.2 (omega (arith, small)));
+    }
 
-pub alone : (text front : List ℕ) (end at number : ℕ) → end < length text → front ≡ take end text → IsBackTo front at number → HasNumberForm (slice_range text at end) → (0 < at → get_or text (at - 1) 0 ≡ 10) → IsAlone text end at number
-alone text front end at number inside cut h form starts = record {
-  start = record {
-    within = within;
-    none = none;
-    behind = λ some k e. let back : at - 1 ≡ k = omega (arith, e) in subst (λ n. get_or text n 0 ≡ 10) back (starts some);
-  };
-  read = price_read (slice_range text at end) number (subst (AllDigits 10) (sym same) h.digits) (h.value ∙ ap (digits_value 10) (sym same)) (omega (arith, size, h.few, all)) form;
+pub last_closed : (text : List ℕ) → 0 < length text → get_or text (length text - 1) 0 ≡ 45 → IsLastPrice text (length text - 1) 18446744073709551615
+last_closed text some e =
+    let next : length text - 1 + 1 ≡ length text = omega (arith, some) in
+    record {
+      within = omega arith;
+      can = tt;
+      written = drop_more text (length text - 1) 0 (omega (arith, some)) ∙ (λ i. e i ∷ drop (next i) text) ∙ ap (λ x. 45 ∷ x) (drop-length text);
+    }
+
+-- ---- The prices of a line
+
+-- a text has prices between two places, each behind a space; those that were read are the last ones first
+pub record AreBehind (text : List ℕ) (front end : ℕ) (numbers : List ℕ) : Type 0 where
+  pub within : front ≤ end
+  pub prices : ArePrices (map told (reverse numbers))
+  pub written : slice_range text front end ≡ more_prices (map told (reverse numbers))
+
+pub none_read : (text : List ℕ) (end : ℕ) → AreBehind text end end []
+none_read text end = record {
+  within = omega arith;
+  prices = tt;
+  written = let none : end - end ≡ 0 = omega arith in ap (λ n. take n (drop end text)) none;
 }
+
+-- two parts side by side
+range_parts : (text : List ℕ) (at front end : ℕ) → at ≤ front → front ≤ end → slice_range text at end ≡ slice_range text at front ++ slice_range text front end
+range_parts text at front end low high =
+    let sum : end - at ≡ front - at + (end - front) = omega (arith, low, high) in
+    let there : at + (front - at) ≡ front = omega (arith, low) in
+    ap (λ n. take n (drop at text)) sum ∙ take-add (front - at) (end - front) (drop at text)
+    ∙ ap (λ x. slice_range text at front ++ take (end - front) x) (drop-drop (front - at) at text ∙ ap (λ n. drop n text) there)
+
+-- from one price more on
+price_front : (text part : List ℕ) (front end at price : ℕ) (numbers : List ℕ) → end < length text → part ≡ take front text → AreBehind text front end numbers → IsLastPrice part at price
+    → (at ≤ front) × (slice_range text at end ≡ price_text (told price) ++ more_prices (map told (reverse numbers)))
+price_front text part front end at price numbers inside cut h last =
+    let low : at ≤ front = omega (arith, last.within, ap length cut, length-take front text) in
+    let sum : at + (front - at) ≡ front = omega (arith, low) in
+    let word : slice_range text at front ≡ price_text (told price) = sym (drop-take at (front - at) text) ∙ ap (λ n. drop at (take n text)) sum ∙ ap (drop at) (sym cut) ∙ last.written in
+    (low, range_parts text at front end low h.within ∙ (λ i. word i ++ h.written i))
+
+turned_push : (numbers : List ℕ) (price : ℕ) → map told (reverse (numbers ++ price ∷ [])) ≡ told price ∷ map told (reverse numbers)
+turned_push numbers price = ap (map told) (reverse-append numbers (price ∷ []))
+
+pub price_more : (text part : List ℕ) (front end at price : ℕ) (numbers more : List ℕ) → end < length text → part ≡ take front text → AreBehind text front end numbers → IsLastPrice part at price → 0 < at → get_or text (at - 1) 0 ≡ 32
+    → more ≡ numbers ++ price ∷ [] → AreBehind text (at - 1) end more
+price_more text part front end at price numbers more inside cut h last some space is =
+    let found = price_front text part front end at price numbers inside cut h last in
+    let row : map told (reverse more) ≡ told price ∷ map told (reverse numbers) = ap (λ ns. map told (reverse ns)) is ∙ turned_push numbers price in
+    let back : at - 1 + 1 ≡ at = omega (arith, some) in
+    let one : at - (at - 1) ≡ 1 = omega (arith, some) in
+    let cut_one : drop (at - 1) text ≡ 32 ∷ drop at text = drop_more text (at - 1) 0 (omega (arith, some, found.0, h.within, inside)) ∙ (λ i. space i ∷ drop (back i) text) in
+    let front_one : slice_range text (at - 1) at ≡ 32 ∷ [] = (λ i. take (one i) (cut_one i)) in
+    record {
+      within = omega (arith, found.0, h.within);
+      prices = subst ArePrices (sym row) (last.can, h.prices);
+      written = range_parts text (at - 1) at end (omega arith) (omega (arith, found.0, h.within)) ∙ (λ i. front_one i ++ found.1 i) ∙ ap more_prices (sym row);
+    }
+
+pub price_first : (text part : List ℕ) (front end at price : ℕ) (numbers more turned : List ℕ) → end < length text → part ≡ take front text → AreBehind text front end numbers → IsLastPrice part at price → (0 < at → get_or text (at - 1) 0 ≡ 10)
+    → more ≡ numbers ++ price ∷ [] → turned ≡ reverse more → IsShortRow text end (map told turned) at
+price_first text part front end at price numbers more turned inside cut h last starts is t =
+    let found = price_front text part front end at price numbers inside cut h last in
+    let row : map told turned ≡ told price ∷ map told (reverse numbers) = ap (map told) t ∙ ap (λ ns. map told (reverse ns)) is ∙ turned_push numbers price in
+    let written : slice_range text at end ≡ row_text (map told turned) = found.1 ∙ sym (row_text_cons (told price) (map told (reverse numbers))) ∙ ap row_text (sym row) in
+    let prices : ArePrices (map told turned) = subst ArePrices (sym row) (last.can, h.prices) in
+    record {
+      start = record {
+        within = omega (arith, found.0, h.within);
+        none = no_feed text (map told turned) at end inside (omega (arith, found.0, h.within)) prices written;
+        behind = λ some k e. let back : at - 1 ≡ k = omega (arith, e) in subst (λ n. get_or text n 0 ≡ 10) back (starts some);
+      };
+      some = omega (arith, ap length row);
+      prices = prices;
+      written = written;
+    }
   where
-    all : length front ≡ end
-    all = ap length cut ∙ omega (arith, length-take end text, inside)
-
-    within : at ≤ end
-    within = omega (arith, h.within, all)
-
-    sum : at + (end - at) ≡ end
-    sum = omega (arith, within)
-
-    same : slice_range text at end ≡ drop at front
-    same = sym (drop-take at (end - at) text) ∙ ap (λ n. drop at (take n text)) sum ∙ ap (drop at) (sym cut)
-
-    size : length (slice_range text at end) ≡ end - at
-    size = ap length same ∙ length-drop at front ∙ ap (λ n. n - at) all
-
-    none : (k : ℕ) → at ≤ k → k < end → get_or text k 0 ≢ 10
-    none k low high e =
+    no_feed : (text : List ℕ) (row : Row) (at end : ℕ) → end < length text → at ≤ end → ArePrices row → slice_range text at end ≡ row_text row → (k : ℕ) → at ≤ k → k < end → get_or text k 0 ≢ 10
+    no_feed text row at end inside within prices written k low high e =
         let back : at + (k - at) ≡ k = omega (arith, low) in
-        let there : get_or (drop at front) (k - at) 0 ≡ get_or text k 0 = get_or-drop at front (k - at) 0 ∙ (λ i. get_or (cut i) (back i) 0) ∙ get_or-take end text k 0 high in
-        let digit = digit_at (drop at front) (k - at) h.digits (omega (arith, low, high, all, length-drop at front)) in
-        omega (arith, digit.0, there, e)
+        let there : get_or (slice_range text at end) (k - at) 0 ≡ get_or text k 0 = get_or-take (end - at) (drop at text) (k - at) 0 (omega (arith, low, high)) ∙ get_or-drop at text (k - at) 0 ∙ ap (λ n. get_or text n 0) back in
+        let size : length (slice_range text at end) ≡ end - at = length-take (end - at) (drop at text) ∙ omega (arith, length-drop at text, inside, within) in
+        free_at 10 (row_text row) (k - at) (free_row row prices) (omega (arith, ap length written, size, low, high)) (sym (ap (λ x. get_or x (k - at) 0) written) ∙ there ∙ e)

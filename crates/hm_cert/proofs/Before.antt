@@ -1,6 +1,6 @@
 -- Rows in the lines of a certificate that was read: that there are so many, and the one in front of a place.
 use Rattle.std.proofs.Common.{◌≡◌, ◌+◌, ◌-◌, ◌<◌, ◌≤◌, ℕ, zero, suc, Bool, true, false, cond, List, [], ◌∷◌, ◌++◌, get_or, length, take, drop, map, refl, sym, ap, ◌∙◌, subst, append_assoc, arith, length-append}
-use Rattle.std.specs.Prelude.{Some, None, Result, Ok, Err, slice_range, nat_lt}
+use Rattle.std.specs.Prelude.{Some, None, Result, Ok, Err, slice_range, nat_lt, Option, IfSome}
 use Rattle.std.proofs.Math.Seq.{drop-append_seam, take-append_seam, get_or-append_seam}
 use Rattle.std.proofs.lemmas.Bool.{ltb-true, ltb-false}
 use Rattle.std.proofs.lemmas.List.{get_or-append-add, get_or_append_left, take_all}
@@ -9,7 +9,7 @@ use Rattle.hm_cert.specs.Certificate.{Row, ArePrices, AreRows, row_text, row_lin
 use Rattle.hm_cert.specs.Layout.{told}
 use Rattle.hm_cert.specs.Places.{rows_or_none, rows_of, AreLines, IsRowPlace, IsLineStart, AreSoMany}
 use Rattle.hm_cert.specs.Reading.{IsNext, IsPassed, pieces, line_row, and_row, rows_in}
-use Rattle.hm_cert.specs.Short.{IsAlone}
+use Rattle.hm_cert.specs.Short.{IsShortRow}
 use Rattle.hm_cert.specs.declared.kept.RowPlace.{RowPlace}
 use Rattle.hm_cert.specs.declared.lines.CertificateFault.{CertificateFault}
 use Rattle.hm_cert.specs.declared.lines.CertificateFault.TheVariants.{TooLong, BadLine, Memory}
@@ -84,7 +84,7 @@ lines_end (row ∷ rows) j e = by_more (row_lines rows) refl (lines_end rows)
         ∙ behind (j - length front) (omega (arith, e, all, some))
 
 -- no byte of a free text is the mark
-free_at : (mark : ℕ) (text : List ℕ) (j : ℕ) → is_free mark text ≡ true → j < length text → get_or text j 0 ≡ mark → ⊥
+pub free_at : (mark : ℕ) (text : List ℕ) (j : ℕ) → is_free mark text ≡ true → j < length text → get_or text j 0 ≡ mark → ⊥
 free_at mark [] j h l e = absurd (omega arith)
 free_at mark (b ∷ text) zero h l e = let p = free_parts b mark (is_free mark text) h in absurd (grind (arith, p.0, e))
 free_at mark (b ∷ text) (suc j) h l e = free_at mark text j (free_parts b mark (is_free mark text) h).1 (omega arith) e
@@ -211,10 +211,16 @@ read_passed left next row (Err (BadLine line)) h = h
 read_passed left next row (Err TooLong) h = h
 read_passed left next row (Err Memory) h = tt
 
--- ---- A price that is alone in its row
+-- ---- A row of prices of few digits
 
-pub alone_before : (text : List ℕ) (rows : List Row) (place : RowPlace) (at price : ℕ) → row_lines rows ≡ text → AreRows rows → IsRowPlace rows place → 0 < place.row → IsAlone text (place.at - 1) at price
-    → (told price ∷ [] ≡ get_or rows (place.row - 1) []) × (at ≡ length (row_lines (take (place.row - 1) rows)))
-alone_before text rows place at price lines written is some h =
-    let before = is_before text rows place at (slice_range text at (place.at - 1)) lines written is some h.start refl in
-    (before.row (price ∷ []) true h.read, before.front)
+pub short_before : (text : List ℕ) (rows : List Row) (place : RowPlace) (at : ℕ) (numbers : List ℕ) (found : Option ℕ) → row_lines rows ≡ text → AreRows rows → IsRowPlace rows place → 0 < place.row → IfSome found (IsShortRow text (place.at - 1) (map told numbers)) → found ≡ Some at
+    → (map told numbers ≡ get_or rows (place.row - 1) []) × (at ≡ length (row_lines (take (place.row - 1) rows)))
+short_before text rows place at numbers None lines written is some h e = absurd (cc)
+short_before text rows place at numbers (Some start) lines written is some h e =
+    let same : start ≡ at = cc in
+    by_start (subst (IsShortRow text (place.at - 1) (map told numbers)) same h)
+  where
+    by_start : IsShortRow text (place.at - 1) (map told numbers) at → (map told numbers ≡ get_or rows (place.row - 1) []) × (at ≡ length (row_lines (take (place.row - 1) rows)))
+    by_start h =
+        let before = is_before text rows place at (slice_range text at (place.at - 1)) lines written is some h.start refl in
+        (before.row numbers true (ap line_row h.written ∙ line_back (map told numbers) h.some h.prices), before.front)

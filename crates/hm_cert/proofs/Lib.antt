@@ -8,5 +8,5 @@ pub mod Before
 pub mod Written
 pub mod ShortPrices
 pub mod ShortLines
-pub mod BackNumbers
 pub mod Read
+pub mod BackNumbers

@@ -1,10 +1,9 @@
 -- What is found of lines of prices of few digits.
-use Rattle.std.specs.Prelude.{ℕ, ◌≡◌, ◌+◌, ◌<◌, ◌≤◌, List, [], ◌∷◌, Option, Some, length, take, drop, slice_range}
+use Rattle.std.specs.Prelude.{ℕ, ◌≡◌, ◌+◌, ◌<◌, ◌≤◌, List, Option, length, take, drop, slice_range}
 use Rattle.std.specs.Str.Parse.{AllDigits, digits_value}
-use Rattle.hm_cert.specs.Certificate.{Row, IsPrice, ArePrices, price_text, row_line}
+use Rattle.hm_cert.specs.Certificate.{Row, IsPrice, ArePrices, price_text, row_line, row_text}
 use Rattle.hm_cert.specs.Layout.{told}
 use Rattle.hm_cert.specs.Places.{IsLineStart}
-use Rattle.hm_cert.specs.Reading.{line_row}
 
 -- a text begins with so many digits
 pub record AreDigits (text : List ℕ) (len : ℕ) : Type 0 where
@@ -33,7 +32,15 @@ pub record IsBackTo (text : List ℕ) (at number : ℕ) : Type 0 where
   pub digits : AllDigits 10 (drop at text)
   pub value : number ≡ digits_value 10 (drop at text)
 
--- the line that ends at a place is one price, and begins at another place
-pub record IsAlone (text : List ℕ) (end at price : ℕ) : Type 0 where
+-- a text ends with the price that a number stands for, which begins at a place
+pub record IsLastPrice (text : List ℕ) (at price : ℕ) : Type 0 where
+  pub within : at ≤ length text
+  pub can : IsPrice (told price)
+  pub written : drop at text ≡ price_text (told price)
+
+-- the line that ends at a place is that of a row, and begins at another place
+pub record IsShortRow (text : List ℕ) (end : ℕ) (row : Row) (at : ℕ) : Type 0 where
   pub start : IsLineStart text end at
-  pub read : line_row (slice_range text at end) ≡ Some (told price ∷ [])
+  pub some : 0 < length row
+  pub prices : ArePrices row
+  pub written : slice_range text at end ≡ row_text row

@@ -1,11 +1,11 @@
 //! The rows of prices of a certificate that was read, kept as its lines.
-ghost use Rattle.std.specs.Prelude.{◌≡◌, ◌+◌, ◌-◌, ◌<◌, ◌∷◌, [], length, map, slice_index_or, slice_range, IfOk, IfSome};
+ghost use Rattle.std.specs.Prelude.{◌≡◌, ◌+◌, ◌-◌, ◌<◌, [], length, map, slice_index_or, slice_range, IfOk};
 ghost use Rattle.hm_cert.specs.Layout.{told};
 ghost use Rattle.hm_cert.specs.Places.{AreCounted, IsLineStart, IsRowPlace};
 ghost use Rattle.hm_cert.specs.Reading.{RowsAre, rows_in};
 
 use crate::lines::{CertificateFault, Lines, read_row};
-use crate::short::short_before;
+use crate::short::short_row_before;
 use hm_base::Memory;
 use memchr::memrchr;
 use std::alloc::Global;
@@ -40,14 +40,6 @@ pub struct RowPlace {
     at: usize,
 }
 
-/// A price that is alone in its row.
-#[derive(Clone, Copy)]
-pub struct PriceBefore {
-    pub price: u64,
-    /// The place in front of its row.
-    pub place: RowPlace,
-}
-
 impl<'a> WrittenRows<'a> {
     /// Reads the rows of all lines that are left.
     pub fn read(alloc: Global, lines: Lines<'a>) -> Result<WrittenRows<'a>, CertificateFault>
@@ -76,26 +68,6 @@ impl<'a> WrittenRows<'a> {
         }
     }
 
-    /// The price in front of a place and the place in front of it, where it is alone in its row and has few digits.
-    pub fn price_before(&self, place: RowPlace) -> Option<PriceBefore>
-        requires place { IsRowPlace self.now place }
-        requires some { 0 < place.row }
-        ensures row { IfSome result (λ before. told before.price ∷ [] ≡ slice_index_or self.now (place.row - 1) []) }
-        ensures place { IfSome result (λ before. IsRowPlace self.now before.place) }
-        ensures before { IfSome result (λ before. before.place.row + 1 ≡ place.row) }
-    {
-        match short_before(self.lines, place.at - 1) {
-            Some((price, at)) => Some(PriceBefore {
-                price,
-                place: RowPlace {
-                    row: place.row - 1,
-                    at,
-                },
-            }),
-            None => None,
-        }
-    }
-
     /// Reads the row in front of a place, of any form, in place of what the list held.
     fn any_row_before(&self, place: RowPlace, into: &mut Vec<u64>) -> Result<RowPlace, Memory>
         requires place { IsRowPlace self.now place }
@@ -121,12 +93,11 @@ impl<'a> WrittenRows<'a> {
         ensures place { IfOk result (λ before. IsRowPlace self.now before) }
         ensures before { IfOk result (λ before. before.row + 1 ≡ place.row) }
     {
-        match self.price_before(place) {
-            Some(before) => {
-                into.clear();
-                into.push(before.price)?;
-                Ok(before.place)
-            }
+        match short_row_before(self.lines, place.at - 1, into)? {
+            Some(at) => Ok(RowPlace {
+                row: place.row - 1,
+                at,
+            }),
             None => self.any_row_before(place, into),
         }
     }

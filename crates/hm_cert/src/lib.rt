@@ -11,7 +11,7 @@ mod short;
 mod text;
 
 pub use certificate::Certificate;
-pub use kept::{PriceBefore, RowPlace, WrittenRows};
+pub use kept::{RowPlace, WrittenRows};
 pub use lines::{CertificateFault, Head, Lines, read_head};
 pub use prices::{CLOSED, Prices, price_of};
 pub use reversed::{put_head_reversed, put_line_reversed};

@@ -1,8 +1,11 @@
 //! Lines of prices of few digits, judged from their front and read from their end.
-ghost use Rattle.std.specs.Prelude.{◌<◌, length, IfSome};
-ghost use Rattle.hm_cert.specs.Short.{AreDigits, IsAlone, IsBackTo, IsShortLine, IsShortWord};
+ghost use Rattle.std.specs.Prelude.{◌<◌, length, map, IfOk, IfSome};
+ghost use Rattle.hm_cert.specs.Layout.{told};
+ghost use Rattle.hm_cert.specs.Short.{AreDigits, IsBackTo, IsLastPrice, IsShortLine, IsShortRow, IsShortWord};
 
 use crate::lines::has_number_form;
+use crate::prices::CLOSED;
+use hm_base::Memory;
 
 /// How many digits a text begins with.
 fn count_digits(text: &[u8]) -> usize
@@ -82,17 +85,42 @@ fn back_number(text: &[u8]) -> (u64, usize)
     (number, at)
 }
 
-/// The price of the line that ends at a place, and where the line begins, where it is one number of at most 18 digits.
-pub(crate) fn short_before(text: &[u8], end: usize) -> Option<(u64, usize)>
-    requires { end < length text.now }
-    ensures { IfSome result (λ found. IsAlone text.now end found.1 found.0) }
+/// The price that a text ends with and where it begins, where it is closed or has at most 18 digits.
+fn back_price(text: &[u8]) -> Option<(u64, usize)>
+    ensures { IfSome result (λ found. IsLastPrice text.now found.1 found.0) }
 {
-    let (number, at) = back_number(&text[..end]);
-    if !has_number_form(&text[at..end]) {
-        return None;
+    let (number, at) = back_number(text);
+    if has_number_form(&text[at..]) {
+        return Some((number, at));
     }
-    if at > 0 && text[at - 1] != b'\n' {
-        return None;
+    match text {
+        [.., b'-'] => Some((CLOSED, text.len() - 1)),
+        _ => None,
     }
-    Some((number, at))
+}
+
+/// Reads the row whose line ends at a place into a list, in place of what is there, a closed price as `CLOSED`, and gives
+/// where the line begins, where each price is closed or has at most 18 digits.
+pub(crate) fn short_row_before(
+    text: &[u8],
+    end: usize,
+    into: &mut Vec<u64>,
+) -> Result<Option<usize>, Memory>
+    requires { end < length text.now }
+    ensures { IfOk result (λ found. IfSome found (IsShortRow text.now end (map told into.new.items))) }
+{
+    into.clear();
+    let mut front = end;
+    while let Some((price, at)) = back_price(&text[..front]) {
+        into.push(price)?;
+        if at == 0 || text[at - 1] == b'\n' {
+            into.reverse();
+            return Ok(Some(at));
+        }
+        if text[at - 1] != b' ' {
+            return Ok(None);
+        }
+        front = at - 1;
+    }
+    Ok(None)
 }

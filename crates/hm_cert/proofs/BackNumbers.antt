@@ -110,6 +110,16 @@ last_closed text some e =
       written = drop_more text (length text - 1) 0 (omega (arith, some)) ∙ (λ i. e i ∷ drop (next i) text) ∙ ap (λ x. 45 ∷ x) (drop-length text);
     }
 
+pub last_again : (text word : List ℕ) (price : ℕ) → drop (length text - length word) text ≡ word → IsPrice (told price) → word ≡ price_text (told price) → IsLastPrice text (length text - length word) price
+last_again text word price h can is = record { within = omega arith; can = can; written = h ∙ is }
+
+-- the word of a price that was read
+pub last_word : (text part : List ℕ) (front at price : ℕ) → front ≤ length text → part ≡ take front text → IsLastPrice part at price → slice_range text at front ≡ price_text (told price)
+last_word text part front at price inside cut last =
+    let low : at ≤ front = omega (arith, last.within, ap length cut, length-take front text) in
+    let sum : at + (front - at) ≡ front = omega (arith, low) in
+    sym (drop-take at (front - at) text) ∙ ap (λ n. drop at (take n text)) sum ∙ ap (drop at) (sym cut) ∙ last.written
+
 -- ---- The prices of a line
 
 -- a text has prices between two places, each behind a space; those that were read are the last ones first
@@ -138,8 +148,7 @@ price_front : (text part : List ℕ) (front end at price : ℕ) (numbers : List 
     → (at ≤ front) × (slice_range text at end ≡ price_text (told price) ++ more_prices (map told (reverse numbers)))
 price_front text part front end at price numbers inside cut h last =
     let low : at ≤ front = omega (arith, last.within, ap length cut, length-take front text) in
-    let sum : at + (front - at) ≡ front = omega (arith, low) in
-    let word : slice_range text at front ≡ price_text (told price) = sym (drop-take at (front - at) text) ∙ ap (λ n. drop at (take n text)) sum ∙ ap (drop at) (sym cut) ∙ last.written in
+    let word : slice_range text at front ≡ price_text (told price) = last_word text part front at price (omega (arith, h.within, inside)) cut last in
     (low, range_parts text at front end low h.within ∙ (λ i. word i ++ h.written i))
 
 turned_push : (numbers : List ℕ) (price : ℕ) → map told (reverse (numbers ++ price ∷ [])) ≡ told price ∷ map told (reverse numbers)

@@ -1,5 +1,6 @@
 //! Lines of prices of few digits, judged from their front and read from their end.
-ghost use Rattle.std.specs.Prelude.{◌<◌, length, map, IfOk, IfSome};
+ghost use Rattle.std.specs.Prelude.{◌≡◌, ◌<◌, length, map, IfOk, IfSome};
+ghost use Rattle.hm_cert.specs.Certificate.{IsPrice, price_text};
 ghost use Rattle.hm_cert.specs.Layout.{told};
 ghost use Rattle.hm_cert.specs.Short.{AreDigits, IsBackTo, IsLastPrice, IsShortLine, IsShortRow, IsShortWord};
 
@@ -99,6 +100,18 @@ fn back_price(text: &[u8]) -> Option<(u64, usize)>
     }
 }
 
+/// As `back_price`, where a word and the price whose text it is are known: in a row they often come again.
+fn back_price_like(text: &[u8], word: &[u8], price: u64) -> Option<(u64, usize)>
+    requires can { IsPrice (told price) }
+    requires word { word.now ≡ price_text (told price) }
+    ensures { IfSome result (λ found. IsLastPrice text.now found.1 found.0) }
+{
+    if text.ends_with(word) {
+        return Some((price, text.len() - word.len()));
+    }
+    back_price(text)
+}
+
 /// Reads the row whose line ends at a place into a list, in place of what is there, a closed price as `CLOSED`, and gives
 /// where the line begins, where each price is closed or has at most 18 digits.
 pub(crate) fn short_row_before(
@@ -111,8 +124,10 @@ pub(crate) fn short_row_before(
 {
     into.clear();
     let mut front = end;
-    while let Some((price, at)) = back_price(&text[..front]) {
-        into.push(price)?;
+    let mut word = b"-".as_slice();
+    let mut price = CLOSED;
+    while let Some((next, at)) = back_price_like(&text[..front], word, price) {
+        into.push(next)?;
         if at == 0 || text[at - 1] == b'\n' {
             into.reverse();
             return Ok(Some(at));
@@ -120,6 +135,8 @@ pub(crate) fn short_row_before(
         if text[at - 1] != b' ' {
             return Ok(None);
         }
+        word = &text[at..front];
+        price = next;
         front = at - 1;
     }
     Ok(None)

@@ -64,6 +64,14 @@ judged_right found k numbers behind step why high h e is f =
     ap (λ w. record { right = true; why = w }) (is ∙ ap (λ o. option_or o found.why) f)
     ∙ sym (rw (length-map numbers told, eq-eqb (length numbers) (length step) h, e) refl)
 
+pub judged_high : (found : Found) (k : ℕ) (numbers behind : List ℕ) (step : Step) (why : Why) → length numbers ≡ length step → found.right ≡ true
+    → Some why ≡ option_map high_why (high_in k 0 (map told numbers) (row_over (map told behind) step)) → record { right = found.right; why = Some why } ≡ judged found k (map told numbers) (map told behind) step
+judged_high found k numbers behind step why h e f = ap (λ r. record { right = r; why = Some why }) e ∙ judged_right found k numbers behind step (Some why) (Some why) h e refl f
+
+pub judged_low : (found : Found) (k : ℕ) (numbers behind : List ℕ) (step : Step) → length numbers ≡ length step → found.right ≡ true
+    → None ≡ option_map high_why (high_in k 0 (map told numbers) (row_over (map told behind) step)) → found ≡ judged found k (map told numbers) (map told behind) step
+judged_low found k numbers behind step h e f = ap (λ r. record { right = r; why = found.why }) e ∙ judged_right found k numbers behind step found.why None h e refl f
+
 pub end_other : (k last : ℕ) (numbers : List ℕ) → length numbers ≢ last → record { right = false; why = Some (WrongWidth k (length numbers) last) } ≡ judged_at_end k (map told numbers) last
 end_other k last numbers h = sym (rw (length-map numbers told, other_test (length numbers) last h) refl)
 

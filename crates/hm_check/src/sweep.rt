@@ -37,14 +37,14 @@ pub(crate) struct Sweep {
     spare: Vec<u64>,
 }
 
-/// What is found with the row of layer `k` in front, by the prices behind.
-fn judge(found: Found, k: u64, row: &[u64], behind: &[u64], step: &Step) -> Found
-    requires below { found.right ≡ true → AreBelow (2 ^ 63 + 2 ^ 62) (map told behind.now) }
+/// Adds to what is found what is found of the row of layer `k` in front, by the prices behind.
+fn judge(found: &mut Found, k: u64, row: &[u64], behind: &[u64], step: &Step)
+    requires below { found.old.right ≡ true → AreBelow (2 ^ 63 + 2 ^ 62) (map told behind.now) }
     requires low { IsLowStep step.now }
-    ensures { result ≡ judged found k (map told row.now) (map told behind.now) step.now }
+    ensures { found.new ≡ judged found.old k (map told row.now) (map told behind.now) step.now }
 {
     if row.len() != step.width() {
-        return Found {
+        *found = Found {
             right: false,
             why: Some(Why::WrongWidth {
                 layer: k,
@@ -52,13 +52,13 @@ fn judge(found: Found, k: u64, row: &[u64], behind: &[u64], step: &Step) -> Foun
                 want: step.width() as u64,
             }),
         };
+        return;
     }
     if !found.right {
-        return found;
+        return;
     }
-    Found {
-        right: true,
-        why: find_high(k, row, behind, step).or(found.why),
+    if let Some(why) = find_high(k, row, behind, step) {
+        found.why = Some(why);
     }
 }
 
@@ -190,8 +190,8 @@ impl Sweep {
     {
         graph.is_small();
         self.at = prices.row_before(self.at, &mut self.spare)?;
-        self.found = judge(
-            self.found,
+        judge(
+            &mut self.found,
             k as u64,
             self.spare.as_slice(),
             self.behind.as_slice(),

@@ -1,6 +1,6 @@
 -- Rows in the lines of a certificate that was read: that there are so many, and the one in front of a place.
 use Rattle.std.proofs.Common.{◌≡◌, ◌+◌, ◌-◌, ◌<◌, ◌≤◌, ℕ, zero, suc, Bool, true, false, cond, List, [], ◌∷◌, ◌++◌, get_or, length, take, drop, map, refl, sym, ap, ◌∙◌, subst, append_assoc, arith, length-append}
-use Rattle.std.specs.Prelude.{Some, None, Result, Ok, Err, slice_range, nat_lt}
+use Rattle.std.specs.Prelude.{Some, None, Result, Ok, Err, slice_range, nat_lt, Option, IfSome}
 use Rattle.std.proofs.Math.Seq.{drop-append_seam, take-append_seam, get_or-append_seam}
 use Rattle.std.proofs.lemmas.Bool.{ltb-true, ltb-false}
 use Rattle.std.proofs.lemmas.List.{get_or-append-add, get_or_append_left, take_all}
@@ -8,8 +8,11 @@ use Rattle.std.proofs.lemmas.List.Splits.{join_with_byte-slice_split}
 use Rattle.hm_cert.specs.Certificate.{Row, ArePrices, AreRows, row_text, row_line, row_lines}
 use Rattle.hm_cert.specs.Layout.{told}
 use Rattle.hm_cert.specs.Places.{rows_or_none, rows_of, AreLines, IsRowPlace, IsLineStart, AreSoMany}
-use Rattle.hm_cert.specs.Reading.{IsNext, pieces, line_row, and_row, rows_in}
+use Rattle.hm_cert.specs.Reading.{IsNext, IsPassed, pieces, line_row, and_row, rows_in}
+use Rattle.hm_cert.specs.Short.{IsShortRow}
 use Rattle.hm_cert.specs.declared.kept.RowPlace.{RowPlace}
+use Rattle.hm_cert.specs.declared.lines.CertificateFault.{CertificateFault}
+use Rattle.hm_cert.specs.declared.lines.CertificateFault.TheVariants.{TooLong, BadLine, Memory}
 use Rattle.hm_cert.proofs.LineRows.{rows_behind, row_more, no_row_more, bad_more}
 use Rattle.hm_cert.proofs.Read as read
 use Rattle.hm_cert.proofs.Written.{is_free, free_parts, free_row, line_back, rows_back}
@@ -81,7 +84,7 @@ lines_end (row ∷ rows) j e = by_more (row_lines rows) refl (lines_end rows)
         ∙ behind (j - length front) (omega (arith, e, all, some))
 
 -- no byte of a free text is the mark
-free_at : (mark : ℕ) (text : List ℕ) (j : ℕ) → is_free mark text ≡ true → j < length text → get_or text j 0 ≡ mark → ⊥
+pub free_at : (mark : ℕ) (text : List ℕ) (j : ℕ) → is_free mark text ≡ true → j < length text → get_or text j 0 ≡ mark → ⊥
 free_at mark [] j h l e = absurd (omega arith)
 free_at mark (b ∷ text) zero h l e = let p = free_parts b mark (is_free mark text) h in absurd (grind (arith, p.0, e))
 free_at mark (b ∷ text) (suc j) h l e = free_at mark text j (free_parts b mark (is_free mark text) h).1 (omega arith) e
@@ -196,6 +199,28 @@ all_done all left count h e = record {
 pub bad_done : (all left : Result (List Row) ℕ) (count bad : ℕ) → AreDone all left count → left ≡ Err bad → all ≡ Err bad
 bad_done all left count bad h e = sym h.are ∙ bad_more h.rows left bad e
 
-pub next_done : (all left next : Result (List Row) ℕ) (row : Row) (more : Bool) (count : ℕ) → AreDone all left count → IsNext left row next (Ok more) → more ≡ true → AreDone all next (count + 1)
-next_done all left next row true count h e is = one_done all left next row count h e
-next_done all left next row false count h e is = absurd (cc)
+pub passed_done : (all left next : Result (List Row) ℕ) (more : Bool) (count : ℕ) → AreDone all left count → IsPassed left next (Ok more) → more ≡ true → AreDone all next (count + 1)
+passed_done all left next true count h e is = one_done all left next e.0 count h e.1
+passed_done all left next false count h e is = absurd (cc)
+
+-- a row that was read was passed
+pub read_passed : (left next : Result (List Row) ℕ) (row : Row) (answer : Result Bool CertificateFault) → IsNext left row next answer → IsPassed left next answer
+read_passed left next row (Ok true) h = (row, h)
+read_passed left next row (Ok false) h = h
+read_passed left next row (Err (BadLine line)) h = h
+read_passed left next row (Err TooLong) h = h
+read_passed left next row (Err Memory) h = tt
+
+-- ---- A row of prices of few digits
+
+pub short_before : (text : List ℕ) (rows : List Row) (place : RowPlace) (at : ℕ) (numbers : List ℕ) (found : Option ℕ) → row_lines rows ≡ text → AreRows rows → IsRowPlace rows place → 0 < place.row → IfSome found (IsShortRow text (place.at - 1) (map told numbers)) → found ≡ Some at
+    → (map told numbers ≡ get_or rows (place.row - 1) []) × (at ≡ length (row_lines (take (place.row - 1) rows)))
+short_before text rows place at numbers None lines written is some h e = absurd (cc)
+short_before text rows place at numbers (Some start) lines written is some h e =
+    let same : start ≡ at = cc in
+    by_start (subst (IsShortRow text (place.at - 1) (map told numbers)) same h)
+  where
+    by_start : IsShortRow text (place.at - 1) (map told numbers) at → (map told numbers ≡ get_or rows (place.row - 1) []) × (at ≡ length (row_lines (take (place.row - 1) rows)))
+    by_start h =
+        let before = is_before text rows place at (slice_range text at (place.at - 1)) lines written is some h.start refl in
+        (before.row numbers true (ap line_row h.written ∙ line_back (map told numbers) h.some h.prices), before.front)

@@ -97,13 +97,13 @@ number_read word (Some n) not_dash form h =
     ap Some (told_number n h.2) ∙ sym (ap word_price (sym text) ∙ text_price (Some n) h.2)
 
 -- a byte that is a digit, and one that is none
-digit_range : (b : ℕ) → true ≡ is_ascii_digit b → (48 ≤ b) × (b ≤ 57)
+pub digit_range : (b : ℕ) → true ≡ is_ascii_digit b → (48 ≤ b) × (b ≤ 57)
 digit_range b e = (grind (arith, nat_tests), grind (arith, nat_tests))
 
 no_digit : (b : ℕ) → false ≡ is_ascii_digit b → 48 ≤ b → b ≤ 57 → ⊥
 no_digit b e l h = grind (arith, nat_tests)
 
-digit_is : (b : ℕ) → 48 ≤ b → b ≤ 57 → digit_value b ≡ b - 48
+pub digit_is : (b : ℕ) → 48 ≤ b → b ≤ 57 → digit_value b ≡ b - 48
 digit_is b l h =
     let low : nat_lt b 48 ≡ false = false_from_ne_true _ (λ e. omega (arith, (Decides-ltb b 48).0 e)) in
     let high : nat_lt b 58 ≡ true = (Decides-ltb b 58).1 (omega arith) in

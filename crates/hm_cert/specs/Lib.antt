@@ -4,5 +4,6 @@ pub mod Words
 pub mod Reading
 pub mod First
 pub mod Places
+pub mod Short
 pub mod Laws
 pub mod Examples

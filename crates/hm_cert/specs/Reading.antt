@@ -109,6 +109,14 @@ IsNext left row behind (Err (BadLine line)) = left ≡ Err line
 IsNext left row behind (Err TooLong) = ⊥
 IsNext left row behind (Err Memory) = ⊤
 
+-- what is told of the rows that are left by an answer to whether one more was passed, by those behind it
+abbrev pub IsPassed : Result (List Row) ℕ → Result (List Row) ℕ → Result Bool CertificateFault → Type 0
+IsPassed left behind (Ok true) = (row : Row) × (left ≡ and_row row behind)
+IsPassed left behind (Ok false) = left ≡ Ok []
+IsPassed left behind (Err (BadLine line)) = left ≡ Err line
+IsPassed left behind (Err TooLong) = ⊥
+IsPassed left behind (Err Memory) = ⊤
+
 -- what an answer on all rows that are left tells
 abbrev pub RowsAre : Result (List Row) ℕ → Result (List Row) CertificateFault → Type 0
 RowsAre left (Ok rows) = left ≡ Ok rows

@@ -5,6 +5,7 @@ ghost use Rattle.hm_cert.specs.Places.{AreCounted, IsLineStart, IsRowPlace};
 ghost use Rattle.hm_cert.specs.Reading.{RowsAre, rows_in};
 
 use crate::lines::{CertificateFault, Lines, read_row};
+use crate::short::short_row_before;
 use hm_base::Memory;
 use memchr::memrchr;
 use std::alloc::Global;
@@ -67,9 +68,8 @@ impl<'a> WrittenRows<'a> {
         }
     }
 
-    /// Reads the row in front of a place into a list, in place of what is there, a closed price as `CLOSED`, and gives the place
-    /// in front of it.
-    pub fn row_before(&self, place: RowPlace, into: &mut Vec<u64>) -> Result<RowPlace, Memory>
+    /// Reads the row in front of a place, of any form, in place of what the list held.
+    fn any_row_before(&self, place: RowPlace, into: &mut Vec<u64>) -> Result<RowPlace, Memory>
         requires place { IsRowPlace self.now place }
         requires some { 0 < place.row }
         ensures row { IfOk result (λ _. map told into.new.items ≡ slice_index_or self.now (place.row - 1) []) }
@@ -82,6 +82,24 @@ impl<'a> WrittenRows<'a> {
             row: place.row - 1,
             at,
         })
+    }
+
+    /// Reads the row in front of a place into a list, in place of what is there, a closed price as `CLOSED`, and gives the place
+    /// in front of it.
+    pub fn row_before(&self, place: RowPlace, into: &mut Vec<u64>) -> Result<RowPlace, Memory>
+        requires place { IsRowPlace self.now place }
+        requires some { 0 < place.row }
+        ensures row { IfOk result (λ _. map told into.new.items ≡ slice_index_or self.now (place.row - 1) []) }
+        ensures place { IfOk result (λ before. IsRowPlace self.now before) }
+        ensures before { IfOk result (λ before. before.row + 1 ≡ place.row) }
+    {
+        match short_row_before(self.lines, place.at - 1, into)? {
+            Some(at) => Ok(RowPlace {
+                row: place.row - 1,
+                at,
+            }),
+            None => self.any_row_before(place, into),
+        }
     }
 }
 
@@ -103,8 +121,8 @@ fn count_rows(alloc: Global, mut lines: Lines<'_>) -> Result<usize, CertificateF
     ensures { AreCounted (rows_in lines.entry.number lines.entry.rest.now) result }
 {
     let mut count = 0;
-    let mut row = Vec::new(alloc);
-    while lines.next_row(&mut row)? {
+    let mut spare = Vec::new(alloc);
+    while lines.pass_row(&mut spare)? {
         count += 1;
     }
     Ok(count)

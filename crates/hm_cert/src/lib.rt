@@ -7,6 +7,7 @@ pub mod laws;
 mod lines;
 mod prices;
 mod reversed;
+mod short;
 mod text;
 
 pub use certificate::Certificate;

@@ -5,9 +5,10 @@ ghost use Rattle.hm_cert.specs.Certificate.{ArePrices};
 ghost use Rattle.hm_cert.specs.Layout.{told};
 ghost use Rattle.hm_cert.specs.First.{IsFirst, IsNoFirst};
 ghost use Rattle.hm_cert.specs.Words.{HasNumberForm, IsNumber, IsUpTo};
-ghost use Rattle.hm_cert.specs.Reading.{IsBadHead, IsNext, given, line_format, line_row, line_rules, pieces, rows_in, with_head, word_price};
+ghost use Rattle.hm_cert.specs.Reading.{IsBadHead, IsNext, IsPassed, given, line_format, line_row, line_rules, pieces, rows_in, with_head, word_price};
 
 use crate::prices::CLOSED;
+use crate::short::short_line;
 use crate::text::Format;
 use hm_base::{CERTIFICATE_LIMIT, Memory, SpellRules};
 use memchr::memchr;
@@ -107,6 +108,24 @@ impl<'a> Lines<'a> {
         self.rest = rest;
         self.number += 1;
         Ok(true)
+    }
+
+    /// Goes past the next row. False at the end. A row of prices of few digits isn't read, and of another one the list is left
+    /// with what was read. After a refusal the lines are as they were.
+    pub(crate) fn pass_row(&mut self, spare: &mut Vec<u64>) -> Result<bool, CertificateFault>
+        ensures row { IsPassed (rows_in self.old.number self.old.rest.now) (rows_in self.new.number self.new.rest.now) result }
+        ensures shorter { IfOk result (λ more. more ≡ true → length self.new.rest.now < length self.old.rest.now) }
+    {
+        match short_line(self.rest) {
+            Some(end) => {
+                *self = Lines {
+                    rest: &self.rest[end + 1..],
+                    number: self.number + 1,
+                };
+                Ok(true)
+            }
+            None => self.next_row(spare),
+        }
     }
 }
 
@@ -283,7 +302,7 @@ fn read_price(word: &[u8]) -> Option<u64>
 }
 
 /// Whether a word has as many bytes as a number below 2^63, and `0` in front only if that is all.
-fn has_number_form(word: &[u8]) -> bool
+pub(crate) fn has_number_form(word: &[u8]) -> bool
     ensures { IsTrue result ↔ HasNumberForm word.now }
 {
     match word {

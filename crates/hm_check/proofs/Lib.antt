@@ -7,3 +7,4 @@ pub mod Feasible
 pub mod Accepted
 pub mod Shown
 pub mod Checking
+pub mod Alike

@@ -64,6 +64,14 @@ judged_right found k numbers behind step why high h e is f =
     ap (λ w. record { right = true; why = w }) (is ∙ ap (λ o. option_or o found.why) f)
     ∙ sym (rw (length-map numbers told, eq-eqb (length numbers) (length step) h, e) refl)
 
+pub judged_high : (found : Found) (k : ℕ) (numbers behind : List ℕ) (step : Step) (why : Why) → length numbers ≡ length step → found.right ≡ true
+    → Some why ≡ option_map high_why (high_in k 0 (map told numbers) (row_over (map told behind) step)) → record { right = found.right; why = Some why } ≡ judged found k (map told numbers) (map told behind) step
+judged_high found k numbers behind step why h e f = ap (λ r. record { right = r; why = Some why }) e ∙ judged_right found k numbers behind step (Some why) (Some why) h e refl f
+
+pub judged_low : (found : Found) (k : ℕ) (numbers behind : List ℕ) (step : Step) → length numbers ≡ length step → found.right ≡ true
+    → None ≡ option_map high_why (high_in k 0 (map told numbers) (row_over (map told behind) step)) → found ≡ judged found k (map told numbers) (map told behind) step
+judged_low found k numbers behind step h e f = ap (λ r. record { right = r; why = found.why }) e ∙ judged_right found k numbers behind step found.why None h e refl f
+
 pub end_other : (k last : ℕ) (numbers : List ℕ) → length numbers ≢ last → record { right = false; why = Some (WrongWidth k (length numbers) last) } ≡ judged_at_end k (map told numbers) last
 end_other k last numbers h = sym (rw (length-map numbers told, other_test (length numbers) last h) refl)
 
@@ -107,13 +115,13 @@ end_swept format g rows s h place at row found = record {
 
 -- ---- A layer that is left out
 
-out_full : (format : Format) (k last : ℕ) (step : Step) (steps : List Step) (row next : Row) (rows more : List Row) → is_left_out format k step ≡ true
+pub out_full : (format : Format) (k last : ℕ) (step : Step) (steps : List Step) (row next : Row) (rows more : List Row) → is_left_out format k step ≡ true
     → full_rows format (k + 1) last steps (row ∷ rows) ≡ Some (next ∷ more) → full_rows format k last (step ∷ steps) (row ∷ rows) ≡ Some (row_over next step ∷ next ∷ more)
 out_full format k last step steps row next rows more out h =
     let behind : full_rows format (suc k) last steps (row ∷ rows) ≡ Some (next ∷ more) = subst (λ j. full_rows format j last steps (row ∷ rows) ≡ Some (next ∷ more)) (add-one k) h in
     rw (out, behind) refl
 
-out_high : (k : ℕ) (step : Step) (steps : List Step) (next : Row) (more : List Row) → high_price_over k (step ∷ steps) (row_over next step ∷ next ∷ more) ≡ high_price_over (k + 1) steps (next ∷ more)
+pub out_high : (k : ℕ) (step : Step) (steps : List Step) (next : Row) (more : List Row) → high_price_over k (step ∷ steps) (row_over next step ∷ next ∷ more) ≡ high_price_over (k + 1) steps (next ∷ more)
 out_high k step steps next more = ap (λ found. or_else found (high_price_over (suc k) steps (next ∷ more))) (high_self k 0 (row_over next step)) ∙ ap (λ j. high_price_over j steps (next ∷ more)) (sym (add-one k))
 
 out_priced : (format : Format) (g : GraphView) (rows : List Row) (k : ℕ) (s t : Sweep) → k < length g.steps → AreLow g.steps → is_left_out format k (get_or g.steps k []) ≡ true → s.at.row < length rows → ArePriced format g rows (k + 1) s

@@ -1,5 +1,6 @@
 //! The layers that a certificate writes.
-ghost use Rattle.std.specs.Prelude.{◌≡◌};
+ghost use Rattle.std.specs.Prelude.{◌≡◌, if◌then◌else◌};
+ghost use Rattle.hm_steps.specs.Steps.{leaves_out};
 ghost use Rattle.hm_steps.specs.Prices as steps;
 ghost use Rattle.hm_check.specs.Steps.{count_over};
 
@@ -13,6 +14,13 @@ pub(crate) fn is_left_out(format: Format, k: usize, step: &Step) -> bool
     k != 0 && step.is_left_out(format)
 }
 
+/// How many of so many layers with this step are written, the first layer not among them.
+fn count_alike(format: Format, step: &Step, count: usize) -> usize
+    ensures { result ≡ (if leaves_out format step.now then 0 else count) }
+{
+    if step.is_left_out(format) { 0 } else { count }
+}
+
 /// How many layers are written.
 pub(crate) fn count_layers(graph: &Graph, format: Format) -> usize
     ensures { result ≡ count_over format 0 graph.now.steps }
@@ -20,11 +28,16 @@ pub(crate) fn count_layers(graph: &Graph, format: Format) -> usize
     graph.is_small();
     let mut count = 0;
     let mut layer = graph.first_layer();
-    for k in 0..graph.len() {
-        if !is_left_out(format, k, graph.step(layer)) {
+    while layer.layer < graph.len() {
+        if !is_left_out(format, layer.layer, graph.step(layer)) {
             count += 1;
         }
         layer = graph.next(layer);
+        if layer.layer < graph.len() {
+            let end = graph.next_alike(layer, graph.len() - layer.layer);
+            count += count_alike(format, graph.step(layer), end.layer - layer.layer);
+            layer = end;
+        }
     }
     count + 1
 }

@@ -6,6 +6,7 @@ mod checks;
 pub mod laws;
 mod layers;
 mod rows;
+mod still;
 mod sweep;
 mod trees;
 mod verdicts;

@@ -27,9 +27,10 @@ fn sweep(
 {
     let mut sweep = Sweep::at_end(alloc, graph, prices, format)?;
     let mut layer = graph.last_layer();
-    for k in (0..graph.len()).rev() {
+    while layer.layer > 0 {
         layer = graph.back(layer);
-        sweep.take_layer(graph, prices, format, k, graph.step(layer))?;
+        sweep.take_layer(graph, prices, format, layer.layer, graph.step(layer))?;
+        layer = sweep.go_on(graph, prices, format, layer)?;
     }
     Ok(sweep)
 }

@@ -1,17 +1,19 @@
 //! The prices of all layers, from the last layer on.
-ghost use Rattle.std.specs.Prelude.{◌≡◌, ◌<◌, ◌+◌, ◌^◌, true, false, [], length, map, slice_index_or, IfOk, OnOk};
+ghost use Rattle.std.specs.Prelude.{◌≡◌, ◌<◌, ◌≤◌, ◌+◌, ◌^◌, true, false, [], length, map, slice_index_or, IfOk, OnOk};
 ghost use Rattle.hm_cert.specs.Layout.{told};
-ghost use Rattle.hm_layers.specs.Graphs.{IsLowStep};
+ghost use Rattle.hm_graph.specs.Ways.{over};
+ghost use Rattle.hm_layers.specs.Graphs.{IsLowStep, IsPlace};
 ghost use Rattle.hm_steps.specs.Prices.{row_over};
 ghost use Rattle.hm_steps.specs.Prices as steps;
-ghost use Rattle.hm_check.specs.Sweeps.{AreBelow, AreInPlace, IsSwept, judged, judged_at_end};
+ghost use Rattle.hm_check.specs.Sweeps.{AreBelow, AreInPlace, IsBelow, IsSwept, judged, judged_at_end};
 
 use crate::Why;
 use crate::bounds::{best_price, find_high, find_high_at_end};
 use crate::layers::is_left_out;
+use crate::still::{are_still, first_len};
 use hm_base::Memory;
 use hm_cert::{Format, RowPlace, WrittenRows};
-use hm_layers::{Graph, Step};
+use hm_layers::{Cursor, Graph, Step};
 use std::alloc::Global;
 use std::mem;
 
@@ -35,14 +37,14 @@ pub(crate) struct Sweep {
     spare: Vec<u64>,
 }
 
-/// What is found with the row of layer `k` in front, by the prices behind.
-fn judge(found: Found, k: u64, row: &[u64], behind: &[u64], step: &Step) -> Found
-    requires below { found.right ≡ true → AreBelow (2 ^ 63 + 2 ^ 62) (map told behind.now) }
+/// Adds to what is found what is found of the row of layer `k` in front, by the prices behind.
+fn judge(found: &mut Found, k: u64, row: &[u64], behind: &[u64], step: &Step)
+    requires below { found.old.right ≡ true → AreBelow (2 ^ 63 + 2 ^ 62) (map told behind.now) }
     requires low { IsLowStep step.now }
-    ensures { result ≡ judged found k (map told row.now) (map told behind.now) step.now }
+    ensures { found.new ≡ judged found.old k (map told row.now) (map told behind.now) step.now }
 {
     if row.len() != step.width() {
-        return Found {
+        *found = Found {
             right: false,
             why: Some(Why::WrongWidth {
                 layer: k,
@@ -50,13 +52,13 @@ fn judge(found: Found, k: u64, row: &[u64], behind: &[u64], step: &Step) -> Foun
                 want: step.width() as u64,
             }),
         };
+        return;
     }
     if !found.right {
-        return found;
+        return;
     }
-    Found {
-        right: true,
-        why: find_high(k, row, behind, step).or(found.why),
+    if let Some(why) = find_high(k, row, behind, step) {
+        found.why = Some(why);
     }
 }
 
@@ -101,6 +103,28 @@ fn follow(behind: &mut Vec<u64>, spare: &mut Vec<u64>, step: &Step) -> Result<()
 {
     find_followed(behind, spare, step)?;
     mem::swap(behind, spare);
+    Ok(())
+}
+
+/// The price with so many bytes more.
+fn more(price: u64, len: u64) -> u64
+    requires below { IsBelow (2 ^ 63 + 2 ^ 62) (told price) }
+    requires low { len < 2 ^ 62 }
+    ensures { told result ≡ over len (told price) }
+{
+    len.saturating_add(price)
+}
+
+/// Puts these prices with so many bytes more in place of what the row held.
+fn add_each(prices: &[u64], len: u64, row: &mut Vec<u64>) -> Result<(), Memory>
+    requires below { AreBelow (2 ^ 63 + 2 ^ 62) (map told prices.now) }
+    requires low { len < 2 ^ 62 }
+    ensures { OnOk result (map told row.new.items ≡ map (over len) (map told prices.now)) }
+{
+    row.clear();
+    for i in 0..prices.len() {
+        row.push(more(prices[i], len))?;
+    }
     Ok(())
 }
 
@@ -166,8 +190,8 @@ impl Sweep {
     {
         graph.is_small();
         self.at = prices.row_before(self.at, &mut self.spare)?;
-        self.found = judge(
-            self.found,
+        judge(
+            &mut self.found,
             k as u64,
             self.spare.as_slice(),
             self.behind.as_slice(),
@@ -197,5 +221,52 @@ impl Sweep {
         } else {
             self.read_layer(graph, prices, format, k, step)
         }
+    }
+
+    /// Adds so many bytes to each price.
+    fn add(&mut self, len: u64) -> Result<(), Memory>
+        requires below { AreBelow (2 ^ 63 + 2 ^ 62) (map told self.old.behind.items) }
+        requires low { len < 2 ^ 62 }
+        ensures at { self.new.at ≡ self.old.at }
+        ensures found { self.new.found ≡ self.old.found }
+        ensures behind { OnOk result (map told self.new.behind.items ≡ map (over len) (map told self.old.behind.items)) }
+    {
+        add_each(&self.behind, len, &mut self.spare)?;
+        mem::swap(&mut self.behind, &mut self.spare);
+        Ok(())
+    }
+
+    /// Goes on over layers in front of one that have the same step, where no state changes its place and none is written, but
+    /// not to the first layer.
+    pub(crate) fn go_on(
+        &mut self,
+        graph: &Graph,
+        prices: &WrittenRows<'_>,
+        format: Format,
+        at: Cursor,
+    ) -> Result<Cursor, Memory>
+        requires place { IsPlace graph.now at }
+        requires inside { at.layer < length graph.now.steps }
+        requires swept { IsSwept format graph.now prices.now at.layer self.old }
+        ensures place { IfOk result (λ front. IsPlace graph.now front) }
+        ensures layer { IfOk result (λ front. front.layer ≤ at.layer) }
+        ensures swept { IfOk result (λ front. IsSwept format graph.now prices.now front.layer self.new) }
+    {
+        if at.layer == 0 || !self.found.right {
+            return Ok(at);
+        }
+        let front = graph.back_alike(at, at.layer - 1);
+        let step = graph.step(at);
+        if front.layer == at.layer || !step.is_left_out(format) {
+            return Ok(at);
+        }
+        graph.is_small();
+        let len = first_len(step);
+        if self.behind.len() != step.width() || !are_still(step, len) {
+            return Ok(at);
+        }
+        let count = (at.layer - front.layer) as u64;
+        self.add(count * len)?;
+        Ok(front)
     }
 }

@@ -3,3 +3,4 @@ pub mod Rows
 pub mod FirstWays
 pub mod Written
 pub mod Keeping
+pub mod Still

@@ -3,3 +3,4 @@ pub mod Prices
 pub mod Ways
 pub mod Fits
 pub mod Laws
+pub mod Still

@@ -1,12 +1,14 @@
-use Rattle.std.proofs.Common.{◌≡◌, ◌+◌, ◌≤◌, drop}
+use Rattle.std.proofs.Common.{◌-◌, ◌≤◌, length}
 use Rattle.hm_layers.specs.Graphs.{IsPlace}
-use Rattle.hm_check.specs.Steps.{count_over}
+use Rattle.hm_check.proofs.Counting.{AreCounted}
 use Rattle.hm_check.proofs.layers.count_layers.Given as goal
 
-abbrev pub invariant-loop-k : goal.invariant-loop-k
-invariant-loop-k l = record {
+abbrev pub invariant-loop-layer : goal.invariant-loop-layer
+invariant-loop-layer l = record {
   place : IsPlace l.graph l.layer;
-  layer : l.layer.layer ≡ l.k;
-  few : l.count ≤ l.k;
-  counted : l.count + count_over l.format l.k (drop l.k l.graph.steps) ≡ count_over l.format 0 l.graph.steps;
+  within : l.layer.layer ≤ length l.graph.steps;
+  counted : AreCounted l.format l.graph.steps l.layer.layer l.count;
 }
+
+abbrev pub decreases-loop-layer : goal.decreases-loop-layer
+decreases-loop-layer l = length l.graph.steps - l.layer.layer

@@ -1,11 +1,14 @@
-use Rattle.std.proofs.Common.{◌≡◌}
+use Rattle.std.proofs.Common.{◌≤◌, length}
 use Rattle.hm_layers.specs.Graphs.{IsPlace}
 use Rattle.hm_check.specs.Sweeps.{IsSwept}
 use Rattle.hm_check.proofs.rows.sweep.Given as goal
 
-abbrev pub invariant-loop-k : goal.invariant-loop-k
-invariant-loop-k l = record {
-  swept : IsSwept l.format l.graph l.prices l.k l.sweep;
+abbrev pub invariant-loop-layer : goal.invariant-loop-layer
+invariant-loop-layer l = record {
+  swept : IsSwept l.format l.graph l.prices l.layer.layer l.sweep;
   place : IsPlace l.graph l.layer;
-  layer : l.layer.layer ≡ l.k;
+  within : l.layer.layer ≤ length l.graph.steps;
 }
+
+abbrev pub decreases-loop-layer : goal.decreases-loop-layer
+decreases-loop-layer l = l.layer.layer

@@ -1,0 +1,12 @@
+use Rattle.std.proofs.Common.{◌≡◌, ◌-◌, length}
+use Rattle.hm_cert.proofs.BackNumbers.{IsBehind}
+use Rattle.hm_cert.proofs.short.back_number.Given as goal
+
+abbrev pub invariant-loop-at : goal.invariant-loop-at
+invariant-loop-at l = record {
+  behind : IsBehind l.text l.at l.number l.power;
+  low : l.low ≡ length l.text - 18;
+}
+
+abbrev pub decreases-loop-at : goal.decreases-loop-at
+decreases-loop-at l = l.at - l.low

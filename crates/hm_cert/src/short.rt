@@ -1,0 +1,143 @@
+//! Lines of prices of few digits, judged from their front and read from their end.
+ghost use Rattle.std.specs.Prelude.{◌≡◌, ◌<◌, length, map, IfOk, IfSome};
+ghost use Rattle.hm_cert.specs.Certificate.{IsPrice, price_text};
+ghost use Rattle.hm_cert.specs.Layout.{told};
+ghost use Rattle.hm_cert.specs.Short.{AreDigits, IsBackTo, IsLastPrice, IsShortLine, IsShortRow, IsShortWord};
+
+use crate::lines::has_number_form;
+use crate::prices::CLOSED;
+use hm_base::Memory;
+
+/// How many digits a text begins with.
+fn count_digits(text: &[u8]) -> usize
+    ensures { AreDigits text.now result }
+{
+    for (len, byte) in text.iter().enumerate() {
+        if !byte.is_ascii_digit() {
+            return len;
+        }
+    }
+    text.len()
+}
+
+/// The length of a closed price in bytes, where a text begins with one and something is behind.
+fn closed_word(text: &[u8]) -> Option<usize>
+    ensures { IfSome result (IsShortWord text.now) }
+{
+    match text {
+        [b'-', _, ..] => Some(1),
+        _ => None,
+    }
+}
+
+/// The length of a price in bytes, where a text begins with one, it is closed or has at most 18 digits, and something is
+/// behind.
+fn short_word(text: &[u8]) -> Option<usize>
+    ensures { IfSome result (IsShortWord text.now) }
+{
+    let len = count_digits(text);
+    if !has_number_form(&text[..len]) {
+        return closed_word(text);
+    }
+    if len > 18 {
+        return None;
+    }
+    if len == text.len() {
+        return None;
+    }
+    Some(len)
+}
+
+/// Where the first line of a text ends, in bytes, where each of its words is such a price.
+pub(crate) fn short_line(text: &[u8]) -> Option<usize>
+    ensures { IfSome result (IsShortLine text.now) }
+{
+    let mut at = 0;
+    while let Some(len) = short_word(&text[at..]) {
+        let end = at + len;
+        if text[end] == b'\n' {
+            return Some(end);
+        }
+        if text[end] != b' ' {
+            return None;
+        }
+        at = end + 1;
+    }
+    None
+}
+
+/// The number that the digits at the end of a text write, of at most 18, and where they begin.
+fn back_number(text: &[u8]) -> (u64, usize)
+    ensures { IsBackTo text.now result.1 result.0 }
+{
+    let low = text.len().saturating_sub(18);
+    let mut number: u64 = 0;
+    let mut power: u64 = 1;
+    let mut at = text.len();
+    while at > low {
+        let byte = text[at - 1];
+        if !byte.is_ascii_digit() {
+            return (number, at);
+        }
+        number += u64::from(byte - b'0') * power;
+        power *= 10;
+        at -= 1;
+    }
+    (number, at)
+}
+
+/// The price that a text ends with and where it begins, where it is closed or has at most 18 digits.
+fn back_price(text: &[u8]) -> Option<(u64, usize)>
+    ensures { IfSome result (λ found. IsLastPrice text.now found.1 found.0) }
+{
+    let (number, at) = back_number(text);
+    if has_number_form(&text[at..]) {
+        return Some((number, at));
+    }
+    match text {
+        [.., b'-'] => Some((CLOSED, text.len() - 1)),
+        _ => None,
+    }
+}
+
+/// As `back_price`, where a word and the price whose text it is are known: in a row they often come again.
+fn back_price_like(text: &[u8], word: &[u8], price: u64) -> Option<(u64, usize)>
+    requires can { IsPrice (told price) }
+    requires word { word.now ≡ price_text (told price) }
+    ensures { IfSome result (λ found. IsLastPrice text.now found.1 found.0) }
+{
+    if text.ends_with(word) {
+        return Some((price, text.len() - word.len()));
+    }
+    back_price(text)
+}
+
+/// Reads the row whose line ends at a place into a list, in place of what is there, a closed price as `CLOSED`, and gives
+/// where the line begins, where each price is closed or has at most 18 digits.
+pub(crate) fn short_row_before(
+    text: &[u8],
+    end: usize,
+    into: &mut Vec<u64>,
+) -> Result<Option<usize>, Memory>
+    requires { end < length text.now }
+    ensures { IfOk result (λ found. IfSome found (IsShortRow text.now end (map told into.new.items))) }
+{
+    into.clear();
+    let mut front = end;
+    let mut word = b"-".as_slice();
+    let mut price = CLOSED;
+    while let Some((next, at)) = back_price_like(&text[..front], word, price) {
+        into.push(next)?;
+        if at == 0 || text[at - 1] == b'\n' {
+            into.reverse();
+            return Ok(Some(at));
+        }
+        if text[at - 1] != b' ' {
+            return Ok(None);
+        }
+        word = &text[at..front];
+        price = next;
+        front = at - 1;
+    }
+    Ok(None)
+}

@@ -34,6 +34,7 @@ struct Way<'c> {
 }
 
 /// The choices behind the step of a layer, and those in front of it.
+#[inline(always)]
 fn cut_choices<'c>(choices: &'c [u8], graph: &Graph, at: Cursor) -> (&'c [u8], &'c [u8])
     requires place { IsPlace graph.now at }
     requires inside { at.layer < length graph.now.steps }
@@ -49,6 +50,7 @@ fn cut_choices<'c>(choices: &'c [u8], graph: &Graph, at: Cursor) -> (&'c [u8], &
 }
 
 /// The choice for a place: 0 where there is nothing to choose.
+#[inline(always)]
 fn choice_at(choices: &[u8], place: usize) -> usize
     ensures { result ≡ slice_index choices.now place }
 {
@@ -59,6 +61,7 @@ fn choice_at(choices: &[u8], place: usize) -> usize
 }
 
 /// The hop at a place.
+#[inline(always)]
 fn hop_at(hops: &[Hop], place: usize) -> Option<Hop>
     ensures { result ≡ slice_get hops.now place }
 {
@@ -69,6 +72,7 @@ fn hop_at(hops: &[Hop], place: usize) -> Option<Hop>
 }
 
 /// The hop that is taken from a place, by the choices in front of the step.
+#[inline(always)]
 fn taken_at(step: &Step, choices: &[u8], place: usize) -> Option<Hop>
     ensures taken { (behind : Row) → choices.now ≡ step_choices behind step.now → result ≡ hop_taken behind step.now place }
     ensures named { (t : List Entry) → IsNamedStep t step.now → IfSome result (λ hop. HasName t hop.piece) }
@@ -83,6 +87,7 @@ fn taken_at(step: &Step, choices: &[u8], place: usize) -> Option<Hop>
 }
 
 /// The hop that is taken, where the way hasn't ended.
+#[inline(always)]
 fn next_hop(step: &Step, choices: &[u8], place: Option<usize>) -> Option<Hop>
     ensures taken { (behind : Row) → choices.now ≡ step_choices behind step.now → result ≡ option_and_then (hop_taken behind step.now) place }
     ensures named { (t : List Entry) → IsNamedStep t step.now → IfSome result (λ hop. HasName t hop.piece) }
@@ -94,6 +99,7 @@ fn next_hop(step: &Step, choices: &[u8], place: Option<usize>) -> Option<Hop>
 }
 
 /// Writes what a hop writes of a unit, and gives the place that it leads to.
+#[inline(always)]
 fn put_hop(
     out: &mut Vec<u8>,
     table: &Table,
@@ -131,6 +137,7 @@ fn take(way: &mut Way, graph: &Graph, table: &Table, own: Own) -> Result<(), Mem
 }
 
 /// Whether there is one hop, which copies one byte and leads to this place.
+#[inline(always)]
 fn copies(hops: &[Hop], place: usize) -> bool
     ensures { IsTrue result → Copies place hops.now }
 {

@@ -20,7 +20,19 @@ pub enum Own<'t> {
 }
 
 /// Appends the bytes that a piece writes for a unit. Where memory is refused, a part may have been appended.
+#[inline(always)]
 pub fn put_piece(out: &mut Vec<u8>, table: &Table, piece: Piece, own: Own) -> Result<(), Memory>
+    requires { HasName table.now.entries piece }
+    ensures { OnOk result (out.new.items ≡ out.old.items ++ piece_text table.now.entries (own_text own.entry) piece) }
+{
+    match piece {
+        Piece::Itself => put_own(out, own),
+        other => put_other(out, table, other, own),
+    }
+}
+
+/// Appends the bytes that a piece writes for a unit, whichever it is.
+fn put_other(out: &mut Vec<u8>, table: &Table, piece: Piece, own: Own) -> Result<(), Memory>
     requires { HasName table.now.entries piece }
     ensures { OnOk result (out.new.items ≡ out.old.items ++ piece_text table.now.entries (own_text own.entry) piece) }
 {
@@ -56,6 +68,7 @@ fn put_where(out: &mut Vec<u8>, wanted: bool, bytes: &[u8]) -> Result<(), Memory
 }
 
 /// Appends what a unit has of its own.
+#[inline(always)]
 fn put_own(out: &mut Vec<u8>, own: Own) -> Result<(), Memory>
     ensures { OnOk result (out.new.items ≡ out.old.items ++ own_text own.entry) }
 {
@@ -74,6 +87,7 @@ fn put_comment(out: &mut Vec<u8>, text: &str) -> Result<(), Memory>
     put(out, b"-->")
 }
 
+#[inline(always)]
 fn put_character(out: &mut Vec<u8>, c: char) -> Result<(), Memory>
     ensures { OnOk result (out.new.items ≡ out.old.items ++ encode_utf8 c) }
 {

@@ -213,6 +213,21 @@ impl Back {
         Ok(())
     }
 
+    /// Goes over the best hop of a step of one state.
+    fn choose(&mut self, step: &Step) -> Result<(), Memory>
+        requires one { length step.now ≡ 1 }
+        requires below { AreBelow (2 ^ 62) (map told self.old.row.items) }
+        requires low { IsLowStep step.now }
+        ensures text { self.new.text ≡ self.old.text }
+        ensures choices { OnOk result (self.new.choices.items ≡ self.old.choices.items ++ step_choices (map told self.old.row.items) step.now) }
+        ensures row { OnOk result (map told self.new.row.items ≡ row_over (map told self.old.row.items) step.now) }
+    {
+        let best = find_best(step.hops(0), &self.row);
+        self.row.clear();
+        self.row.push(best.price)?;
+        put_choice(&mut self.choices, step.is_forced(), best.place)
+    }
+
     /// Goes to the layer in front of this step, without its line.
     fn pass(&mut self, step: &Step) -> Result<(), Memory>
         requires below { AreBelow (2 ^ 62) (map told self.old.row.items) }
@@ -221,10 +236,13 @@ impl Back {
         ensures choices { OnOk result (self.new.choices.items ≡ self.old.choices.items ++ step_choices (map told self.old.row.items) step.now) }
         ensures row { OnOk result (map told self.new.row.items ≡ row_over (map told self.old.row.items) step.now) }
     {
-        match step.only() {
-            Some(hop) => self.follow(hop),
-            None => self.find(step),
+        if let Some(hop) = step.only() {
+            return self.follow(hop);
         }
+        if step.width() == 1 {
+            return self.choose(step);
+        }
+        self.find(step)
     }
 
     /// Goes to layer `k`, the one in front of this step.
@@ -332,8 +350,11 @@ fn go_on(back: &mut Back, graph: &Graph, format: Format, at: Cursor) -> Result<C
         return Ok(at);
     }
     let front = graph.back_alike(at, at.layer - 1);
+    if front.layer == at.layer {
+        return Ok(at);
+    }
     let step = graph.step(at);
-    if front.layer == at.layer || !step.is_left_out(format) {
+    if !step.is_left_out(format) {
         return Ok(at);
     }
     graph.is_small();

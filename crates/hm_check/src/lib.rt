@@ -6,7 +6,6 @@ mod checks;
 pub mod laws;
 mod layers;
 mod rows;
-mod still;
 mod sweep;
 mod trees;
 mod verdicts;

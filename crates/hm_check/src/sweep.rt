@@ -10,10 +10,9 @@ ghost use Rattle.hm_check.specs.Sweeps.{AreBelow, AreInPlace, IsBelow, IsSwept, 
 use crate::Why;
 use crate::bounds::{best_price, find_high, find_high_at_end};
 use crate::layers::is_left_out;
-use crate::still::{are_still, first_len};
 use hm_base::Memory;
 use hm_cert::{Format, RowPlace, WrittenRows};
-use hm_layers::{Cursor, Graph, Step};
+use hm_layers::{Cursor, Graph, Step, are_still, first_len};
 use std::alloc::Global;
 use std::mem;
 

@@ -13,8 +13,10 @@ mod outdone;
 mod pairs;
 mod rules;
 mod step;
+mod still;
 #[cfg(test)]
 mod tests;
 
 pub use graph::{Cursor, Graph};
 pub use step::Step;
+pub use still::{are_still, first_len};

@@ -2,4 +2,3 @@ pub mod Own
 pub mod Paths
 pub mod Plans
 pub mod Rows
-pub mod Still

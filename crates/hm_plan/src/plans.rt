@@ -9,11 +9,10 @@ ghost use Rattle.hm_steps.specs.Prices as prices;
 ghost use Rattle.hm_steps.specs.Ways.{choice, step_choices};
 ghost use Rattle.hm_plan.specs.Plans.{IsFound, IsPlan};
 ghost use Rattle.hm_plan.specs.Rows.{AreBelow, IsBelow};
-ghost use Rattle.hm_plan.specs.Still.{AreStill, Stays};
 
 use hm_base::{Memory, SpellRules};
 use hm_cert::{CLOSED, Format, put_head_reversed, put_line_reversed};
-use hm_layers::{Cursor, Graph, Step};
+use hm_layers::{Cursor, Graph, Step, are_still, first_len};
 use hm_steps::Hop;
 use std::alloc::Global;
 use std::mem;
@@ -290,50 +289,6 @@ impl Back {
             first,
         })
     }
-}
-
-/// Whether there is one hop, of this length, to this place.
-fn stays(hops: &[Hop], place: usize, len: u64) -> bool
-    ensures { IsTrue result → Stays len place hops.now }
-{
-    match hops {
-        [hop] => hop.len == len && hop.to == place,
-        _ => false,
-    }
-}
-
-/// Whether each state has one hop, of this length, to its own place.
-fn are_still(step: &Step, len: u64) -> bool
-    ensures { IsTrue result → AreStill len step.now }
-{
-    for place in 0..step.width() {
-        if !stays(step.hops(place), place, len) {
-            return false;
-        }
-    }
-    true
-}
-
-/// The length of the first hop, 0 where there is none.
-fn len_of(hops: &[Hop]) -> u64
-    requires { AreLowHops hops.now }
-    ensures { result < 2 ^ 33 }
-{
-    match hops {
-        [hop, ..] => hop.len,
-        [] => 0,
-    }
-}
-
-/// The length of the first hop of the first state, 0 where there is none.
-fn first_len(step: &Step) -> u64
-    requires { IsLowStep step.now }
-    ensures { result < 2 ^ 33 }
-{
-    if step.width() == 0 {
-        return 0;
-    }
-    len_of(step.hops(0))
 }
 
 /// Goes on over layers in front of one that have the same step, where no state changes its place and none is written, but

@@ -3,7 +3,7 @@ use Rattle.hm_cert.specs.Layout.{told}
 use Rattle.hm_layers.specs.Graphs.{IsLowStep}
 use Rattle.hm_steps.specs.Steps.{leaves_out}
 use Rattle.hm_plan.specs.Rows.{AreBelow}
-use Rattle.hm_plan.specs.Still.{AreStill}
+use Rattle.hm_steps.specs.Still.{AreStill}
 use Rattle.hm_plan.proofs.Alike.{along_found}
 use Rattle.hm_plan.proofs.FromLast.{low_step, prices_below}
 use Rattle.hm_plan.proofs.plans.go_on.Goals as goal

@@ -1,7 +1,7 @@
 use Rattle.std.proofs.Common.{[], get_or, refl, subst, arith}
 use borrow.Author.Count.{below_none, below_more}
-use Rattle.hm_plan.specs.Still.{Stays}
-use Rattle.hm_plan.proofs.plans.are_still.Goals as goal
+use Rattle.hm_steps.specs.Still.{Stays}
+use Rattle.hm_layers.proofs.still.are_still.Goals as goal
 
 pub loop-place-init : goal.loop-place-init
 loop-place-init c = below_none (λ p. Stays c.args.len p (get_or c.args.step.now p []))

@@ -3,7 +3,7 @@ ghost use Rattle.std.specs.Prelude.{◌<◌, ◌^◌, IsTrue};
 ghost use Rattle.hm_layers.specs.Graphs.{AreLowHops, IsLowStep};
 ghost use Rattle.hm_steps.specs.Still.{AreStill, Stays};
 
-use hm_layers::Step;
+use crate::Step;
 use hm_steps::Hop;
 
 /// Whether there is one hop, of this length, to this place.
@@ -17,7 +17,7 @@ fn stays(hops: &[Hop], place: usize, len: u64) -> bool
 }
 
 /// Whether each state has one hop, of this length in bytes, to its own place.
-pub(crate) fn are_still(step: &Step, len: u64) -> bool
+pub fn are_still(step: &Step, len: u64) -> bool
     ensures { IsTrue result → AreStill len step.now }
 {
     for place in 0..step.width() {
@@ -40,7 +40,7 @@ fn len_of(hops: &[Hop]) -> u64
 }
 
 /// The length of the first hop of the first state in bytes, 0 where there is none.
-pub(crate) fn first_len(step: &Step) -> u64
+pub fn first_len(step: &Step) -> u64
     requires { IsLowStep step.now }
     ensures { result < 2 ^ 33 }
 {

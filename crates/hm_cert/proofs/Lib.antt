@@ -6,7 +6,6 @@ pub mod RuleLines
 pub mod LineRows
 pub mod Before
 pub mod Written
-pub mod ShortPrices
 pub mod ShortLines
 pub mod Read
 pub mod BackNumbers

@@ -227,52 +227,6 @@ pub(crate) fn read_row(line: &[u8], into: &mut Vec<u64>) -> Result<bool, Memory>
 fn first_price(line: &[u8]) -> Option<First<'_>>
     ensures { MatchOption result (IsNoFirst line.now) (IsFirst line.now) }
 {
-    match short_price(line) {
-        Some(first) => Some(first),
-        None => any_price(line),
-    }
-}
-
-/// The price that a line begins with, where it is the number of at most 18 digits.
-fn short_price(line: &[u8]) -> Option<First<'_>>
-    ensures { IfSome result (IsFirst line.now) }
-{
-    let (price, len) = front_number(&line[..line.len().min(18)]);
-    if !has_number_form(&line[..len]) {
-        return None;
-    }
-    if len == line.len() {
-        return Some(First { price, more: None });
-    }
-    if line[len] != b' ' {
-        return None;
-    }
-    Some(First {
-        price,
-        more: Some(&line[len + 1..]),
-    })
-}
-
-/// The number that the digits in front of at most 18 bytes write, and how many they are.
-fn front_number(text: &[u8]) -> (u64, usize)
-    requires { length text.now ≤ 18 }
-    ensures within { result.1 ≤ length text.now }
-    ensures number { IsUpTo text.now result.1 result.0 }
-{
-    let mut number: u64 = 0;
-    for (len, byte) in text.iter().enumerate() {
-        if !byte.is_ascii_digit() {
-            return (number, len);
-        }
-        number = number * 10 + u64::from(*byte - b'0');
-    }
-    (number, text.len())
-}
-
-/// The price whose text the first word of a line is, whatever its form.
-fn any_price(line: &[u8]) -> Option<First<'_>>
-    ensures { MatchOption result (IsNoFirst line.now) (IsFirst line.now) }
-{
     match cut(line, b' ') {
         Some((word, more)) => match read_price(word) {
             Some(price) => Some(First {

@@ -202,7 +202,6 @@ fn spells_a_return_by_its_number(rt: HostRuntime) -> Result<(), Fail> {
     let table = Table::read(rt.alloc(), NONE.as_bytes())?;
     let mut edges = Vec::new(rt.alloc());
     let unit = character(TextKind::Text, '\r', None, false);
-    let foreign = character(TextKind::Foreign, '\r', None, true);
     let from = State {
         at: Where::Outside,
         pending: Pending::Nothing,
@@ -226,8 +225,6 @@ fn spells_a_return_by_its_number(rt: HostRuntime) -> Result<(), Fail> {
             Pending::Nothing,
         ),
     ];
-    assert!(rt; are_same(&edges, &wanted));
-    find_edges(&table, RULES, foreign, from, &mut edges)?;
     assert!(rt; are_same(&edges, &wanted));
     Ok(())
 }

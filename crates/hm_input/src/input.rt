@@ -84,7 +84,7 @@ pub fn load_tree<S: Store>(
 
 /// What a table and a page that is made give.
 #[derive(Drop)]
-pub struct Made {
+pub struct MadeInput {
     pub input: Input,
     /// How many bytes the page has.
     pub bytes: usize,
@@ -99,7 +99,7 @@ pub fn make_tree<S: Store>(
     number: u32,
     size: u32,
     options: &TreeOptions,
-) -> Result<Made, Unread>
+) -> Result<MadeInput, Unread>
     ensures ok { IfOk result (λ made. IsMadeInput (S.files store.old) table.now number size options.now (inputs.tree made.input.table.entries made.input.tree)) }
     ensures bytes { IfOk result (λ made. made.bytes ≡ length (made_page number size)) }
     ensures settled { IfOk result (λ made. Settled made.input.tree) }
@@ -118,7 +118,7 @@ pub fn make_tree<S: Store>(
         Err(unread) => return Err(unread),
     };
     match read_tree(alloc, text, &table, options) {
-        Ok(tree) => Ok(Made {
+        Ok(tree) => Ok(MadeInput {
             input: Input { table, tree },
             bytes,
         }),

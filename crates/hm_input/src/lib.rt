@@ -6,6 +6,6 @@ mod loads;
 mod made;
 mod unread;
 
-pub use input::{Input, Made, load_tree, make_tree};
+pub use input::{Input, MadeInput, load_tree, make_tree};
 pub use loads::load_bytes;
 pub use unread::Unread;

@@ -17,7 +17,7 @@ use crate::work::format_of;
 use hm_base::{OUTPUT_LIMIT, TreeOptions};
 use hm_cert::{Certificate, CertificateFault};
 use hm_check::{Verdict, check};
-use hm_input::{Input, Made, Unread, make_tree};
+use hm_input::{Input, MadeInput, Unread, make_tree};
 use hm_refs::laws::every_table;
 use hm_shortest::{Minified, minify_tree};
 use hm_store::Store;
@@ -61,7 +61,7 @@ fn check_minified(
 }
 
 /// Writes the tree of a page that was made shortest, and checks that.
-fn measure_tree<'w>(alloc: Global, made: &Made, writing: Writing) -> Result<Ended<'w>, Stop>
+fn measure_tree<'w>(alloc: Global, made: &MadeInput, writing: Writing) -> Result<Ended<'w>, Stop>
     requires settled { Settled made.now.input.tree }
     ensures ended { IfOk result (λ ended. ended ≡ spec.measured_ending made.now.bytes writing made.now.input.table.entries made.now.input.tree) }
     ensures answers { IfOk result (λ ended. spec.is_fault ended.status ≡ false) }

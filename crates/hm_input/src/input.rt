@@ -20,20 +20,18 @@ use hm_store::Store;
 use hm_tree::Tree;
 use std::alloc::Global;
 
-/// The tree of a page's text, after the rewrites that are asked for. The text is given back before them.
+/// The tree of a page's text, after the rewrites that are asked for.
 fn read_tree(
     alloc: Global,
-    text: SourceText,
+    text: &SourceText,
     table: &Table,
     options: &TreeOptions,
 ) -> Result<Tree, Unread>
-    ensures ok { IfOk result (IsTreeRead table.now.entries text options.now) }
+    ensures ok { IfOk result (IsTreeRead table.now.entries text.now options.now) }
     ensures settled { IfOk result (λ tree. Settled tree) }
-    ensures err { IfErr result (NoTreeRead table.now.entries text) }
+    ensures err { IfErr result (NoTreeRead table.now.entries text.now) }
 {
-    let parsed = parse(alloc, &text, table);
-    drop(text);
-    match parsed {
+    match parse(alloc, text, table) {
         Ok(tree) => match rewrite(alloc, tree, options) {
             Ok(tree) => Ok(tree),
             Err(Memory) => Err(Unread::Memory),
@@ -76,7 +74,7 @@ pub fn load_tree<S: Store>(
         Ok(text) => text,
         Err(unread) => return Err(unread),
     };
-    match read_tree(alloc, text, &table, options) {
+    match read_tree(alloc, &text, &table, options) {
         Ok(tree) => Ok(Input { table, tree }),
         Err(unread) => Err(unread),
     }
@@ -117,7 +115,7 @@ pub fn make_tree<S: Store>(
         Ok(made) => made,
         Err(unread) => return Err(unread),
     };
-    match read_tree(alloc, text, &table, options) {
+    match read_tree(alloc, &text, &table, options) {
         Ok(tree) => Ok(MadeInput {
             input: Input { table, tree },
             bytes,

@@ -13,6 +13,9 @@ use std::marker::Model;
 use std::str;
 use thiserror::Error;
 
+// What is left of a text when its memory is given back.
+const FEW_BYTES: usize = 4096;
+
 /// Why a page has no text. Places count bytes of the page.
 #[derive(Clone, Copy, Debug, PartialEq, Eq, Error)]
 pub enum TextFault {
@@ -120,6 +123,16 @@ impl SourceText {
     {
         let before = self.pairs.partition_point(|pair| *pair < index);
         start_of(self.has_mark) + index + before as u32
+    }
+
+    /// Gives the memory back.
+    ///
+    /// The C library's allocator takes every block up to the size of the largest that was given back to it whole from its heap
+    /// from then on, where a long list can't grow in place. So a long text is cut short where it stands, and then let go.
+    pub fn release(self) {
+        let mut text = self.text;
+        text.clear();
+        text.shrink_to(FEW_BYTES);
     }
 
     // The text of a page that is UTF-8.

@@ -9,16 +9,16 @@ use Rattle.hm_tree.specs.Trees.{innermost, end_of}
 use Rattle.hm_tree.specs.Pieces.{HasPieces, IsPiece, bytes_of}
 use Rattle.hm_tree.specs.Rows.{IsTable, event_at, events_of}
 use Rattle.hm_tree.specs.declared.pieces.AttributePieces.{AttributePieces}
-use Rattle.hm_tree.specs.declared.pieces.Piece.{Piece}
+use Rattle.hm_tree.specs.declared.pieces.TextPiece.{TextPiece}
 use Rattle.hm_tree.specs.declared.appended.AttrsRange.{AttrsRange}
-use Rattle.hm_tree.specs.declared.rows.Part.{Part}
-use Rattle.hm_tree.specs.declared.rows.Part.TheVariants as parts
-use Rattle.hm_tree.specs.declared.rows.Row.{Row}
+use Rattle.hm_tree.specs.declared.rows.RowPart.{RowPart}
+use Rattle.hm_tree.specs.declared.rows.RowPart.TheVariants as parts
+use Rattle.hm_tree.specs.declared.rows.EventRow.{EventRow}
 use Rattle.hm_tree.proofs.OpenLemmas.{IsInnermost, innermost-IsInnermost}
 use Rattle.hm_tree.proofs.PieceLemmas.{IsUtf8-bytes_of}
 use Rattle.hm_tree.proofs.TableLemmas.{IsTableOf, IsTableOf-push, row_within, part_event, part_inside}
 
-module _ (s : List ℕ) (pieces : List AttributePieces) (rows : List Row) (w : List Event) (view : events_of s pieces rows ≡ w) (k : ℕ) (open_start : Some k ≡ innermost w) where
+module _ (s : List ℕ) (pieces : List AttributePieces) (rows : List EventRow) (w : List Event) (view : events_of s pieces rows ≡ w) (k : ℕ) (open_start : Some k ≡ innermost w) where
   around : IsInnermost w k
   around = innermost-IsInnermost w k open_start
 
@@ -29,14 +29,14 @@ module _ (s : List ℕ) (pieces : List AttributePieces) (rows : List Row) (w : L
   pub start_within : k < length rows
   start_within = row_within s pieces rows w view k within
 
-  module _ (table : IsTable s pieces rows) (r : Row) (is : r ≡ get_or rows k r) where
-    same_event : (part : Part) → r.part ≡ part → event_at s pieces part ≡ start around.element.name around.element.foreign around.start.attributes
+  module _ (table : IsTable s pieces rows) (r : EventRow) (is : r ≡ get_or rows k r) where
+    same_event : (part : RowPart) → r.part ≡ part → event_at s pieces part ≡ start around.element.name around.element.foreign around.start.attributes
     same_event part e =
         let both : Some (event_at s pieces part) ≡ Some (start around.element.name around.element.foreign around.start.attributes) =
         sym (part_event s pieces rows w view k within table r is part e) ∙ around.start.at in
         cc
 
-    by_part : (part : Part) → r.part ≡ part → ((foreign : Bool) (name : Piece) (attrs : AttrsRange) → r.part ≡ parts.Start foreign name attrs → ⊥) → ⊥
+    by_part : (part : RowPart) → r.part ≡ part → ((foreign : Bool) (name : TextPiece) (attrs : AttrsRange) → r.part ≡ parts.Start foreign name attrs → ⊥) → ⊥
     by_part (parts.Doctype legacy) e other = let h = same_event (parts.Doctype legacy) e in cc
     by_part (parts.Start foreign name attrs) e other = other foreign name attrs e
     by_part (parts.Text p raw) e other = let h = same_event (parts.Text p raw) e in cc
@@ -44,10 +44,10 @@ module _ (s : List ℕ) (pieces : List AttributePieces) (rows : List Row) (w : L
     by_part (parts.End name foreign) e other = let h = same_event (parts.End name foreign) e in cc
 
     -- which is that of a start
-    pub start_row : ((foreign : Bool) (name : Piece) (attrs : AttrsRange) → r.part ≡ parts.Start foreign name attrs → ⊥) → ⊥
+    pub start_row : ((foreign : Bool) (name : TextPiece) (attrs : AttrsRange) → r.part ≡ parts.Start foreign name attrs → ⊥) → ⊥
     start_row other = by_part r.part refl other
 
-    module _ (foreign : Bool) (name : Piece) (attrs : AttrsRange) (part : r.part ≡ parts.Start foreign name attrs) (utf8 : IsUtf8 s) (room : length w + 1 < 2 ^ 29) where
+    module _ (foreign : Bool) (name : TextPiece) (attrs : AttrsRange) (part : r.part ≡ parts.Start foreign name attrs) (utf8 : IsUtf8 s) (room : length w + 1 < 2 ^ 29) where
       names : bytes_of s name ≡ around.element.name
       names = let h = same_event (parts.Start foreign name attrs) part in cc
 

@@ -12,11 +12,11 @@ use Rattle.hm_tree.specs.Attributes.{are_texts}
 use Rattle.hm_tree.specs.Pieces.{HasPieces, IsPiece, IsShown, attributes_in, bytes_of}
 use Rattle.hm_tree.specs.Rows.{IsRange, IsInside, AreInside, ReachesEnd, LastReachesEnd, IsTable, event_at, events_of, parents_from}
 use Rattle.hm_tree.specs.declared.pieces.AttributePieces.{AttributePieces}
-use Rattle.hm_tree.specs.declared.pieces.Piece.{Piece}
+use Rattle.hm_tree.specs.declared.pieces.TextPiece.{TextPiece}
 use Rattle.hm_tree.specs.declared.appended.AttrsRange.{AttrsRange}
-use Rattle.hm_tree.specs.declared.rows.Part.{Part}
-use Rattle.hm_tree.specs.declared.rows.Part.TheVariants as parts
-use Rattle.hm_tree.specs.declared.rows.Row.{Row}
+use Rattle.hm_tree.specs.declared.rows.RowPart.{RowPart}
+use Rattle.hm_tree.specs.declared.rows.RowPart.TheVariants as parts
+use Rattle.hm_tree.specs.declared.rows.EventRow.{EventRow}
 use Rattle.hm_tree.proofs.PieceLemmas.{IsPiece-append, IsPiece-longer, bytes_of-append, bytes_of-longer}
 use Rattle.hm_tree.proofs.ShownLemmas.{All-slice_range, HasPieces-append, attributes_in-append, slice_range-append}
 use Rattle.hm_tree.proofs.WalkLemmas.{are_sound-push, are_sound-parts, are_sound-at, parents_from-push, parents_from-at, walk_size-push}
@@ -24,14 +24,14 @@ use Rattle.hm_tree.proofs.WalkLemmas.{are_sound-push, are_sound-parts, are_sound
 range_stays : (n m : ℕ) (attrs : AttrsRange) → n ≤ m → IsRange n attrs → IsRange m attrs
 range_stays n m attrs le h = (h.0, omega (arith, h.1))
 
-inside_stays : (s more : List ℕ) (n m : ℕ) (part : Part) → IsUtf8 more → n ≤ m → IsInside s n part → IsInside (s ++ more) m part
+inside_stays : (s more : List ℕ) (n m : ℕ) (part : RowPart) → IsUtf8 more → n ≤ m → IsInside s n part → IsInside (s ++ more) m part
 inside_stays s more n m (parts.Doctype legacy) utf8 le h = tt
 inside_stays s more n m (parts.Start foreign name attrs) utf8 le h = (IsPiece-append s more name utf8 h.0, range_stays n m attrs le h.1)
 inside_stays s more n m (parts.Text p raw) utf8 le h = IsPiece-append s more p utf8 h
 inside_stays s more n m (parts.Comment p) utf8 le h = IsPiece-append s more p utf8 h
 inside_stays s more n m (parts.End name foreign) utf8 le h = IsPiece-append s more name utf8 h
 
-event_stays : (s more : List ℕ) (pieces extra : List AttributePieces) (part : Part) → IsInside s (length pieces) part → All (HasPieces s) pieces → event_at (s ++ more) (pieces ++ extra) part ≡ event_at s pieces part
+event_stays : (s more : List ℕ) (pieces extra : List AttributePieces) (part : RowPart) → IsInside s (length pieces) part → All (HasPieces s) pieces → event_at (s ++ more) (pieces ++ extra) part ≡ event_at s pieces part
 event_stays s more pieces extra (parts.Doctype legacy) h all = refl
 event_stays s more pieces extra (parts.Start foreign name attrs) h all =
     let inside = All-slice_range (HasPieces s) pieces attrs.from attrs.to all in
@@ -41,36 +41,36 @@ event_stays s more pieces extra (parts.Comment p) h all = rw (bytes_of-append s 
 event_stays s more pieces extra (parts.End name foreign) h all = rw (bytes_of-append s more name h) refl
 
 -- the events of a table stay, where bytes and attributes are put behind those that it has
-pub events_of-append : (s more : List ℕ) (pieces extra : List AttributePieces) (rows : List Row) → AreInside s (length pieces) rows → All (HasPieces s) pieces → events_of (s ++ more) (pieces ++ extra) rows ≡ events_of s pieces rows
+pub events_of-append : (s more : List ℕ) (pieces extra : List AttributePieces) (rows : List EventRow) → AreInside s (length pieces) rows → All (HasPieces s) pieces → events_of (s ++ more) (pieces ++ extra) rows ≡ events_of s pieces rows
 events_of-append s more pieces extra [] h all = refl
 events_of-append s more pieces extra (r ∷ rows) h all = rw (event_stays s more pieces extra r.part h.0 all, events_of-append s more pieces extra rows h.1 all) refl
 
-AreInside-push : (s more : List ℕ) (n m : ℕ) (rows : List Row) (r : Row) → IsUtf8 more → n ≤ m → AreInside s n rows → IsInside (s ++ more) m r.part → AreInside (s ++ more) m (rows ++ r ∷ [])
+AreInside-push : (s more : List ℕ) (n m : ℕ) (rows : List EventRow) (r : EventRow) → IsUtf8 more → n ≤ m → AreInside s n rows → IsInside (s ++ more) m r.part → AreInside (s ++ more) m (rows ++ r ∷ [])
 AreInside-push s more n m [] r utf8 le h new = (new, tt)
 AreInside-push s more n m (q ∷ rows) r utf8 le h new = (inside_stays s more n m q.part utf8 le h.0, AreInside-push s more n m rows r utf8 le h.1 new)
 
-AreInside-parts : (s : List ℕ) (n : ℕ) (rows : List Row) (r : Row) → AreInside s n (rows ++ r ∷ []) → AreInside s n rows × IsInside s n r.part
+AreInside-parts : (s : List ℕ) (n : ℕ) (rows : List EventRow) (r : EventRow) → AreInside s n (rows ++ r ∷ []) → AreInside s n rows × IsInside s n r.part
 AreInside-parts s n [] r h = (tt, h.0)
 AreInside-parts s n (q ∷ rows) r h = ((h.0, (AreInside-parts s n rows r h.1).0), (AreInside-parts s n rows r h.1).1)
 
 -- each row that is there is inside
-pub IsInside-at : (s : List ℕ) (n : ℕ) (rows : List Row) (i : ℕ) (d : Row) → AreInside s n rows → i < length rows → IsInside s n (get_or rows i d).part
+pub IsInside-at : (s : List ℕ) (n : ℕ) (rows : List EventRow) (i : ℕ) (d : EventRow) → AreInside s n rows → i < length rows → IsInside s n (get_or rows i d).part
 IsInside-at s n [] i d h within = absurd (omega arith)
 IsInside-at s n (r ∷ rows) zero d h within = h.0
 IsInside-at s n (r ∷ rows) (suc i) d h within = IsInside-at s n rows i d h.1 (omega arith)
 
-LastReachesEnd-push : (s : List ℕ) (rows : List Row) (r : Row) → ReachesEnd s r.part → LastReachesEnd s (rows ++ r ∷ [])
+LastReachesEnd-push : (s : List ℕ) (rows : List EventRow) (r : EventRow) → ReachesEnd s r.part → LastReachesEnd s (rows ++ r ∷ [])
 LastReachesEnd-push s [] r h = h
 LastReachesEnd-push s (q ∷ []) r h = h
 LastReachesEnd-push s (q ∷ p ∷ rows) r h = LastReachesEnd-push s (p ∷ rows) r h
 
-ReachesEnd-last : (s : List ℕ) (rows : List Row) (r : Row) → LastReachesEnd s (rows ++ r ∷ []) → ReachesEnd s r.part
+ReachesEnd-last : (s : List ℕ) (rows : List EventRow) (r : EventRow) → LastReachesEnd s (rows ++ r ∷ []) → ReachesEnd s r.part
 ReachesEnd-last s [] r h = h
 ReachesEnd-last s (q ∷ []) r h = h
 ReachesEnd-last s (q ∷ p ∷ rows) r h = ReachesEnd-last s (p ∷ rows) r h
 
 -- Row r for event e can be put behind the rows for events w. The bytes are then t, the last of which are `more`, and the attributes are `kept`, the last of which are `extra`.
-pub record IsNewRow (more t : List ℕ) (extra kept : List AttributePieces) (w : List Event) (r : Row) (e : Event) : Type 0 where
+pub record IsNewRow (more t : List ℕ) (extra kept : List AttributePieces) (w : List Event) (r : EventRow) (e : Event) : Type 0 where
   pub utf8 : IsUtf8 more
   pub event : event_at t kept r.part ≡ e
   pub inside : IsInside t (length kept) r.part
@@ -84,10 +84,10 @@ pub record IsNewRow (more t : List ℕ) (extra kept : List AttributePieces) (w :
   pub count : length extra ≤ event_size e + 1
 
 -- the bytes, attributes and rows are a table for these events
-abbrev pub IsTableOf : List ℕ → List AttributePieces → List Row → List Event → Type 0
+abbrev pub IsTableOf : List ℕ → List AttributePieces → List EventRow → List Event → Type 0
 IsTableOf s pieces rows w = IsTable s pieces rows × (events_of s pieces rows ≡ w)
 
-module _ (s more : List ℕ) (pieces extra : List AttributePieces) (rows : List Row) (r : Row) (e : Event) (table : IsTable s pieces rows)
+module _ (s more : List ℕ) (pieces extra : List AttributePieces) (rows : List EventRow) (r : EventRow) (e : Event) (table : IsTable s pieces rows)
     (new : IsNewRow more (s ++ more) extra (pieces ++ extra) (events_of s pieces rows) r e) where
   events_more : events_of (s ++ more) (pieces ++ extra) (rows ++ r ∷ []) ≡ events_of s pieces rows ++ e ∷ []
   events_more =
@@ -112,11 +112,11 @@ module _ (s more : List ℕ) (pieces extra : List AttributePieces) (rows : List 
       }
 
 -- there are fewer than 2 ^ 32 attributes
-pub row_count : {s : List ℕ} {pieces : List AttributePieces} {rows : List Row} → IsTable s pieces rows → length pieces < 2 ^ 30
+pub row_count : {s : List ℕ} {pieces : List AttributePieces} {rows : List EventRow} → IsTable s pieces rows → length pieces < 2 ^ 30
 row_count {s} {pieces} {rows} table = omega (arith, table.count, table.told.bytes, table.told.events, length-map rows (λ q. event_at s pieces q.part))
 
 -- one more row
-pub IsTableOf-push : (s more t : List ℕ) (pieces extra kept : List AttributePieces) (rows : List Row) (w : List Event) (r : Row) (e : Event)
+pub IsTableOf-push : (s more t : List ℕ) (pieces extra kept : List AttributePieces) (rows : List EventRow) (w : List Event) (r : EventRow) (e : Event)
     → s ++ more ≡ t → pieces ++ extra ≡ kept → events_of s pieces rows ≡ w → IsTable s pieces rows
     → IsNewRow more t extra kept w r e → IsTableOf t kept (rows ++ r ∷ []) (w ++ e ∷ [])
 IsTableOf-push s more t pieces extra kept rows w r e bytes list view table =
@@ -126,10 +126,10 @@ IsTableOf-push s more t pieces extra kept rows w r e bytes list view table =
     (λ new. (table_more s more pieces extra rows r e table new, events_more s more pieces extra rows r e table new))))
 
 -- the row of a text that stands last, with more bytes
-abbrev pub longer : Row → Piece → Bool → Row
+abbrev pub longer : EventRow → TextPiece → Bool → EventRow
 longer r p raw = record r { part = parts.Text p raw }
 
-module _ (s more : List ℕ) (pieces : List AttributePieces) (rows : List Row) (r : Row) (p q : Piece) (raw : Bool)
+module _ (s more : List ℕ) (pieces : List AttributePieces) (rows : List EventRow) (r : EventRow) (p q : TextPiece) (raw : Bool)
     (table : IsTable s pieces (rows ++ r ∷ [])) (is : r.part ≡ parts.Text p raw) (utf8 : IsUtf8 more)
     (bytes : walk_size (events_of s pieces (rows ++ r ∷ [])) + length more < 2 ^ 29) (from : q.from ≡ p.from) (to : q.to ≡ length (s ++ more)) where
   piece : IsPiece s p
@@ -181,25 +181,25 @@ module _ (s more : List ℕ) (pieces : List AttributePieces) (rows : List Row) (
       }
 
 -- row i of a table whose events are w
-module _ (s : List ℕ) (pieces : List AttributePieces) (rows : List Row) (w : List Event) (view : events_of s pieces rows ≡ w) (i : ℕ) (within : i < length w) where
+module _ (s : List ℕ) (pieces : List AttributePieces) (rows : List EventRow) (w : List Event) (view : events_of s pieces rows ≡ w) (i : ℕ) (within : i < length w) where
   pub row_within : i < length rows
   row_within = omega (arith, ap length view, length-map rows (λ q. event_at s pieces q.part))
 
-  module _ (table : IsTable s pieces rows) (r : Row) (is : r ≡ get_or rows i r) where
+  module _ (table : IsTable s pieces rows) (r : EventRow) (is : r ≡ get_or rows i r) where
     at : slice_get rows i ≡ Some r
     at = slice_get_read rows (length rows) i r refl row_within is
 
     -- its part is inside
-    pub part_inside : (part : Part) → r.part ≡ part → IsInside s (length pieces) part
+    pub part_inside : (part : RowPart) → r.part ≡ part → IsInside s (length pieces) part
     part_inside part e = subst (IsInside s (length pieces)) (sym (ap (λ q. q.part) is) ∙ e) (IsInside-at s (length pieces) rows i r table.inside row_within)
 
     -- it stands for event i
-    pub part_event : (part : Part) → r.part ≡ part → slice_get w i ≡ Some (event_at s pieces part)
+    pub part_event : (part : RowPart) → r.part ≡ part → slice_get w i ≡ Some (event_at s pieces part)
     part_event part e =
         rw (← view) (slice_get-map (λ q. event_at s pieces q.part) rows i ∙ ap (option_map (λ q. event_at s pieces q.part)) at ∙ ap (λ q. Some (event_at s pieces q)) e)
 
     -- a start shows its attributes
-    pub part_shown : (foreign : Bool) (name : Piece) (attrs : AttrsRange) → r.part ≡ parts.Start foreign name attrs → IsShown s (slice_range pieces attrs.from attrs.to)
+    pub part_shown : (foreign : Bool) (name : TextPiece) (attrs : AttrsRange) → r.part ≡ parts.Start foreign name attrs → IsShown s (slice_range pieces attrs.from attrs.to)
     part_shown foreign name attrs e =
         let own = slice_range pieces attrs.from attrs.to in
         let range : IsRange (length pieces) attrs = (part_inside (parts.Start foreign name attrs) e).1 in

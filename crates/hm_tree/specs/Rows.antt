@@ -5,19 +5,19 @@ use Rattle.hm_tree.specs.Trees.{IsTold, open_behind}
 use Rattle.hm_tree.specs.Pieces.{HasPieces, IsPiece, attributes_in, bytes_of}
 use Rattle.hm_tree.specs.declared.pieces.AttributePieces.{AttributePieces}
 use Rattle.hm_tree.specs.declared.appended.AttrsRange.{AttrsRange}
-use Rattle.hm_tree.specs.declared.rows.Part.{Part}
-use Rattle.hm_tree.specs.declared.rows.Part.TheVariants as parts
-use Rattle.hm_tree.specs.declared.rows.Row.{Row}
+use Rattle.hm_tree.specs.declared.rows.RowPart.{RowPart}
+use Rattle.hm_tree.specs.declared.rows.RowPart.TheVariants as parts
+use Rattle.hm_tree.specs.declared.rows.EventRow.{EventRow}
 
 -- the event that a row stands for
-abbrev pub event_at : List ℕ → List AttributePieces → Part → Event
+abbrev pub event_at : List ℕ → List AttributePieces → RowPart → Event
 event_at s pieces (parts.Doctype legacy) = doctype legacy
 event_at s pieces (parts.Start foreign name attrs) = start (bytes_of s name) foreign (attributes_in s (slice_range pieces attrs.from attrs.to))
 event_at s pieces (parts.Text p raw) = text (bytes_of s p) raw
 event_at s pieces (parts.Comment p) = comment (bytes_of s p)
 event_at s pieces (parts.End name foreign) = end (bytes_of s name) foreign
 
-abbrev pub events_of : List ℕ → List AttributePieces → List Row → List Event
+abbrev pub events_of : List ℕ → List AttributePieces → List EventRow → List Event
 events_of s pieces rows = map (λ r. event_at s pieces r.part) rows
 
 -- the parent of each event: the innermost start that is open before it
@@ -29,19 +29,19 @@ parents_from open_starts i (e ∷ w) = slice_get open_starts 0 ∷ parents_from 
 abbrev pub IsRange : ℕ → AttrsRange → Type 0
 IsRange n attrs = (attrs.from ≤ attrs.to) × (attrs.to ≤ n)
 
-abbrev pub IsInside : List ℕ → ℕ → Part → Type 0
+abbrev pub IsInside : List ℕ → ℕ → RowPart → Type 0
 IsInside s n (parts.Doctype legacy) = Unit {0}
 IsInside s n (parts.Start foreign name attrs) = IsPiece s name × IsRange n attrs
 IsInside s n (parts.Text p raw) = IsPiece s p
 IsInside s n (parts.Comment p) = IsPiece s p
 IsInside s n (parts.End name foreign) = IsPiece s name
 
-abbrev pub AreInside : List ℕ → ℕ → List Row → Type 0
+abbrev pub AreInside : List ℕ → ℕ → List EventRow → Type 0
 AreInside s n [] = Unit {0}
 AreInside s n (r ∷ rows) = IsInside s n r.part × AreInside s n rows
 
 -- a text reaches to the end of the bytes
-abbrev pub ReachesEnd : List ℕ → Part → Type 0
+abbrev pub ReachesEnd : List ℕ → RowPart → Type 0
 ReachesEnd s (parts.Doctype legacy) = Unit {0}
 ReachesEnd s (parts.Start foreign name attrs) = Unit {0}
 ReachesEnd s (parts.Text p raw) = p.to ≡ length s
@@ -49,13 +49,13 @@ ReachesEnd s (parts.Comment p) = Unit {0}
 ReachesEnd s (parts.End name foreign) = Unit {0}
 
 -- the last row, where it is a text, reaches to the end of the bytes
-abbrev pub LastReachesEnd : List ℕ → List Row → Type 0
+abbrev pub LastReachesEnd : List ℕ → List EventRow → Type 0
 LastReachesEnd s [] = Unit {0}
 LastReachesEnd s (r ∷ []) = ReachesEnd s r.part
 LastReachesEnd s (r ∷ q ∷ rows) = LastReachesEnd s (q ∷ rows)
 
 -- a table of rows, with the bytes and the attributes that they point into
-pub record IsTable (s : List ℕ) (pieces : List AttributePieces) (rows : List Row) : Type 0 where
+pub record IsTable (s : List ℕ) (pieces : List AttributePieces) (rows : List EventRow) : Type 0 where
   pub inside : AreInside s (length pieces) rows
   pub attributes : All (HasPieces s) pieces
   pub parents : map (λ r. r.parent) rows ≡ parents_from [] 0 (events_of s pieces rows)

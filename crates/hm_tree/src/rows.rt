@@ -9,42 +9,46 @@ ghost use Rattle.hm_tree.specs.Views.{event_of};
 
 use crate::appended::{AttrsRange, append, append_attributes, text_len};
 use crate::parent::Parent;
-use crate::pieces::{AttributePieces, Piece, cut};
+use crate::pieces::{AttributePieces, TextPiece, cut};
 use crate::sources::{AttributeSource, count};
 use crate::{AttrsView, EventView};
 use hm_base::Memory;
 use std::alloc::Global;
 use std::marker::Model;
 
+// What is left of the table's text and of its lists when their memory is given back.
+const FEW_BYTES: usize = 4096;
+const FEW: usize = 128;
+
 // An event, with pieces of the table's text, and for a start the indices of its attributes.
 #[derive(Clone, Copy, Debug)]
-enum Part {
+enum RowPart {
     Doctype {
         legacy: bool,
     },
     // The flag stands first, beside the variant's mark, where it makes no row longer.
     Start {
         foreign: bool,
-        name: Piece,
+        name: TextPiece,
         attrs: AttrsRange,
     },
     Text {
-        text: Piece,
+        text: TextPiece,
         raw: bool,
     },
     Comment {
-        text: Piece,
+        text: TextPiece,
     },
     End {
-        name: Piece,
+        name: TextPiece,
         foreign: bool,
     },
 }
 
 // An event, and the last start that is open directly before it.
 #[derive(Clone, Copy, Debug)]
-struct Row {
-    part: Part,
+struct EventRow {
+    part: RowPart,
     parent: Parent,
 }
 
@@ -53,7 +57,7 @@ struct Row {
 pub(crate) struct Rows {
     text: String,
     attributes: Vec<AttributePieces>,
-    rows: Vec<Row>,
+    rows: Vec<EventRow>,
 }
 
 impl Model for Rows {
@@ -94,14 +98,14 @@ impl Rows {
         let mut spaces = 0usize;
         for row in self.rows.as_slice() {
             match row.part {
-                Part::Start { attrs, .. } => {
+                RowPart::Start { attrs, .. } => {
                     let count = attrs.to.wrapping_sub(attrs.from) as usize;
                     len = len.wrapping_add(
                         spaces.wrapping_add(9).wrapping_add(count.wrapping_mul(4)),
                     );
                     spaces = spaces.wrapping_add(2);
                 }
-                Part::End { .. } => spaces = spaces.wrapping_sub(2),
+                RowPart::End { .. } => spaces = spaces.wrapping_sub(2),
                 _ => len = len.wrapping_add(spaces.wrapping_add(15)),
             }
         }
@@ -117,14 +121,29 @@ impl Rows {
         self.rows.shrink_to_fit();
     }
 
+    // Gives the memory back, in lists that are cut short where they stand before they are let go.
+    pub(crate) fn release(self) {
+        let Rows {
+            mut text,
+            mut attributes,
+            mut rows,
+        } = self;
+        text.clear();
+        text.shrink_to(FEW_BYTES);
+        attributes.clear();
+        attributes.shrink_to(FEW);
+        rows.clear();
+        rows.shrink_to(FEW);
+    }
+
     pub(crate) fn event(&self, i: u32) -> EventView<'_>
         requires { i < length self.now }
         ensures { slice_get self.now i ≡ Some (event_of result) }
     {
         let row = self.rows[i as usize];
         match row.part {
-            Part::Doctype { legacy } => EventView::Doctype { legacy },
-            Part::Start {
+            RowPart::Doctype { legacy } => EventView::Doctype { legacy },
+            RowPart::Start {
                 name,
                 foreign,
                 attrs,
@@ -136,14 +155,14 @@ impl Rows {
                     part_of(self.attributes.as_slice(), attrs),
                 ),
             },
-            Part::Text { text, raw } => EventView::Text {
+            RowPart::Text { text, raw } => EventView::Text {
                 text: cut(self.text.as_str(), text),
                 raw,
             },
-            Part::Comment { text } => EventView::Comment {
+            RowPart::Comment { text } => EventView::Comment {
                 text: cut(self.text.as_str(), text),
             },
-            Part::End { name, foreign } => EventView::End {
+            RowPart::End { name, foreign } => EventView::End {
                 name: cut(self.text.as_str(), name),
                 foreign,
             },
@@ -163,9 +182,9 @@ impl Rows {
         ensures ok { OnOk result (self.new ≡ self.old ++ doctype legacy ∷ []) }
         ensures err { OnErr result (self.new ≡ self.old) }
     {
-        let part = Part::Doctype { legacy };
+        let part = RowPart::Doctype { legacy };
         let parent = Parent::of(parent);
-        self.rows.push(Row { part, parent })?;
+        self.rows.push(EventRow { part, parent })?;
         Ok(())
     }
 
@@ -187,13 +206,13 @@ impl Rows {
         self.text.reserve(name.len() + text_len(attrs))?;
         let name = append(&mut self.text, name);
         let attrs = append_attributes(&mut self.text, &mut self.attributes, attrs);
-        let part = Part::Start {
+        let part = RowPart::Start {
             name,
             foreign,
             attrs,
         };
         let parent = Parent::of(parent);
-        self.rows.push(Row { part, parent }).unwrap();
+        self.rows.push(EventRow { part, parent }).unwrap();
         Ok(())
     }
 
@@ -212,9 +231,9 @@ impl Rows {
         self.rows.reserve(1)?;
         self.text.reserve(text.len())?;
         let text = append(&mut self.text, text);
-        let part = Part::Text { text, raw };
+        let part = RowPart::Text { text, raw };
         let parent = Parent::of(parent);
-        self.rows.push(Row { part, parent }).unwrap();
+        self.rows.push(EventRow { part, parent }).unwrap();
         Ok(())
     }
 
@@ -228,9 +247,9 @@ impl Rows {
         self.rows.reserve(1)?;
         self.text.reserve(text.len())?;
         let text = append(&mut self.text, text);
-        let part = Part::Comment { text };
+        let part = RowPart::Comment { text };
         let parent = Parent::of(parent);
-        self.rows.push(Row { part, parent }).unwrap();
+        self.rows.push(EventRow { part, parent }).unwrap();
         Ok(())
     }
 
@@ -264,7 +283,7 @@ impl Rows {
         ensures { result ≡ ends_in_text self.now }
     {
         match self.rows.last() {
-            Some(row) => matches!(row.part, Part::Text { .. }),
+            Some(row) => matches!(row.part, RowPart::Text { .. }),
             None => false,
         }
     }
@@ -278,16 +297,16 @@ impl Rows {
     {
         let last = self.rows.len() - 1;
         let row = self.rows[last];
-        let Part::Text { text, raw } = row.part else {
+        let RowPart::Text { text, raw } = row.part else {
             unreachable!()
         };
         self.text.push_str(more)?;
-        let text = Piece {
+        let text = TextPiece {
             from: text.from,
             to: self.text.len() as u32,
         };
-        let part = Part::Text { text, raw };
-        self.rows[last] = Row {
+        let part = RowPart::Text { text, raw };
+        self.rows[last] = EventRow {
             part,
             parent: row.parent,
         };
@@ -302,12 +321,12 @@ impl Rows {
         ensures err { OnErr result (self.new ≡ self.old) }
     {
         let row = self.rows[start as usize];
-        let Part::Start { name, foreign, .. } = row.part else {
+        let RowPart::Start { name, foreign, .. } = row.part else {
             unreachable!()
         };
-        let part = Part::End { name, foreign };
+        let part = RowPart::End { name, foreign };
         let parent = Parent::of(Some(start));
-        self.rows.push(Row { part, parent })?;
+        self.rows.push(EventRow { part, parent })?;
         Ok(())
     }
 }

@@ -11,7 +11,7 @@ use std::test::Fail;
 
 // A call of a maker. A start may have one attribute, a name and a value.
 #[derive(Clone, Copy)]
-enum Step {
+enum MakerCall {
     Doctype(bool),
     Start(&'static str),
     With(&'static str, &'static str, &'static str),
@@ -97,7 +97,7 @@ fn end(maker: &mut Maker) -> Result<(), Memory>
     Ok(())
 }
 
-fn take(alloc: Global, maker: &mut Maker, step: Step) -> Result<(), Memory>
+fn take(alloc: Global, maker: &mut Maker, step: MakerCall) -> Result<(), Memory>
     requires events { length maker.old + length (path_after [] maker.old) + 2 < 2 ^ 29 }
     requires bytes { walk_size maker.old + 300 < 2 ^ 29 }
     requires plain { last_agrees maker.old false ≡ true }
@@ -106,22 +106,22 @@ fn take(alloc: Global, maker: &mut Maker, step: Step) -> Result<(), Memory>
     ensures plain { OnOk result (last_agrees maker.new false ≡ true) }
 {
     match step {
-        Step::Doctype(legacy) => doctype(maker, legacy),
-        Step::Start(name) => start(maker, name, Attrs::new(alloc)),
-        Step::With(name, attr, value) => {
+        MakerCall::Doctype(legacy) => doctype(maker, legacy),
+        MakerCall::Start(name) => start(maker, name, Attrs::new(alloc)),
+        MakerCall::With(name, attr, value) => {
             if attr.len() > 100 || value.len() > 100 {
                 return Err(Memory);
             }
             start(maker, name, attributes(alloc, attr, value)?)
         }
-        Step::Text(s) => text(maker, s),
-        Step::Comment(s) => comment(maker, s),
-        Step::End => end(maker),
+        MakerCall::Text(s) => text(maker, s),
+        MakerCall::Comment(s) => comment(maker, s),
+        MakerCall::End => end(maker),
     }
 }
 
 // The tree of these calls.
-fn made(alloc: Global, steps: &[Step]) -> Result<Tree, Memory>
+fn made(alloc: Global, steps: &[MakerCall]) -> Result<Tree, Memory>
     requires { length steps.now < 100 }
 {
     let mut maker = Tree::maker(alloc);
@@ -135,20 +135,20 @@ fn made(alloc: Global, steps: &[Step]) -> Result<Tree, Memory>
 }
 
 // `<p id=x>a<br>b` as a page.
-const PAGE: [Step; 13] = [
-    Step::Doctype(false),
-    Step::Start("html"),
-    Step::Start("head"),
-    Step::End,
-    Step::Start("body"),
-    Step::With("p", "id", "x"),
-    Step::Text("a"),
-    Step::Start("br"),
-    Step::End,
-    Step::Text("b"),
-    Step::End,
-    Step::End,
-    Step::End,
+const PAGE: [MakerCall; 13] = [
+    MakerCall::Doctype(false),
+    MakerCall::Start("html"),
+    MakerCall::Start("head"),
+    MakerCall::End,
+    MakerCall::Start("body"),
+    MakerCall::With("p", "id", "x"),
+    MakerCall::Text("a"),
+    MakerCall::Start("br"),
+    MakerCall::End,
+    MakerCall::Text("b"),
+    MakerCall::End,
+    MakerCall::End,
+    MakerCall::End,
 ];
 
 // The name or the text of an event, and whether it is an end.
@@ -192,34 +192,34 @@ fn a_page(rt: HostRuntime) -> Result<(), Fail> {
     Ok(())
 }
 
-const ONE: [Step; 3] = [Step::Start("p"), Step::Text("a"), Step::End];
+const ONE: [MakerCall; 3] = [MakerCall::Start("p"), MakerCall::Text("a"), MakerCall::End];
 
-const IN_PARTS: [Step; 5] = [
-    Step::Start("p"),
-    Step::Text(""),
-    Step::Text("a"),
-    Step::Text(""),
-    Step::End,
+const IN_PARTS: [MakerCall; 5] = [
+    MakerCall::Start("p"),
+    MakerCall::Text(""),
+    MakerCall::Text("a"),
+    MakerCall::Text(""),
+    MakerCall::End,
 ];
 
-const JOINED: [Step; 4] = [
-    Step::Start("p"),
-    Step::Text("a"),
-    Step::Text("b"),
-    Step::End,
+const JOINED: [MakerCall; 4] = [
+    MakerCall::Start("p"),
+    MakerCall::Text("a"),
+    MakerCall::Text("b"),
+    MakerCall::End,
 ];
 
-const NAMED: [Step; 3] = [Step::With("p", "id", "x"), Step::Text("a"), Step::End];
+const NAMED: [MakerCall; 3] = [MakerCall::With("p", "id", "x"), MakerCall::Text("a"), MakerCall::End];
 
-const LONGER: [Step; 4] = [
-    Step::Start("p"),
-    Step::Text("a"),
-    Step::End,
-    Step::Comment("a"),
+const LONGER: [MakerCall; 4] = [
+    MakerCall::Start("p"),
+    MakerCall::Text("a"),
+    MakerCall::End,
+    MakerCall::Comment("a"),
 ];
 
 // Where the trees differ first, and whether they are the same.
-fn compared(alloc: Global, one: &[Step], other: &[Step]) -> Result<(Option<u32>, bool), Memory>
+fn compared(alloc: Global, one: &[MakerCall], other: &[MakerCall]) -> Result<(Option<u32>, bool), Memory>
     requires one { length one.now < 100 }
     requires other { length other.now < 100 }
 {
@@ -230,7 +230,7 @@ fn compared(alloc: Global, one: &[Step], other: &[Step]) -> Result<(Option<u32>,
 
 #[test]
 fn first_differences(rt: HostRuntime) -> Result<(), Fail> {
-    let cases: [(&[Step], &[Step], Option<u32>); 5] = [
+    let cases: [(&[MakerCall], &[MakerCall], Option<u32>); 5] = [
         (&ONE, &IN_PARTS, None),
         (&ONE, &JOINED, Some(1)),
         (&ONE, &NAMED, Some(0)),
@@ -249,11 +249,11 @@ fn first_differences(rt: HostRuntime) -> Result<(), Fail> {
 #[test]
 fn quoted_texts(rt: HostRuntime) -> Result<(), Fail> {
     let steps = [
-        Step::Doctype(true),
-        Step::With("a", "title", "\"\\\n\r\té"),
-        Step::Comment("<b>"),
-        Step::Text("\u{1F600}\""),
-        Step::End,
+        MakerCall::Doctype(true),
+        MakerCall::With("a", "title", "\"\\\n\r\té"),
+        MakerCall::Comment("<b>"),
+        MakerCall::Text("\u{1F600}\""),
+        MakerCall::End,
     ];
     let tree = made(rt.alloc(), &steps)?;
     let lines =

@@ -1,5 +1,5 @@
 //! Tokens and the faults of scans.
-ghost use Rattle.std.specs.Prelude.{◌≡◌};
+ghost use Rattle.std.specs.Prelude.{◌≡◌, [], string_bytes};
 ghost use Rattle.hm_tree.specs.Lexemes.{spanned_of, token_of};
 
 use crate::Attrs;
@@ -54,7 +54,10 @@ pub struct Tag {
 
 impl Tag {
     /// A place without name and attributes. It allocates nothing until a tag is put there.
-    pub fn new(alloc: Global) -> Tag {
+    pub fn new(alloc: Global) -> Tag
+        ensures name { string_bytes result.name ≡ [] }
+        ensures attrs { result.attrs ≡ [] }
+    {
         Tag {
             name: String::new(alloc),
             attrs: Attrs::new(alloc),

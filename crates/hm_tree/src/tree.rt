@@ -55,6 +55,12 @@ impl Tree {
         self.rows.len()
     }
 
+    /// Gives the memory back. A large tree is let go in this way before more memory is asked for: what is cut short first
+    /// leaves no large block to the C library's heap, where a long list can't grow in place.
+    pub fn release(self) {
+        self.rows.release();
+    }
+
     /// About how many bytes the lines of the tree take, and seldom fewer.
     pub(crate) fn lines_len(&self) -> usize {
         self.rows.lines_len()

@@ -1,5 +1,5 @@
 use Rattle.std.proofs.Common.{string_bytes}
-use Rattle.hm_tree.specs.declared.rows.Part.TheVariants.{Doctype, Start, Text, Comment, End}
+use Rattle.hm_tree.specs.declared.rows.RowPart.TheVariants.{Doctype, Start, Text, Comment, End}
 use Rattle.hm_tree.proofs.TableLemmas.{part_inside, part_event, part_shown}
 use Rattle.hm_tree.proofs.rows.Rows.event.Goals as goal
 

@@ -4,7 +4,7 @@ use Rattle.std.proofs.lemmas.List.Elements.{All-nil}
 use Rattle.std.proofs.lemmas.Str.{is_utf8-from_IsUtf8}
 use Rattle.hm_base.specs.Walks.{comment}
 use Rattle.hm_tree.specs.Pieces.{HasPieces}
-use Rattle.hm_tree.specs.declared.rows.Part.TheVariants.{Comment}
+use Rattle.hm_tree.specs.declared.rows.RowPart.TheVariants.{Comment}
 use Rattle.hm_tree.proofs.PieceLemmas.{IsPiece-new, bytes_of-new}
 use Rattle.hm_tree.proofs.TableLemmas.{IsTableOf, IsTableOf-push}
 use Rattle.hm_tree.proofs.ParentLemmas.{no_last}

@@ -4,7 +4,7 @@ use Rattle.std.proofs.lemmas.List.Elements.{All-nil}
 use Rattle.std.proofs.lemmas.Str.{IsUtf8-nil}
 use Rattle.hm_base.specs.Walks.{doctype, walk_size}
 use Rattle.hm_tree.specs.Pieces.{HasPieces}
-use Rattle.hm_tree.specs.declared.rows.Part.TheVariants.{Doctype}
+use Rattle.hm_tree.specs.declared.rows.RowPart.TheVariants.{Doctype}
 use Rattle.hm_tree.proofs.TableLemmas.{IsTableOf, IsTableOf-push}
 use Rattle.hm_tree.proofs.ParentLemmas.{no_last}
 use Rattle.hm_tree.proofs.rows.Rows.push_doctype.Goals as goal

@@ -2,7 +2,7 @@ use Rattle.std.proofs.Common.{◌++◌, [], ◌∷◌, Some, string_bytes, arith
 use Rattle.std.proofs.lemmas.Str.{IsUtf8-string_bytes}
 use Rattle.hm_base.specs.Walks.{path_after}
 use Rattle.hm_tree.specs.Trees.{end_of}
-use Rattle.hm_tree.specs.declared.rows.Part.TheVariants.{End}
+use Rattle.hm_tree.specs.declared.rows.RowPart.TheVariants.{End}
 use Rattle.hm_tree.proofs.EndLemmas.{start_within, start_row, IsTableOf-end}
 use Rattle.hm_tree.proofs.TableLemmas.{IsTableOf}
 use Rattle.hm_tree.proofs.ParentLemmas.{no_last}

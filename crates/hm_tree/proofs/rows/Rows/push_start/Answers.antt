@@ -2,7 +2,7 @@ use Rattle.std.proofs.Common.{◌≡◌, ◌+◌, ◌++◌, [], ◌∷◌, lengt
 use Rattle.hm_base.specs.Walks.{start}
 use Rattle.hm_tree.specs.Pieces.{IsAppended}
 use Rattle.hm_tree.specs.Sources.{listed}
-use Rattle.hm_tree.specs.declared.rows.Part.TheVariants.{Start}
+use Rattle.hm_tree.specs.declared.rows.RowPart.TheVariants.{Start}
 use Rattle.hm_tree.proofs.ShownLemmas.{few_attributes}
 use Rattle.hm_tree.proofs.StartLemmas.{IsTableOf-start}
 use Rattle.hm_tree.proofs.TableLemmas.{IsTableOf, row_count}

@@ -7,7 +7,7 @@ the peer (tdewolff's `minify`, its defaults) run by turns, N times (15 where not
 Printed are megabytes of the page a second: by the processor time of the run (user and system, of all its threads), which
 other work on the machine disturbs less, and by the wall's clock, median and best of the runs; and the peak of memory in
 bytes for a byte of the page. A peak can't be less than that of this script, some 3 bytes a byte. PROGRAM is
-`crates/hminify/out/hminify` where none is named; `--peer none` leaves the peer out. Without a FILE there are four documents
+`crates/hminify/out/hminify` where none is named; `--peer none` leaves the peer out. Without a FILE there are five documents
 of Debian's packages. Needs Linux and the standard library of Python 3.9 or later.
 """
 import argparse
@@ -26,11 +26,12 @@ SIZE = 4_000_000
 FLAGS = ["--omit", "--unquote", "--space"]
 DOCUMENTS = {
     "links": "/usr/share/doc/python-django-doc/html/ref/models/querysets.html",
-    "prose": "/usr/share/developers-reference/best-pkging-practices.html",
+    "prose": "/usr/share/doc/anarchism/html/append31.html",
+    "manual": "/usr/share/developers-reference/best-pkging-practices.html",
     "tables": "/usr/share/doc/apache2-doc/manual/en/mod/quickreference.html",
     "values": "/usr/share/doc/erlang-doc/lib/jinterface-1.13.1/doc/html/java/com/ericsson/otp/erlang/OtpOutputStream.html",
 }
-PACKAGES = "python-django-doc developers-reference apache2-doc erlang-doc"
+PACKAGES = "python-django-doc anarchism developers-reference apache2-doc erlang-doc"
 
 
 def repeated(source, target):

@@ -5,9 +5,14 @@ Each kind of page is made as large as each of SIZES says (1, 2 and 4 MB where no
 times (5); with `--command minify` it is `minify TABLE PAGE OUT CERT --omit --unquote --sparse`, where the page isn't refused. TABLE is `none`, but
 the standard's own where the kind needs names. Printed are the least processor time for each size in seconds, MB of page a second at the
 greatest, and how many times as long the greatest takes as the least. Time that is linear in the page grows as the sizes do.
+
+Where no KIND is named, `minify TABLE PAGE OUT CERT` follows, with a TABLE of twelve names by which layers have 246 states: each `a` of a
+paragraph may be written by four names without `;`, and behind such a name up to 60 literal `a` may yet become a longer name. These pages
+have a fiftieth of SIZES, since the certificate has some 1,400 bytes for each of theirs.
 PROGRAM is `crates/hminify/out/hminify` where none is named. Needs Linux and the standard library of Python 3.9 or later.
 """
 import argparse
+import json
 import os
 import resource
 import subprocess
@@ -56,6 +61,15 @@ KINDS = {
 }
 
 
+def names_of_many_states():
+    """The table by which each of many layers has 246 states."""
+    table = {}
+    for k in range(4):
+        table["&b%d" % k] = table["&b%d;" % k] = {"codepoints": [0x61]}
+        table["&b%d%s;" % (k, "a" * 60)] = {"codepoints": [0x3B1 + k]}
+    return json.dumps(table)
+
+
 def least(words, folder, runs):
     """The least processor time of some runs in seconds, and the exit status."""
     best = None
@@ -67,6 +81,27 @@ def least(words, folder, runs):
         time = usage.ru_utime + usage.ru_stime
         best = time if best is None else min(best, time)
     return best, child.returncode
+
+
+def line(kind, page, sizes, words, table, runs):
+    """Prints the times of the pages of a kind."""
+    times, status = [], None
+    with tempfile.TemporaryDirectory() as folder:
+        if table is not None:
+            with open(os.path.join(folder, "table.json"), "w") as file:
+                file.write(table)
+        for size in sizes:
+            with open(os.path.join(folder, "page.html"), "wb") as file:
+                file.write(page(size))
+            time, status = least(words, folder, runs)
+            times.append(time)
+    print("| %s | %d | %s | %.2f | %.1f |" % (
+        kind, status, " | ".join("%.3f" % time for time in times), sizes[-1] / 1e6 / max(times[-1], 1e-6), times[-1] / max(times[0], 1e-6)))
+
+
+def head(sizes):
+    print("| page | status | %s | MB/s | growth |" % " | ".join("%g MB, s" % (size / 1e6) for size in sizes))
+    print("|---|---|%s---|---|" % ("---|" * len(sizes)))
 
 
 def main():
@@ -81,23 +116,20 @@ def main():
     if not os.access(program, os.X_OK):
         raise SystemExit("no program %s: ./hminify --build makes it" % program)
     sizes = [int(size) for size in given.sizes.split(",")]
-    print("| page | status | %s | MB/s | growth |" % " | ".join("%.0f MB, s" % (size / 1e6) for size in sizes))
-    print("|---|---|%s---|---|" % ("---|" * len(sizes)))
+    head(sizes)
     resource.setrlimit(resource.RLIMIT_CORE, (0, 0))
     for kind in given.kinds or KINDS:
         page, names = KINDS[kind]
-        times, status = [], None
-        with tempfile.TemporaryDirectory() as folder:
-            for size in sizes:
-                with open(os.path.join(folder, "page.html"), "wb") as file:
-                    file.write(page(size))
-                words = [program, given.command, NAMES if names else "none", "page.html"]
-                if given.command == "minify":
-                    words += ["out.html", "cert", "--omit", "--unquote", "--sparse"]
-                time, status = least(words, folder, given.runs)
-                times.append(time)
-        print("| %s | %d | %s | %.0f | %.1f |" % (
-            kind, status, " | ".join("%.3f" % time for time in times), sizes[-1] / 1e6 / max(times[-1], 1e-6), times[-1] / max(times[0], 1e-6)))
+        words = [program, given.command, NAMES if names else "none", "page.html"]
+        if given.command == "minify":
+            words += ["out.html", "cert", "--omit", "--unquote", "--sparse"]
+        line(kind, page, sizes, words, None, given.runs)
+    if not given.kinds:
+        sizes = [size // 50 for size in sizes]
+        print()
+        head(sizes)
+        words = [program, "minify", "table.json", "page.html", "out.html", "cert"]
+        line("layers of 246 states", filled(b"<p>", b"a"), sizes, words, names_of_many_states(), given.runs)
 
 
 if __name__ == "__main__":

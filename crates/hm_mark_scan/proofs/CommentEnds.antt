@@ -2,7 +2,7 @@
 use Rattle.std.proofs.Common.{◌≡◌, ℕ, ◌+◌, ◌-◌, ◌<◌, ◌≤◌, Bool, true, false, not, cond, ◌&&◌, ◌||◌, ◌==◌, List, [], ◌∷◌, ◌++◌, length, drop, get_or, Option, Some, None, refl, ap, sym, subst, ◌∙◌, arith, codes, MatchOption, IfSome, inl, inr, length-drop}
 use Rattle.std.proofs.lemmas.Bool.{cases_lt}
 use Rattle.std.proofs.lemmas.List.{drop-drop, get_or-drop}
-use Rattle.memchr.specs.Find.{OccursAt}
+use Rattle.memchr.specs.Find.{is_byte2}
 use Rattle.hm_base.specs.Bytes.{Cut, strip, cut_at}
 use Rattle.hm_base.specs.RawText.{is_found}
 use Rattle.hm_mark_scan.specs.Comments.{begins, begins_comment, found_and, is_no_tag, behind_end, cut_comment, cut_where, comment_at, comment_front}
@@ -12,30 +12,31 @@ use Rattle.hm_mark_scan.specs.declared.search.Piece.{Piece}
 use Rattle.hm_mark_scan.proofs.Places.{found_behind}
 use Rattle.hm_mark_scan.proofs.Searches.{not_stripped, begins_front, begins_not, begins_long, begins_reads}
 
--- a longer mark isn't there where its front isn't
-strip_longer_none : (p q s : List ℕ) → strip p s ≡ None → strip (p ++ q) s ≡ None
-strip_longer_none [] q s e = cc
-strip_longer_none (c ∷ p) q [] e = refl
-strip_longer_none (c ∷ p) q (d ∷ s) e = elim (c == d) as (λ b. cond b (strip p s) None ≡ None → cond b (strip (p ++ q) s) None ≡ None) [ true ↦ λ f. strip_longer_none p q s f | false ↦ λ f. refl ] e
-
--- without two dashes there is no end of a comment
-no_dashes : (s : List ℕ) → strip (codes "--") s ≡ None → behind_end s ≡ None
-no_dashes s e = rw (strip_longer_none (codes "--") (codes ">") s e, strip_longer_none (codes "--") (codes "!>") s e) refl
-
 abbrev pub NoEnd : List ℕ → ℕ → ℕ → Type 0
 NoEnd s from to = (k : ℕ) → from ≤ k → k < to → behind_end (drop k s) ≡ None
 
--- no end stands before the next two dashes
-pub none_before : (s : List ℕ) (from at to : ℕ) → to ≤ length s → NoEnd s from at → ((j : ℕ) → j < to - at → OccursAt (drop at s) (codes "--") j → ⊥) → NoEnd s from to
-none_before s from at to inside none dashes k low high = elim (cases_lt k at) [
+-- the third byte of an end of a comment
+abbrev pub is_sign : ℕ → Bool
+is_sign = is_byte2 62 33
+
+-- an end stands only where its third byte is a sign
+no_sign : (s : List ℕ) (k : ℕ) → k < length s → (k + 2 < length s → is_sign (get_or s (k + 2) 0) ≡ true → ⊥) → behind_end (drop k s) ≡ None
+no_sign s k inside other =
+    let arrow : strip (codes "-->") (drop k s) ≡ None = not_stripped (codes "-->") s k inside (λ o. other (omega (arith, o.fits)) (rw (o.reads 2 (omega arith)) refl)) in
+    let bang : strip (codes "--!>") (drop k s) ≡ None = not_stripped (codes "--!>") s k inside (λ o. other (omega (arith, o.fits)) (rw (o.reads 2 (omega arith)) refl)) in
+    rw (arrow, bang) refl
+
+-- no end stands before the next sign
+pub none_before : (s : List ℕ) (from at to : ℕ) → to ≤ length s → NoEnd s from at → ((j : ℕ) → j < to - at → at + 2 + j < length s → is_sign (get_or (drop (at + 2) s) j 0) ≡ true → ⊥) → NoEnd s from to
+none_before s from at to inside none signs k low high = elim (cases_lt k at) [
   | inl h ↦ none k low h
   | inr h ↦
-      let long : length (drop at s) ≡ length s - at = length-drop at s in
-      let there : drop (k - at) (drop at s) ≡ drop k s = drop-drop (k - at) at s ∙ ap (λ m. drop m s) (omega arith) in
-      no_dashes (drop k s) (rw there at (not_stripped (codes "--") (drop at s) (k - at) (omega arith) (dashes (k - at) (omega arith))))
+      let place : at + 2 + (k - at) ≡ k + 2 = omega arith in
+      let there : get_or (drop (at + 2) s) (k - at) 0 ≡ get_or s (k + 2) 0 = get_or-drop (at + 2) s (k - at) 0 ∙ ap (λ m. get_or s m 0) place in
+      no_sign s k (omega arith) (λ fits is. signs (k - at) (omega arith) (omega arith) (rw there is))
 ]
 
--- nor at them, where none is found
+-- nor at a place where none is found
 pub none_at : (s : List ℕ) (from to : ℕ) → NoEnd s from to → behind_end (drop to s) ≡ None → NoEnd s from (to + 1)
 none_at s from to none here k low high = elim (cases_lt k to) [
   | inl h ↦ none k low h

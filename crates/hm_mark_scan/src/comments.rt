@@ -9,7 +9,7 @@ ghost use Rattle.hm_mark_scan.specs.Found.{Finds, IsEnd, IsFoundBehind};
 use crate::doctypes::begins_doctype;
 use crate::search::{Piece, begins_with, behind_mark, up_to_brackets, up_to_greater};
 use hm_tree::{ScanFault, Token};
-use memchr::memmem;
+use memchr::memchr2;
 
 /// Whether the bytes begin with `</` before a byte that is neither a letter nor `>`.
 #[tactic(auto, unfolding(hm_base::specs::Bytes::is_letter))]
@@ -51,13 +51,17 @@ fn comment_end(bytes: &[u8]) -> Option<usize>
     }
 }
 
-/// The bytes from a place on up to the first end of a comment.
+/// The bytes from a place on up to the first end of a comment. The third byte of an end is `>` or
+/// `!`, so an end is sought only in front of these.
 fn up_to_end(bytes: &[u8], from: usize) -> Option<Piece>
     requires { from ≤ length bytes.now }
     ensures { Finds bytes.now from (cut_where behind_end (drop from bytes.now)) result }
 {
     let mut at = from;
-    'dashes: while let Some(found) = memmem::find(&bytes[at..], b"--") {
+    'signs: while at + 2 < bytes.len() {
+        let Some(found) = memchr2(b'>', b'!', &bytes[at + 2..]) else {
+            return None;
+        };
         let to = at + found;
         if let Some(len) = comment_end(&bytes[to..]) {
             let behind = to + len;

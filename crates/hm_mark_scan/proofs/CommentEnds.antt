@@ -1,5 +1,5 @@
 -- Scans of comments and CDATA sections.
-use Rattle.std.proofs.Common.{◌≡◌, ℕ, ◌+◌, ◌-◌, ◌<◌, ◌≤◌, Bool, true, false, not, cond, ◌&&◌, ◌||◌, ◌==◌, List, [], ◌∷◌, ◌++◌, length, drop, get_or, Option, Some, None, refl, ap, sym, subst, ◌∙◌, arith, codes, MatchOption, IfSome, inl, inr, length-drop}
+use Rattle.std.proofs.Common.{◌≡◌, ℕ, ◌+◌, ◌-◌, ◌<◌, ◌≤◌, Bool, true, false, not, ◌&&◌, ◌||◌, List, [], length, drop, get_or, Option, Some, None, refl, ap, sym, subst, ◌∙◌, arith, codes, MatchOption, IfSome, inl, inr, length-drop}
 use Rattle.std.proofs.lemmas.Bool.{cases_lt}
 use Rattle.std.proofs.lemmas.List.{drop-drop, get_or-drop}
 use Rattle.memchr.specs.Find.{is_byte2}
@@ -8,7 +8,7 @@ use Rattle.hm_base.specs.RawText.{is_found}
 use Rattle.hm_mark_scan.specs.Comments.{begins, begins_comment, found_and, is_no_tag, behind_end, cut_comment, cut_where, comment_at, comment_front}
 use Rattle.hm_mark_scan.specs.Doctypes.{begins_doctype}
 use Rattle.hm_mark_scan.specs.Found.{IsFound, IsFoundBehind, Finds}
-use Rattle.hm_mark_scan.specs.declared.search.Piece.{Piece}
+use Rattle.hm_mark_scan.specs.declared.search.MarkPiece.{MarkPiece}
 use Rattle.hm_mark_scan.proofs.Places.{found_behind}
 use Rattle.hm_mark_scan.proofs.Searches.{not_stripped, begins_front, begins_not, begins_long, begins_reads}
 
@@ -93,36 +93,36 @@ comment_long s e = either (begins (codes "<?") s) refl
     either false f = (second_byte s e f).0
 
 -- a piece that is found from a place on begins there
-pub starts_behind : (s : List ℕ) (start n : ℕ) (cut : Option Cut) (found : Option Piece) → Finds s (start + n) cut found → n ≡ comment_front (drop start s) → IfSome found (λ piece. piece.from ≡ start + comment_front (drop start s))
+pub starts_behind : (s : List ℕ) (start n : ℕ) (cut : Option Cut) (found : Option MarkPiece) → Finds s (start + n) cut found → n ≡ comment_front (drop start s) → IfSome found (λ piece. piece.from ≡ start + comment_front (drop start s))
 starts_behind s start n cut None h e = tt
 starts_behind s start n cut (Some p) h e = h.starts ∙ ap (λ m. start + m) e
 
 -- The piece that is found gives the comment.
 module _ (s : List ℕ) (start : ℕ) where
-  abbrev Piece_at : Option Piece → Type 0
+  abbrev Piece_at : Option MarkPiece → Type 0
   Piece_at found = MatchOption found (comment_at (drop start s) ≡ None) (IsFoundBehind s start (comment_at (drop start s)))
 
   -- by a cut from a place on that stands behind an ASCII byte
-  from_place : (from : ℕ) (cut : Option Cut) (found : Option Piece) → start < from → get_or s (from - 1) 0 < 128 → comment_at (drop start s) ≡ cut → Finds s from cut found → Piece_at found
+  from_place : (from : ℕ) (cut : Option Cut) (found : Option MarkPiece) → start < from → get_or s (from - 1) 0 < 128 → comment_at (drop start s) ≡ cut → Finds s from cut found → Piece_at found
   from_place from cut None beyond ascii same h = same ∙ h
   from_place from cut (Some p) beyond ascii same h = rw same (found_behind s start from cut p beyond ascii h)
 
   byte_at : (n d : ℕ) → get_or (drop start s) n 0 ≡ d → get_or s (start + n) 0 ≡ d
   byte_at n d e = sym (get_or-drop start s n 0) ∙ e
 
-  pub question_piece : (found : Option Piece) → begins (codes "<?") (drop start s) ≡ true → Finds s (start + 1) (cut_at (codes ">") (drop (start + 1) s)) found → Piece_at found
+  pub question_piece : (found : Option MarkPiece) → begins (codes "<?") (drop start s) ≡ true → Finds s (start + 1) (cut_at (codes ">") (drop (start + 1) s)) found → Piece_at found
   question_piece found e h =
       let first : get_or s (start + 0) 0 ≡ 60 = byte_at 0 60 (begins_reads (codes "<?") (drop start s) e 0 (omega arith)) in
       let place : start + 1 - 1 ≡ start + 0 = omega arith in
       from_place (start + 1) (cut_at (codes ">") (drop (start + 1) s)) found (omega arith) (rw (place, first) (omega arith)) (rw (e, drop-drop 1 start s) refl) h
 
-  pub dashes_piece : (found : Option Piece) → begins (codes "<?") (drop start s) ≡ false → begins (codes "<!--") (drop start s) ≡ true → Finds s (start + 4) (cut_comment (drop (start + 4) s)) found → Piece_at found
+  pub dashes_piece : (found : Option MarkPiece) → begins (codes "<?") (drop start s) ≡ false → begins (codes "<!--") (drop start s) ≡ true → Finds s (start + 4) (cut_comment (drop (start + 4) s)) found → Piece_at found
   dashes_piece found e f h =
       let last : get_or s (start + 3) 0 ≡ 45 = byte_at 3 45 (begins_reads (codes "<!--") (drop start s) f 3 (omega arith)) in
       let place : start + 4 - 1 ≡ start + 3 = omega arith in
       from_place (start + 4) (cut_comment (drop (start + 4) s)) found (omega arith) (rw (place, last) (omega arith)) (rw (e, f, drop-drop 4 start s) refl) h
 
-  pub bogus_piece : (found : Option Piece) → begins_comment (drop start s) ≡ true → begins (codes "<?") (drop start s) ≡ false → begins (codes "<!--") (drop start s) ≡ false → Finds s (start + 2) (cut_at (codes ">") (drop (start + 2) s)) found → Piece_at found
+  pub bogus_piece : (found : Option MarkPiece) → begins_comment (drop start s) ≡ true → begins (codes "<?") (drop start s) ≡ false → begins (codes "<!--") (drop start s) ≡ false → Finds s (start + 2) (cut_at (codes ">") (drop (start + 2) s)) found → Piece_at found
   bogus_piece found b e f h =
       let second : get_or s (start + 1) 0 < 128 = rw (get_or-drop start s 1 0) at (second_byte (drop start s) b e).1 in
       let place : start + 2 - 1 ≡ start + 1 = omega arith in

@@ -6,7 +6,7 @@ use Rattle.hm_base.specs.RawText.{begins_end_tag, place_from, raw_end, Mark, ope
 use Rattle.hm_refs.specs.Names.{Entry}
 use Rattle.hm_tree.specs.Tokens.{doctype, start_tag, end_tag, slice, points, comment, Scanned, taken, refused}
 use Rattle.hm_tree.specs.declared.tokens.ScanFault.{ScanFault}
-use Rattle.hm_tag_scan.specs.Tags.{Tag, cut_tag, is_name_byte}
+use Rattle.hm_tag_scan.specs.Tags.{CutTag, cut_tag, is_name_byte}
 use Rattle.hm_base.specs.Bytes as bytes
 use Rattle.hm_tag_scan.specs.Reading.{read_tag, read_by, read_start, read_end, start_of, end_of, tag_name, tag_fault, unless_fault, read_attributes}
 use Rattle.hm_tokens.specs.First.{Mode, behind_bytes, read_inside, read_nothing, unless_end, first}
@@ -107,7 +107,7 @@ IsTag (taken (end_tag name) rest) = Unit {0}
 IsTag (taken token rest) = ⊥
 IsTag (refused fault) = Unit {0}
 
-start_is_tag : (t : List Entry) (name : List ℕ) (o : Option Tag) → IsTag (start_of t name o)
+start_is_tag : (t : List Entry) (name : List ℕ) (o : Option CutTag) → IsTag (start_of t name o)
 start_is_tag t name None = tt
 start_is_tag t name (Some g) = by (tag_fault name g.attributes)
   where
@@ -115,7 +115,7 @@ start_is_tag t name (Some g) = by (tag_fault name g.attributes)
     by None = tt
     by (Some f) = tt
 
-end_is_tag : (name : List ℕ) (o : Option Tag) → IsTag (end_of name o)
+end_is_tag : (name : List ℕ) (o : Option CutTag) → IsTag (end_of name o)
 end_is_tag name None = tt
 end_is_tag name (Some g) = by (tag_fault name g.attributes)
   where

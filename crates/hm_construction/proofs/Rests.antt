@@ -9,7 +9,7 @@ use Rattle.hm_refs.specs.Names.{Entry}
 use Rattle.hm_refs.specs.References.{Reference}
 use Rattle.hm_tree.specs.Tokens.{Seen, start_tag, end_tag, Scanned, taken, refused}
 use Rattle.hm_tree.specs.declared.tokens.ScanFault.{ScanFault}
-use Rattle.hm_tag_scan.specs.Tags.{Tag, tag_from, cut_tag, is_name_byte, is_tag_end, attribute_at, with_attribute, with_slash, attribute_then, Written}
+use Rattle.hm_tag_scan.specs.Tags.{CutTag, tag_from, cut_tag, is_name_byte, is_tag_end, attribute_at, with_attribute, with_slash, attribute_then, Written}
 use Rattle.hm_tag_scan.specs.Reading.{read_tag, read_by, read_start, read_end, start_of, end_of, tag_name, tag_fault, unless_fault, begins_tag, read_attributes}
 use Rattle.hm_text_scan.specs.Texts.{read_text, plain_front, reference_in, begins_markup}
 use Rattle.hm_text_scan.specs.Texts as texts
@@ -82,19 +82,19 @@ cut_on : (s r : List ℕ) (o : Option Cut) → Ends s r → EndsCut r o → Ends
 cut_on s r None e f = tt
 cut_on s r (Some k) e f = ends_on s r k.behind e f
 
-abbrev EndsTag : List ℕ → Option Tag → Type 0
+abbrev EndsTag : List ℕ → Option CutTag → Type 0
 EndsTag s None = Unit {0}
 EndsTag s (Some g) = Ends s g.rest
 
-tag_more : (c : ℕ) (s : List ℕ) (o : Option Tag) → EndsTag s o → EndsTag (c ∷ s) o
+tag_more : (c : ℕ) (s : List ℕ) (o : Option CutTag) → EndsTag s o → EndsTag (c ∷ s) o
 tag_more c s None e = tt
 tag_more c s (Some g) e = ends_more c s g.rest e
 
-slash_more : (b : Bool) (s : List ℕ) (o : Option Tag) → EndsTag s o → EndsTag s (with_slash b o)
+slash_more : (b : Bool) (s : List ℕ) (o : Option CutTag) → EndsTag s o → EndsTag s (with_slash b o)
 slash_more b s None e = tt
 slash_more b s (Some g) e = e
 
-attribute_more : (a : Attribute) (s : List ℕ) (o : Option Tag) → EndsTag s o → EndsTag s (with_attribute a o)
+attribute_more : (a : Attribute) (s : List ℕ) (o : Option CutTag) → EndsTag s o → EndsTag s (with_attribute a o)
 attribute_more a s None e = tt
 attribute_more a s (Some g) e = e
 
@@ -130,11 +130,11 @@ unless_ends : (s : List ℕ) (f : Option ScanFault) (token : Seen) (rest : List 
 unless_ends s None token rest e = e
 unless_ends s (Some f) token rest e = tt
 
-start_ends : (t : List Entry) (name s : List ℕ) (o : Option Tag) → EndsTag s o → EndsRead s (start_of t name o)
+start_ends : (t : List Entry) (name s : List ℕ) (o : Option CutTag) → EndsTag s o → EndsRead s (start_of t name o)
 start_ends t name s None e = tt
 start_ends t name s (Some g) e = unless_ends s (tag_fault name g.attributes) (start_tag name (read_attributes t g.attributes) g.slash) g.rest e
 
-end_ends : (name s : List ℕ) (o : Option Tag) → EndsTag s o → EndsRead s (end_of name o)
+end_ends : (name s : List ℕ) (o : Option CutTag) → EndsTag s o → EndsRead s (end_of name o)
 end_ends name s None e = tt
 end_ends name s (Some g) e = unless_ends s (tag_fault name g.attributes) (end_tag name) g.rest e
 

@@ -7,7 +7,7 @@ use Rattle.hm_tree.specs.declared.tokens.Token.TheVariants as tokens
 use Rattle.hm_tree.specs.declared.tokens.ScanFault.TheVariants as faults
 use Rattle.hm_mark_scan.specs.Doctypes.{begins_doctype, doctype_form, as_doctype, read_doctype}
 use Rattle.hm_mark_scan.specs.Found.{IsFound}
-use Rattle.hm_mark_scan.specs.declared.search.Piece.{Piece}
+use Rattle.hm_mark_scan.specs.declared.search.MarkPiece.{MarkPiece}
 use Rattle.hm_mark_scan.proofs.Lowered.{word_long}
 use Rattle.hm_mark_scan.proofs.Places.{boundary_behind}
 
@@ -22,7 +22,7 @@ pub doctype_open : (s : List ℕ) (at : ℕ) → cut_at (codes ">") (drop (at + 
 unfolding read_doctype
 doctype_open s at none = rw (drop-drop 9 at s) (ap as_doctype none)
 
-module _ (s : List ℕ) (at : ℕ) (p : Piece) (found : IsFound s (at + 9) (cut_at (codes ">") (drop (at + 9) s)) p) where
+module _ (s : List ℕ) (at : ℕ) (p : MarkPiece) (found : IsFound s (at + 9) (cut_at (codes ">") (drop (at + 9) s)) p) where
   pub doctype_bad : None ≡ doctype_form (slice_range s p.from p.to) → read_doctype (drop at s) ≡ refused faults.BadDoctype
   unfolding read_doctype
   doctype_bad form = rw (drop-drop 9 at s, found.is, sym form) refl

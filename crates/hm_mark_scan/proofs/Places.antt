@@ -6,7 +6,7 @@ use Rattle.hm_tree.specs.Tokens.{Reads, IsPiece}
 use Rattle.hm_tree.specs.declared.tokens.Token.TheVariants as tokens
 use Rattle.hm_mark_scan.specs.Pieces.{as_comment, as_slice}
 use Rattle.hm_mark_scan.specs.Found.{IsFound, IsFoundBehind}
-use Rattle.hm_mark_scan.specs.declared.search.Piece.{Piece}
+use Rattle.hm_mark_scan.specs.declared.search.MarkPiece.{MarkPiece}
 
 -- behind a byte below 128 a text can be cut
 pub boundary_behind : (s : List ℕ) (n : ℕ) → IsUtf8 s → 0 < n → n ≤ length s → get_or s (n - 1) 0 < 128 → IsCharBoundary s n
@@ -14,7 +14,7 @@ boundary_behind s n utf8 some inside ascii =
     let at : n - 1 + 1 ≡ n = omega arith in
     subst (IsCharBoundary s) at (IsCharBoundary-after_ascii s (n - 1) utf8 (omega arith) ascii)
 
-module _ (s : List ℕ) (utf8 : IsUtf8 s) (start : ℕ) (cut : Option Cut) (p : Piece) (h : IsFoundBehind s start cut p) where
+module _ (s : List ℕ) (utf8 : IsUtf8 s) (start : ℕ) (cut : Option Cut) (p : MarkPiece) (h : IsFoundBehind s start cut p) where
   pub piece_cuts : IsPiece s p.from p.to
   piece_cuts =
       let found = h.found in
@@ -35,7 +35,7 @@ module _ (s : List ℕ) (utf8 : IsUtf8 s) (start : ℕ) (cut : Option Cut) (p : 
   slice_read = record { is = rw h.found.is refl; inside = piece_cuts; boundary = end_cuts }
 
 -- a piece from a place on that stands behind an ASCII byte
-pub found_behind : (s : List ℕ) (start from : ℕ) (cut : Option Cut) (p : Piece) → start < from → get_or s (from - 1) 0 < 128 → IsFound s from cut p → IsFoundBehind s start cut p
+pub found_behind : (s : List ℕ) (start from : ℕ) (cut : Option Cut) (p : MarkPiece) → start < from → get_or s (from - 1) 0 < 128 → IsFound s from cut p → IsFoundBehind s start cut p
 found_behind s start from cut p beyond ascii found =
     let same : p.from ≡ from = found.starts in
     record {

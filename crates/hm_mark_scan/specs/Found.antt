@@ -1,10 +1,10 @@
 -- What a search found in a text.
 use Rattle.std.specs.Prelude.{◌≡◌, ℕ, ◌-◌, ◌<◌, ◌≤◌, List, drop, length, slice_index, slice_range, Option, Some, None, MatchOption}
 use Rattle.hm_base.specs.Bytes.{Cut}
-use Rattle.hm_mark_scan.specs.declared.search.Piece.{Piece}
+use Rattle.hm_mark_scan.specs.declared.search.MarkPiece.{MarkPiece}
 
 -- A piece of the text from a place on, and its end behind it. The first and the last byte of the end are ASCII.
-pub record IsFound (s : List ℕ) (from : ℕ) (cut : Option Cut) (p : Piece) : Type 0 where
+pub record IsFound (s : List ℕ) (from : ℕ) (cut : Option Cut) (p : MarkPiece) : Type 0 where
   pub starts : p.from ≡ from
   pub ordered : p.from ≤ p.to
   pub ends : p.to < p.behind
@@ -14,7 +14,7 @@ pub record IsFound (s : List ℕ) (from : ℕ) (cut : Option Cut) (p : Piece) : 
   pub is : cut ≡ Some (record { before = slice_range s p.from p.to; behind = drop p.behind s })
 
 -- the same, for a piece that stands somewhere behind a place, directly behind an ASCII byte
-pub record IsFoundBehind (s : List ℕ) (start : ℕ) (cut : Option Cut) (p : Piece) : Type 0 where
+pub record IsFoundBehind (s : List ℕ) (start : ℕ) (cut : Option Cut) (p : MarkPiece) : Type 0 where
   pub beyond : start < p.from
   pub ascii : slice_index s (p.from - 1) < 128
   pub found : IsFound s p.from cut p
@@ -28,7 +28,7 @@ pub record IsEnd (ends : List ℕ → Option (List ℕ)) (s : List ℕ) (n : ℕ
   pub is : ends s ≡ Some (drop n s)
 
 -- the piece that this cut of the text from a place on gives, or none where there is no cut
-abbrev pub Finds : List ℕ → ℕ → Option Cut → Option Piece → Type 0
+abbrev pub Finds : List ℕ → ℕ → Option Cut → Option MarkPiece → Type 0
 Finds s from cut found = MatchOption found (cut ≡ None) (IsFound s from cut)
 
 -- A place of the text, counted from another one on. An ASCII byte stands there.

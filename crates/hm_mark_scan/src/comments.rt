@@ -7,9 +7,9 @@ ghost use Rattle.hm_mark_scan.specs.Comments.{comment_at, comment_front, read_co
 ghost use Rattle.hm_mark_scan.specs.Found.{Finds, IsEnd, IsFoundBehind};
 
 use crate::doctypes::begins_doctype;
-use crate::search::{Piece, begins_with, behind_mark, up_to_brackets, up_to_greater};
+use crate::search::{MarkPiece, begins_with, behind_mark, up_to_brackets, up_to_greater};
 use hm_tree::{ScanFault, Token};
-use memchr::memmem;
+use memchr::memchr2;
 
 /// Whether the bytes begin with `</` before a byte that is neither a letter nor `>`.
 #[tactic(auto, unfolding(hm_base::specs::Bytes::is_letter))]
@@ -51,17 +51,21 @@ fn comment_end(bytes: &[u8]) -> Option<usize>
     }
 }
 
-/// The bytes from a place on up to the first end of a comment.
-fn up_to_end(bytes: &[u8], from: usize) -> Option<Piece>
+/// The bytes from a place on up to the first end of a comment. The third byte of an end is `>` or
+/// `!`, so an end is sought only in front of these.
+fn up_to_end(bytes: &[u8], from: usize) -> Option<MarkPiece>
     requires { from ≤ length bytes.now }
     ensures { Finds bytes.now from (cut_where behind_end (drop from bytes.now)) result }
 {
     let mut at = from;
-    'dashes: while let Some(found) = memmem::find(&bytes[at..], b"--") {
+    'signs: while at + 2 < bytes.len() {
+        let Some(found) = memchr2(b'>', b'!', &bytes[at + 2..]) else {
+            return None;
+        };
         let to = at + found;
         if let Some(len) = comment_end(&bytes[to..]) {
             let behind = to + len;
-            return Some(Piece { from, to, behind });
+            return Some(MarkPiece { from, to, behind });
         }
         at = to + 1;
     }
@@ -69,20 +73,20 @@ fn up_to_end(bytes: &[u8], from: usize) -> Option<Piece>
 }
 
 /// The text of a comment from behind its `<!--` on.
-fn comment_text(bytes: &[u8], from: usize) -> Option<Piece>
+fn comment_text(bytes: &[u8], from: usize) -> Option<MarkPiece>
     requires { from ≤ length bytes.now }
     ensures { Finds bytes.now from (cut_comment (drop from bytes.now)) result }
 {
     let rest = &bytes[from..];
     if begins_with(rest, b">") {
-        return Some(Piece {
+        return Some(MarkPiece {
             from,
             to: from,
             behind: from + 1,
         });
     }
     if begins_with(rest, b"->") {
-        return Some(Piece {
+        return Some(MarkPiece {
             from,
             to: from,
             behind: from + 2,
@@ -92,7 +96,7 @@ fn comment_text(bytes: &[u8], from: usize) -> Option<Piece>
 }
 
 /// The text of the comment that begins at a place. It stands behind an ASCII byte.
-fn comment_piece(bytes: &[u8], start: usize) -> Option<Piece>
+fn comment_piece(bytes: &[u8], start: usize) -> Option<MarkPiece>
     requires inside { start + 2 ≤ length bytes.now }
     requires begins { comments.begins_comment (drop start bytes.now) ≡ true }
     ensures found { MatchOption result (comment_at (drop start bytes.now) ≡ None) (IsFoundBehind bytes.now start (comment_at (drop start bytes.now))) }

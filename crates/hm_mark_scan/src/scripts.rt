@@ -14,7 +14,7 @@ use memchr::memchr2;
 /// How the text of a script is read from a place on: as it is, in a comment, or in a script in a
 /// comment.
 #[derive(Clone, Copy)]
-enum State {
+enum Escaping {
     Unescaped,
     Escaped,
     DoubleEscaped,
@@ -22,24 +22,24 @@ enum State {
 
 /// What changes the state: `<!--`, `-->`, `<script` and `</script`.
 #[derive(Clone, Copy)]
-enum Mark {
+enum ScriptMark {
     OpensComment,
     ClosesComment,
     OpensScript,
     ClosesScript,
 }
 
-impl State {
+impl Escaping {
     /// The state behind a mark; none where the script ends at it.
-    fn behind(self, mark: Option<Mark>) -> Option<State>
+    fn behind(self, mark: Option<ScriptMark>) -> Option<Escaping>
         ensures { option_map state_of result ≡ next_state (state_of self) (option_map mark_of mark) }
     {
         match (self, mark) {
-            (State::Unescaped | State::Escaped, Some(Mark::ClosesScript)) => None,
-            (State::Unescaped, Some(Mark::OpensComment)) => Some(State::Escaped),
-            (State::Escaped, Some(Mark::OpensScript)) => Some(State::DoubleEscaped),
-            (State::DoubleEscaped, Some(Mark::ClosesScript)) => Some(State::Escaped),
-            (_, Some(Mark::ClosesComment)) => Some(State::Unescaped),
+            (Escaping::Unescaped | Escaping::Escaped, Some(ScriptMark::ClosesScript)) => None,
+            (Escaping::Unescaped, Some(ScriptMark::OpensComment)) => Some(Escaping::Escaped),
+            (Escaping::Escaped, Some(ScriptMark::OpensScript)) => Some(Escaping::DoubleEscaped),
+            (Escaping::DoubleEscaped, Some(ScriptMark::ClosesScript)) => Some(Escaping::Escaped),
+            (_, Some(ScriptMark::ClosesComment)) => Some(Escaping::Unescaped),
             (state, _) => Some(state),
         }
     }
@@ -47,17 +47,17 @@ impl State {
 
 /// The mark that the bytes begin with.
 #[tactic(auto, unfolding(hm_base::specs::RawText::mark_at))]
-fn mark_at(bytes: &[u8]) -> Option<Mark>
+fn mark_at(bytes: &[u8]) -> Option<ScriptMark>
     ensures { option_map mark_of result ≡ raw.mark_at bytes.now }
 {
     if begins_with(bytes, b"<!--") {
-        Some(Mark::OpensComment)
+        Some(ScriptMark::OpensComment)
     } else if begins_with(bytes, b"-->") {
-        Some(Mark::ClosesComment)
+        Some(ScriptMark::ClosesComment)
     } else if begins_with_name(bytes, b"<script") {
-        Some(Mark::OpensScript)
+        Some(ScriptMark::OpensScript)
     } else if begins_with_name(bytes, b"</script") {
-        Some(Mark::ClosesScript)
+        Some(ScriptMark::ClosesScript)
     } else {
         None
     }
@@ -68,7 +68,7 @@ fn script_end(bytes: &[u8], from: usize) -> Option<usize>
     requires { from ≤ length bytes.now }
     ensures { FindsPlace bytes.now from (raw.script_end (drop from bytes.now)) result }
 {
-    let mut state = State::Unescaped;
+    let mut state = Escaping::Unescaped;
     let mut at = from;
     'marks: while let Some(found) = memchr2(b'<', b'-', &bytes[at..]) {
         let to = at + found;

@@ -8,19 +8,19 @@ use memchr::{memchr, memmem};
 
 /// A piece of a text from `from` up to `to`, where its end stands; behind that `behind` begins.
 #[derive(Clone, Copy)]
-pub struct Piece {
+pub struct MarkPiece {
     pub from: usize,
     pub to: usize,
     pub behind: usize,
 }
 
 /// The bytes from a place on up to the first `>`.
-pub fn up_to_greater(bytes: &[u8], from: usize) -> Option<Piece>
+pub fn up_to_greater(bytes: &[u8], from: usize) -> Option<MarkPiece>
     requires { from ≤ length bytes.now }
     ensures { Finds bytes.now from (cut_at (codes ">") (drop from bytes.now)) result }
 {
     match memchr(b'>', &bytes[from..]) {
-        Some(found) => Some(Piece {
+        Some(found) => Some(MarkPiece {
             from,
             to: from + found,
             behind: from + found + 1,
@@ -30,12 +30,12 @@ pub fn up_to_greater(bytes: &[u8], from: usize) -> Option<Piece>
 }
 
 /// The bytes from a place on up to the first `]]>`.
-pub fn up_to_brackets(bytes: &[u8], from: usize) -> Option<Piece>
+pub fn up_to_brackets(bytes: &[u8], from: usize) -> Option<MarkPiece>
     requires { from ≤ length bytes.now }
     ensures { Finds bytes.now from (cut_at (codes "]]>") (drop from bytes.now)) result }
 {
     match memmem::find(&bytes[from..], b"]]>") {
-        Some(found) => Some(Piece {
+        Some(found) => Some(MarkPiece {
             from,
             to: from + found,
             behind: from + found + 3,

@@ -9,7 +9,7 @@ use Rattle.hm_tree.specs.declared.tokens.Tag as places
 use Rattle.hm_tree.specs.declared.tokens.Token.TheVariants as tokens
 use Rattle.hm_tree.specs.declared.tokens.ScanFault.{ScanFault}
 use Rattle.hm_tree.specs.declared.tokens.ScanFault.TheVariants as faults
-use Rattle.hm_tag_scan.specs.Tags.{is_name_byte, Tag, cut_tag}
+use Rattle.hm_tag_scan.specs.Tags.{is_name_byte, CutTag, cut_tag}
 use Rattle.hm_tag_scan.specs.Reading.{attribute_limit, has_bad_name, tag_fault, read_attributes, start_of, end_of, tag_name, read_start, read_end}
 use Rattle.hm_tag_scan.specs.Collected.{IsCollected, IsTagBody, HasNoBody}
 use Rattle.hm_tag_scan.specs.Wholes.{fault_by, fault_at, IsWhole}
@@ -38,11 +38,11 @@ unfolding tag_fault
 no_fault name written n b h = let few : nat_lt 256 (length written) ≡ false = grind arith in rw (n, b, few) refl
 
 -- a refused start tag, and a refused end tag
-start_by : (t : List Entry) (name : List ℕ) (o : Option Tag) (f : ScanFault) → fault_by name o ≡ Some f → start_of t name o ≡ refused f
+start_by : (t : List Entry) (name : List ℕ) (o : Option CutTag) (f : ScanFault) → fault_by name o ≡ Some f → start_of t name o ≡ refused f
 start_by t name None f e = let same : faults.Cut ≡ f = cc in ap refused same
 start_by t name (Some g) f e = rw e refl
 
-end_by : (name : List ℕ) (o : Option Tag) (f : ScanFault) → fault_by name o ≡ Some f → end_of name o ≡ refused f
+end_by : (name : List ℕ) (o : Option CutTag) (f : ScanFault) → fault_by name o ≡ Some f → end_of name o ≡ refused f
 end_by name None f e = let same : faults.Cut ≡ f = cc in ap refused same
 end_by name (Some g) f e = rw e refl
 
@@ -55,10 +55,10 @@ unfolding read_end
 end_refused s f e = end_by (tag_name s) (cut_tag (behind is_name_byte s)) f e
 
 -- a tag that is read
-start_taken : (t : List Entry) (name : List ℕ) (o : Option Tag) (g : Tag) → o ≡ Some g → fault_by name o ≡ None → start_of t name o ≡ taken (start_tag name (read_attributes t g.attributes) g.slash) g.rest
+start_taken : (t : List Entry) (name : List ℕ) (o : Option CutTag) (g : CutTag) → o ≡ Some g → fault_by name o ≡ None → start_of t name o ≡ taken (start_tag name (read_attributes t g.attributes) g.slash) g.rest
 start_taken t name o g e f = let free : tag_fault name g.attributes ≡ None = ap (fault_by name) (sym e) ∙ f in ap (start_of t name) e ∙ rw free refl
 
-end_taken : (name : List ℕ) (o : Option Tag) (g : Tag) → o ≡ Some g → fault_by name o ≡ None → end_of name o ≡ taken (end_tag name) g.rest
+end_taken : (name : List ℕ) (o : Option CutTag) (g : CutTag) → o ≡ Some g → fault_by name o ≡ None → end_of name o ≡ taken (end_tag name) g.rest
 end_taken name o g e f = let free : tag_fault name g.attributes ≡ None = ap (fault_by name) (sym e) ∙ f in ap (end_of name) e ∙ rw free refl
 
 -- no fault tells that no name is bad and that the attributes are few

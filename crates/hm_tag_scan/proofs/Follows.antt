@@ -6,7 +6,7 @@ use Rattle.hm_refs.specs.Names.{Entry}
 use Rattle.hm_tree.specs.Tokens.{Seen, start_tag, end_tag, Extends}
 use Rattle.hm_tree.specs.declared.tokens.ScanFault.{ScanFault}
 use Rattle.hm_tree.specs.declared.tokens.ScanFault.TheVariants as faults
-use Rattle.hm_tag_scan.specs.Tags.{is_name_byte, is_later_byte, is_unquoted_byte, is_inside, is_quote, is_tag_end, cut_behind, cut_quoted, cut_value, cut_assigned, Written, with_name, attribute_at, Tag, with_attribute, with_slash, attribute_then, tag_from}
+use Rattle.hm_tag_scan.specs.Tags.{is_name_byte, is_later_byte, is_unquoted_byte, is_inside, is_quote, is_tag_end, cut_behind, cut_quoted, cut_value, cut_assigned, Written, with_name, attribute_at, CutTag, with_attribute, with_slash, attribute_then, tag_from}
 use Rattle.hm_tag_scan.specs.Reading.{tag_fault, unless_fault, start_of, end_of, tag_name, read_attributes, read_start, read_end, read_by, read_tag}
 use Rattle.hm_tag_scan.specs.Laws.{WhateverFollows}
 use Rattle.hm_tag_scan.proofs.Fronts.{cond_both, cases_list, front_append, behind_append}
@@ -63,19 +63,19 @@ attribute_goes_on c s y = elim (cases_list (behind is_later_byte s)) [
 ]
 
 -- a tag that has an end is the same in a longer text, with more behind it
-abbrev TagExtends : List ℕ → Option Tag → Option Tag → Type 0
+abbrev TagExtends : List ℕ → Option CutTag → Option CutTag → Type 0
 TagExtends y None b = Unit {0}
 TagExtends y (Some g) b = b ≡ Some (record g { rest = g.rest ++ y })
 
-with_attribute_extends : (a : Attribute) (y : List ℕ) (o p : Option Tag) → TagExtends y o p → TagExtends y (with_attribute a o) (with_attribute a p)
+with_attribute_extends : (a : Attribute) (y : List ℕ) (o p : Option CutTag) → TagExtends y o p → TagExtends y (with_attribute a o) (with_attribute a p)
 with_attribute_extends a y None p h = tt
 with_attribute_extends a y (Some g) p h = rw h refl
 
-with_slash_extends : (slash : Bool) (y : List ℕ) (o p : Option Tag) → TagExtends y o p → TagExtends y (with_slash slash o) (with_slash slash p)
+with_slash_extends : (slash : Bool) (y : List ℕ) (o p : Option CutTag) → TagExtends y o p → TagExtends y (with_slash slash o) (with_slash slash p)
 with_slash_extends slash y None p h = tt
 with_slash_extends slash y (Some g) p h = rw h refl
 
-attribute_extends : (s y : List ℕ) (w v : Written) (more longer : ℕ → Option Tag) → GoesOn y w v → more (length s) ≡ None
+attribute_extends : (s y : List ℕ) (w v : Written) (more longer : ℕ → Option CutTag) → GoesOn y w v → more (length s) ≡ None
     → ((k : ℕ) → TagExtends y (more k) (longer k)) → TagExtends y (attribute_then s w more) (attribute_then (s ++ y) v longer)
 attribute_extends s y w v more longer (inl e) end each = let none : length s - 0 ≡ length s = omega arith in rw (e, none, end) tt
 attribute_extends s y w v more longer (inr e) end each =
@@ -108,12 +108,12 @@ fault_extends (Some faults.TooManyAttributes) token r y = refl
 fault_extends (Some faults.BadDoctype) token r y = refl
 fault_extends (Some faults.Memory) token r y = refl
 
-start_of_extends : (t : List Entry) (name y : List ℕ) (o p : Option Tag) → TagExtends y o p → Extends y (start_of t name o) (start_of t name p)
+start_of_extends : (t : List Entry) (name y : List ℕ) (o p : Option CutTag) → TagExtends y o p → Extends y (start_of t name o) (start_of t name p)
 start_of_extends t name y None p h = tt
 start_of_extends t name y (Some g) p h =
     rw h (fault_extends (tag_fault name g.attributes) (start_tag name (read_attributes t g.attributes) g.slash) g.rest y)
 
-end_of_extends : (name y : List ℕ) (o p : Option Tag) → TagExtends y o p → Extends y (end_of name o) (end_of name p)
+end_of_extends : (name y : List ℕ) (o p : Option CutTag) → TagExtends y o p → Extends y (end_of name o) (end_of name p)
 end_of_extends name y None p h = tt
 end_of_extends name y (Some g) p h = rw h (fault_extends (tag_fault name g.attributes) (end_tag name) g.rest y)
 

@@ -3,10 +3,10 @@ use Rattle.std.proofs.Common.{◌≡◌, ℕ, ◌<◌, ◌≤◌, Bool, List, []
 use Rattle.std.specs.Str.{IsCharBoundary}
 use Rattle.hm_base.specs.Walks.{Attribute}
 use Rattle.hm_refs.specs.Names.{Entry}
-use Rattle.hm_tag_scan.specs.Tags.{Tag, with_attribute, cut_tag}
+use Rattle.hm_tag_scan.specs.Tags.{CutTag, with_attribute, cut_tag}
 use Rattle.hm_tag_scan.specs.Parts.{written_in, IsTagEnd, IsPair}
 use Rattle.hm_tag_scan.specs.Collected.{IsCollected, IsTagBody}
-use Rattle.hm_tag_scan.specs.declared.attribute.Attribute as places
+use Rattle.hm_tag_scan.specs.declared.attribute.WrittenAttribute as places
 use Rattle.hm_tag_scan.specs.declared.collected.Collected.{Collected}
 use Rattle.hm_tag_scan.proofs.Written.{with_attributes}
 use Rattle.hm_tag_scan.proofs.WrittenTags.{with_all}
@@ -21,7 +21,7 @@ pub record IsReadTo (t : List Entry) (keeps : Bool) (s : List ℕ) (from at : �
   pub forward : from ≤ at
   pub boundary : IsCharBoundary s at
 
-with_push : (written : List Attribute) (a : Attribute) (o : Option Tag) → with_attributes (written ++ a ∷ []) o ≡ with_attributes written (with_attribute a o)
+with_push : (written : List Attribute) (a : Attribute) (o : Option CutTag) → with_attributes (written ++ a ∷ []) o ≡ with_attributes written (with_attribute a o)
 with_push [] a o = refl
 with_push (b ∷ written) a o = ap (with_attribute b) (with_push written a o)
 
@@ -48,7 +48,7 @@ read_end t keeps s from at behind slash attrs c r e =
       boundary = e.rest;
     }
 
-pub read_more : (t : List Entry) (keeps : Bool) (s : List ℕ) (from at start : ℕ) (a : places.Attribute) (before after : List Attribute) (old new : Collected) → IsReadTo t keeps s from at before old → IsPair s at start a → new.keeps ≡ old.keeps
+pub read_more : (t : List Entry) (keeps : Bool) (s : List ℕ) (from at start : ℕ) (a : places.WrittenAttribute) (before after : List Attribute) (old new : Collected) → IsReadTo t keeps s from at before old → IsPair s at start a → new.keeps ≡ old.keeps
     → ((written : List Attribute) → IsCollected t written old before → IsCollected t (written ++ written_in s start a ∷ []) new after) → IsReadTo t keeps s from a.value.behind after new
 read_more t keeps s from at start a before after old new r p same takes =
     let low : from ≤ at = r.forward in

@@ -7,16 +7,16 @@ use Rattle.std.proofs.lemmas.Bool.{and_parts, cases_lt}
 use Rattle.std.proofs.lemmas.Bool.Decides.{Decides-eqb}
 use Rattle.hm_base.specs.Bytes.{behind, all_pass, head_is, is_space}
 use Rattle.hm_base.specs.Walks as walks
-use Rattle.hm_tag_scan.specs.Tags.{is_tag_end, attribute_at, Tag, with_attribute, with_slash, tag_from, cut_tag}
+use Rattle.hm_tag_scan.specs.Tags.{is_tag_end, attribute_at, CutTag, with_attribute, with_slash, tag_from, cut_tag}
 use Rattle.hm_refs.specs.Reads.{IsEndOf}
 use Rattle.hm_tag_scan.specs.Places.{is_gap_byte, IsAttributeAt}
 use Rattle.hm_tag_scan.specs.Parts.{written_in, IsTagEnd, IsPair}
-use Rattle.hm_tag_scan.specs.declared.attribute.Attribute.{Attribute}
+use Rattle.hm_tag_scan.specs.declared.attribute.WrittenAttribute.{WrittenAttribute}
 use Rattle.hm_tag_scan.proofs.Cases.{differs}
 use Rattle.hm_tag_scan.proofs.Boundaries.{gap_ends}
 use Rattle.hm_refs.proofs.RunEnds.{front_passes, range_more, rest_cons}
 
-no_slash : (o : Option Tag) → with_slash false o ≡ o
+no_slash : (o : Option CutTag) → with_slash false o ≡ o
 no_slash None = refl
 no_slash (Some g) = refl
 
@@ -136,10 +136,10 @@ pair_cut c r rest a gap no_end is behind =
     rw (no_end, both.1, both.0, is) (ap (with_attribute a) (skipped (length r - length rest) r ∙ ap cut_tag behind))
 
 -- no '/' stands before '>'
-unflagged : (b : Bool) (s : List ℕ) (c : ℕ) (r : List ℕ) (o : Option Tag) → s ≡ c ∷ r → is_tag_end c ≡ false → with_slash (b && head_is is_tag_end s) o ≡ o
+unflagged : (b : Bool) (s : List ℕ) (c : ℕ) (r : List ℕ) (o : Option CutTag) → s ≡ c ∷ r → is_tag_end c ≡ false → with_slash (b && head_is is_tag_end s) o ≡ o
 unflagged b s c r o e h = rw (e, h, never b) (no_slash o)
 
-pub pair_is : (s : List ℕ) (from at : ℕ) (a : Attribute) → IsUtf8 s → IsCharBoundary s from → IsEndOf is_gap_byte s from at → at < length s → (get_or s at 0 ≡ 62 → ⊥) → IsAttributeAt s at a → IsPair s from at a
+pub pair_is : (s : List ℕ) (from at : ℕ) (a : WrittenAttribute) → IsUtf8 s → IsCharBoundary s from → IsEndOf is_gap_byte s from at → at < length s → (get_or s at 0 ≡ 62 → ⊥) → IsAttributeAt s at a → IsPair s from at a
 pair_is s from at a u b e h no_end is =
     let c = get_or s at 0 in
     let r = drop (at + 1) s in

@@ -10,7 +10,7 @@ use Rattle.hm_tag_scan.specs.Tags.{is_later_byte, is_unquoted_byte, is_inside, i
 use Rattle.hm_refs.specs.Reads.{IsEndOf}
 use Rattle.hm_refs.proofs.RunEnds.{rest_cons}
 use Rattle.hm_tag_scan.specs.Places.{IsCutAt, IsAttributeAt, IsOrdinaryName}
-use Rattle.hm_tag_scan.specs.declared.attribute.Attribute.{Attribute}
+use Rattle.hm_tag_scan.specs.declared.attribute.WrittenAttribute.{WrittenAttribute}
 use Rattle.hm_tag_scan.specs.declared.attribute.Value.{Value}
 use Rattle.hm_tag_scan.proofs.Boundaries.{later_ends, unquoted_ends}
 
@@ -122,7 +122,7 @@ range_cons s at to h low =
     ap (λ m. take m (drop at s)) n ∙ ap (take (suc (to - (at + 1)))) (rest_cons s at h)
 
 -- a whole attribute
-pub attribute_is : (s : List ℕ) (at : ℕ) (a : Attribute) → at < length s → IsEndOf is_later_byte s (at + 1) a.name_to
+pub attribute_is : (s : List ℕ) (at : ℕ) (a : WrittenAttribute) → at < length s → IsEndOf is_later_byte s (at + 1) a.name_to
     → (a.plain ≡ true → IsOrdinaryName (slice_range s at a.name_to))
     → IsCutAt (cut_assigned (drop a.name_to s) (behind is_space (drop a.name_to s))) s a.value → a.name_to ≤ a.value.behind → IsAttributeAt s at a
 unfolding attribute_at

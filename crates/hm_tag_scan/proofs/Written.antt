@@ -9,7 +9,7 @@ use Rattle.hm_refs.specs.Names.{Entry}
 use Rattle.hm_markup_forms.specs.Gaps.{is_gap}
 use Rattle.hm_markup_forms.specs.Tags.{Form, bare, unquoted, double, single, parts_attributes, IsAssigned, WritesAttribute, WritesAttributes}
 use Rattle.hm_tag_scan.specs.Values.{read_value}
-use Rattle.hm_tag_scan.specs.Tags.{is_name_byte, is_later_byte, is_unquoted_byte, is_inside, is_quote, is_tag_end, cut_quoted, cut_value, cut_assigned, with_name, named, attribute_at, Tag, with_attribute, tag_from, cut_tag}
+use Rattle.hm_tag_scan.specs.Tags.{is_name_byte, is_later_byte, is_unquoted_byte, is_inside, is_quote, is_tag_end, cut_quoted, cut_value, cut_assigned, with_name, named, attribute_at, CutTag, with_attribute, tag_from, cut_tag}
 use Rattle.hm_tag_scan.specs.Reading.{is_bad_name, has_bad_name, read_attribute}
 use Rattle.hm_tag_scan.specs.ReadBack.{is_unquoted, IsQuoted, IsUnquoted, WritesValue, are_attribute_names}
 use Rattle.hm_tag_scan.proofs.Fronts.{front_all, behind_all}
@@ -224,7 +224,7 @@ one_read t before form a b s w good stops =
       good = subst (λ n. is_bad_name n ≡ false) name.is name.good;
     }
 
-abbrev pub with_attributes : List Attribute → Option Tag → Option Tag
+abbrev pub with_attributes : List Attribute → Option CutTag → Option CutTag
 with_attributes [] o = o
 with_attributes (a ∷ attributes) o = with_attribute a (with_attributes attributes o)
 

@@ -10,7 +10,7 @@ use Rattle.hm_refs.specs.Names.{Entry}
 use Rattle.hm_markup_forms.specs.Gaps.{is_gap}
 use Rattle.hm_markup_forms.specs.Tags.{Form, bare, unquoted, double, single, parts_slash, tag_end}
 use Rattle.hm_tree.specs.Tokens.{taken, start_tag}
-use Rattle.hm_tag_scan.specs.Tags.{is_name_byte, is_unquoted_byte, is_tag_end, Tag, cut_tag}
+use Rattle.hm_tag_scan.specs.Tags.{is_name_byte, is_unquoted_byte, is_tag_end, CutTag, cut_tag}
 use Rattle.hm_tag_scan.specs.Reading.{attribute_limit, has_bad_name, read_attribute, without_name, without_repeats, tag_fault, start_of, end_of, read_start, read_end, read_tag, begins_tag}
 use Rattle.hm_tag_scan.specs.ReadBack.{IsAttributes}
 use Rattle.hm_tag_scan.specs.Laws.{WrittenStartsAreRead, WrittenEndsAreRead}
@@ -51,7 +51,7 @@ end_stops unquoted slash gap after h = end_ends_value slash gap after h
 end_stops double slash gap after h = tt
 end_stops single slash gap after h = tt
 
-pub with_all : (raws : List Attribute) (g : Tag) → with_attributes raws (Some g) ≡ Some (record g { attributes = raws ++ g.attributes })
+pub with_all : (raws : List Attribute) (g : CutTag) → with_attributes raws (Some g) ≡ Some (record g { attributes = raws ++ g.attributes })
 with_all [] g = refl
 with_all (a ∷ raws) g = rw (with_all raws g) refl
 
@@ -81,7 +81,7 @@ accepted : (name : List ℕ) (raws : List Attribute) → is_tag_name name ≡ tr
 unfolding tag_fault
 accepted name raws good none few = let within : nat_lt 256 (length raws) ≡ false = grind arith in rw (good, none, within) refl
 
-start_written : (t : List Entry) (name : List ℕ) (attributes : List Attribute) (g : Tag) → is_tag_name name ≡ true → IsAttributes attributes
+start_written : (t : List Entry) (name : List ℕ) (attributes : List Attribute) (g : CutTag) → is_tag_name name ≡ true → IsAttributes attributes
     → map (read_attribute t) g.attributes ≡ attributes → has_bad_name g.attributes ≡ false
     → start_of t name (Some g) ≡ taken (start_tag name attributes g.slash) g.rest
 start_written t name attributes g good all read none =

@@ -4,7 +4,7 @@ use Rattle.hm_base.specs.Walks.{Attribute, has_name}
 use Rattle.hm_refs.specs.Names.{Entry}
 use Rattle.hm_tree.specs.declared.tokens.ScanFault.{ScanFault}
 use Rattle.hm_tree.specs.declared.tokens.ScanFault.TheVariants as faults
-use Rattle.hm_tag_scan.specs.Tags.{Tag, cut_tag}
+use Rattle.hm_tag_scan.specs.Tags.{CutTag, cut_tag}
 use Rattle.hm_tag_scan.specs.Reading.{attribute_limit, has_bad_name, read_attributes}
 use Rattle.hm_tag_scan.specs.declared.collected.Collected.{Collected}
 use Rattle.hm_tag_scan.specs.declared.tag_body.TagBody.{TagBody}
@@ -22,7 +22,7 @@ pub record IsCollected (t : List Entry) (written : List Attribute) (c : Collecte
 
 -- the tag whose name ends at a place, with the attributes that are kept
 pub record IsTagBody (t : List Entry) (keeps : Bool) (s : List ℕ) (from : ℕ) (attrs : List Attribute) (b : TagBody) : Type 0 where
-  pub tag : Tag
+  pub tag : CutTag
   pub is : cut_tag (drop from s) ≡ Some tag
   pub slash : b.slash ≡ tag.slash
   pub rest : drop b.behind s ≡ tag.rest

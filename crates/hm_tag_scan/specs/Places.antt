@@ -4,17 +4,17 @@ use Rattle.hm_base.specs.Bytes.{Cut, is_space, lower}
 use Rattle.hm_base.specs.Forms.{is_tag_byte, is_tag_name}
 use Rattle.hm_tag_scan.specs.Tags.{is_name_byte, is_later_byte, is_unquoted_byte, attribute_at}
 use Rattle.hm_tag_scan.specs.Reading.{is_bad_name}
-use Rattle.hm_tag_scan.specs.declared.attribute.Attribute.{Attribute}
+use Rattle.hm_tag_scan.specs.declared.attribute.WrittenAttribute.{WrittenAttribute}
 use Rattle.hm_tag_scan.specs.declared.attribute.Value.{Value}
-use Rattle.hm_tag_scan.specs.declared.runs.Run.{Run}
-use Rattle.hm_tag_scan.specs.declared.runs.Run.TheVariants.{Space, Gap, TagName, PlainName, AttributeName, Unquoted}
+use Rattle.hm_tag_scan.specs.declared.runs.ByteRun.{ByteRun}
+use Rattle.hm_tag_scan.specs.declared.runs.ByteRun.TheVariants.{Space, Gap, TagName, PlainName, AttributeName, Unquoted}
 
 -- whitespace or '/'
 unfoldable pub is_gap_byte : ℕ → Bool
 is_gap_byte c = is_space c || c == 47
 
 -- the test that a run's bytes pass
-abbrev pub test_of : Run → ℕ → Bool
+abbrev pub test_of : ByteRun → ℕ → Bool
 test_of Space = is_space
 test_of Gap = is_gap_byte
 test_of TagName = is_name_byte
@@ -43,7 +43,7 @@ pub record IsCutAt (k : Cut) (s : List ℕ) (v : Value) : Type 0 where
   pub rest : IsCharBoundary s v.behind
 
 -- the attribute that begins at a place
-pub record IsAttributeAt (s : List ℕ) (at : ℕ) (a : Attribute) : Type 0 where
+pub record IsAttributeAt (s : List ℕ) (at : ℕ) (a : WrittenAttribute) : Type 0 where
   pub is : attribute_at (slice_index s at) (drop (at + 1) s) ≡ record { attribute = record { name = slice_range s at a.name_to; value = slice_range s a.value.from a.value.to }; rest = drop a.value.behind s }
   pub plain : a.plain ≡ true → IsOrdinaryName (slice_range s at a.name_to)
   pub forward : at < a.name_to

@@ -9,7 +9,7 @@ use Rattle.hm_tree.specs.Tokens.{Seen, start_tag, end_tag, Scanned, taken, refus
 use Rattle.hm_tree.specs.declared.tokens.ScanFault.{ScanFault}
 use Rattle.hm_tree.specs.declared.tokens.ScanFault.TheVariants as faults
 use Rattle.hm_tag_scan.specs.Values.{read_value}
-use Rattle.hm_tag_scan.specs.Tags.{Tag, cut_tag, is_name_byte}
+use Rattle.hm_tag_scan.specs.Tags.{CutTag, cut_tag, is_name_byte}
 
 -- the most attributes that may be written in one tag
 abbrev pub attribute_limit : ℕ
@@ -63,11 +63,11 @@ abbrev pub unless_fault : Option ScanFault → Seen → List ℕ → Scanned
 unless_fault None token rest = taken token rest
 unless_fault (Some fault) token rest = refused fault
 
-abbrev pub start_of : List Entry → List ℕ → Option Tag → Scanned
+abbrev pub start_of : List Entry → List ℕ → Option CutTag → Scanned
 start_of t name None = refused faults.Cut
 start_of t name (Some g) = unless_fault (tag_fault name g.attributes) (start_tag name (read_attributes t g.attributes) g.slash) g.rest
 
-abbrev pub end_of : List ℕ → Option Tag → Scanned
+abbrev pub end_of : List ℕ → Option CutTag → Scanned
 end_of name None = refused faults.Cut
 end_of name (Some g) = unless_fault (tag_fault name g.attributes) (end_tag name) g.rest
 

@@ -62,28 +62,28 @@ unfoldable pub attribute_at : ℕ → List ℕ → Written
 attribute_at c s = named (c ∷ front is_later_byte s) (behind is_later_byte s)
 
 -- the attributes of a tag in order, whether a '/' stands directly before its '>', and what is behind it
-pub record Tag : Type 0 where
+pub record CutTag : Type 0 where
   pub attributes : List Attribute
   pub slash : Bool
   pub rest : List ℕ
 
-abbrev pub with_attribute : Attribute → Option Tag → Option Tag
+abbrev pub with_attribute : Attribute → Option CutTag → Option CutTag
 with_attribute a None = None
 with_attribute a (Some g) = Some (record g { attributes = a ∷ g.attributes })
 
-abbrev pub with_slash : Bool → Option Tag → Option Tag
+abbrev pub with_slash : Bool → Option CutTag → Option CutTag
 with_slash slash None = None
 with_slash slash (Some g) = Some (record g { slash = slash || g.slash })
 
 -- an attribute that begins in front of s, and what more reads behind it, where it is told how much of s belongs to the attribute
-abbrev pub attribute_then : List ℕ → Written → (ℕ → Option Tag) → Option Tag
+abbrev pub attribute_then : List ℕ → Written → (ℕ → Option CutTag) → Option CutTag
 attribute_then s w more = with_attribute w.attribute (more (length s - length w.rest))
 
 unfoldable pub is_tag_end : ℕ → Bool
 is_tag_end c = c == 62
 
 -- A tag behind its name, where it has an end. The first skip bytes are passed over.
-abbrev pub tag_from : ℕ → List ℕ → Option Tag
+abbrev pub tag_from : ℕ → List ℕ → Option CutTag
 tag_from skip [] = None
 tag_from (suc skip) (c ∷ s) = tag_from skip s
 tag_from zero (c ∷ s) =
@@ -92,5 +92,5 @@ tag_from zero (c ∷ s) =
     else if is_space c then tag_from 0 s
     else attribute_then s (attribute_at c s) (λ k. tag_from k s)
 
-abbrev pub cut_tag : List ℕ → Option Tag
+abbrev pub cut_tag : List ℕ → Option CutTag
 cut_tag s = tag_from 0 s

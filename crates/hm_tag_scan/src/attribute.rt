@@ -7,7 +7,7 @@ ghost use Rattle.hm_tag_scan.specs.Places.{IsAttributeAt, IsCutAt, IsOrdinaryNam
 ghost use Rattle.hm_refs.specs.Reads.{IsEndOf};
 
 use crate::names::is_tag_byte;
-use crate::runs::{Run, run_end};
+use crate::runs::{ByteRun, run_end};
 use memchr::memchr;
 
 /// A value from `from` up to `to`. What is behind it, and behind its quote, begins at `behind`.
@@ -20,7 +20,7 @@ pub(crate) struct Value {
 
 /// An attribute whose name ends at `name_to`. `plain` tells that its name isn't refused, and is read as it is written.
 #[derive(Clone, Copy)]
-pub(crate) struct Attribute {
+pub(crate) struct WrittenAttribute {
     pub(crate) name_to: usize,
     pub(crate) plain: bool,
     pub(crate) value: Value,
@@ -87,7 +87,7 @@ fn value_at(bytes: &[u8], from: usize) -> Value
     if is_quote(quote) {
         return quoted_value(bytes, from + 1, quote);
     }
-    let to = run_end(bytes, from, Run::Unquoted);
+    let to = run_end(bytes, from, ByteRun::Unquoted);
     Value {
         from,
         to,
@@ -102,14 +102,14 @@ fn assigned_value(bytes: &[u8], from: usize) -> Value
     ensures cut { IsCutAt (cut_assigned (drop from bytes.now) (behind is_space (drop from bytes.now))) bytes.now result }
     ensures forward { from ≤ result.behind }
 {
-    let equals = run_end(bytes, from, Run::Space);
+    let equals = run_end(bytes, from, ByteRun::Space);
     if equals == bytes.len() {
         return empty(equals);
     }
     if bytes[equals] != b'=' {
         return empty(from);
     }
-    value_at(bytes, run_end(bytes, equals + 1, Run::Space))
+    value_at(bytes, run_end(bytes, equals + 1, ByteRun::Space))
 }
 
 /// Whether a byte stands at `to` that ends the name of an attribute.
@@ -117,7 +117,7 @@ fn ends_name(bytes: &[u8], to: usize) -> bool
     ensures inside { result ≡ true → to < length bytes.now }
     ensures ends { result ≡ true → tags.is_later_byte (slice_index bytes.now to) ≡ false }
 {
-    to < bytes.len() && !Run::AttributeName.has(bytes[to])
+    to < bytes.len() && !ByteRun::AttributeName.has(bytes[to])
 }
 
 /// Where the name of the attribute ends that begins at `at`.
@@ -126,24 +126,24 @@ fn name_part(bytes: &[u8], at: usize) -> NamePart
     ensures end { IsEndOf tags.is_later_byte bytes.now (at + 1) result.to }
     ensures plain { result.plain ≡ true → IsOrdinaryName (slice_range bytes.now at result.to) }
 {
-    let to = run_end(bytes, at + 1, Run::PlainName);
+    let to = run_end(bytes, at + 1, ByteRun::PlainName);
     if is_tag_byte(bytes[at]) && ends_name(bytes, to) {
         return NamePart { to, plain: true };
     }
     NamePart {
-        to: run_end(bytes, at + 1, Run::AttributeName),
+        to: run_end(bytes, at + 1, ByteRun::AttributeName),
         plain: false,
     }
 }
 
 /// The attribute that begins at `at` (13.2.5.33).
-pub(crate) fn attribute_at(bytes: &[u8], at: usize) -> Attribute
+pub(crate) fn attribute_at(bytes: &[u8], at: usize) -> WrittenAttribute
     requires utf8 { IsUtf8 bytes.now }
     requires inside { at < length bytes.now }
     ensures { IsAttributeAt bytes.now at result }
 {
     let name = name_part(bytes, at);
-    Attribute {
+    WrittenAttribute {
         name_to: name.to,
         plain: name.plain,
         value: assigned_value(bytes, name.to),

@@ -2,18 +2,24 @@
 ghost use Rattle.std.specs.Prelude.{◌≡◌, ◌≤◌, ◌<◌, ◌-◌, ◌&&◌, ◌==◌, nat_lt, length, slice_index, IsUtf8, IsCharBoundary};
 ghost use Rattle.hm_tag_scan.specs.Parts.{IsPart};
 
-use crate::attribute::{Attribute, attribute_at};
-use crate::runs::{Run, run_end};
+use crate::attribute::{WrittenAttribute, attribute_at};
+use crate::runs::{ByteRun, run_end};
 
 /// What comes next in a tag, behind whitespace and `/`.
 #[derive(Clone, Copy)]
-pub(crate) enum Part {
+pub(crate) enum TagPart {
     /// Nothing: the text ends.
     Nothing,
     /// The tag's `>`, and whether a `/` stands directly before it. What is behind it begins at `behind`.
-    TagEnd { slash: bool, behind: usize },
+    TagEnd {
+        slash: bool,
+        behind: usize,
+    },
     /// An attribute that begins at `at`.
-    Pair { at: usize, attribute: Attribute },
+    Pair {
+        at: usize,
+        attribute: WrittenAttribute,
+    },
 }
 
 /// Whether the bytes up to `at` end in a `/`.
@@ -25,22 +31,22 @@ fn ends_in_slash(bytes: &[u8], from: usize, at: usize) -> bool
 }
 
 /// The part of a tag that comes next (13.2.5.32, 13.2.5.34, 13.2.5.39 and 13.2.5.40).
-pub(crate) fn next_part(bytes: &[u8], from: usize) -> Part
+pub(crate) fn next_part(bytes: &[u8], from: usize) -> TagPart
     requires utf8 { IsUtf8 bytes.now }
     requires boundary { IsCharBoundary bytes.now from }
     ensures { IsPart bytes.now from result }
 {
-    let at = run_end(bytes, from, Run::Gap);
+    let at = run_end(bytes, from, ByteRun::Gap);
     if at == bytes.len() {
-        return Part::Nothing;
+        return TagPart::Nothing;
     }
     if bytes[at] == b'>' {
-        return Part::TagEnd {
+        return TagPart::TagEnd {
             slash: ends_in_slash(bytes, from, at),
             behind: at + 1,
         };
     }
-    Part::Pair {
+    TagPart::Pair {
         at,
         attribute: attribute_at(bytes, at),
     }

@@ -8,7 +8,7 @@ use crate::names::is_tag_byte;
 
 /// The bytes that a run is made of.
 #[derive(Clone, Copy)]
-pub(crate) enum Run {
+pub(crate) enum ByteRun {
     /// Whitespace.
     Space,
     /// Whitespace and `/`.
@@ -23,20 +23,20 @@ pub(crate) enum Run {
     Unquoted,
 }
 
-impl Run {
+impl ByteRun {
     #[tactic(auto, unfolding(crate::specs::Places::is_gap_byte, crate::specs::Tags::is_name_byte, crate::specs::Tags::is_later_byte, crate::specs::Tags::is_unquoted_byte, hm_base::specs::RawText::is_name_end))]
     pub(crate) fn has(self, byte: u8) -> bool
         ensures { result ≡ test_of self byte }
     {
         match self {
-            Run::Space => is_space(byte),
-            Run::Gap => is_space(byte) || byte == b'/',
-            Run::TagName => !(is_space(byte) || byte == b'/' || byte == b'>'),
-            Run::PlainName => is_tag_byte(byte),
-            Run::AttributeName => {
+            ByteRun::Space => is_space(byte),
+            ByteRun::Gap => is_space(byte) || byte == b'/',
+            ByteRun::TagName => !(is_space(byte) || byte == b'/' || byte == b'>'),
+            ByteRun::PlainName => is_tag_byte(byte),
+            ByteRun::AttributeName => {
                 !(is_space(byte) || byte == b'/' || byte == b'>' || byte == b'=')
             }
-            Run::Unquoted => !(is_space(byte) || byte == b'>'),
+            ByteRun::Unquoted => !(is_space(byte) || byte == b'>'),
         }
     }
 }
@@ -48,7 +48,7 @@ fn is_space(byte: u8) -> bool
 }
 
 /// Where the run ends that begins at `from`.
-pub(crate) fn run_end(bytes: &[u8], from: usize, run: Run) -> usize
+pub(crate) fn run_end(bytes: &[u8], from: usize, run: ByteRun) -> usize
     requires { from ≤ length bytes.now }
     ensures { IsEndOf (test_of run) bytes.now from result }
 {

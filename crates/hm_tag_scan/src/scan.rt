@@ -14,7 +14,7 @@ ghost use Rattle.hm_tag_scan.specs.Reading.{begins_tag, read_end, read_start, re
 
 use crate::collected::Collected;
 use crate::names::{is_small, is_tag_name, put_name};
-use crate::runs::{Run, run_end};
+use crate::runs::{ByteRun, run_end};
 use crate::tag_body::read_body;
 use hm_base::ATTRIBUTE_LIMIT;
 use hm_refs::Table;
@@ -74,7 +74,7 @@ fn is_plain_between(bytes: &[u8], from: usize, to: usize) -> bool
     if from >= to || to == bytes.len() {
         return false;
     }
-    is_small(bytes[from]) && !Run::TagName.has(bytes[to])
+    is_small(bytes[from]) && !ByteRun::TagName.has(bytes[to])
 }
 
 /// Where the name of a tag ends that begins at `from`.
@@ -85,12 +85,12 @@ fn name_end(text: &str, from: usize) -> NameEnd
     ensures plain { result.plain ≡ true → IsPlainName (slice_range text.now from result.to) }
 {
     let bytes = text.as_bytes();
-    let to = run_end(bytes, from, Run::PlainName);
+    let to = run_end(bytes, from, ByteRun::PlainName);
     if is_plain_between(bytes, from, to) {
         return NameEnd { to, plain: true };
     }
     NameEnd {
-        to: run_end(bytes, from, Run::TagName),
+        to: run_end(bytes, from, ByteRun::TagName),
         plain: false,
     }
 }

@@ -3,7 +3,7 @@ ghost use Rattle.std.specs.Prelude.{◌^◌, ◌<◌, length, IsCharBoundary, If
 ghost use Rattle.hm_tag_scan.specs.Collected.{HasNoBody, IsTagBody};
 
 use crate::collected::Collected;
-use crate::parts::{Part, next_part};
+use crate::parts::{TagPart, next_part};
 use hm_refs::Table;
 use hm_tree::{Attrs, ScanFault};
 use std::alloc::Global;
@@ -38,15 +38,15 @@ pub(crate) fn read_body(
     let mut at = from;
     loop {
         match next_part(bytes, at) {
-            Part::Nothing => return Err(ScanFault::Cut),
-            Part::TagEnd { slash, behind } => {
+            TagPart::Nothing => return Err(ScanFault::Cut),
+            TagPart::TagEnd { slash, behind } => {
                 return Ok(TagBody {
                     collected,
                     slash,
                     behind,
                 });
             }
-            Part::Pair {
+            TagPart::Pair {
                 at: start,
                 attribute,
             } => {

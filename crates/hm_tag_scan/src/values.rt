@@ -11,13 +11,13 @@ use std::alloc::Global;
 
 /// A reference that begins at `at`.
 #[derive(Clone, Copy)]
-pub(crate) struct Placed {
+pub(crate) struct PlacedReference {
     pub(crate) at: usize,
     pub(crate) reference: Reference,
 }
 
 /// The first reference of a value at or behind `from`.
-fn next_reference(table: &Table, bytes: &[u8], from: usize) -> Option<Placed>
+fn next_reference(table: &Table, bytes: &[u8], from: usize) -> Option<PlacedReference>
     requires utf8 { IsUtf8 bytes.now }
     requires inside { from ≤ length bytes.now }
     ensures { MatchOption result
@@ -28,7 +28,7 @@ fn next_reference(table: &Table, bytes: &[u8], from: usize) -> Option<Placed>
     while let Some(len) = memchr(b'&', &bytes[at..]) {
         let amp = at + len;
         if let Some(reference) = read_reference(table, &bytes[amp..], true) {
-            return Some(Placed { at: amp, reference });
+            return Some(PlacedReference { at: amp, reference });
         }
         at = amp + 1;
     }

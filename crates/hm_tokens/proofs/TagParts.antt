@@ -5,7 +5,7 @@ use Rattle.std.proofs.lemmas.List.{drop_at}
 use Rattle.hm_base.specs.Bytes.{Cut, front, behind, head_is, all_pass, is_space}
 use Rattle.hm_base.specs.RawText.{is_name_end}
 use Rattle.hm_base.specs.Walks.{Attribute, attributes_size}
-use Rattle.hm_tag_scan.specs.Tags.{is_name_byte, is_later_byte, is_unquoted_byte, is_inside, is_quote, is_tag_end, cut_behind, cut_quoted, cut_value, cut_assigned, Written, attribute_at, Tag, with_attribute, with_slash, attribute_then, tag_from, cut_tag}
+use Rattle.hm_tag_scan.specs.Tags.{is_name_byte, is_later_byte, is_unquoted_byte, is_inside, is_quote, is_tag_end, cut_behind, cut_quoted, cut_value, cut_assigned, Written, attribute_at, CutTag, with_attribute, with_slash, attribute_then, tag_from, cut_tag}
 use Rattle.hm_tokens.specs.Laws.{IsPlain}
 use Rattle.hm_tokens.proofs.Plain.{plain_nothing, plain_before, plain_from, plain_behind, plain_parts, plain_behind_front, front_and_behind, front_passes, behind_fails}
 
@@ -120,19 +120,19 @@ attribute_fits c s =
 -- ---- a whole tag behind its name
 
 -- an attribute stands before rest, with a byte for each of its own
-abbrev TagFits : List ℕ → Option Tag → Type 0
+abbrev TagFits : List ℕ → Option CutTag → Type 0
 TagFits s None = Unit {0}
 TagFits s (Some g) = Fits s (attributes_size g.attributes + 1) g.rest
 
-with_slash_fits : (slash : Bool) (s : List ℕ) (o : Option Tag) → TagFits s o → TagFits s (with_slash slash o)
+with_slash_fits : (slash : Bool) (s : List ℕ) (o : Option CutTag) → TagFits s o → TagFits s (with_slash slash o)
 with_slash_fits slash s None f = tt
 with_slash_fits slash s (Some g) f = f
 
-one_more : (c : ℕ) (s : List ℕ) (o : Option Tag) → TagFits s o → TagFits (c ∷ s) o
+one_more : (c : ℕ) (s : List ℕ) (o : Option CutTag) → TagFits s o → TagFits (c ∷ s) o
 one_more c s None f = tt
 one_more c s (Some g) f = fits_less (c ∷ s) (1 + (attributes_size g.attributes + 1)) _ g.rest (omega arith) (fits_more (c ∷ []) s _ g.rest f)
 
-with_attribute_fits : (a : Attribute) (s r : List ℕ) (o : Option Tag) → Fits s (length a.name + length a.value) r → TagFits r o → TagFits s (with_attribute a o)
+with_attribute_fits : (a : Attribute) (s r : List ℕ) (o : Option CutTag) → Fits s (length a.name + length a.value) r → TagFits r o → TagFits s (with_attribute a o)
 with_attribute_fits a s r None f h = tt
 with_attribute_fits a s r (Some g) f h = record {
   before = f.before ++ h.before;
@@ -171,7 +171,7 @@ tag_fits zero (c ∷ s) =
         let at : drop k s ≡ w.rest = drop_suffix s 0 w.rest (fits_tail c s _ w.rest (omega arith) f) in
         with_attribute_fits w.attribute (c ∷ s) w.rest (tag_from k s) f (subst (λ r. TagFits r (tag_from k s)) at (more k))
 
-pub cut_tag_fits : (s : List ℕ) (g : Tag) → cut_tag s ≡ Some g → Fits s (attributes_size g.attributes + 1) g.rest
+pub cut_tag_fits : (s : List ℕ) (g : CutTag) → cut_tag s ≡ Some g → Fits s (attributes_size g.attributes + 1) g.rest
 cut_tag_fits s g e = subst (TagFits s) e (tag_fits 0 s)
 
 -- ---- the parts of a text are texts
@@ -241,15 +241,15 @@ attribute_plain c s no_end no_slash no_space h =
     let k = assigned_plain r (behind is_space r) parts.1 (plain_behind_front is_space r space_low parts.1) in
     (record { head = c; more = front is_later_byte s; name_is = refl; no_end = no_end; no_slash = no_slash; no_space = no_space; later = front_passes is_later_byte s; name_plain = parts.0; value_plain = k.0 }, k.1)
 
-abbrev TagPlain : Option Tag → Type 0
+abbrev TagPlain : Option CutTag → Type 0
 TagPlain None = Unit {0}
 TagPlain (Some g) = AllGood g.attributes × IsPlain g.rest
 
-with_slash_plain : (slash : Bool) (o : Option Tag) → TagPlain o → TagPlain (with_slash slash o)
+with_slash_plain : (slash : Bool) (o : Option CutTag) → TagPlain o → TagPlain (with_slash slash o)
 with_slash_plain slash None f = tt
 with_slash_plain slash (Some g) f = f
 
-with_attribute_plain : (a : Attribute) (o : Option Tag) → GoodAttribute a → TagPlain o → TagPlain (with_attribute a o)
+with_attribute_plain : (a : Attribute) (o : Option CutTag) → GoodAttribute a → TagPlain o → TagPlain (with_attribute a o)
 with_attribute_plain a None f h = tt
 with_attribute_plain a (Some g) f h = ((f, h.0), h.1)
 
@@ -270,5 +270,5 @@ tag_plain zero (c ∷ s) h =
         let at : drop k s ≡ w.rest = drop_suffix s 0 w.rest (fits_tail c s _ w.rest (omega arith) f) in
         with_attribute_plain w.attribute (tag_from k s) good.0 (more k (rw at good.1))
 
-pub cut_tag_plain : (s : List ℕ) (g : Tag) → IsPlain s → cut_tag s ≡ Some g → AllGood g.attributes × IsPlain g.rest
+pub cut_tag_plain : (s : List ℕ) (g : CutTag) → IsPlain s → cut_tag s ≡ Some g → AllGood g.attributes × IsPlain g.rest
 cut_tag_plain s g h e = subst TagPlain e (tag_plain 0 s h)

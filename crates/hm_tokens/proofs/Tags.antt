@@ -11,7 +11,7 @@ use Rattle.hm_refs.specs.Names.{Entry}
 use Rattle.hm_tree.specs.Tokens.{Seen, start_tag, end_tag, Scanned, taken}
 use Rattle.hm_tree.specs.declared.tokens.ScanFault.{ScanFault}
 use Rattle.hm_tree.specs.declared.tokens.ScanFault.TheVariants as faults
-use Rattle.hm_tag_scan.specs.Tags.{is_name_byte, Tag, cut_tag}
+use Rattle.hm_tag_scan.specs.Tags.{is_name_byte, CutTag, cut_tag}
 use Rattle.hm_tag_scan.specs.Reading.{attribute_limit, has_bad_name, tag_fault, read_attributes, unless_fault, start_of, end_of, tag_name, read_start, read_end, read_by, read_tag, followed_by_letter, begins_tag}
 use Rattle.hm_tag_scan.proofs.Cases.{tag_name_written}
 use Rattle.hm_tag_scan.proofs.Fronts.{front_all}
@@ -24,13 +24,13 @@ use Rattle.hm_tokens.proofs.Attributes.{attributes_allowed, attributes_small}
 -- ---- why a tag isn't refused
 
 -- the tag whose name begins r
-pub record Accepted (r : List ℕ) (g : Tag) : Type 0 where
+pub record Accepted (r : List ℕ) (g : CutTag) : Type 0 where
   pub cut : cut_tag (behind is_name_byte r) ≡ Some g
   pub named : is_tag_name (tag_name r) ≡ true
   pub good : has_bad_name g.attributes ≡ false
   pub few : length g.attributes ≤ attribute_limit
 
-accepted : (r : List ℕ) (g : Tag) → cut_tag (behind is_name_byte r) ≡ Some g → tag_fault (tag_name r) g.attributes ≡ None → Accepted r g
+accepted : (r : List ℕ) (g : CutTag) → cut_tag (behind is_name_byte r) ≡ Some g → tag_fault (tag_name r) g.attributes ≡ None → Accepted r g
 unfolding tag_fault
 accepted r g cut h = by_tests (is_tag_name (tag_name r)) refl (has_bad_name g.attributes) refl (nat_lt attribute_limit (length g.attributes)) refl h
   where
@@ -45,13 +45,13 @@ accepted r g cut h = by_tests (is_tag_name (tag_name r)) refl (has_bad_name g.at
         few i = grind arith
 
 pub record StartRead (t : List Entry) (r : List ℕ) (token : Seen) (rest : List ℕ) : Type 0 where
-  pub tag : Tag
+  pub tag : CutTag
   pub accepts : Accepted r tag
   pub token_is : start_tag (tag_name r) (read_attributes t tag.attributes) tag.slash ≡ token
   pub rest_is : tag.rest ≡ rest
 
 pub record EndRead (r : List ℕ) (token : Seen) (rest : List ℕ) : Type 0 where
-  pub tag : Tag
+  pub tag : CutTag
   pub accepts : Accepted r tag
   pub token_is : end_tag (tag_name r) ≡ token
   pub rest_is : tag.rest ≡ rest
@@ -70,7 +70,7 @@ start_read : (t : List Entry) (r : List ℕ) (token : Seen) (rest : List ℕ) �
 unfolding read_start
 start_read t r token rest h = by_cut (cut_tag (behind is_name_byte r)) refl h
   where
-    by_cut : (o : Option Tag) → cut_tag (behind is_name_byte r) ≡ o → start_of t (tag_name r) o ≡ taken token rest → StartRead t r token rest
+    by_cut : (o : Option CutTag) → cut_tag (behind is_name_byte r) ≡ o → start_of t (tag_name r) o ≡ taken token rest → StartRead t r token rest
     by_cut None e h = absurd (cc)
     by_cut (Some g) e h =
         let n = no_fault (tag_fault (tag_name r) g.attributes) (start_tag (tag_name r) (read_attributes t g.attributes) g.slash) token g.rest rest h in
@@ -80,7 +80,7 @@ end_read : (r : List ℕ) (token : Seen) (rest : List ℕ) → read_end r ≡ ta
 unfolding read_end
 end_read r token rest h = by_cut (cut_tag (behind is_name_byte r)) refl h
   where
-    by_cut : (o : Option Tag) → cut_tag (behind is_name_byte r) ≡ o → end_of (tag_name r) o ≡ taken token rest → EndRead r token rest
+    by_cut : (o : Option CutTag) → cut_tag (behind is_name_byte r) ≡ o → end_of (tag_name r) o ≡ taken token rest → EndRead r token rest
     by_cut None e h = absurd (cc)
     by_cut (Some g) e h =
         let n = no_fault (tag_fault (tag_name r) g.attributes) (end_tag (tag_name r)) token g.rest rest h in
@@ -114,13 +114,13 @@ name_not_empty [] h = absurd (cc)
 name_not_empty (c ∷ n) h = omega arith
 
 -- the bytes of a tag behind its '<' or `</`
-record TagBytes (r : List ℕ) (g : Tag) : Type 0 where
+record TagBytes (r : List ℕ) (g : CutTag) : Type 0 where
   count : ℕ
   whole : length r ≡ count + length g.rest
   room : length (tag_name r) + attributes_size g.attributes + 1 ≤ count
   name_long : 1 ≤ length (tag_name r)
 
-tag_bytes : (r : List ℕ) (g : Tag) → Accepted r g → TagBytes r g
+tag_bytes : (r : List ℕ) (g : CutTag) → Accepted r g → TagBytes r g
 tag_bytes r g a =
     let f = cut_tag_fits (behind is_name_byte r) g a.cut in
     let front_long : length (tag_name r) ≡ length (front is_name_byte r) = length-map (front is_name_byte r) lower in

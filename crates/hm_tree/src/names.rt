@@ -12,6 +12,9 @@ use std::marker::Model;
 // How many names are gone through one by one. Where there are more, an index has them.
 const FEW: usize = 16;
 
+// How many names an index has room for from the start: as many as there may be in a tag that is read.
+const MANY: usize = 256;
+
 // Names to look up. Contracts see the list of them.
 #[derive(Debug, Drop)]
 pub(crate) struct NameIndex {
@@ -27,12 +30,13 @@ impl Model for NameIndex {
 }
 
 impl NameIndex {
-    fn new(alloc: Global) -> NameIndex
-        ensures { result ≡ [] }
+    // No names.
+    fn new(alloc: Global) -> Result<NameIndex, Memory>
+        ensures { IfOk result (λ index. index ≡ []) }
     {
-        NameIndex {
-            names: IndexMap::new(alloc),
-        }
+        Ok(NameIndex {
+            names: IndexMap::with_capacity(alloc, MANY)?,
+        })
     }
 
     // Whether it has a name.
@@ -70,7 +74,7 @@ fn index_of(alloc: Global, text: &str, pairs: &[Pair]) -> Result<NameIndex, Memo
     requires { All (HasPair text.now) pairs.now }
     ensures { IfOk result (λ index. HasNames index (attributes_of text.now pairs.now)) }
 {
-    let mut index = NameIndex::new(alloc);
+    let mut index = NameIndex::new(alloc)?;
     for pair in pairs {
         index.add(String::from_str(alloc, name_in(text, *pair))?)?;
     }

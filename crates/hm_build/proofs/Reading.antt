@@ -6,13 +6,13 @@ use Rattle.hm_refs.specs.Names.{Entry}
 use Rattle.hm_tree.specs.Tokens.{Seen, taken, refused}
 use Rattle.hm_tree.specs.declared.tokens.ScanFault.{ScanFault}
 use Rattle.hm_tokens.specs.First.{Mode, ordinary, in_svg, rcdata, raw, script, at_end, behind_bytes, first, rule_of}
-use Rattle.hm_construction.specs.Steps.{State, Stepped, went, stops, step}
+use Rattle.hm_construction.specs.Steps.{Construction, Stepped, went, stops, step}
 use Rattle.hm_construction.specs.Trees.{Outcome, built, refused_by, after_events, mode_of, stepped, over, tree_from}
 use Rattle.hm_builder.specs.Building.{grown}
 use Rattle.hm_builder.proofs.Events.{grown_pushes}
 
 -- the bytes to pass over are passed over
-skipped : (t : List Entry) (place : ℕ → ℕ) (k at : ℕ) (st : State) (s : List ℕ) → k ≤ length s → tree_from t place k at st s ≡ tree_from t place 0 (at + k) st (drop k s)
+skipped : (t : List Entry) (place : ℕ → ℕ) (k at : ℕ) (st : Construction) (s : List ℕ) → k ≤ length s → tree_from t place k at st s ≡ tree_from t place 0 (at + k) st (drop k s)
 skipped t place zero at st [] h = ap (λ i. tree_from t place 0 i st []) (omega arith)
 skipped t place zero at st (c ∷ s) h = ap (λ i. tree_from t place 0 i st (c ∷ s)) (omega arith)
 skipped t place (suc k) at st [] h = absurd (none k h)
@@ -24,7 +24,7 @@ skipped t place (suc k) at st (c ∷ s) h =
     more ∙ ap (λ i. tree_from t place 0 i st (drop k s)) (omega arith)
 
 -- behind a token of so many bytes, or what it follows, the tree goes on
-pub goes_on : (t : List Entry) (place : ℕ → ℕ) (at n to : ℕ) (st : State) (token : Seen) (s : List ℕ) → at < to → to ≤ at + length s
+pub goes_on : (t : List Entry) (place : ℕ → ℕ) (at n to : ℕ) (st : Construction) (token : Seen) (s : List ℕ) → at < to → to ≤ at + length s
     → first t (mode_of st.path) s ≡ behind_bytes n (taken token (drop (to - at) s))
     → tree_from t place 0 at st s ≡ stepped place (at + n) (step st token) (λ next. tree_from t place 0 to next (drop (to - at) s))
 goes_on t place at n to st token [] h k e = absurd (none at to h k)
@@ -38,11 +38,11 @@ goes_on t place at n to st token (c ∷ s) h k e =
     count : pred (length (c ∷ s) - length (drop (to - at) (c ∷ s))) ≡ to - at - 1
     count = let l : length (drop (to - at) (c ∷ s)) ≡ length (c ∷ s) - (to - at) = length-drop (to - at) (c ∷ s) in omega arith
 
-    inner : (i : ℕ) → suc i ≡ to - at → (next : State) → tree_from t place i (at + 1) next s ≡ tree_from t place 0 to next (drop (to - at) (c ∷ s))
+    inner : (i : ℕ) → suc i ≡ to - at → (next : Construction) → tree_from t place i (at + 1) next s ≡ tree_from t place 0 to next (drop (to - at) (c ∷ s))
     inner i e next =
         skipped t place i (at + 1) next s (omega arith) ∙ ap (λ j. tree_from t place 0 j next (drop i s)) (omega arith) ∙ ap (λ j. tree_from t place 0 to next (drop j (c ∷ s))) e
 
-    more : (next : State) → tree_from t place (pred (length (c ∷ s) - length (drop (to - at) (c ∷ s)))) (at + 1) next s ≡ tree_from t place 0 to next (drop (to - at) (c ∷ s))
+    more : (next : Construction) → tree_from t place (pred (length (c ∷ s) - length (drop (to - at) (c ∷ s)))) (at + 1) next s ≡ tree_from t place 0 to next (drop (to - at) (c ∷ s))
     more next = ap (λ i. tree_from t place i (at + 1) next s) count ∙ inner (to - at - 1) (omega arith) next
 
     same : (x : Stepped) → stepped place (at + n) x (λ next. tree_from t place (pred (length (c ∷ s) - length (drop (to - at) (c ∷ s)))) (at + 1) next s) ≡ stepped place (at + n) x (λ next. tree_from t place 0 to next (drop (to - at) (c ∷ s)))
@@ -50,7 +50,7 @@ goes_on t place at n to st token (c ∷ s) h k e =
     same (stops rule m) = refl
 
 -- at the end all is closed
-pub ends_here : (t : List Entry) (place : ℕ → ℕ) (at : ℕ) (st : State) (s : List ℕ) → first t (mode_of st.path) s ≡ at_end → tree_from t place 0 at st s ≡ over place (at + length s) st
+pub ends_here : (t : List Entry) (place : ℕ → ℕ) (at : ℕ) (st : Construction) (s : List ℕ) → first t (mode_of st.path) s ≡ at_end → tree_from t place 0 at st s ≡ over place (at + length s) st
 ends_here t place at st [] e = ap (λ i. over place i st) (omega arith)
 ends_here t place at st (c ∷ s) e = rw e refl
 
@@ -64,7 +64,7 @@ no_fault t (raw name) n fault e = cc
 no_fault t script n fault e = cc
 
 -- a fault refuses the page
-pub is_faulty : (t : List Entry) (place : ℕ → ℕ) (at n : ℕ) (st : State) (fault : ScanFault) (s : List ℕ) → first t (mode_of st.path) s ≡ behind_bytes n (refused fault) → tree_from t place 0 at st s ≡ refused_by (rule_of fault) (place (at + n))
+pub is_faulty : (t : List Entry) (place : ℕ → ℕ) (at n : ℕ) (st : Construction) (fault : ScanFault) (s : List ℕ) → first t (mode_of st.path) s ≡ behind_bytes n (refused fault) → tree_from t place 0 at st s ≡ refused_by (rule_of fault) (place (at + n))
 is_faulty t place at n st fault [] e = absurd (no_fault t (mode_of st.path) n fault e)
 is_faulty t place at n st fault (c ∷ s) e = rw e refl
 

@@ -6,7 +6,7 @@ use Rattle.hm_base.specs.declared.rules.Rule.{Rule}
 use Rattle.hm_tree.specs.Tokens.{Seen, doctype as doctype_token, start_tag, end_tag, slice, points, comment as comment_token}
 use Rattle.hm_tree.specs.Trees.{HasRoom}
 use Rattle.hm_tokens.specs.Laws.{token_size, least_size, growth}
-use Rattle.hm_construction.specs.Steps.{State, Stepped, went, stops, step, step_over, first_state}
+use Rattle.hm_construction.specs.Steps.{Construction, Stepped, went, stops, step, step_over, first_state}
 use Rattle.hm_builder.specs.Building.{Fits, grown}
 use Rattle.hm_construction.specs.Weights.{weight, load, load_size, cost, size_cost, span, Within, WithinAll}
 use Rattle.hm_build.specs.Parsing.{IsWithin}
@@ -84,7 +84,7 @@ few_bytes (points ps) count a b = omega arith
 few_bytes (comment_token s) count a b = omega arith
 
 -- the events of a step behind the walk, none joined
-went_within : (read count a b m : ℕ) (w es : List Event) (st next : State) → IsWithin read w st → a ≤ 3 * count → b ≤ 6 * count → Within (load st + a) (load_size st + b) m (went es next)
+went_within : (read count a b m : ℕ) (w es : List Event) (st next : Construction) → IsWithin read w st → a ≤ 3 * count → b ≤ 6 * count → Within (load st + a) (load_size st + b) m (went es next)
     → (weight (w ++ es) + load next ≤ 3 * (read + count) + 13) × (walk_size (w ++ es) + load_size next ≤ 6 * (read + count) + 12)
 went_within read count a b m w es st next in_it h k x =
     let c : weight (w ++ es) ≡ weight w + weight es = weight-append w es in
@@ -96,7 +96,7 @@ went_within read count a b m w es st next in_it h k x =
     (omega arith, omega arith)
 
 -- there is room for a step
-pub step_fits : (read count total : ℕ) (w : List Event) (st : State) (token : Seen) → IsWithin read w st → token_size token ≤ growth token * count → least_size token ≤ count → read + count ≤ total → 6 * total + 13 < 2 ^ 29 → Fits (step st token) w
+pub step_fits : (read count total : ℕ) (w : List Event) (st : Construction) (token : Seen) → IsWithin read w st → token_size token ≤ growth token * count → least_size token ≤ count → read + count ≤ total → 6 * total + 13 < 2 ^ 29 → Fits (step st token) w
 step_fits read count total w st token in_it small least inside fits = by (step st token) (step_within st token)
   where
     by : (x : Stepped) → Within (load st + cost token) (load_size st + size_cost token) (span token) x → Fits x w
@@ -111,7 +111,7 @@ step_fits read count total w st token in_it small least inside fits = by (step s
         below a b c x y = omega arith
 
 -- and what is built stays within it
-pub step_stays : (read count : ℕ) (w es : List Event) (st next : State) (token : Seen) → IsWithin read w st → token_size token ≤ growth token * count → least_size token ≤ count → step st token ≡ went es next → IsWithin (read + count) (grown w es) next
+pub step_stays : (read count : ℕ) (w es : List Event) (st next : Construction) (token : Seen) → IsWithin read w st → token_size token ≤ growth token * count → least_size token ≤ count → step st token ≡ went es next → IsWithin (read + count) (grown w es) next
 step_stays read count w es st next token in_it small least e =
     let v : Within (load st + cost token) (load_size st + size_cost token) (span token) (went es next) = subst (Within (load st + cost token) (load_size st + size_cost token) (span token)) e (step_within st token) in
     let k : (weight (w ++ es) + load next ≤ 3 * (read + count) + 13) × (walk_size (w ++ es) + load_size next ≤ 6 * (read + count) + 12) = went_within read count (cost token) (size_cost token) (span token) w es st next in_it (few_events token count small least) (few_bytes token count small least) v in
@@ -124,7 +124,7 @@ step_stays read count w es st next token in_it small least e =
     record { events = omega arith; bytes = omega arith }
 
 -- there is room for what is left at the end
-pub over_fits : (read total : ℕ) (w : List Event) (st : State) → IsWithin read w st → read ≤ total → 6 * total + 13 < 2 ^ 29 → Fits (step_over st) w
+pub over_fits : (read total : ℕ) (w : List Event) (st : Construction) → IsWithin read w st → read ≤ total → 6 * total + 13 < 2 ^ 29 → Fits (step_over st) w
 over_fits read total w st in_it inside fits = by (step_over st) (over_within st)
   where
     by : (x : Stepped) → WithinAll (load st) (load_size st) x → Fits x w
@@ -150,16 +150,16 @@ span_within (slice s) count a = omega arith
 span_within (points ps) count a = omega arith
 span_within (comment_token s) count a = omega arith
 
-pub stops_inside : (st : State) (token : Seen) (rule : Rule) (n count : ℕ) → token_size token ≤ growth token * count → step st token ≡ stops rule n → n ≤ count
+pub stops_inside : (st : Construction) (token : Seen) (rule : Rule) (n count : ℕ) → token_size token ≤ growth token * count → step st token ≡ stops rule n → n ≤ count
 stops_inside st token rule n count small e =
     let a : n ≤ span token = subst (Within (load st + cost token) (load_size st + size_cost token) (span token)) e (step_within st token) in
     let b : span token ≤ count = span_within token count small in
     omega arith
 
-pub over_stops_there : (st : State) (rule : Rule) (n : ℕ) → step_over st ≡ stops rule n → n ≡ 0
+pub over_stops_there : (st : Construction) (rule : Rule) (n : ℕ) → step_over st ≡ stops rule n → n ≡ 0
 over_stops_there st rule n e = subst (WithinAll (load st) (load_size st)) e (over_within st)
 
-pub within_further : (read further : ℕ) (w : List Event) (st : State) → read ≤ further → IsWithin read w st → IsWithin further w st
+pub within_further : (read further : ℕ) (w : List Event) (st : Construction) → read ≤ further → IsWithin read w st → IsWithin further w st
 within_further read further w st h in_it =
     let a : weight w + load st ≤ 3 * read + 13 = in_it.events in
     let b : walk_size w + load_size st ≤ 6 * read + 12 = in_it.bytes in

@@ -16,7 +16,7 @@ use Rattle.hm_tree.specs.declared.tokens.Tag.{Tag}
 use Rattle.hm_tokens.specs.First.{Mode, at_end, behind_bytes, first}
 use Rattle.hm_tokens.specs.Laws.{IsPlain, SoundNames, SoundToken, TakesBytes, token_size, least_size, growth}
 use Rattle.hm_tokens.proofs.Firsts.{tokens_are_small, tokens_are_sound}
-use Rattle.hm_construction.specs.Steps.{State, Stepped, went, stops, step}
+use Rattle.hm_construction.specs.Steps.{Construction, Stepped, went, stops, step}
 use Rattle.hm_construction.specs.Trees.{Outcome, refused_by, after_events, mode_of, stepped, over, tree_from}
 use Rattle.hm_construction.proofs.Modes.{is_mode, markup_no_text}
 use Rattle.hm_lexer.specs.Reading.{Reading, text_of, next_of, Gives, IsTaken, Refuses}
@@ -132,7 +132,7 @@ token_taken r b m token new s after names p e k t done = by (step b.state (seen 
         let whole : token.from + c.count ≡ token.to = c.whole in
         let before : r.at ≤ token.from = c.before in
         let forward : token.from < token.to = k.forward in
-        let more : State → Outcome = λ next. tree_from r.names (place_of r.source) 0 token.to next (drop token.to (text_of r)) in
+        let more : Construction → Outcome = λ next. tree_from r.names (place_of r.source) 0 token.to next (drop token.to (text_of r)) in
         let all : tree_of r ≡ after_events after.walk (more after.state) =
         steps_on r b token new p here ∙ ap (λ x. after_events b.walk (stepped (place_of r.source) token.from x more)) q ∙ sym (after_grown b.walk es (more st)) ∙ ap (λ w. after_events w (more st)) (sym i.1) ∙ ap (λ z. after_events after.walk (more z)) (sym i.0)
         in

@@ -7,7 +7,7 @@ use Rattle.hm_base.specs.declared.rules.Refused.TheVariants as answers
 use Rattle.hm_elements.specs.Paths.{is_in_text}
 use Rattle.hm_tokens.specs.Laws.{IsPlain}
 use Rattle.hm_tree.specs.Tokens.{Seen, doctype, start_tag, end_tag, slice, points, comment}
-use Rattle.hm_construction.specs.Steps.{State}
+use Rattle.hm_construction.specs.Steps.{Construction}
 use Rattle.hm_construction.specs.Trees.{Outcome, refused_by, after_events, over, tree_from, tree_of_source}
 use Rattle.hm_lexer.specs.Reading.{Reading, text_of}
 use Rattle.hm_builder.specs.Building.{Building}
@@ -21,7 +21,7 @@ IsRefusedAs outcome (answers.Page rule at) = outcome ≡ refused_by rule at
 IsRefusedAs outcome answers.Memory = Unit {0}
 
 -- what was built of so many bytes of a text
-pub record IsWithin (read : ℕ) (w : List Event) (st : State) : Type 0 where
+pub record IsWithin (read : ℕ) (w : List Event) (st : Construction) : Type 0 where
   pub events : weight w + load st ≤ 3 * read + 13
   pub bytes : walk_size w + load_size st ≤ 6 * read + 12
 

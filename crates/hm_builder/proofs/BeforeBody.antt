@@ -12,7 +12,7 @@ use Rattle.hm_elements.specs.Paths.{is_in_text, html_element}
 use Rattle.hm_elements.proofs.TableTools.{same_bytes, entry_passes, second_of}
 use Rattle.hm_tree.specs.Trees.{HasRoom, end_of}
 use Rattle.hm_construction.specs.Steps as steps
-use Rattle.hm_construction.specs.Steps.{State, Stepped, went, stops, behind_events, moved, html_start, start_inside, reach_body, opened, closes_at_once, under_html, under_head, under_body}
+use Rattle.hm_construction.specs.Steps.{Construction, Stepped, went, stops, behind_events, moved, html_start, start_inside, reach_body, opened, closes_at_once, under_html, under_head, under_body}
 use Rattle.hm_builder.specs.Building.{Fits, grown}
 use Rattle.hm_builder.specs.BeforeBody.{TakesChildren, html_opened, head_opened, in_open_head, has_begun}
 use Rattle.hm_builder.specs.Inside.{insertion_mode_of, open_path, text_name, inside_head, under_noscript, state_of, has_no_text, head_ended, IsUnbegun, IsKept, IsDone}
@@ -36,10 +36,10 @@ done_then es (went fs st) old mid new is done = record {
 }
 done_then es (stops rule n) old mid new is done = absurd done.stepped
 
-pub room_then : (es : List Event) (n : List ℕ) (attributes : List Attribute) (st : State) (w : List Event) → Fits (behind_events es (opened n attributes st)) w → HasRoom (w ++ es)
+pub room_then : (es : List Event) (n : List ℕ) (attributes : List Attribute) (st : Construction) (w : List Event) → Fits (behind_events es (opened n attributes st)) w → HasRoom (w ++ es)
 room_then es n attributes st w fits = by (closes_at_once false (html_element n ∷ st.path)) _ _ _ _ fits
   where
-    by : (b : Bool) (fs gs : List Event) (s t : State) → Fits (behind_events es (cond b (went fs s) (went gs t))) w → HasRoom (w ++ es)
+    by : (b : Bool) (fs gs : List Event) (s t : Construction) → Fits (behind_events es (cond b (went fs s) (went gs t))) w → HasRoom (w ++ es)
     by true fs gs s t room = HasRoom-front (w ++ es) fs (subst HasRoom (sym (append_assoc w es fs)) room)
     by false fs gs s t room = HasRoom-front (w ++ es) gs (subst HasRoom (sym (append_assoc w es gs)) room)
 
@@ -48,15 +48,15 @@ not_named n m h = false_from_ne_true (bytes_eq n m) (λ e. h (same_bytes n m e))
 
 -- ---- html, head and body
 
-html_first : (attributes : List Attribute) (st : State) → html_start html attributes false st ≡ steps.open_html st.insertion_mode attributes st
+html_first : (attributes : List Attribute) (st : Construction) → html_start html attributes false st ≡ steps.open_html st.insertion_mode attributes st
 unfolding is_refused refused_names is_among
 html_first attributes st = refl
 
-head_first : (attributes : List Attribute) (st : State) → html_start head attributes false st ≡ steps.open_head st.insertion_mode attributes st
+head_first : (attributes : List Attribute) (st : Construction) → html_start head attributes false st ≡ steps.open_head st.insertion_mode attributes st
 unfolding is_refused refused_names is_among
 head_first attributes st = refl
 
-body_first : (attributes : List Attribute) (st : State) → html_start body attributes false st ≡ steps.open_body st.insertion_mode attributes st
+body_first : (attributes : List Attribute) (st : Construction) → html_start body attributes false st ≡ steps.open_body st.insertion_mode attributes st
 unfolding is_refused refused_names is_among
 body_first attributes st = refl
 
@@ -64,7 +64,7 @@ one_of_roots : (n : List ℕ) → is_root n ≡ true → bytes_eq n html || (byt
 unfolding is_root roots
 one_of_roots n h = entry_passes (λ x. bytes_eq x html || (bytes_eq x head || bytes_eq x body)) n roots refl h
 
-module _ (n : List ℕ) (attributes : List Attribute) (st : State) where
+module _ (n : List ℕ) (attributes : List Attribute) (st : Construction) where
   pub html_step : n ≡ html → html_start n attributes false st ≡ steps.open_html st.insertion_mode attributes st
   html_step is = ap (λ m. html_start m attributes false st) is ∙ html_first attributes st
 
@@ -264,7 +264,7 @@ module _ (p : Parts) (attributes : List Attribute) (here : Bool) (at : p.inserti
   text_done text v is =
       at_its_mode (λ q. IsDone (opened (text_name text) attributes (state_of q)) q (record p { maker = v; insertion_mode = InHead here (Some text) })) p (InHead here None) at
       (any_done _ (start (text_name text) false attributes ∷ []) (record (state_of p) { insertion_mode = steps.in_head; path = inside_head here (Some text); drops_line_feed = false }) (record p { insertion_mode = InHead here None }) (record p { maker = v; insertion_mode = InHead here (Some text) })
-      (text_opened text) here_kept refl (ap (λ d. let st : State = record { insertion_mode = steps.in_head; path = inside_head here (Some text); drops_line_feed = d; behind_body = p.behind_body.items; behind_html = p.behind_html.items } in st) all) refl here_kept.fresh is)
+      (text_opened text) here_kept refl (ap (λ d. let st : Construction = record { insertion_mode = steps.in_head; path = inside_head here (Some text); drops_line_feed = d; behind_body = p.behind_body.items; behind_html = p.behind_html.items } in st) all) refl here_kept.fresh is)
 
   void_opened : (n : List ℕ) → is_void n ≡ true → opened n attributes (state_of (record p { insertion_mode = InHead here None })) ≡ went (start n false attributes ∷ end n false ∷ []) (state_of (record p { insertion_mode = InHead here None }))
   void_opened n void = rw void refl
@@ -297,7 +297,7 @@ module _ (p : Parts) (attributes : List Attribute) (at : p.insertion_mode ≡ In
   noscript_done v is =
       at_its_mode (λ q. IsDone (opened noscript attributes (state_of q)) q (record p { maker = v; insertion_mode = InHead true None })) p (InHead false None) at
       (any_done _ (start noscript false attributes ∷ []) (record (state_of p) { insertion_mode = steps.in_head; path = under_noscript true; drops_line_feed = false }) (record p { insertion_mode = InHead false None }) (record p { maker = v; insertion_mode = InHead true None })
-      noscript_opened (kept_at p (InHead false None) at kept) refl (ap (λ d. let st : State = record { insertion_mode = steps.in_head; path = under_noscript true; drops_line_feed = d; behind_body = p.behind_body.items; behind_html = p.behind_html.items } in st) all) refl (kept_at p (InHead false None) at kept).fresh is)
+      noscript_opened (kept_at p (InHead false None) at kept) refl (ap (λ d. let st : Construction = record { insertion_mode = steps.in_head; path = under_noscript true; drops_line_feed = d; behind_body = p.behind_body.items; behind_html = p.behind_html.items } in st) all) refl (kept_at p (InHead false None) at kept).fresh is)
 
 -- ---- In noscript in head
 
@@ -328,7 +328,7 @@ none_there n a b c =
     false_from_ne_true (is_among n noscript_children)
     (λ e. c (same_bytes n (codes "style") (second_of (bytes_eq n (codes "meta")) (bytes_eq n (codes "style")) (second_of (bytes_eq n (codes "link")) (bytes_eq n (codes "meta") || bytes_eq n (codes "style")) (one_of_three n e) (not_named n (codes "link") a)) (not_named n (codes "meta") b))))
 
-module _ (n : List ℕ) (attributes : List Attribute) (st : State) where
+module _ (n : List ℕ) (attributes : List Attribute) (st : Construction) where
   pub there_step : is_among n noscript_children ≡ true → steps.start_in_noscript n attributes st ≡ opened n attributes st
   there_step h = rw h refl
 

@@ -2,7 +2,7 @@
 use Rattle.std.proofs.Common.{◌≡◌, ◌≢◌, ◌&&◌, ℕ, ◌==◌, Bool, true, false, List, [], ◌∷◌, length, cond, Ok, Err, OnOk, IfErr, Result, sym, ap, subst, ◌∙◌, refl, arith}
 use Rattle.std.proofs.lemmas.Bool.Decides.{nat_tests}
 use Rattle.hm_base.specs.Walks.{Event}
-use Rattle.hm_construction.specs.Steps.{State, Stepped, went, stops, step_byte, step_bytes, kept_byte, behind_bytes, then_step, no_drop}
+use Rattle.hm_construction.specs.Steps.{Construction, Stepped, went, stops, step_byte, step_bytes, kept_byte, behind_bytes, then_step, no_drop}
 use Rattle.hm_builder.specs.Building.{Fits, IsStepped, IsRefused}
 use Rattle.hm_builder.specs.Inside.{state_of, building_of, IsKept, IsDone, Takes}
 use Rattle.hm_builder.specs.declared.fault.BuildFault.{BuildFault}
@@ -15,7 +15,7 @@ use Rattle.hm_builder.proofs.Texts.{behind_nothing}
 abbrev pub undropped : Parts → Parts
 undropped p = record p { drops_line_feed = false }
 
-same_byte : (c : ℕ) (st : State) → (c == 10) ≡ false → step_byte c st ≡ step_byte c (no_drop st)
+same_byte : (c : ℕ) (st : Construction) → (c == 10) ≡ false → step_byte c st ≡ step_byte c (no_drop st)
 unfolding step_byte
 same_byte c st h = by st.drops_line_feed
   where
@@ -32,7 +32,7 @@ none_dropped p (c ∷ s) some other = ap (λ x. then_step x (λ next. behind_byt
     not_feed true e = absurd (other s (ap (λ d. d ∷ s) (let feed : c ≡ 10 = grind (arith, nat_tests) in feed)))
     not_feed false e = e
 
-dropped_byte : (st : State) → st.drops_line_feed ≡ true → step_byte 10 st ≡ went [] (no_drop st)
+dropped_byte : (st : Construction) → st.drops_line_feed ≡ true → step_byte 10 st ≡ went [] (no_drop st)
 unfolding step_byte
 dropped_byte st e = by st.drops_line_feed e
   where

@@ -19,7 +19,7 @@ use Rattle.hm_settle.specs.declared.moves.SettleFault.{SettleFault}
 use Rattle.hm_settle.specs.declared.moves.SettleFault.TheVariants as settle
 use Rattle.hm_settle.proofs.Shapes.{IsEndOn, end_means}
 use Rattle.hm_construction.specs.Steps as steps
-use Rattle.hm_construction.specs.Steps.{State, Stepped, went, stops, step_end, end_current, after_end_moves, end_event}
+use Rattle.hm_construction.specs.Steps.{Construction, Stepped, went, stops, step_end, end_current, after_end_moves, end_event}
 use Rattle.hm_builder.specs.Building.{IsRefused, of_settle}
 use Rattle.hm_builder.specs.Inside.{insertion_mode_of, open_path, state_of, has_no_text, has_no_svg_root, HasBodyPath, IsKept, IsDone, IsFresh, Takes}
 use Rattle.hm_builder.specs.declared.fault.BuildFault.{BuildFault}
@@ -176,7 +176,7 @@ roots_open path begins =
         (rw (first) refl, rw (first, second) refl)
 
 -- such an element isn't ended by the end tag of html or body
-pub root_is_refused : (n : List ℕ) (st : State) (path : List Element) → is_root n ≡ true → is_in_svg path || is_in_text path ≡ true → has_no_svg_root path ≡ true → is_open n path ≡ true → end_current n st path ≡ stops NotCurrent 0
+pub root_is_refused : (n : List ℕ) (st : Construction) (path : List Element) → is_root n ≡ true → is_in_svg path || is_in_text path ≡ true → has_no_svg_root path ≡ true → is_open n path ≡ true → end_current n st path ≡ stops NotCurrent 0
 root_is_refused n st [] root h k is = absurd (cc)
 root_is_refused n st (e ∷ path) root h k is = by (bytes_eq e.name n) other is
   where
@@ -210,7 +210,7 @@ moves_alone n path h = by (is_in_svg path) h
     by true k = refl
     by false k = text_alone n path k
 
-current_by_moves : (n : List ℕ) (st : State) (path : List Element) → after_end_moves st (end_on n [] path (is_open n path)) ≡ end_current n st path
+current_by_moves : (n : List ℕ) (st : Construction) (path : List Element) → after_end_moves st (end_on n [] path (is_open n path)) ≡ end_current n st path
 current_by_moves n st [] = refl
 current_by_moves n st (e ∷ path) = by (bytes_eq e.name n) (is_open n path)
   where
@@ -220,7 +220,7 @@ current_by_moves n st (e ∷ path) = by (bytes_eq e.name n) (is_open n path)
     by false false = refl
 
 -- such an element is ended by its own end tag
-pub ends_current : (n : List ℕ) (st : State) (path : List Element) → is_in_svg path || is_in_text path ≡ true → after_end_moves st (end_moves n path) ≡ end_current n st path
+pub ends_current : (n : List ℕ) (st : Construction) (path : List Element) → is_in_svg path || is_in_text path ≡ true → after_end_moves st (end_moves n path) ≡ end_current n st path
 ends_current n st path h = ap (after_end_moves st) (moves_alone n path h) ∙ current_by_moves n st path
 
 -- a fault that refuses the step
@@ -230,7 +230,7 @@ takes_fault (Err e) fault s p new h refused = subst (IsRefused s) (sym h) refuse
 
 -- ---- In the body
 
-step_end_text : (n : List ℕ) (st : State) → is_in_text st.path ≡ true → step_end n st ≡ end_current n st st.path
+step_end_text : (n : List ℕ) (st : Construction) → is_in_text st.path ≡ true → step_end n st ≡ end_current n st st.path
 unfolding step_end
 step_end_text n st h = by (is_in_text st.path) h
   where
@@ -239,10 +239,10 @@ step_end_text n st h = by (is_in_text st.path) h
     by false k = absurd (cc)
 
 -- the step behind the tests of a text
-abbrev end_no_text : List ℕ → State → Stepped
+abbrev end_no_text : List ℕ → Construction → Stepped
 end_no_text n st = cond (steps.is_outside st.insertion_mode) (steps.end_outside st.insertion_mode n st) (cond (is_in_svg st.path || steps.is_in_noscript st.insertion_mode st.path) (end_current n st st.path) (steps.html_end n st))
 
-step_end_no_text : (n : List ℕ) (st : State) → is_in_text st.path ≡ false → step_end n st ≡ end_no_text n st
+step_end_no_text : (n : List ℕ) (st : Construction) → is_in_text st.path ≡ false → step_end n st ≡ end_no_text n st
 unfolding step_end
 step_end_no_text n st h = by (is_in_text st.path) h
   where
@@ -251,7 +251,7 @@ step_end_no_text n st h = by (is_in_text st.path) h
     by false k = refl
 
 -- the state in the insertion mode that the parts have
-in_its_mode : (P : State → Type 0) (p : Parts) (ph : BuilderMode) → p.insertion_mode ≡ ph → P (state_of (record p { insertion_mode = ph })) → P (state_of p)
+in_its_mode : (P : Construction → Type 0) (p : Parts) (ph : BuilderMode) → p.insertion_mode ≡ ph → P (state_of (record p { insertion_mode = ph })) → P (state_of p)
 in_its_mode P p ph e h = subst (λ x. P (state_of (record p { insertion_mode = x }))) (sym e) h
 
 module _ (p : Parts) (n : List ℕ) where

@@ -17,7 +17,7 @@ use Rattle.hm_settle.specs.declared.moves.SettleFault.{SettleFault}
 use Rattle.hm_settle.specs.declared.moves.SettleFault.TheVariants as settle
 use Rattle.hm_settle.proofs.Shapes.{IsStartOn, start_means}
 use Rattle.hm_tree.specs.Rows.{is_text}
-use Rattle.hm_construction.specs.Steps.{State, Stepped, went, stops, behind_events, end_event, start_event, starts, closes_at_once, drops_behind, entered, after_moves, start_in_body, reach_body, under_html, under_head, under_body}
+use Rattle.hm_construction.specs.Steps.{Construction, Stepped, went, stops, behind_events, end_event, start_event, starts, closes_at_once, drops_behind, entered, after_moves, start_in_body, reach_body, under_html, under_head, under_body}
 use Rattle.std.proofs.Math.Seq.{take-append_seam}
 use Rattle.hm_settle.specs.declared.moves.Made.{Made}
 use Rattle.hm_settle.specs.declared.moves.Made.TheVariants.{Nothing, Section, SectionAndRow, Row, Colgroup}
@@ -35,7 +35,7 @@ use Rattle.hm_builder.proofs.EndTags.{ends_are_tags, ends_lead, outer_no_root, m
 -- ---- All that is missing up to body is made
 
 module _ (path : List Element) (inner last : List (List ℕ)) where
-  pub reach_went : (ph : BuilderMode) (more : State → Stepped) → CanReach ph → reach_body (insertion_mode_of ph) more (at_state ph (open_path ph path) inner last) ≡ behind_events (missing ph) (more (at_state InBody (body_path ph path) inner last))
+  pub reach_went : (ph : BuilderMode) (more : Construction → Stepped) → CanReach ph → reach_body (insertion_mode_of ph) more (at_state ph (open_path ph path) inner last) ≡ behind_events (missing ph) (more (at_state InBody (body_path ph path) inner last))
   reach_went Initial more r = absurd r
   reach_went BeforeHtml more r = nested (more (at_state InBody under_body inner last))
     where
@@ -329,7 +329,7 @@ body_start p n attributes slash answer after r kept all started root fits =
     let there : List Element = element n f ∷ (made ++ o.left) in
     let c = closes_at_once slash there in
     let x : List Event = cond c (end n f ∷ []) [] in
-    let st : State = record { insertion_mode = insertion_mode_of InBody; path = cond c (made ++ o.left) there; drops_line_feed = cond c false (drops_behind there); behind_body = inner; behind_html = last } in
+    let st : Construction = record { insertion_mode = insertion_mode_of InBody; path = cond c (made ++ o.left) there; drops_line_feed = cond c false (drops_behind there); behind_body = inner; behind_html = last } in
     let step : reach_body (insertion_mode_of p.insertion_mode) (start_in_body n attributes slash) (state_of p) ≡ went (m ++ (es ++ (start n f attributes ∷ x))) st =
     body_step p n attributes slash r kept all
     ∙ ap (λ y. behind_events m (after_moves attributes slash (at_state InBody p.path inner last) y)) o.does_move

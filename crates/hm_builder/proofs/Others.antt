@@ -5,7 +5,7 @@ use Rattle.hm_base.specs.declared.rules.Rule.TheVariants.{SecondDoctype}
 use Rattle.std.specs.declared.vec.Vec.{Vec}
 use Rattle.std.specs.declared.alloc.Global.{Global}
 use Rattle.hm_construction.specs.Steps as steps
-use Rattle.hm_construction.specs.Steps.{State, Stepped, went, stops, step, no_drop, step_comment, step_doctype}
+use Rattle.hm_construction.specs.Steps.{Construction, Stepped, went, stops, step, no_drop, step_comment, step_doctype}
 use Rattle.hm_tree.specs.Tokens as tokens
 use Rattle.hm_builder.specs.Inside.{insertion_mode_of, open_path, state_of, has_no_text, IsKept, IsDone, IsFresh}
 use Rattle.hm_builder.specs.declared.insertion.BuilderMode.{BuilderMode}
@@ -15,19 +15,19 @@ use Rattle.hm_builder.proofs.Events.{grown_tags, grown_nothing, walk_any}
 use Rattle.hm_builder.proofs.PlainTexts.{done_by}
 
 -- tags, comments and a doctype were put behind the walk
-pub any_done : (s : Stepped) (es : List Event) (st : State) (old new : Parts) → s ≡ went es st → IsKept old → has_no_text es ≡ true → state_of new ≡ st → path_after (open_path old.insertion_mode old.path) es ≡ open_path new.insertion_mode new.path
+pub any_done : (s : Stepped) (es : List Event) (st : Construction) (old new : Parts) → s ≡ went es st → IsKept old → has_no_text es ≡ true → state_of new ≡ st → path_after (open_path old.insertion_mode old.path) es ≡ open_path new.insertion_mode new.path
     → IsFresh new.insertion_mode new.path → new.maker ≡ old.maker ++ es → IsDone s old new
 any_done s es st old new is kept tags state leads fresh walk =
     done_by s es st old new is
     (record { walk = rw walk (walk_any old.maker (open_path old.insertion_mode old.path) es (open_path new.insertion_mode new.path) kept.walk tags leads); fresh = fresh })
     state (walk ∙ sym (grown_tags old.maker es kept.walk.apart tags))
 
-pub tags_done : (s : Stepped) (e : Event) (es : List Event) (st : State) (old new : Parts) → s ≡ went (e ∷ es) st → IsKept old → has_no_text (e ∷ es) ≡ true → state_of new ≡ st → path_after (open_path old.insertion_mode old.path) (e ∷ es) ≡ open_path new.insertion_mode new.path
+pub tags_done : (s : Stepped) (e : Event) (es : List Event) (st : Construction) (old new : Parts) → s ≡ went (e ∷ es) st → IsKept old → has_no_text (e ∷ es) ≡ true → state_of new ≡ st → path_after (open_path old.insertion_mode old.path) (e ∷ es) ≡ open_path new.insertion_mode new.path
     → IsFresh new.insertion_mode new.path → new.maker ≡ old.maker ++ e ∷ es → IsDone s old new
 tags_done s e es st old new is kept tags state leads fresh walk = any_done s (e ∷ es) st old new is kept tags state leads fresh walk
 
 -- nothing was put behind the walk
-pub silent_done : (s : Stepped) (st : State) (old new : Parts) → s ≡ went [] st → IsKept old → state_of new ≡ st → open_path new.insertion_mode new.path ≡ open_path old.insertion_mode old.path → IsFresh new.insertion_mode new.path → new.maker ≡ old.maker → IsDone s old new
+pub silent_done : (s : Stepped) (st : Construction) (old new : Parts) → s ≡ went [] st → IsKept old → state_of new ≡ st → open_path new.insertion_mode new.path ≡ open_path old.insertion_mode old.path → IsFresh new.insertion_mode new.path → new.maker ≡ old.maker → IsDone s old new
 silent_done s st old new is kept state same fresh walk =
     done_by s [] st old new is (record { walk = rw (walk, same) kept.walk; fresh = fresh }) state (walk ∙ sym (grown_nothing old.maker kept.walk.apart))
 

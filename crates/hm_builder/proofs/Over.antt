@@ -11,7 +11,7 @@ use Rattle.hm_elements.specs.Names.{is_among}
 use Rattle.hm_elements.specs.Tables.{is_raw, is_rcdata, raw_names, rcdata_names, holds_text}
 use Rattle.hm_elements.specs.Paths.{is_in_text}
 use Rattle.hm_construction.specs.Steps as steps
-use Rattle.hm_construction.specs.Steps.{State, went, stops, step_over, is_at_end, closing, end_event, under_body}
+use Rattle.hm_construction.specs.Steps.{Construction, went, stops, step_over, is_at_end, closing, end_event, under_body}
 use Rattle.hm_tree.specs.Trees.{HasRoom, end_of}
 use Rattle.hm_tree.specs.Rows.{is_text}
 use Rattle.hm_builder.specs.Building.{Fits, IsBuilt}
@@ -30,7 +30,7 @@ use Rattle.hm_builder.proofs.AtEnd.{Begins}
 module _ (w : List Event) (path : List Element) (drops : Bool) (inner last : Vec (List ℕ) Global) where
   abbrev pub Over : BuilderMode → Option Rule → Type 0
   Over ph (Some rule) = step_over (state_of (parts w path drops inner last ph)) ≡ stops rule 0
-  Over ph None = (st : State) × (step_over (state_of (parts w path drops inner last ph)) ≡ went (missing ph ++ closing path inner.items last.items) st)
+  Over ph None = (st : Construction) × (step_over (state_of (parts w path drops inner last ph)) ≡ went (missing ph ++ closing path inner.items last.items) st)
 
   pub over_text : (ph : BuilderMode) → is_in_text (open_path ph path) ≡ true → step_over (state_of (parts w path drops inner last ph)) ≡ stops Cut 0
   unfolding step_over
@@ -52,10 +52,10 @@ module _ (w : List Event) (path : List Element) (drops : Bool) (inner last : Vec
   unfolding step_over
   over_past_html h = rw h refl
 
-  at_body_closing : (ph : BuilderMode) (st : State) → path ≡ under_body → step_over (state_of (parts w path drops inner last ph)) ≡ went (missing ph ++ closing under_body inner.items last.items) st → Over ph None
+  at_body_closing : (ph : BuilderMode) (st : Construction) → path ≡ under_body → step_over (state_of (parts w path drops inner last ph)) ≡ went (missing ph ++ closing under_body inner.items last.items) st → Over ph None
   at_body_closing ph st fresh h = (st, subst (λ x. step_over (state_of (parts w path drops inner last ph)) ≡ went (missing ph ++ closing x inner.items last.items) st) (sym fresh) h)
 
-  abbrev pub made_state : State
+  abbrev pub made_state : Construction
   made_state = record { insertion_mode = steps.after_html; path = under_body; drops_line_feed = drops; behind_body = inner.items; behind_html = last.items }
 
   over_body : is_in_text path ≡ false → Over InBody (end_rule InBody path)

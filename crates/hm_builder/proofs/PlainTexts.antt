@@ -8,7 +8,7 @@ use Rattle.hm_base.specs.Walks.{Event, with_text}
 use Rattle.hm_base.specs.declared.rules.Rule.{Rule}
 use Rattle.hm_elements.specs.Paths.{is_in_raw, is_in_text}
 use Rattle.hm_tree.specs.Trees.{HasRoom}
-use Rattle.hm_construction.specs.Steps.{State, Stepped, went, stops, step_bytes, behind_bytes}
+use Rattle.hm_construction.specs.Steps.{Construction, Stepped, went, stops, step_bytes, behind_bytes}
 use Rattle.hm_builder.specs.Building.{Fits, IsStepped, grown}
 use Rattle.hm_builder.specs.Inside.{insertion_mode_of, open_path, state_of, building_of, at_state, body_path, each_byte, missing, text_rule, keeps_space, kept_bytes, mixed_events, with_blank, IsCut, IsKept, IsDone, IsPutBehind}
 use Rattle.hm_builder.specs.declared.insertion.BuilderMode.TheVariants.{InBody}
@@ -18,12 +18,12 @@ use Rattle.hm_builder.proofs.Texts.{not_raw, text_bytes, only_blank_bytes, mixed
 use Rattle.hm_builder.proofs.TextWalks.{grown_blank, walk_blank, all_pass-push}
 
 pub plain_state : (p : Parts) → p.drops_line_feed ≡ false → state_of p ≡ at_state p.insertion_mode (open_path p.insertion_mode p.path) p.behind_body.items p.behind_html.items
-plain_state p e = ap (λ b. let st : State = record { insertion_mode = insertion_mode_of p.insertion_mode; path = open_path p.insertion_mode p.path; drops_line_feed = b; behind_body = p.behind_body.items; behind_html = p.behind_html.items } in st) e
+plain_state p e = ap (λ b. let st : Construction = record { insertion_mode = insertion_mode_of p.insertion_mode; path = open_path p.insertion_mode p.path; drops_line_feed = b; behind_body = p.behind_body.items; behind_html = p.behind_html.items } in st) e
 
-pub done_by : (s : Stepped) (es : List Event) (st : State) (old new : Parts) → s ≡ went es st → IsKept new → state_of new ≡ st → new.maker ≡ grown old.maker es → IsDone s old new
+pub done_by : (s : Stepped) (es : List Event) (st : Construction) (old new : Parts) → s ≡ went es st → IsKept new → state_of new ≡ st → new.maker ≡ grown old.maker es → IsDone s old new
 done_by s es st old new is kept state walk = record { kept = kept; stepped = subst (λ x. IsStepped x (building_of old) (building_of new)) (sym is) (state, walk) }
 
-pub fits_by : (s : Stepped) (es : List Event) (st : State) (w : List Event) → s ≡ went es st → Fits s w → HasRoom (w ++ es)
+pub fits_by : (s : Stepped) (es : List Event) (st : Construction) (w : List Event) → s ≡ went es st → Fits s w → HasRoom (w ++ es)
 fits_by s es st w is fits = subst (λ x. Fits x w) is fits
 
 module _ (p : Parts) (all : p.drops_line_feed ≡ false) where

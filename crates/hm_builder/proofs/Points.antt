@@ -4,7 +4,7 @@ use Rattle.std.proofs.lemmas.Str.{length-encode, len_utf8_bounds}
 use Rattle.std.specs.Prelude.{encode_utf8_all, option_to_list}
 use lib.Utf8.{encode}
 use Rattle.hm_base.specs.Walks.{Event}
-use Rattle.hm_construction.specs.Steps.{State, Stepped, went, stops, step, step_bytes, at_front}
+use Rattle.hm_construction.specs.Steps.{Construction, Stepped, went, stops, step, step_bytes, at_front}
 use Rattle.hm_tree.specs.Tokens as tokens
 use Rattle.hm_builder.specs.Building.{Fits, IsStepped, IsRefused, front_of}
 use Rattle.hm_builder.specs.declared.fault.BuildFault.{BuildFault}
@@ -12,7 +12,7 @@ use Rattle.hm_builder.specs.declared.fault.BuildFault.TheVariants as faults
 use Rattle.hm_builder.specs.Inside.{building_of, IsDone}
 use Rattle.hm_builder.specs.declared.parts.Parts.{Parts}
 
-pub points_step : (ps : List ℕ) (st : State) → step st (tokens.points ps) ≡ at_front (step_bytes (encode_utf8_all ps) st)
+pub points_step : (ps : List ℕ) (st : Construction) → step st (tokens.points ps) ≡ at_front (step_bytes (encode_utf8_all ps) st)
 unfolding step
 points_step ps st = refl
 

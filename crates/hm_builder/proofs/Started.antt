@@ -9,7 +9,7 @@ use Rattle.hm_elements.specs.Paths.{is_in_svg, front, behind, yields_to}
 use Rattle.hm_elements.proofs.TableTools.{entry_passes, same_bytes}
 use Rattle.hm_settle.specs.Moves.{refuses, start_moves, svg_start_moves, start_on}
 use Rattle.hm_tree.specs.Tokens as tokens
-use Rattle.hm_construction.specs.Steps.{State, Stepped, stops, step, step_start, html_start, start_in_body, start_inside, after_moves, open_html, open_head, open_body, reach_body}
+use Rattle.hm_construction.specs.Steps.{Construction, Stepped, stops, step, step_start, html_start, start_in_body, start_inside, after_moves, open_html, open_head, open_body, reach_body}
 use Rattle.hm_builder.specs.BeforeBody.{IsBefore}
 use Rattle.hm_builder.specs.Inside.{insertion_mode_of, open_path, state_of}
 use Rattle.hm_builder.specs.declared.insertion.BuilderMode.{BuilderMode}
@@ -54,7 +54,7 @@ html_root : (is_root html ≡ true) × (is_root head ≡ true) × (is_root body 
 unfolding is_root roots is_among
 html_root = (refl, refl, refl)
 
-module _ (n : List ℕ) (attributes : List Attribute) (slash : Bool) (st : State) where
+module _ (n : List ℕ) (attributes : List Attribute) (slash : Bool) (st : Construction) where
   pub name_refused : is_refused n ≡ true → html_start n attributes slash st ≡ stops RefusedName 0
   name_refused h = rw h refl
 
@@ -84,7 +84,7 @@ module _ (n : List ℕ) (attributes : List Attribute) (slash : Bool) (st : State
 -- ---- By the insertion mode
 
 -- in the body html, head and body don't open
-in_body_name : (n : List ℕ) (attributes : List Attribute) (slash : Bool) (st : State) → is_in_svg st.path ≡ false → cond (is_refused n) (stops RefusedName 0) (cond (bytes_eq n html) (stops SecondRoot 0) (cond (bytes_eq n head) (stops SecondRoot 0) (cond (bytes_eq n body) (stops SecondRoot 0) (start_in_body n attributes slash st))))
+in_body_name : (n : List ℕ) (attributes : List Attribute) (slash : Bool) (st : Construction) → is_in_svg st.path ≡ false → cond (is_refused n) (stops RefusedName 0) (cond (bytes_eq n html) (stops SecondRoot 0) (cond (bytes_eq n head) (stops SecondRoot 0) (cond (bytes_eq n body) (stops SecondRoot 0) (start_in_body n attributes slash st))))
     ≡ start_in_body n attributes slash st
 unfolding start_moves
 in_body_name n attributes slash st no_svg =
@@ -132,7 +132,7 @@ module _ (p : Parts) (n : List ℕ) (attributes : List Attribute) (slash : Bool)
       ∙ by (is_in_svg p.path) refl
       ∙ sym (ap (λ ph. reach_body (insertion_mode_of ph) (start_in_body n attributes slash) (state_of (record p { insertion_mode = ph }))) e)
     where
-      st : State
+      st : Construction
       st = state_of (record p { insertion_mode = InBody })
 
       by : (b : Bool) → is_in_svg p.path ≡ b → cond b (start_in_body n attributes slash st)

@@ -8,7 +8,7 @@ use Rattle.hm_base.specs.declared.rules.Rule.TheVariants.{TextHere}
 use Rattle.hm_elements.specs.Names.{is_among}
 use Rattle.hm_elements.specs.Tables.{is_raw, raw_names, rcdata_names, is_rcdata, holds_text}
 use Rattle.hm_elements.specs.Paths.{blank_parents, is_in_raw, is_in_text, is_in_blank}
-use Rattle.hm_construction.specs.Steps.{State, Stepped, went, stops, behind_events, keep_byte, space_byte, body_byte, other_byte, step_byte, behind_bytes, then_step, step_bytes}
+use Rattle.hm_construction.specs.Steps.{Construction, Stepped, went, stops, behind_events, keep_byte, space_byte, body_byte, other_byte, step_byte, behind_bytes, then_step, step_bytes}
 use Rattle.hm_builder.specs.Inside.{insertion_mode_of, open_path, at_state, body_path, each_byte, missing, text_rule, keeps_space, kept_bytes}
 use Rattle.hm_builder.specs.declared.insertion.HeadText.TheVariants.{Title, Style, Script}
 use Rattle.hm_builder.specs.declared.insertion.BuilderMode.{BuilderMode}
@@ -42,7 +42,7 @@ no_bytes false raw (went es st) = refl
 no_bytes false raw (stops rule n) = ap (stops rule) (omega arith)
 
 -- bytes that are all kept, or all dropped, without a change of the state
-pub bytes_pass : (p : ℕ → Bool) (keep raw : Bool) (st : State) → ((c : ℕ) → p c ≡ true → step_byte c st ≡ went (one_kept keep c raw) st) → (s rest : List ℕ) → all_pass p s ≡ true
+pub bytes_pass : (p : ℕ → Bool) (keep raw : Bool) (st : Construction) → ((c : ℕ) → p c ≡ true → step_byte c st ≡ went (one_kept keep c raw) st) → (s rest : List ℕ) → all_pass p s ≡ true
     → step_bytes (s ++ rest) st ≡ behind_events (kept_bytes keep s raw) (behind_bytes (length s) (step_bytes rest st))
 bytes_pass p keep raw st one [] rest all = no_bytes keep raw (step_bytes rest st)
 bytes_pass p keep raw st one (c ∷ s) rest all =
@@ -65,7 +65,7 @@ all_events [] = refl
 all_events (e ∷ es) = ap (λ x. e ∷ x) (all_events es)
 
 -- bytes with nothing behind them
-all_bytes_pass : (p : ℕ → Bool) (keep raw : Bool) (st : State) → ((c : ℕ) → p c ≡ true → step_byte c st ≡ went (one_kept keep c raw) st) → (s : List ℕ) → all_pass p s ≡ true
+all_bytes_pass : (p : ℕ → Bool) (keep raw : Bool) (st : Construction) → ((c : ℕ) → p c ≡ true → step_byte c st ≡ went (one_kept keep c raw) st) → (s : List ℕ) → all_pass p s ≡ true
     → step_bytes s st ≡ went (kept_bytes keep s raw) st
 all_bytes_pass p keep raw st one s all =
     ap (λ x. step_bytes x st) (sym (no_rest s)) ∙ bytes_pass p keep raw st one s [] all ∙ ap (λ x. went x st) (all_events (kept_bytes keep s raw))
@@ -129,7 +129,7 @@ module _ (path : List Element) (inner last : List (List ℕ)) where
   other ph c h space = rw (h, space) refl
 
 -- what isn't whitespace is refused, or all that is missing is made and it stands in the body
-abbrev pub other_means : ℕ → List Event → State → Option Rule → Stepped
+abbrev pub other_means : ℕ → List Event → Construction → Option Rule → Stepped
 other_means c es st (Some rule) = stops rule 0
 other_means c es st None = went (es ++ text (c ∷ []) false ∷ []) st
 
@@ -173,7 +173,7 @@ body_is_plain PastBody path h none = (refl, refl)
 body_is_plain AfterHtml path h none = (refl, refl)
 
 -- whitespace and then other bytes: refused at the first of these, or all is made and they stand in the body
-abbrev pub mixed_means : List Event → ℕ → List Event → List ℕ → State → Option Rule → Stepped
+abbrev pub mixed_means : List Event → ℕ → List Event → List ℕ → Construction → Option Rule → Stepped
 mixed_means front n made s st (Some rule) = stops rule n
 mixed_means front n made s st None = went (front ++ (made ++ each_byte s false)) st
 

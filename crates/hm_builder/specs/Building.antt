@@ -2,7 +2,7 @@
 use Rattle.std.specs.Prelude.{◌≡◌, List, [], ◌++◌, Result, Ok, Err}
 use Rattle.hm_base.specs.Walks.{Event, pushes}
 use Rattle.hm_tree.specs.Trees.{HasRoom}
-use Rattle.hm_construction.specs.Steps.{State, Stepped, went, stops, first_state}
+use Rattle.hm_construction.specs.Steps.{Construction, Stepped, went, stops, first_state}
 use Rattle.hm_settle.specs.declared.moves.SettleFault.{SettleFault}
 use Rattle.hm_settle.specs.declared.moves.SettleFault.TheVariants as settle
 use Rattle.hm_builder.specs.declared.fault.BuildFault.{BuildFault}
@@ -10,7 +10,7 @@ use Rattle.hm_builder.specs.declared.fault.BuildFault.TheVariants as faults
 
 -- the state, and the events so far, texts that touch joined
 pub record Building : Type 0 where
-  pub state : State
+  pub state : Construction
   pub walk : List Event
 
 -- before the first token

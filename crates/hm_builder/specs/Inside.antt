@@ -10,7 +10,7 @@ use Rattle.hm_settle.specs.Moves.{without_void}
 use Rattle.hm_tree.specs.Trees.{last_agrees, end_of}
 use Rattle.hm_tree.specs.Rows.{is_text}
 use Rattle.hm_construction.specs.Steps as steps
-use Rattle.hm_construction.specs.Steps.{State, Stepped, under_html, under_head, under_body}
+use Rattle.hm_construction.specs.Steps.{Construction, Stepped, under_html, under_head, under_body}
 use Rattle.hm_elements.specs.Tables.{is_root}
 use Rattle.hm_elements.specs.Nesting.{is_name}
 use Rattle.hm_builder.specs.Building.{Building, IsStepped, IsRefused, grown}
@@ -56,7 +56,7 @@ open_path InBody path = path
 open_path PastBody path = path
 open_path AfterHtml path = path
 
-abbrev pub state_of : Parts → State
+abbrev pub state_of : Parts → Construction
 state_of p = record { insertion_mode = insertion_mode_of p.insertion_mode; path = open_path p.insertion_mode p.path; drops_line_feed = p.drops_line_feed; behind_body = p.behind_body.items; behind_html = p.behind_html.items }
 
 abbrev pub building_of : Parts → Building
@@ -153,7 +153,7 @@ body_path InBody path = path
 body_path insertion_mode path = under_body
 
 -- a state in which no line feed is dropped
-abbrev pub at_state : BuilderMode → List Element → List (List ℕ) → List (List ℕ) → State
+abbrev pub at_state : BuilderMode → List Element → List (List ℕ) → List (List ℕ) → Construction
 at_state insertion_mode path inner last = record { insertion_mode = insertion_mode_of insertion_mode; path = path; drops_line_feed = false; behind_body = inner; behind_html = last }
 
 -- noscript in head is the innermost element

@@ -17,7 +17,7 @@ use Rattle.hm_tokens.specs.First.{Mode, Next, at_end, behind_bytes, first}
 use Rattle.hm_tokens.specs.Laws.{IsPlain, SoundNames, IsText, SoundToken, least_size}
 use Rattle.hm_tokens.proofs.Firsts.{tokens_are_sound, tokens_are_small}
 use Rattle.hm_tag_scan.specs.Reading.{read_tag}
-use Rattle.hm_construction.specs.Steps.{InsertionMode, initial, before_html, before_head, in_head, after_head, in_body, after_body, after_html, State, Stepped, went, stops, no_drop, step_bytes, step, step_end, step_over, end_current, end_event, first_state}
+use Rattle.hm_construction.specs.Steps.{InsertionMode, initial, before_html, before_head, in_head, after_head, in_body, after_body, after_html, Construction, Stepped, went, stops, no_drop, step_bytes, step, step_end, step_over, end_current, end_event, first_state}
 use Rattle.hm_construction.specs.Trees.{Outcome, built, refused_by, after_events, mode_of, stepped, next_step, tree_from, tree_of_source}
 use Rattle.hm_construction.proofs.Standing.{SettledAt, Good, Leads}
 use Rattle.hm_construction.proofs.Texts.{RawPiece, raw_inside, texts, texts_join}
@@ -42,8 +42,8 @@ after_built es (built v) w h = record { rest = v; built_is = refl; whole = cc }
 after_built es (refused_by rule at) w h = cc
 
 -- a step, and what is built behind it
-step_settles : (place : ℕ → ℕ) (at : ℕ) (insertion_mode : InsertionMode) (path : List Element) (s : Stepped) (more : State → Outcome) (w : List Event) → Leads insertion_mode path s
-    → ((next : State) (v : List Event) → Good next → more next ≡ built v → SettledAt next.insertion_mode next.path v) → stepped place at s more ≡ built w → SettledAt insertion_mode path w
+step_settles : (place : ℕ → ℕ) (at : ℕ) (insertion_mode : InsertionMode) (path : List Element) (s : Stepped) (more : Construction → Outcome) (w : List Event) → Leads insertion_mode path s
+    → ((next : Construction) (v : List Event) → Good next → more next ≡ built v → SettledAt next.insertion_mode next.path v) → stepped place at s more ≡ built w → SettledAt insertion_mode path w
 step_settles place at insertion_mode path (went es next) more w l behind h =
     let b = after_built es (more next) w h in
     subst (SettledAt insertion_mode path) b.whole (l.1 b.rest (behind next b.rest l.0 b.built_is))
@@ -58,11 +58,11 @@ over_built place at insertion_mode path (stops rule n) w a h = cc
 comment_is_allowed : (mode : Mode) (s : List ℕ) → SoundToken mode (tokens.comment s) → CommentAllowed [] s
 comment_is_allowed mode s c = record { form = c.form; no_zero = c.no_zero; outside = refl; utf8 = c.utf8 }
 
-slice_leads : (st : State) (s : List ℕ) → Good st → IsText (mode_of st.path) s → is_in_raw st.path ≡ false → Leads st.insertion_mode st.path (step_bytes s st)
+slice_leads : (st : Construction) (s : List ℕ) → Good st → IsText (mode_of st.path) s → is_in_raw st.path ≡ false → Leads st.insertion_mode st.path (step_bytes s st)
 slice_leads st s g a r = text_leads s st g r a.no_zero a.utf8
 
 -- every token but a raw text
-token_leads : (st : State) (token : Seen) → Good st → SoundToken (mode_of st.path) token → ((s : List ℕ) → token ≡ tokens.slice s → is_in_raw st.path ≡ false) → Leads st.insertion_mode st.path (step st token)
+token_leads : (st : Construction) (token : Seen) → Good st → SoundToken (mode_of st.path) token → ((s : List ℕ) → token ≡ tokens.slice s → is_in_raw st.path ≡ false) → Leads st.insertion_mode st.path (step st token)
 unfolding step
 token_leads st (tokens.doctype legacy) g a r = doctypes_lead st.insertion_mode legacy st st.path (g.inner_comments, g.last_comments) g.shape
 token_leads st (tokens.start_tag n attributes slash) g a r = starts_lead st.insertion_mode n attributes slash st st.path (g.inner_comments, g.last_comments) a.name_allowed a.attributes_allowed g.shape (markup_no_text st.path a.mode_reads)
@@ -91,10 +91,10 @@ raw_puts insertion_mode path (c ∷ s) w p r alone h = rw (texts_join (is_in_raw
     by after_html k x = raw_inside body SettledBehindBody path (c ∷ s) w r alone x
 
 -- where no line feed is dropped, a state is as it is
-still_is : (st : State) → st.drops_line_feed ≡ false → no_drop st ≡ st
-still_is st h = let P : Bool → State = λ b. record st { drops_line_feed = b } in ap P (sym h)
+still_is : (st : Construction) → st.drops_line_feed ≡ false → no_drop st ≡ st
+still_is st h = let P : Bool → Construction = λ b. record st { drops_line_feed = b } in ap P (sym h)
 
-raw_settles : (place : ℕ → ℕ) (at : ℕ) (st : State) (s : List ℕ) (more : State → Outcome) (w : List Event) → Good st → RawPiece st.path s
+raw_settles : (place : ℕ → ℕ) (at : ℕ) (st : Construction) (s : List ℕ) (more : Construction → Outcome) (w : List Event) → Good st → RawPiece st.path s
     → ((v : List Event) → more (no_drop st) ≡ built v → SettledAt st.insertion_mode st.path v × (begins_text v ≡ false)) → stepped place at (step_bytes s (no_drop st)) more ≡ built w → SettledAt st.insertion_mode st.path w
 raw_settles place at st s more w g r behind h = by (step_bytes s (no_drop st)) (all_ran s st (keeps_in_text (no_drop st) (in_text st.path r.raw))) h
   where
@@ -111,7 +111,7 @@ abbrev BeginsOther : Stepped → Type 0
 BeginsOther (went es next) = (v : List Event) → begins_text (pushes es v) ≡ false
 BeginsOther (stops rule n) = Unit {0}
 
-current_begins : (n : List ℕ) (st : State) (path : List Element) → BeginsOther (end_current n st path)
+current_begins : (n : List ℕ) (st : Construction) (path : List Element) → BeginsOther (end_current n st path)
 current_begins n st [] = tt
 current_begins n st (e ∷ path) = by (bytes_eq e.name n) (is_open n (e ∷ path))
   where
@@ -120,23 +120,23 @@ current_begins n st (e ∷ path) = by (bytes_eq e.name n) (is_open n (e ∷ path
     by false true = tt
     by false false = tt
 
-end_begins : (n : List ℕ) (st : State) → is_in_text st.path ≡ true → BeginsOther (step st (tokens.end_tag n))
+end_begins : (n : List ℕ) (st : Construction) → is_in_text st.path ≡ true → BeginsOther (step st (tokens.end_tag n))
 unfolding step step_end
 end_begins n st h = rw h (current_begins n (no_drop st) st.path)
 
-text_not_over : (st : State) → is_in_text st.path ≡ true → step_over st ≡ stops Cut 0
+text_not_over : (st : Construction) → is_in_text st.path ≡ true → step_over st ≡ stops Cut 0
 unfolding step_over
 text_not_over st h = rw h refl
 
-other_begins : (place : ℕ → ℕ) (at : ℕ) (s : Stepped) (more : State → Outcome) (w : List Event) → BeginsOther s → stepped place at s more ≡ built w → begins_text w ≡ false
+other_begins : (place : ℕ → ℕ) (at : ℕ) (s : Stepped) (more : Construction → Outcome) (w : List Event) → BeginsOther s → stepped place at s more ≡ built w → begins_text w ≡ false
 other_begins place at (went es next) more w b h = let k = after_built es (more next) w h in subst (λ x. begins_text x ≡ false) k.whole (b k.rest)
 other_begins place at (stops rule n) more w b h = cc
 
 -- how the rest of a text is read on behind a token
-abbrev reads_on : List Entry → (ℕ → ℕ) → ℕ → List ℕ → ℕ → State → Outcome
+abbrev reads_on : List Entry → (ℕ → ℕ) → ℕ → List ℕ → ℕ → Construction → Outcome
 reads_on t place at s skip next = tree_from t place skip (at + 1) next s
 
-tag_begins : (t : List Entry) (place : ℕ → ℕ) (at : ℕ) (st : State) (c : ℕ) (s : List ℕ) (w : List Event) → SoundNames t → is_in_raw st.path ≡ true → IsPlain (c ∷ s) → first t (mode_of st.path) (c ∷ s) ≡ behind_bytes 0 (read_tag t (c ∷ s))
+tag_begins : (t : List Entry) (place : ℕ → ℕ) (at : ℕ) (st : Construction) (c : ℕ) (s : List ℕ) (w : List Event) → SoundNames t → is_in_raw st.path ≡ true → IsPlain (c ∷ s) → first t (mode_of st.path) (c ∷ s) ≡ behind_bytes 0 (read_tag t (c ∷ s))
     → next_step place at st (c ∷ s) (first t (mode_of st.path) (c ∷ s)) (reads_on t place at s) ≡ built w → begins_text w ≡ false
 tag_begins t place at st c s w names r plain is h = by (read_tag t (c ∷ s)) (tag_is_read t (c ∷ s)) is (rw is at h)
   where
@@ -151,14 +151,14 @@ tag_begins t place at st c s w names r plain is h = by (read_tag t (c ∷ s)) (t
     by (taken (tokens.comment x) rest) i e k = absurd i
     by (refused fault) i e k = cc
 
-raw_begins : (t : List Entry) (place : ℕ → ℕ) → SoundNames t → (s : List ℕ) (skip at : ℕ) (st : State) (w : List Event) → is_in_raw st.path ≡ true → IsPlain (drop skip s) → TagHere t (mode_of st.path) (drop skip s) → tree_from t place skip at st s ≡ built w → begins_text w ≡ false
+raw_begins : (t : List Entry) (place : ℕ → ℕ) → SoundNames t → (s : List ℕ) (skip at : ℕ) (st : Construction) (w : List Event) → is_in_raw st.path ≡ true → IsPlain (drop skip s) → TagHere t (mode_of st.path) (drop skip s) → tree_from t place skip at st s ≡ built w → begins_text w ≡ false
 raw_begins t place names [] skip at st w r plain here h = let k : stepped place at (stops Cut 0) (λ next. built []) ≡ built w = rw (text_not_over st (in_text st.path r)) at h in cc
 raw_begins t place names (c ∷ s) (suc skip) at st w r plain here h = raw_begins t place names s skip (at + 1) st w r plain here h
 raw_begins t place names (c ∷ s) zero at st w r plain here h = tag_begins t place at st c s w names r plain here h
 
 -- ---- Along the text
 
-shorter : (t : List Entry) (st : State) (s : List ℕ) (n : ℕ) (token : Seen) (rest : List ℕ) → SoundNames t → first t (mode_of st.path) s ≡ behind_bytes n (taken token rest) → length rest < length s
+shorter : (t : List Entry) (st : Construction) (s : List ℕ) (n : ℕ) (token : Seen) (rest : List ℕ) → SoundNames t → first t (mode_of st.path) s ≡ behind_bytes n (taken token rest) → length rest < length s
 shorter t st s n token rest names h =
     let k = tokens_are_small t (mode_of st.path) s n token rest names (is_mode st.path) h in
     let some : 1 ≤ least_size token = least token in
@@ -177,7 +177,7 @@ one_skipped c s rest zero some h = absurd (omega arith)
 one_skipped c s rest (suc m) some h = h
 
 -- the rest behind a token is where the text is read on
-rest_is : (t : List Entry) (st : State) (c : ℕ) (s : List ℕ) (n : ℕ) (token : Seen) (rest : List ℕ) → SoundNames t → first t (mode_of st.path) (c ∷ s) ≡ behind_bytes n (taken token rest) → drop (pred (length (c ∷ s) - length rest)) s ≡ rest
+rest_is : (t : List Entry) (st : Construction) (c : ℕ) (s : List ℕ) (n : ℕ) (token : Seen) (rest : List ℕ) → SoundNames t → first t (mode_of st.path) (c ∷ s) ≡ behind_bytes n (taken token rest) → drop (pred (length (c ∷ s) - length rest)) s ≡ rest
 rest_is t st c s n token rest names h =
     let less = shorter t st (c ∷ s) n token rest names h in
     let e : EndsNext (c ∷ s) (behind_bytes n (taken token rest)) = subst (EndsNext (c ∷ s)) h (first_ends t (mode_of st.path) (c ∷ s)) in
@@ -185,9 +185,9 @@ rest_is t st c s n token rest names h =
 
 -- what is built of the rest of a text from each place on
 abbrev pub Settles : List Entry → (ℕ → ℕ) → List ℕ → Type 0
-Settles t place s = (skip at : ℕ) (st : State) (w : List Event) → Good st → IsPlain (drop skip s) → tree_from t place skip at st s ≡ built w → SettledAt st.insertion_mode st.path w
+Settles t place s = (skip at : ℕ) (st : Construction) (w : List Event) → Good st → IsPlain (drop skip s) → tree_from t place skip at st s ≡ built w → SettledAt st.insertion_mode st.path w
 
-raw_token : (t : List Entry) (place : ℕ → ℕ) (at : ℕ) (st : State) (c : ℕ) (s : List ℕ) (n : ℕ) (x rest : List ℕ) (w : List Event) → SoundNames t → Settles t place s → Good st → is_in_raw st.path ≡ true → IsText (mode_of st.path) x → IsPlain rest
+raw_token : (t : List Entry) (place : ℕ → ℕ) (at : ℕ) (st : Construction) (c : ℕ) (s : List ℕ) (n : ℕ) (x rest : List ℕ) (w : List Event) → SoundNames t → Settles t place s → Good st → is_in_raw st.path ≡ true → IsText (mode_of st.path) x → IsPlain rest
     → first t (mode_of st.path) (c ∷ s) ≡ behind_bytes n (taken (tokens.slice x) rest) → stepped place (at + n) (step_bytes x st) (reads_on t place at s (pred (length (c ∷ s) - length rest))) ≡ built w → SettledAt st.insertion_mode st.path w
 raw_token t place at st c s n x rest w names more g r a plain e h =
     let skip : ℕ = pred (length (c ∷ s) - length rest) in
@@ -196,16 +196,16 @@ raw_token t place at st c s n x rest w names more g r a plain e h =
     let here : TagHere t (mode_of st.path) (drop skip s) = subst (TagHere t (mode_of st.path)) reached (tag_behind t (current st.path) (mode_of st.path) (c ∷ s) n x rest (raw_mode st.path r) e) in
     raw_settles place (at + n) st x (reads_on t place at s skip) w g (raw_piece st.path x r a)
     (λ v k. (more skip (at + 1) (no_drop st) v (good_still st g) plain' k, raw_begins t place names s skip (at + 1) (no_drop st) v r plain' here k))
-    (subst (λ (q : State). stepped place (at + n) (step_bytes x q) (reads_on t place at s skip) ≡ built w) (sym (still_is st (g.keeps r))) h)
+    (subst (λ (q : Construction). stepped place (at + n) (step_bytes x q) (reads_on t place at s skip) ≡ built w) (sym (still_is st (g.keeps r))) h)
 
-other_token : (t : List Entry) (place : ℕ → ℕ) (at : ℕ) (st : State) (c : ℕ) (s : List ℕ) (n : ℕ) (token : Seen) (rest : List ℕ) (w : List Event) → SoundNames t → Settles t place s → Good st → SoundToken (mode_of st.path) token → ((x : List ℕ) → token ≡ tokens.slice x → is_in_raw st.path ≡ false) → IsPlain rest
+other_token : (t : List Entry) (place : ℕ → ℕ) (at : ℕ) (st : Construction) (c : ℕ) (s : List ℕ) (n : ℕ) (token : Seen) (rest : List ℕ) (w : List Event) → SoundNames t → Settles t place s → Good st → SoundToken (mode_of st.path) token → ((x : List ℕ) → token ≡ tokens.slice x → is_in_raw st.path ≡ false) → IsPlain rest
     → first t (mode_of st.path) (c ∷ s) ≡ behind_bytes n (taken token rest) → stepped place (at + n) (step st token) (reads_on t place at s (pred (length (c ∷ s) - length rest))) ≡ built w → SettledAt st.insertion_mode st.path w
 other_token t place at st c s n token rest w names more g a no_raw plain e h =
     let skip : ℕ = pred (length (c ∷ s) - length rest) in
     let plain' : IsPlain (drop skip s) = subst IsPlain (sym (rest_is t st c s n token rest names e)) plain in
     step_settles place (at + n) st.insertion_mode st.path (step st token) (reads_on t place at s skip) w (token_leads st token g a no_raw) (λ next v g' k. more skip (at + 1) next v g' plain' k) h
 
-one_token : (t : List Entry) (place : ℕ → ℕ) (at : ℕ) (st : State) (c : ℕ) (s : List ℕ) (n : ℕ) (token : Seen) (rest : List ℕ) (w : List Event) → SoundNames t → Settles t place s → Good st → SoundToken (mode_of st.path) token → IsPlain rest
+one_token : (t : List Entry) (place : ℕ → ℕ) (at : ℕ) (st : Construction) (c : ℕ) (s : List ℕ) (n : ℕ) (token : Seen) (rest : List ℕ) (w : List Event) → SoundNames t → Settles t place s → Good st → SoundToken (mode_of st.path) token → IsPlain rest
     → first t (mode_of st.path) (c ∷ s) ≡ behind_bytes n (taken token rest) → stepped place (at + n) (step st token) (reads_on t place at s (pred (length (c ∷ s) - length rest))) ≡ built w → SettledAt st.insertion_mode st.path w
 unfolding step
 one_token t place at st c s n (tokens.slice x) rest w names more g a plain e h = by (is_in_raw st.path) refl
@@ -219,7 +219,7 @@ one_token t place at st c s n (tokens.end_tag name) rest w names more g a plain 
 one_token t place at st c s n (tokens.points ps) rest w names more g a plain e h = other_token t place at st c s n (tokens.points ps) rest w names more g a (λ y k. cc) plain e h
 one_token t place at st c s n (tokens.comment x) rest w names more g a plain e h = other_token t place at st c s n (tokens.comment x) rest w names more g a (λ y k. cc) plain e h
 
-next_settles : (t : List Entry) (place : ℕ → ℕ) (at : ℕ) (st : State) (c : ℕ) (s : List ℕ) (x : Next) (w : List Event) → SoundNames t → Settles t place s → Good st → IsPlain (c ∷ s) → first t (mode_of st.path) (c ∷ s) ≡ x
+next_settles : (t : List Entry) (place : ℕ → ℕ) (at : ℕ) (st : Construction) (c : ℕ) (s : List ℕ) (x : Next) (w : List Event) → SoundNames t → Settles t place s → Good st → IsPlain (c ∷ s) → first t (mode_of st.path) (c ∷ s) ≡ x
     → next_step place at st (c ∷ s) x (reads_on t place at s) ≡ built w → SettledAt st.insertion_mode st.path w
 next_settles t place at st c s at_end w names more g plain e h = over_built place (at + length (c ∷ s)) st.insertion_mode st.path (step_over st) w (over_settles st g) h
 next_settles t place at st c s (behind_bytes n (refused fault)) w names more g plain e h = cc

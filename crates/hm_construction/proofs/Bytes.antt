@@ -15,7 +15,7 @@ use Rattle.hm_elements.specs.Nesting.{is_name}
 use Rattle.hm_elements.specs.Paths.{current_name, is_in_raw, is_in_text, is_in_blank, blank_parents}
 use Rattle.hm_elements.specs.Places.{SettledBehindBody, SettledBeforeBody}
 use Rattle.hm_elements.proofs.TableTools.{entry_passes}
-use Rattle.hm_construction.specs.Steps.{InsertionMode, initial, before_html, before_head, in_head, after_head, in_body, after_body, after_html, State, Stepped, went, stops, behind_events, behind_bytes, then_step, reach_body, is_in_noscript, keep_byte, space_byte, body_byte, kept_byte, no_drop, step_byte, step_bytes}
+use Rattle.hm_construction.specs.Steps.{InsertionMode, initial, before_html, before_head, in_head, after_head, in_body, after_body, after_html, Construction, Stepped, went, stops, behind_events, behind_bytes, then_step, reach_body, is_in_noscript, keep_byte, space_byte, body_byte, kept_byte, no_drop, step_byte, step_bytes}
 use Rattle.hm_construction.proofs.Standing.{SettledAt, Good, Leads}
 use Rattle.hm_construction.proofs.Texts.{Piece, text_inside, texts, texts_join}
 
@@ -92,33 +92,33 @@ no_byte_first d c s h = by (is_byte d c) h
 
 -- ---- Bytes that are kept or refused where they stand
 
-pub data Ran (st : State) (s : List ℕ) : Stepped → Type 0 where
+pub data Ran (st : Construction) (s : List ℕ) : Stepped → Type 0 where
   ran : (is_in_blank st.path ≡ true → is_blank s ≡ true) → Ran st s (went (texts (is_in_raw st.path) s) st)
   halted : (rule : Rule) (n : ℕ) → Ran st s (stops rule n)
 
 -- each byte stays where it is, or is refused
-abbrev pub Keeps : State → Type 0
+abbrev pub Keeps : Construction → Type 0
 Keeps st = (c : ℕ) → Ran st (c ∷ []) (kept_byte c st)
 
-ran_more : (st : State) (c : ℕ) (s : List ℕ) (blank : is_in_blank st.path ≡ true → is_blank (c ∷ []) ≡ true) (y : Stepped) → Ran st s y → Ran st (c ∷ s) (behind_events (texts (is_in_raw st.path) (c ∷ [])) (behind_bytes 1 y))
+ran_more : (st : Construction) (c : ℕ) (s : List ℕ) (blank : is_in_blank st.path ≡ true → is_blank (c ∷ []) ≡ true) (y : Stepped) → Ran st s y → Ran st (c ∷ s) (behind_events (texts (is_in_raw st.path) (c ∷ [])) (behind_bytes 1 y))
 ran_more st c s blank y (ran b) = ran (λ h. and_from (is_space c) (is_blank s) (and_parts (is_space c) true (blank h)).0 (b h))
 ran_more st c s blank y (halted rule n) = halted rule (1 + n)
 
-then_ran : (st : State) (c : ℕ) (s : List ℕ) (x : Stepped) → Ran st (c ∷ []) x → Ran st s (step_bytes s st) → Ran st (c ∷ s) (then_step x (λ next. behind_bytes 1 (step_bytes s next)))
+then_ran : (st : Construction) (c : ℕ) (s : List ℕ) (x : Stepped) → Ran st (c ∷ []) x → Ran st s (step_bytes s st) → Ran st (c ∷ s) (then_step x (λ next. behind_bytes 1 (step_bytes s next)))
 then_ran st c s x (ran blank) more = ran_more st c s blank (step_bytes s st) more
 then_ran st c s x (halted rule n) more = halted rule n
 
-pub all_ran : (s : List ℕ) (st : State) → Keeps (no_drop st) → Ran (no_drop st) s (step_bytes s (no_drop st))
+pub all_ran : (s : List ℕ) (st : Construction) → Keeps (no_drop st) → Ran (no_drop st) s (step_bytes s (no_drop st))
 unfolding step_byte
 all_ran [] st keeps = ran (λ h. refl)
 all_ran (c ∷ s) st keeps = then_ran (no_drop st) c s (kept_byte c (no_drop st)) (keeps c) (all_ran s st keeps)
 
 -- in title, textarea, style, iframe and script
-pub keeps_in_text : (st : State) → is_in_text st.path ≡ true → Keeps st
+pub keeps_in_text : (st : Construction) → is_in_text st.path ≡ true → Keeps st
 keeps_in_text st h c = rw h (ran (λ k. absurd (both_ways (is_in_blank st.path) (text_not_blank st.path h) k)))
 
 -- a byte in a insertion mode
-abbrev pub kept_in : InsertionMode → ℕ → State → Stepped
+abbrev pub kept_in : InsertionMode → ℕ → Construction → Stepped
 kept_in insertion_mode c st =
     if is_in_text st.path then keep_byte c st
     else if is_space c then space_byte insertion_mode c st
@@ -132,17 +132,17 @@ is_body_mode after_body = true
 is_body_mode after_html = true
 is_body_mode insertion_mode = false
 
-keeps_space : (st : State) (c : ℕ) → is_space c ≡ true → Ran st (c ∷ []) (keep_byte c st)
+keeps_space : (st : Construction) (c : ℕ) → is_space c ≡ true → Ran st (c ∷ []) (keep_byte c st)
 keeps_space st c h = ran (λ k. and_from (is_space c) true h refl)
 
-keeps_other : (st : State) (c : ℕ) → Ran st (c ∷ []) (body_byte c st)
+keeps_other : (st : Construction) (c : ℕ) → Ran st (c ∷ []) (body_byte c st)
 keeps_other st c = by (is_in_blank st.path) refl
   where
     by : (b : Bool) → is_in_blank st.path ≡ b → Ran st (c ∷ []) (cond b (stops TextHere 0) (keep_byte c st))
     by true e = halted TextHere 0
     by false e = ran (λ k. absurd (both_ways (is_in_blank st.path) e k))
 
-body_keeps_space : (insertion_mode : InsertionMode) → is_body_mode insertion_mode ≡ true → (st : State) (c : ℕ) → is_space c ≡ true → Ran st (c ∷ []) (space_byte insertion_mode c st)
+body_keeps_space : (insertion_mode : InsertionMode) → is_body_mode insertion_mode ≡ true → (st : Construction) (c : ℕ) → is_space c ≡ true → Ran st (c ∷ []) (space_byte insertion_mode c st)
 body_keeps_space initial p st c h = cc
 body_keeps_space before_html p st c h = cc
 body_keeps_space before_head p st c h = cc
@@ -152,7 +152,7 @@ body_keeps_space in_body p st c h = keeps_space st c h
 body_keeps_space after_body p st c h = keeps_space st c h
 body_keeps_space after_html p st c h = keeps_space st c h
 
-body_keeps_other : (insertion_mode : InsertionMode) → is_body_mode insertion_mode ≡ true → (st : State) (c : ℕ) → Ran st (c ∷ []) (if is_in_noscript insertion_mode st.path then stops TextHere 0 else reach_body insertion_mode (body_byte c) st)
+body_keeps_other : (insertion_mode : InsertionMode) → is_body_mode insertion_mode ≡ true → (st : Construction) (c : ℕ) → Ran st (c ∷ []) (if is_in_noscript insertion_mode st.path then stops TextHere 0 else reach_body insertion_mode (body_byte c) st)
 body_keeps_other initial p st c = cc
 body_keeps_other before_html p st c = cc
 body_keeps_other before_head p st c = cc
@@ -162,7 +162,7 @@ body_keeps_other in_body p st c = keeps_other st c
 body_keeps_other after_body p st c = halted AfterBody 0
 body_keeps_other after_html p st c = halted AfterBody 0
 
-pub body_keeps : (insertion_mode : InsertionMode) → is_body_mode insertion_mode ≡ true → (st : State) → is_in_text st.path ≡ false → (c : ℕ) → Ran st (c ∷ []) (kept_in insertion_mode c st)
+pub body_keeps : (insertion_mode : InsertionMode) → is_body_mode insertion_mode ≡ true → (st : Construction) → is_in_text st.path ≡ false → (c : ℕ) → Ran st (c ∷ []) (kept_in insertion_mode c st)
 body_keeps insertion_mode p st t c = rw t (by (is_space c) refl)
   where
     by : (b : Bool) → is_space c ≡ b → Ran st (c ∷ []) (cond b (space_byte insertion_mode c st) (if is_in_noscript insertion_mode st.path then stops TextHere 0 else reach_body insertion_mode (body_byte c) st))
@@ -170,7 +170,7 @@ body_keeps insertion_mode p st t c = rw t (by (is_space c) refl)
     by false e = body_keeps_other insertion_mode p st c
 
 -- in noscript in head
-pub noscript_keeps : (insertion_mode : InsertionMode) (st : State) → is_in_text st.path ≡ false → is_in_noscript insertion_mode st.path ≡ true → (c : ℕ) → Ran st (c ∷ []) (kept_in insertion_mode c st)
+pub noscript_keeps : (insertion_mode : InsertionMode) (st : Construction) → is_in_text st.path ≡ false → is_in_noscript insertion_mode st.path ≡ true → (c : ℕ) → Ran st (c ∷ []) (kept_in insertion_mode c st)
 noscript_keeps initial st t n c = cc
 noscript_keeps before_html st t n c = cc
 noscript_keeps before_head st t n c = cc
@@ -208,12 +208,12 @@ pub ran_puts : (insertion_mode : InsertionMode) (path : List Element) (raw : Boo
 ran_puts insertion_mode path raw [] w p r e zero utf8 blank h = h
 ran_puts insertion_mode path raw (c ∷ s) w p r e zero utf8 blank h = rw (texts_join raw c s w, e) (put_text insertion_mode path (c ∷ s) w p (r ∙ e) (record { not_empty = refl; no_zero = zero; blank = blank; utf8 = utf8 }) h)
 
-pub good_still : (st : State) → Good st → Good (no_drop st)
+pub good_still : (st : Construction) → Good st → Good (no_drop st)
 good_still st g = record { shape = g.shape; inner_comments = g.inner_comments; last_comments = g.last_comments; keeps = λ h. refl }
 
-ran_leads : (st : State) (s : List ℕ) (x : Stepped) → holds_texts st.insertion_mode ≡ true → is_in_raw st.path ≡ false → Good st → has_byte 0 s ≡ false → is_utf8 s ≡ true → Ran (no_drop st) s x → Leads st.insertion_mode st.path x
+ran_leads : (st : Construction) (s : List ℕ) (x : Stepped) → holds_texts st.insertion_mode ≡ true → is_in_raw st.path ≡ false → Good st → has_byte 0 s ≡ false → is_utf8 s ≡ true → Ran (no_drop st) s x → Leads st.insertion_mode st.path x
 ran_leads st s x p r g zero utf8 (ran blank) = (good_still st g, λ w h. ran_puts st.insertion_mode st.path (is_in_raw st.path) s w p refl r zero utf8 blank h)
 ran_leads st s x p r g zero utf8 (halted rule n) = tt
 
-pub kept_leads : (s : List ℕ) (st : State) → Keeps (no_drop st) → holds_texts st.insertion_mode ≡ true → is_in_raw st.path ≡ false → Good st → has_byte 0 s ≡ false → is_utf8 s ≡ true → Leads st.insertion_mode st.path (step_bytes s (no_drop st))
+pub kept_leads : (s : List ℕ) (st : Construction) → Keeps (no_drop st) → holds_texts st.insertion_mode ≡ true → is_in_raw st.path ≡ false → Good st → has_byte 0 s ≡ false → is_utf8 s ≡ true → Leads st.insertion_mode st.path (step_bytes s (no_drop st))
 kept_leads s st keeps p r g zero utf8 = ran_leads st s (step_bytes s (no_drop st)) p r g zero utf8 (all_ran s st keeps)

@@ -11,17 +11,17 @@ use Rattle.hm_elements.specs.Paths.{html_element, is_in_svg, is_in_text, is_open
 use Rattle.hm_elements.specs.Settled.{is_html}
 use Rattle.hm_elements.proofs.TableTools.{same_bytes, entry_passes}
 use Rattle.hm_settle.specs.Moves.{moves, ends_nothing, end_on, html_end_moves, end_moves}
-use Rattle.hm_construction.specs.Steps.{InsertionMode, initial, before_html, before_head, in_head, after_head, in_body, after_body, after_html, State, went, stops, moved, no_drop, under_html, under_head, under_body, end_event, after_end_moves, end_current, is_in_noscript}
+use Rattle.hm_construction.specs.Steps.{InsertionMode, initial, before_html, before_head, in_head, after_head, in_body, after_body, after_html, Construction, went, stops, moved, no_drop, under_html, under_head, under_body, end_event, after_end_moves, end_current, is_in_noscript}
 use Rattle.hm_construction.proofs.Standing.{HeadOuter, at_head, at_noscript, HeadPath, outside_text, inside_text, BodyPath, at_body, inner, Shape, AtEnd, Good, Leads}
 use Rattle.hm_construction.proofs.Made.{OpensTo}
 use Rattle.hm_construction.proofs.Starts.{CommentsGood, front_leads, front_path}
 
 -- a state before a tag
-abbrev pub before_tag : State → InsertionMode → List Element → State
+abbrev pub before_tag : Construction → InsertionMode → List Element → Construction
 before_tag st insertion_mode path = moved (no_drop st) insertion_mode path
 
 -- a state with another path
-pub good_on : (st : State) (insertion_mode : InsertionMode) (old path : List Element) → CommentsGood st → Shape insertion_mode path → Good (record (before_tag st insertion_mode old) { path = path })
+pub good_on : (st : Construction) (insertion_mode : InsertionMode) (old path : List Element) → CommentsGood st → Shape insertion_mode path → Good (record (before_tag st insertion_mode old) { path = path })
 good_on st insertion_mode old path c s = record { shape = s; inner_comments = c.0; last_comments = c.1; keeps = λ h. refl }
 
 body_ends_none : (k : List ℕ) → ends_with body k ≡ false
@@ -39,7 +39,7 @@ one_more_end : (closed : List Element) (e : Element) (w : List Event) → pushes
 one_more_end [] e w = refl
 one_more_end (f ∷ closed) e w = ap (pushed (end_event f)) (one_more_end closed e w)
 
-nothing_ends : (n : List ℕ) (st : State) (path : List Element) (b : Bool) → Leads in_body path (after_end_moves st (ends_nothing b))
+nothing_ends : (n : List ℕ) (st : Construction) (path : List Element) (b : Bool) → Leads in_body path (after_end_moves st (ends_nothing b))
 nothing_ends n st path true = tt
 nothing_ends n st path false = tt
 
@@ -54,7 +54,7 @@ no_body e h = rw h (by e.foreign)
     by true = refl
     by false = refl
 
-end_on_leads : (n : List ℕ) (st : State) (path closed left : List Element) (somewhere : Bool) → CommentsGood st → bytes_eq n body ≡ false → OpensTo path (map end_event closed) left → BodyPath left
+end_on_leads : (n : List ℕ) (st : Construction) (path closed left : List Element) (somewhere : Bool) → CommentsGood st → bytes_eq n body ≡ false → OpensTo path (map end_event closed) left → BodyPath left
     → Leads in_body path (after_end_moves (before_tag st in_body path) (end_on n closed left somewhere))
 end_on_leads n st path closed [] somewhere c other closes on_path = elim on_path [ ]
 end_on_leads n st path closed (e ∷ rest) somewhere c other closes on_path = by (bytes_eq e.name n) refl
@@ -67,7 +67,7 @@ end_on_leads n st path closed (e ∷ rest) somewhere c other closes on_path = by
     by false h = nothing_ends n (before_tag st in_body path) path somewhere
 
 -- an end tag in body, of another element than body
-pub end_leads : (n : List ℕ) (st : State) (path : List Element) → CommentsGood st → bytes_eq n body ≡ false → BodyPath path → Leads in_body path (after_end_moves (before_tag st in_body path) (end_moves n path))
+pub end_leads : (n : List ℕ) (st : Construction) (path : List Element) → CommentsGood st → bytes_eq n body ≡ false → BodyPath path → Leads in_body path (after_end_moves (before_tag st in_body path) (end_moves n path))
 unfolding end_moves
 end_leads n st path c other on_path = by (is_in_svg path)
   where
@@ -101,7 +101,7 @@ other_ends : (insertion_mode : InsertionMode) (path : List Element) (b : Bool) �
 other_ends insertion_mode path true = tt
 other_ends insertion_mode path false = tt
 
-current_in_body : (n : List ℕ) (st : State) (path : List Element) → CommentsGood st → BodyPath path → StandsAlone in_body path → Leads in_body path (end_current n (before_tag st in_body path) path)
+current_in_body : (n : List ℕ) (st : Construction) (path : List Element) → CommentsGood st → BodyPath path → StandsAlone in_body path → Leads in_body path (end_current n (before_tag st in_body path) path)
 unfolding holds_text is_raw raw_names is_rcdata rcdata_names is_among
 current_in_body n st path c at_body (inl t) = cc
 current_in_body n st path c at_body (inr (inl s)) = cc
@@ -112,21 +112,21 @@ current_in_body n st path c (inner e rest other out more) s = by (bytes_eq e.nam
     by true = (good_on st in_body (e ∷ rest) rest c more, λ w h. (refl, rw other h))
     by false = other_ends in_body (e ∷ rest) (is_open n (e ∷ rest))
 
-head_closed : (n m : List ℕ) (st : State) (rest : List Element) → CommentsGood st → HeadPath rest → bytes_eq m head ≡ false → Leads in_head (html_element m ∷ rest) (end_current n (before_tag st in_head (html_element m ∷ rest)) (html_element m ∷ rest))
+head_closed : (n m : List ℕ) (st : Construction) (rest : List Element) → CommentsGood st → HeadPath rest → bytes_eq m head ≡ false → Leads in_head (html_element m ∷ rest) (end_current n (before_tag st in_head (html_element m ∷ rest)) (html_element m ∷ rest))
 head_closed n m st rest c on_path other = by (bytes_eq m n)
   where
     by : (b : Bool) → Leads in_head (html_element m ∷ rest) (cond b (went (end_event (html_element m) ∷ []) (record (before_tag st in_head (html_element m ∷ rest)) { path = rest })) (if is_open n (html_element m ∷ rest) then stops NotCurrent 0 else stops StrayEnd 0))
     by true = (good_on st in_head (html_element m ∷ rest) rest c on_path, λ w h. (refl, rw other h))
     by false = other_ends in_head (html_element m ∷ rest) (is_open n (html_element m ∷ rest))
 
-outer_closed : (n : List ℕ) (st : State) (path : List Element) → CommentsGood st → HeadOuter path → StandsAlone in_head path → Leads in_head path (end_current n (before_tag st in_head path) path)
+outer_closed : (n : List ℕ) (st : Construction) (path : List Element) → CommentsGood st → HeadOuter path → StandsAlone in_head path → Leads in_head path (end_current n (before_tag st in_head path) path)
 unfolding holds_text is_raw raw_names is_rcdata rcdata_names is_among
 outer_closed n st path c at_head (inl t) = cc
 outer_closed n st path c at_head (inr (inl s)) = cc
 outer_closed n st path c at_head (inr (inr s)) = cc
 outer_closed n st path c at_noscript s = head_closed n noscript st under_head c (outside_text under_head at_head) refl
 
-current_in_head : (n : List ℕ) (st : State) (path : List Element) → CommentsGood st → HeadPath path → StandsAlone in_head path → Leads in_head path (end_current n (before_tag st in_head path) path)
+current_in_head : (n : List ℕ) (st : Construction) (path : List Element) → CommentsGood st → HeadPath path → StandsAlone in_head path → Leads in_head path (end_current n (before_tag st in_head path) path)
 current_in_head n st path c (outside_text path' o) s = outer_closed n st path c o s
 current_in_head n st path c (inside_text m rest h o) s = head_closed n m st rest c (outside_text rest o) (text_no_head m h)
 
@@ -150,7 +150,7 @@ top_is_frame path e (inl t) = let k : is_in_text [] ≡ true = rw e at t in cc
 top_is_frame path e (inr (inl s)) = let k : is_in_svg [] ≡ true = rw e at s in cc
 top_is_frame path e (inr (inr s)) = cc
 
-pub current_leads : (n : List ℕ) (st : State) (insertion_mode : InsertionMode) (path : List Element) → CommentsGood st → Shape insertion_mode path → StandsAlone insertion_mode path → Leads insertion_mode path (end_current n (before_tag st insertion_mode path) path)
+pub current_leads : (n : List ℕ) (st : Construction) (insertion_mode : InsertionMode) (path : List Element) → CommentsGood st → Shape insertion_mode path → StandsAlone insertion_mode path → Leads insertion_mode path (end_current n (before_tag st insertion_mode path) path)
 current_leads n st initial path c shape s = absurd (top_is_frame path shape s)
 current_leads n st before_html path c shape s = absurd (top_is_frame path shape s)
 current_leads n st before_head path c shape s = absurd (html_is_frame path shape s)

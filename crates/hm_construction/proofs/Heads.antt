@@ -11,7 +11,7 @@ use Rattle.hm_elements.specs.Nesting.{may_stand, children, noscript_children, yi
 use Rattle.hm_elements.specs.Paths.{html_element, is_in_svg, is_in_text, stands_on, head_yields, is_block_in_p, is_nested, is_deep}
 use Rattle.hm_elements.specs.Places.{AttributesAllowed, StartAllowed}
 use Rattle.hm_elements.proofs.TableTools.{same_bytes, entry_passes}
-use Rattle.hm_construction.specs.Steps.{in_head, after_head, State, went, stops, under_html, under_head, under_body, close_head, make_body, is_in_noscript, drops_behind, opened, start_in_body, start_after_head, start_in_noscript, start_in_head}
+use Rattle.hm_construction.specs.Steps.{in_head, after_head, Construction, went, stops, under_html, under_head, under_body, close_head, make_body, is_in_noscript, drops_behind, opened, start_in_body, start_after_head, start_in_noscript, start_in_head}
 use Rattle.hm_construction.proofs.Standing.{HeadOuter, at_head, at_noscript, HeadPath, outside_text, inside_text, at_body, Leads, closed_leads, body_leads, head_is}
 use Rattle.hm_construction.proofs.Starts.{CommentsGood, raw_keeps, start_leads}
 use Rattle.hm_construction.proofs.Ends.{before_tag}
@@ -109,7 +109,7 @@ head_allowed n attributes path w form allowed known o closes =
       not_deep = f.1.1.1.1;
     }
 
-opened_leads : (n : List ℕ) (attributes : List Attribute) (st : State) (path : List Element) → CommentsGood st → is_tag_name n ≡ true → AttributesAllowed attributes → is_refused n ≡ false → HeadOpening n path
+opened_leads : (n : List ℕ) (attributes : List Attribute) (st : Construction) (path : List Element) → CommentsGood st → is_tag_name n ≡ true → AttributesAllowed attributes → is_refused n ≡ false → HeadOpening n path
     → Leads in_head path (opened n attributes (before_tag st in_head path))
 opened_leads n attributes st path c form allowed known o = by (is_void n) refl
   where
@@ -120,7 +120,7 @@ opened_leads n attributes st path c form allowed known o = by (is_void n) refl
 
 -- ---- A start tag before body
 
-pub after_head_leads : (n : List ℕ) (attributes : List Attribute) (slash : Bool) (st : State) (path : List Element) → CommentsGood st → is_tag_name n ≡ true → AttributesAllowed attributes
+pub after_head_leads : (n : List ℕ) (attributes : List Attribute) (slash : Bool) (st : Construction) (path : List Element) → CommentsGood st → is_tag_name n ≡ true → AttributesAllowed attributes
     → Leads after_head path (start_after_head n attributes slash (before_tag st after_head path))
 after_head_leads n attributes slash st path c form allowed = by (is_metadata n)
   where
@@ -128,7 +128,7 @@ after_head_leads n attributes slash st path c form allowed = by (is_metadata n)
     by true = tt
     by false = body_leads path (before_tag st after_head path) (start_in_body n attributes slash) (start_leads n attributes slash st under_body c form allowed at_body)
 
-in_noscript_leads : (n : List ℕ) (attributes : List Attribute) (st : State) (path : List Element) → CommentsGood st → is_tag_name n ≡ true → AttributesAllowed attributes → is_refused n ≡ false → path ≡ html_element noscript ∷ under_head
+in_noscript_leads : (n : List ℕ) (attributes : List Attribute) (st : Construction) (path : List Element) → CommentsGood st → is_tag_name n ≡ true → AttributesAllowed attributes → is_refused n ≡ false → path ≡ html_element noscript ∷ under_head
     → Leads in_head path (start_in_noscript n attributes (before_tag st in_head path))
 in_noscript_leads n attributes st path c form allowed known is = rw is (by (is_among n noscript_children) refl)
   where
@@ -136,7 +136,7 @@ in_noscript_leads n attributes st path c form allowed known is = rw is (by (is_a
     by true h = opened_leads n attributes st (html_element noscript ∷ under_head) c form allowed known (opens_in_noscript n h)
     by false h = tt
 
-in_head_itself : (n : List ℕ) (attributes : List Attribute) (slash : Bool) (st : State) (path : List Element) → CommentsGood st → is_tag_name n ≡ true → AttributesAllowed attributes → is_refused n ≡ false → path ≡ under_head
+in_head_itself : (n : List ℕ) (attributes : List Attribute) (slash : Bool) (st : Construction) (path : List Element) → CommentsGood st → is_tag_name n ≡ true → AttributesAllowed attributes → is_refused n ≡ false → path ≡ under_head
     → Leads in_head path (if stands_on n path then opened n attributes (before_tag st in_head path) else close_head (start_after_head n attributes slash) (before_tag st in_head path))
 in_head_itself n attributes slash st path c form allowed known is = rw is (by (stands_on n under_head) refl)
   where
@@ -153,7 +153,7 @@ noscript_is path (outside_text path' o) t n = by path o n
     by q at_noscript k = refl
 noscript_is path (inside_text m path' h o) t n = absurd (both_ways (holds_text m) t h)
 
-pub in_head_leads : (n : List ℕ) (attributes : List Attribute) (slash : Bool) (st : State) (path : List Element) → CommentsGood st → is_tag_name n ≡ true → AttributesAllowed attributes → is_refused n ≡ false → HeadPath path → is_in_text path ≡ false
+pub in_head_leads : (n : List ℕ) (attributes : List Attribute) (slash : Bool) (st : Construction) (path : List Element) → CommentsGood st → is_tag_name n ≡ true → AttributesAllowed attributes → is_refused n ≡ false → HeadPath path → is_in_text path ≡ false
     → Leads in_head path (start_in_head n attributes slash (before_tag st in_head path))
 in_head_leads n attributes slash st path c form allowed known on_path t = by (is_in_noscript in_head path) refl
   where

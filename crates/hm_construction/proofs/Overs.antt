@@ -5,7 +5,7 @@ use Rattle.hm_base.specs.declared.rules.Rule.TheVariants.{Unclosed}
 use Rattle.hm_elements.specs.Names.{html, head, body}
 use Rattle.hm_elements.specs.Paths.{html_element, is_in_text}
 use Rattle.hm_elements.specs.Places.{SettledLast, SettledBehindBody, SettledBody, html_path}
-use Rattle.hm_construction.specs.Steps.{InsertionMode, initial, before_html, before_head, in_head, after_head, in_body, after_body, after_html, State, Stepped, went, stops, behind_events, moved, under_html, under_body, make_head, close_head, make_body, reach_body, is_in_noscript, is_at_end, leave_body, closing, leave_page, step_over}
+use Rattle.hm_construction.specs.Steps.{InsertionMode, initial, before_html, before_head, in_head, after_head, in_body, after_body, after_html, Construction, Stepped, went, stops, behind_events, moved, under_html, under_body, make_head, close_head, make_body, reach_body, is_in_noscript, is_at_end, leave_body, closing, leave_page, step_over}
 use Rattle.hm_construction.proofs.Standing.{Shape, SettledAt, AtEnd, AllComments, Good, Leads, pushes_append}
 use Rattle.hm_construction.proofs.Tags.{is_behind, reaches, allowed_on, frame_text}
 
@@ -46,23 +46,23 @@ events_behind : (es : List Event) (s : Stepped) → LeavesBehind s → LeavesBeh
 events_behind es (went fs st) b = b
 events_behind es (stops rule n) b = tt
 
-left_behind : (st : State) → LeavesBehind (leave_body after_html st)
+left_behind : (st : Construction) → LeavesBehind (leave_body after_html st)
 left_behind st = by (is_at_end st.path)
   where
     by : (k : Bool) → LeavesBehind (cond k (went [] (record st { insertion_mode = after_html })) (stops Unclosed 0))
     by true = refl
     by false = tt
 
-made_behind : (st : State) → LeavesBehind (make_body (leave_body after_html) st)
+made_behind : (st : Construction) → LeavesBehind (make_body (leave_body after_html) st)
 made_behind st = events_behind (start body false [] ∷ []) (leave_body after_html (moved st in_body under_body)) (left_behind (moved st in_body under_body))
 
-closed_behind : (st : State) → LeavesBehind (close_head (make_body (leave_body after_html)) st)
+closed_behind : (st : Construction) → LeavesBehind (close_head (make_body (leave_body after_html)) st)
 closed_behind st = events_behind (end head false ∷ []) (make_body (leave_body after_html) (moved st after_head under_html)) (made_behind (moved st after_head under_html))
 
-head_behind : (st : State) → LeavesBehind (make_head (close_head (make_body (leave_body after_html))) st)
+head_behind : (st : Construction) → LeavesBehind (make_head (close_head (make_body (leave_body after_html))) st)
 head_behind st = let next = moved st in_head (html_element head ∷ under_html) in events_behind (start head false [] ∷ []) (close_head (make_body (leave_body after_html)) next) (closed_behind next)
 
-pub reached_behind : (insertion_mode : InsertionMode) (st : State) → LeavesBehind (reach_body insertion_mode (leave_body after_html) st)
+pub reached_behind : (insertion_mode : InsertionMode) (st : Construction) → LeavesBehind (reach_body insertion_mode (leave_body after_html) st)
 reached_behind initial st = tt
 reached_behind before_html st = let next = moved st before_head under_html in events_behind (start html false [] ∷ []) (make_head (close_head (make_body (leave_body after_html))) next) (head_behind next)
 reached_behind before_head st = head_behind st
@@ -72,18 +72,18 @@ reached_behind in_body st = left_behind st
 reached_behind after_body st = tt
 reached_behind after_html st = tt
 
-unless_noscript : (insertion_mode : InsertionMode) (st : State) → Good st → Shape insertion_mode st.path → is_in_text st.path ≡ false → st.insertion_mode ≡ insertion_mode
+unless_noscript : (insertion_mode : InsertionMode) (st : Construction) → Good st → Shape insertion_mode st.path → is_in_text st.path ≡ false → st.insertion_mode ≡ insertion_mode
     → Leads insertion_mode st.path (if is_in_noscript insertion_mode st.path then stops Unclosed 0 else reach_body insertion_mode (leave_body after_html) st) × LeavesBehind (if is_in_noscript insertion_mode st.path then stops Unclosed 0 else reach_body insertion_mode (leave_body after_html) st)
 unless_noscript insertion_mode st g s t is = by (is_in_noscript insertion_mode st.path) refl
   where
     same : moved st insertion_mode st.path ≡ st
-    same = let P : InsertionMode → State = λ q. moved st q st.path in ap P (sym is)
+    same = let P : InsertionMode → Construction = λ q. moved st q st.path in ap P (sym is)
 
     by : (k : Bool) → is_in_noscript insertion_mode st.path ≡ k → Leads insertion_mode st.path (cond k (stops Unclosed 0) (reach_body insertion_mode (leave_body after_html) st)) × LeavesBehind (cond k (stops Unclosed 0) (reach_body insertion_mode (leave_body after_html) st))
     by true h = (tt, tt)
     by false h = (subst (λ x. Leads insertion_mode st.path (reach_body insertion_mode (leave_body after_html) x)) same (reaches insertion_mode after_html st st.path refl (g.inner_comments, g.last_comments) s t h), reached_behind insertion_mode st)
 
-page_leaves : (insertion_mode : InsertionMode) (st : State) → Good st → Shape insertion_mode st.path → is_in_text st.path ≡ false → st.insertion_mode ≡ insertion_mode → Leads insertion_mode st.path (leave_page insertion_mode st) × LeavesBehind (leave_page insertion_mode st)
+page_leaves : (insertion_mode : InsertionMode) (st : Construction) → Good st → Shape insertion_mode st.path → is_in_text st.path ≡ false → st.insertion_mode ≡ insertion_mode → Leads insertion_mode st.path (leave_page insertion_mode st) × LeavesBehind (leave_page insertion_mode st)
 page_leaves initial st g s t is = unless_noscript initial st g s t is
 page_leaves before_html st g s t is = unless_noscript before_html st g s t is
 page_leaves before_head st g s t is = unless_noscript before_head st g s t is
@@ -98,11 +98,11 @@ abbrev pub SettlesAll : InsertionMode → List Element → Stepped → Type 0
 SettlesAll insertion_mode path (went es st) = SettledAt insertion_mode path (pushes es [])
 SettlesAll insertion_mode path (stops rule n) = Unit {0}
 
-closes_all : (insertion_mode : InsertionMode) (path : List Element) (es : List Event) (st : State) → Leads insertion_mode path (went es st) → is_behind st.insertion_mode ≡ true → SettledAt insertion_mode path (pushes (es ++ closing st.path st.behind_body st.behind_html) [])
+closes_all : (insertion_mode : InsertionMode) (path : List Element) (es : List Event) (st : Construction) → Leads insertion_mode path (went es st) → is_behind st.insertion_mode ≡ true → SettledAt insertion_mode path (pushes (es ++ closing st.path st.behind_body st.behind_html) [])
 closes_all insertion_mode path es st l b =
     rw (pushes_append es (closing st.path st.behind_body st.behind_html) []) (l.1 (pushes (closing st.path st.behind_body st.behind_html) []) (behind_closes st.insertion_mode st.path st.behind_body st.behind_html b l.0.shape l.0.inner_comments l.0.last_comments))
 
-pub over_settles : (st : State) → Good st → SettlesAll st.insertion_mode st.path (step_over st)
+pub over_settles : (st : Construction) → Good st → SettlesAll st.insertion_mode st.path (step_over st)
 unfolding step_over
 over_settles st g = by_text (is_in_text st.path) refl
   where

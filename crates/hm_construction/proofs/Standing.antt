@@ -7,7 +7,7 @@ use Rattle.hm_elements.specs.Tables.{holds_text}
 use Rattle.hm_elements.specs.Paths.{html_element, is_in_svg, is_in_raw, is_in_text}
 use Rattle.hm_elements.specs.Settled.{is_html}
 use Rattle.hm_elements.specs.Places.{AttributesAllowed, RootAllowed, CommentAllowed, SettledBody, SettledBeforeBody, SettledHead, SettledBeforeHead, SettledBeforeHtml, SettledPage}
-use Rattle.hm_construction.specs.Steps.{InsertionMode, initial, before_html, before_head, in_head, after_head, in_body, after_body, after_html, State, Stepped, went, stops, behind_events, behind_bytes, moved, under_html, under_head, under_body, make_html, make_head, close_head, make_body, reach_body, is_in_noscript}
+use Rattle.hm_construction.specs.Steps.{InsertionMode, initial, before_html, before_head, in_head, after_head, in_body, after_body, after_html, Construction, Stepped, went, stops, behind_events, behind_bytes, moved, under_html, under_head, under_body, make_html, make_head, close_head, make_body, reach_body, is_in_noscript}
 
 -- head, or noscript in it
 pub data HeadOuter : List Element → Type 0 where
@@ -55,7 +55,7 @@ AllComments [] = Unit {0}
 AllComments (s ∷ ss) = CommentAllowed [] s × AllComments ss
 
 -- what is known of a state between two tokens
-pub record Good (st : State) : Type 0 where
+pub record Good (st : Construction) : Type 0 where
   pub shape : Shape st.insertion_mode st.path
   pub inner_comments : AllComments st.behind_body
   pub last_comments : AllComments st.behind_html
@@ -84,16 +84,16 @@ no_attributes = record { few = refl; distinct = refl; names = refl; no_zero = re
 root_made : (n : List ℕ) → RootAllowed n n false []
 root_made n = record { name = refl; kind = refl; attributes_allowed = no_attributes }
 
-pub html_leads : (path : List Element) (st : State) (more : State → Stepped) → Leads before_head under_html (more (moved st before_head under_html)) → Leads before_html path (make_html more st)
+pub html_leads : (path : List Element) (st : Construction) (more : Construction → Stepped) → Leads before_head under_html (more (moved st before_head under_html)) → Leads before_html path (make_html more st)
 html_leads path st more l = behind_leads before_html before_head path under_html (start html false [] ∷ []) (more (moved st before_head under_html)) (λ w h. (root_made html, h)) l
 
-pub head_leads : (path : List Element) (st : State) (more : State → Stepped) → Leads in_head under_head (more (moved st in_head under_head)) → Leads before_head path (make_head more st)
+pub head_leads : (path : List Element) (st : Construction) (more : Construction → Stepped) → Leads in_head under_head (more (moved st in_head under_head)) → Leads before_head path (make_head more st)
 head_leads path st more l = behind_leads before_head in_head path under_head (start head false [] ∷ []) (more (moved st in_head under_head)) (λ w h. (root_made head, h)) l
 
-pub closed_leads : (st : State) (more : State → Stepped) → Leads after_head under_html (more (moved st after_head under_html)) → Leads in_head under_head (close_head more st)
+pub closed_leads : (st : Construction) (more : Construction → Stepped) → Leads after_head under_html (more (moved st after_head under_html)) → Leads in_head under_head (close_head more st)
 closed_leads st more l = behind_leads in_head after_head under_head under_html (end head false ∷ []) (more (moved st after_head under_html)) (λ w h. (refl, h)) l
 
-pub body_leads : (path : List Element) (st : State) (more : State → Stepped) → Leads in_body under_body (more (moved st in_body under_body)) → Leads after_head path (make_body more st)
+pub body_leads : (path : List Element) (st : Construction) (more : Construction → Stepped) → Leads in_body under_body (more (moved st in_body under_body)) → Leads after_head path (make_body more st)
 body_leads path st more l = behind_leads after_head in_body path under_body (start body false [] ∷ []) (more (moved st in_body under_body)) (λ w h. (root_made body, h)) l
 
 outer_is : (path : List Element) → HeadOuter path → is_in_noscript in_head path ≡ false → path ≡ under_head
@@ -105,10 +105,10 @@ pub head_is : (path : List Element) → HeadPath path → is_in_text path ≡ fa
 head_is path (outside_text path' o) t n = outer_is path o n
 head_is path (inside_text m path' h o) t n = absurd (both_ways (holds_text m) t h)
 
-pub head_closes : (path : List Element) (st : State) (more : State → Stepped) → path ≡ under_head → Leads after_head under_html (more (moved st after_head under_html)) → Leads in_head path (close_head more st)
+pub head_closes : (path : List Element) (st : Construction) (more : Construction → Stepped) → path ≡ under_head → Leads after_head under_html (more (moved st after_head under_html)) → Leads in_head path (close_head more st)
 head_closes path st more e l = rw e (closed_leads st more l)
 
-pub reach_body_leads : (insertion_mode : InsertionMode) (path : List Element) (st : State) (more : State → Stepped) → Shape insertion_mode path → is_in_text path ≡ false → is_in_noscript insertion_mode path ≡ false
+pub reach_body_leads : (insertion_mode : InsertionMode) (path : List Element) (st : Construction) (more : Construction → Stepped) → Shape insertion_mode path → is_in_text path ≡ false → is_in_noscript insertion_mode path ≡ false
     → Leads in_body under_body (more (moved st in_body under_body)) → (insertion_mode ≡ in_body → Leads in_body path (more st)) → Leads insertion_mode path (reach_body insertion_mode more st)
 reach_body_leads initial path st more s t n l k = tt
 reach_body_leads before_html path st more s t n l k = html_leads path st (make_head (close_head (make_body more))) (head_leads under_html (moved st before_head under_html) (close_head (make_body more)) (closed_leads (moved st in_head under_head) (make_body more) (body_leads under_html (moved st after_head under_html) more l)))

@@ -14,7 +14,7 @@ use Rattle.hm_elements.specs.Places.{AttributesAllowed, StartAllowed, SettledBod
 use Rattle.hm_elements.proofs.TableTools.{same_bytes, entry_passes}
 use Rattle.hm_elements.proofs.TableFacts.{svg_is_plain}
 use Rattle.hm_settle.specs.Moves.{moves, refuses, element, opens, opens_in_place, start_on, svg_start_moves, html_start_moves, start_moves, is_void_open}
-use Rattle.hm_construction.specs.Steps.{in_body, State, went, behind_events, moved, no_drop, under_body, drops_behind, closes_at_once, entered, end_event, starts, after_moves, start_in_body}
+use Rattle.hm_construction.specs.Steps.{in_body, Construction, went, behind_events, moved, no_drop, under_body, drops_behind, closes_at_once, entered, end_event, starts, after_moves, start_in_body}
 use Rattle.hm_construction.proofs.Standing.{BodyPath, at_body, inner, AllComments, Leads, behind_leads, pushes_append}
 use Rattle.hm_construction.proofs.Made.{OpensTo, made_cases, made_leads, Free, made_free, made_path}
 
@@ -41,7 +41,7 @@ raw_keeps (e ∷ path) h =
     by false = refl
 
 -- a state in body, before a tag
-abbrev pub in_body_on : State → List Element → State
+abbrev pub in_body_on : Construction → List Element → Construction
 in_body_on st path = moved (no_drop st) in_body path
 
 -- what an element needs that opens on a path of body
@@ -50,10 +50,10 @@ pub record Opening (e : Element) (path : List Element) : Type 0 where
   pub outside : e.foreign ≡ false → is_in_svg path ≡ false
   pub on_path : BodyPath path
 
-abbrev pub CommentsGood : State → Type 0
+abbrev pub CommentsGood : Construction → Type 0
 CommentsGood st = AllComments st.behind_body × AllComments st.behind_html
 
-pub entered_leads : (attributes : List Attribute) (slash : Bool) (st : State) (old : List Element) (e : Element) (path : List Element) → CommentsGood st → Opening e path
+pub entered_leads : (attributes : List Attribute) (slash : Bool) (st : Construction) (old : List Element) (e : Element) (path : List Element) → CommentsGood st → Opening e path
     → ((w : List Event) → (is_void_open (e ∷ path) ≡ true → begins_end w ≡ true) → StartAllowed e.name e.foreign attributes path w)
     → Leads in_body path (entered attributes slash (in_body_on st old) (e ∷ path))
 entered_leads attributes slash st old e path c o allowed = by (closes_at_once slash (e ∷ path)) refl
@@ -136,7 +136,7 @@ html_allowed n attributes path w form allowed known f stands shallow closes = re
 }
 
 -- the path on which the element opens, and what comes before
-opens_leads : (n : List ℕ) (attributes : List Attribute) (slash : Bool) (st : State) (old path left : List Element) (closed : List Element) (t : List ℕ) (rest : List Element)
+opens_leads : (n : List ℕ) (attributes : List Attribute) (slash : Bool) (st : Construction) (old path left : List Element) (closed : List Element) (t : List ℕ) (rest : List Element)
     → CommentsGood st → is_tag_name n ≡ true → AttributesAllowed attributes → is_refused n ≡ false → is_root n ≡ false
     → OpensTo path (map end_event closed) (html_element t ∷ rest) → BodyPath (html_element t ∷ rest) → Free n (html_element t ∷ rest)
     → Leads in_body path (after_moves attributes slash (in_body_on st old) (opens_in_place n closed (map html_element (made_under t n)) (map html_element (made_under t n) ++ html_element t ∷ rest)))
@@ -175,7 +175,7 @@ opens_leads n attributes slash st old path left closed t rest c form allowed kno
 element_is : (e : Element) → e.foreign ≡ false → e ≡ html_element e.name
 element_is e h = let f : Bool → Element = λ b. record { name = e.name; foreign = b } in ap f h
 
-start_on_leads : (n : List ℕ) (attributes : List Attribute) (slash : Bool) (st : State) (old path closed : List Element) (left : List Element)
+start_on_leads : (n : List ℕ) (attributes : List Attribute) (slash : Bool) (st : Construction) (old path closed : List Element) (left : List Element)
     → CommentsGood st → is_tag_name n ≡ true → AttributesAllowed attributes → is_refused n ≡ false → is_root n ≡ false
     → OpensTo path (map end_event closed) left → BodyPath left → is_in_svg left ≡ false → head_yields left n ≡ false
     → Leads in_body path (after_moves attributes slash (in_body_on st old) (start_on n closed left))
@@ -198,7 +198,7 @@ start_on_leads n attributes slash st old path closed (e ∷ rest) c form allowed
     by_block true h = tt
     by_block false h = by_nested (is_nested n (e ∷ rest)) refl h
 
-html_start_leads : (n : List ℕ) (attributes : List Attribute) (slash : Bool) (st : State) (path : List Element) → CommentsGood st → is_tag_name n ≡ true → AttributesAllowed attributes → BodyPath path → is_in_svg path ≡ false
+html_start_leads : (n : List ℕ) (attributes : List Attribute) (slash : Bool) (st : Construction) (path : List Element) → CommentsGood st → is_tag_name n ≡ true → AttributesAllowed attributes → BodyPath path → is_in_svg path ≡ false
     → Leads in_body path (after_moves attributes slash (in_body_on st path) (html_start_moves n path))
 html_start_leads n attributes slash st path c form allowed on_path outside = by (is_refused n) (is_root n) refl refl
   where
@@ -214,7 +214,7 @@ html_start_leads n attributes slash st path c form allowed on_path outside = by 
 svg_allowed : (n : List ℕ) (attributes : List Attribute) (path : List Element) (w : List Event) → AttributesAllowed attributes → is_in_svg path ≡ true → is_svg_name n ≡ true → holds_svg_text (current path) ≡ false → is_deep (element n true ∷ path) ≡ false → StartAllowed n true attributes path w
 svg_allowed n attributes path w allowed inside known parent shallow = record { element = inl (inside, record { kind = refl; name = known; parent = parent }); attributes_allowed = allowed; not_deep = shallow }
 
-svg_start_leads : (n : List ℕ) (attributes : List Attribute) (slash : Bool) (st : State) (path : List Element) → CommentsGood st → AttributesAllowed attributes → BodyPath path → is_in_svg path ≡ true
+svg_start_leads : (n : List ℕ) (attributes : List Attribute) (slash : Bool) (st : Construction) (path : List Element) → CommentsGood st → AttributesAllowed attributes → BodyPath path → is_in_svg path ≡ true
     → Leads in_body path (after_moves attributes slash (in_body_on st path) (svg_start_moves n path))
 svg_start_leads n attributes slash st path c allowed on_path inside = by_name (is_svg_name n) refl
   where
@@ -236,7 +236,7 @@ svg_start_leads n attributes slash st path c allowed on_path inside = by_name (i
     by_name false h = tt
 
 -- a start tag in body
-pub start_leads : (n : List ℕ) (attributes : List Attribute) (slash : Bool) (st : State) (path : List Element) → CommentsGood st → is_tag_name n ≡ true → AttributesAllowed attributes → BodyPath path → Leads in_body path (start_in_body n attributes slash (in_body_on st path))
+pub start_leads : (n : List ℕ) (attributes : List Attribute) (slash : Bool) (st : Construction) (path : List Element) → CommentsGood st → is_tag_name n ≡ true → AttributesAllowed attributes → BodyPath path → Leads in_body path (start_in_body n attributes slash (in_body_on st path))
 unfolding start_moves
 start_leads n attributes slash st path c form allowed on_path = by (is_in_svg path) refl
   where

@@ -13,7 +13,7 @@ use Rattle.hm_settle.specs.Moves.{Moves, moves, refuses, element, start_moves, e
 use Rattle.hm_tree.specs.Tokens.{Seen}
 use Rattle.hm_tree.specs.Tokens as tokens
 use Rattle.hm_construction.specs.Weights.{weight, left, left_size, texts_size, load, load_size, cost, size_cost, span, Within, WithinAll}
-use Rattle.hm_construction.specs.Steps.{InsertionMode, initial, before_html, before_head, in_head, after_head, in_body, after_body, after_html, State, Stepped, went, stops, behind_events, moved, no_drop, under_html, under_head, under_body, make_html, make_head, close_head, make_body, reach_head, reach_body, is_in_noscript, keep_byte, space_byte, body_byte, other_byte, kept_byte, step_byte, behind_bytes, then_step, step_bytes, at_front, drops_behind, closes_at_once, entered, end_event, start_event, starts, after_moves, start_in_body, opened, open_html, open_head_here, open_head, open_body_here, open_body, start_after_head, start_in_head, start_inside, html_start, is_outside, outside_rule, step_start, after_end_moves, end_current, end_head, is_at_end, leave_body, end_body, end_html, end_inside, html_end, end_outside, step_end, step_comment, step_doctype, step, closing, leave_page, step_over}
+use Rattle.hm_construction.specs.Steps.{InsertionMode, initial, before_html, before_head, in_head, after_head, in_body, after_body, after_html, Construction, Stepped, went, stops, behind_events, moved, no_drop, under_html, under_head, under_body, make_html, make_head, close_head, make_body, reach_head, reach_body, is_in_noscript, keep_byte, space_byte, body_byte, other_byte, kept_byte, step_byte, behind_bytes, then_step, step_bytes, at_front, drops_behind, closes_at_once, entered, end_event, start_event, starts, after_moves, start_in_body, opened, open_html, open_head_here, open_head, open_body_here, open_body, start_after_head, start_in_head, start_inside, html_start, is_outside, outside_rule, step_start, after_end_moves, end_current, end_head, is_at_end, leave_body, end_body, end_html, end_inside, html_end, end_outside, step_end, step_comment, step_doctype, step, closing, leave_page, step_over}
 
 pub weight-append : (es fs : List Event) → weight (es ++ fs) ≡ weight es + weight fs
 weight-append [] fs = omega arith
@@ -38,32 +38,32 @@ within_behind a b m es (stops rule n) w = w
 
 -- ---- one element is made or closed
 
-pub html_within : (c d m : ℕ) (more : State → Stepped) (st : State) → ((s : State) → s.insertion_mode ≡ before_head → Within (load s + c) (load_size s + d) m (more s)) → st.insertion_mode ≡ before_html → Within (load st + c) (load_size st + d) m (make_html more st)
+pub html_within : (c d m : ℕ) (more : Construction → Stepped) (st : Construction) → ((s : Construction) → s.insertion_mode ≡ before_head → Within (load s + c) (load_size s + d) m (more s)) → st.insertion_mode ≡ before_html → Within (load st + c) (load_size st + d) m (make_html more st)
 html_within c d m more st h e =
-    let next : State = moved st before_head under_html in
+    let next : Construction = moved st before_head under_html in
     let w : Within (2 + (load next + c)) (4 + (load_size next + d)) m (make_html more st) = within_behind (load next + c) (load_size next + d) m (start html false [] ∷ []) (more next) (h next refl) in
     within_more (2 + (load next + c)) (4 + (load_size next + d)) m (load st + c) (load_size st + d) m (make_html more st) (rw e (omega arith)) (rw e (omega arith)) (omega arith) w
 
-pub head_within : (c d m : ℕ) (more : State → Stepped) (st : State) → ((s : State) → s.insertion_mode ≡ in_head → Within (load s + c) (load_size s + d) m (more s)) → st.insertion_mode ≡ before_head → Within (load st + c) (load_size st + d) m (make_head more st)
+pub head_within : (c d m : ℕ) (more : Construction → Stepped) (st : Construction) → ((s : Construction) → s.insertion_mode ≡ in_head → Within (load s + c) (load_size s + d) m (more s)) → st.insertion_mode ≡ before_head → Within (load st + c) (load_size st + d) m (make_head more st)
 head_within c d m more st h e =
-    let next : State = moved st in_head under_head in
+    let next : Construction = moved st in_head under_head in
     let w : Within (2 + (load next + c)) (4 + (load_size next + d)) m (make_head more st) = within_behind (load next + c) (load_size next + d) m (start head false [] ∷ []) (more next) (h next refl) in
     within_more (2 + (load next + c)) (4 + (load_size next + d)) m (load st + c) (load_size st + d) m (make_head more st) (rw e (omega arith)) (rw e (omega arith)) (omega arith) w
 
-pub close_within : (c d m : ℕ) (more : State → Stepped) (st : State) → ((s : State) → s.insertion_mode ≡ after_head → Within (load s + c) (load_size s + d) m (more s)) → st.insertion_mode ≡ in_head → Within (load st + c) (load_size st + d) m (close_head more st)
+pub close_within : (c d m : ℕ) (more : Construction → Stepped) (st : Construction) → ((s : Construction) → s.insertion_mode ≡ after_head → Within (load s + c) (load_size s + d) m (more s)) → st.insertion_mode ≡ in_head → Within (load st + c) (load_size st + d) m (close_head more st)
 close_within c d m more st h e =
-    let next : State = moved st after_head under_html in
+    let next : Construction = moved st after_head under_html in
     let w : Within (1 + (load next + c)) (0 + (load_size next + d)) m (close_head more st) = within_behind (load next + c) (load_size next + d) m (end head false ∷ []) (more next) (h next refl) in
     within_more (1 + (load next + c)) (0 + (load_size next + d)) m (load st + c) (load_size st + d) m (close_head more st) (rw e (omega arith)) (rw e (omega arith)) (omega arith) w
 
-pub body_within : (c d m : ℕ) (more : State → Stepped) (st : State) → ((s : State) → s.insertion_mode ≡ in_body → Within (load s + c) (load_size s + d) m (more s)) → st.insertion_mode ≡ after_head → Within (load st + c) (load_size st + d) m (make_body more st)
+pub body_within : (c d m : ℕ) (more : Construction → Stepped) (st : Construction) → ((s : Construction) → s.insertion_mode ≡ in_body → Within (load s + c) (load_size s + d) m (more s)) → st.insertion_mode ≡ after_head → Within (load st + c) (load_size st + d) m (make_body more st)
 body_within c d m more st h e =
-    let next : State = moved st in_body under_body in
+    let next : Construction = moved st in_body under_body in
     let w : Within (2 + (load next + c)) (4 + (load_size next + d)) m (make_body more st) = within_behind (load next + c) (load_size next + d) m (start body false [] ∷ []) (more next) (h next refl) in
     within_more (2 + (load next + c)) (4 + (load_size next + d)) m (load st + c) (load_size st + d) m (make_body more st) (rw e (omega arith)) (rw e (omega arith)) (omega arith) w
 
 -- in the body the state's insertion mode is that of the body, wherever the step began
-pub reach_body_within : (c d m : ℕ) (more : State → Stepped) → ((s : State) → s.insertion_mode ≡ in_body → Within (load s + c) (load_size s + d) m (more s)) → (p : InsertionMode) (st : State) → st.insertion_mode ≡ p → Within (load st + c) (load_size st + d) m (reach_body p more st)
+pub reach_body_within : (c d m : ℕ) (more : Construction → Stepped) → ((s : Construction) → s.insertion_mode ≡ in_body → Within (load s + c) (load_size s + d) m (more s)) → (p : InsertionMode) (st : Construction) → st.insertion_mode ≡ p → Within (load st + c) (load_size st + d) m (reach_body p more st)
 reach_body_within c d m more h initial st e = omega arith
 reach_body_within c d m more h before_html st e =
     html_within c d m (make_head (close_head (make_body more))) st (λ s a. head_within c d m (close_head (make_body more)) s (λ t b. close_within c d m (make_body more) t (λ u k. body_within c d m more u h k) b) a) e
@@ -74,7 +74,7 @@ reach_body_within c d m more h in_body st e = h st e
 reach_body_within c d m more h after_body st e = omega arith
 reach_body_within c d m more h after_html st e = omega arith
 
-pub reach_head_within : (c d m : ℕ) (rule : Rule) (more : State → Stepped) → ((s : State) → s.insertion_mode ≡ in_head → Within (load s + c) (load_size s + d) m (more s)) → (p : InsertionMode) (st : State) → st.insertion_mode ≡ p → Within (load st + c) (load_size st + d) m (reach_head p rule more st)
+pub reach_head_within : (c d m : ℕ) (rule : Rule) (more : Construction → Stepped) → ((s : Construction) → s.insertion_mode ≡ in_head → Within (load s + c) (load_size s + d) m (more s)) → (p : InsertionMode) (st : Construction) → st.insertion_mode ≡ p → Within (load st + c) (load_size st + d) m (reach_head p rule more st)
 reach_head_within c d m rule more h initial st e = omega arith
 reach_head_within c d m rule more h before_html st e = html_within c d m (make_head more) st (λ s a. head_within c d m more s h a) e
 reach_head_within c d m rule more h before_head st e = head_within c d m more st h e
@@ -87,10 +87,10 @@ reach_head_within c d m rule more h after_html st e = omega arith
 -- ---- texts
 
 -- one byte is one event at most, and is refused at its front
-pub keep_within : (c : ℕ) (st : State) → Within (load st + 1) (load_size st + 1) 0 (keep_byte c st)
+pub keep_within : (c : ℕ) (st : Construction) → Within (load st + 1) (load_size st + 1) 0 (keep_byte c st)
 keep_within c st = (omega arith, omega arith)
 
-pub space_within : (p : InsertionMode) (c : ℕ) (st : State) → Within (load st + 1) (load_size st + 1) 0 (space_byte p c st)
+pub space_within : (p : InsertionMode) (c : ℕ) (st : Construction) → Within (load st + 1) (load_size st + 1) 0 (space_byte p c st)
 space_within initial c st = (omega arith, omega arith)
 space_within before_html c st = (omega arith, omega arith)
 space_within before_head c st = (omega arith, omega arith)
@@ -100,21 +100,21 @@ space_within in_body c st = keep_within c st
 space_within after_body c st = keep_within c st
 space_within after_html c st = keep_within c st
 
-pub body_byte_within : (c : ℕ) (st : State) → Within (load st + 1) (load_size st + 1) 0 (body_byte c st)
+pub body_byte_within : (c : ℕ) (st : Construction) → Within (load st + 1) (load_size st + 1) 0 (body_byte c st)
 body_byte_within c st = by (is_in_blank st.path)
   where
     by : (b : Bool) → Within (load st + 1) (load_size st + 1) 0 (cond b (stops TextHere 0) (keep_byte c st))
     by true = omega arith
     by false = keep_within c st
 
-pub other_within : (c : ℕ) (st : State) → Within (load st + 1) (load_size st + 1) 0 (other_byte c st)
+pub other_within : (c : ℕ) (st : Construction) → Within (load st + 1) (load_size st + 1) 0 (other_byte c st)
 other_within c st = by (is_in_noscript st.insertion_mode st.path)
   where
     by : (b : Bool) → Within (load st + 1) (load_size st + 1) 0 (cond b (stops TextHere 0) (reach_body st.insertion_mode (body_byte c) st))
     by true = omega arith
     by false = reach_body_within 1 1 0 (body_byte c) (λ s e. body_byte_within c s) st.insertion_mode st refl
 
-pub kept_within : (c : ℕ) (st : State) → Within (load st + 1) (load_size st + 1) 0 (kept_byte c st)
+pub kept_within : (c : ℕ) (st : Construction) → Within (load st + 1) (load_size st + 1) 0 (kept_byte c st)
 kept_within c st = by (is_in_text st.path) (is_space c)
   where
     by : (b k : Bool) → Within (load st + 1) (load_size st + 1) 0 (cond b (keep_byte c st) (cond k (space_byte st.insertion_mode c st) (other_byte c st)))
@@ -122,7 +122,7 @@ kept_within c st = by (is_in_text st.path) (is_space c)
     by false true = space_within st.insertion_mode c st
     by false false = other_within c st
 
-pub byte_within : (c : ℕ) (st : State) → Within (load st + 1) (load_size st + 1) 0 (step_byte c st)
+pub byte_within : (c : ℕ) (st : Construction) → Within (load st + 1) (load_size st + 1) 0 (step_byte c st)
 unfolding step_byte
 byte_within c st = by (st.drops_line_feed && c == 10)
   where
@@ -135,7 +135,7 @@ abbrev pub WithinText : ℕ → ℕ → ℕ → Stepped → Type 0
 WithinText a b n (went es st) = (weight es + load st ≤ a) × (walk_size es + load_size st ≤ b)
 WithinText a b n (stops rule k) = k < n
 
-then_within : (c : ℕ) (s : List ℕ) (st : State) (x : Stepped) → Within (load st + 1) (load_size st + 1) 0 x → ((next : State) → WithinText (load next + length s) (load_size next + length s) (length s) (step_bytes s next))
+then_within : (c : ℕ) (s : List ℕ) (st : Construction) (x : Stepped) → Within (load st + 1) (load_size st + 1) 0 x → ((next : Construction) → WithinText (load next + length s) (load_size next + length s) (length s) (step_bytes s next))
     → WithinText (load st + suc (length s)) (load_size st + suc (length s)) (suc (length s)) (then_step x (λ next. behind_bytes 1 (step_bytes s next)))
 then_within c s st (stops rule n) w h = omega arith
 then_within c s st (went es next) w h = by (step_bytes s next) (h next)
@@ -151,7 +151,7 @@ then_within c s st (went es next) w h = by (step_bytes s next) (h next)
         let l : walk_size fs + load_size last ≤ load_size next + length s = v.1 in
         (omega arith, omega arith)
 
-pub bytes_within : (s : List ℕ) (st : State) → WithinText (load st + length s) (load_size st + length s) (length s) (step_bytes s st)
+pub bytes_within : (s : List ℕ) (st : Construction) → WithinText (load st + length s) (load_size st + length s) (length s) (step_bytes s st)
 bytes_within [] st = (omega arith, omega arith)
 bytes_within (c ∷ s) st = then_within c s st (step_byte c st) (byte_within c st) (λ next. bytes_within s next)
 
@@ -179,7 +179,7 @@ starts_weight (e ∷ path) =
     let q : walk_size (starts path ++ start_event e ∷ []) ≡ walk_size (starts path) + walk_size (start_event e ∷ []) = walk_size-append (starts path) (start_event e ∷ []) in
     (omega arith, omega arith)
 
-pub entered_within : (attributes : List Attribute) (slash : Bool) (st : State) (e : Element) (path : List Element)
+pub entered_within : (attributes : List Attribute) (slash : Bool) (st : Construction) (e : Element) (path : List Element)
     → Within (length path + (length st.behind_body + length st.behind_html) + left st.insertion_mode + 3) (load_size st + (length e.name + attributes_size attributes)) 0 (entered attributes slash st (e ∷ path))
 entered_within attributes slash st e path = by (closes_at_once slash (e ∷ path))
   where
@@ -193,7 +193,7 @@ MovesWithin n k (refuses rule) = Unit {0}
 MovesWithin n k (moves closed made []) = ⊥
 MovesWithin n k (moves closed made (e ∷ path)) = (length closed + length path ≤ k + length made) × (length made ≤ 2) × (names_size made ≤ 8) × (e.name ≡ n)
 
-pub after_within : (n : List ℕ) (attributes : List Attribute) (slash : Bool) (st : State) (m : Moves) → MovesWithin n (length st.path) m → Within (load st + 9) (load_size st + (length n + attributes_size attributes + 8)) 0 (after_moves attributes slash st m)
+pub after_within : (n : List ℕ) (attributes : List Attribute) (slash : Bool) (st : Construction) (m : Moves) → MovesWithin n (length st.path) m → Within (load st + 9) (load_size st + (length n + attributes_size attributes + 8)) 0 (after_moves attributes slash st m)
 after_within n attributes slash st (refuses rule) w = omega arith
 after_within n attributes slash st (moves closed made []) w = absurd w
 after_within n attributes slash st (moves closed made (e ∷ path)) w =
@@ -284,25 +284,25 @@ start_moves_within n path = by (is_in_svg path) (not (is_svg_name n)) (holds_svg
 -- ---- start tags
 
 -- what a start tag with these attributes may add
-abbrev pub StartWithin : List ℕ → List Attribute → State → Stepped → Type 0
+abbrev pub StartWithin : List ℕ → List Attribute → Construction → Stepped → Type 0
 StartWithin n attributes st x = Within (load st + 9) (load_size st + (length n + attributes_size attributes + 8)) 0 x
 
-pub in_body_within : (n : List ℕ) (attributes : List Attribute) (slash : Bool) (st : State) → StartWithin n attributes st (start_in_body n attributes slash st)
+pub in_body_within : (n : List ℕ) (attributes : List Attribute) (slash : Bool) (st : Construction) → StartWithin n attributes st (start_in_body n attributes slash st)
 in_body_within n attributes slash st = after_within n attributes slash st (start_moves n st.path) (start_moves_within n st.path)
 
-opened_within : (n : List ℕ) (attributes : List Attribute) (st : State) → StartWithin n attributes st (opened n attributes st)
+opened_within : (n : List ℕ) (attributes : List Attribute) (st : Construction) → StartWithin n attributes st (opened n attributes st)
 opened_within n attributes st =
     within_more (length st.path + (length st.behind_body + length st.behind_html) + left st.insertion_mode + 3) (load_size st + (length n + attributes_size attributes)) 0 (load st + 9) (load_size st + (length n + attributes_size attributes + 8)) 0 (opened n attributes st) (omega arith) (omega arith) (omega arith)
     (entered_within attributes false st (html_element n) st.path)
 
-after_head_within : (n : List ℕ) (attributes : List Attribute) (slash : Bool) (st : State) → st.insertion_mode ≡ after_head → StartWithin n attributes st (start_after_head n attributes slash st)
+after_head_within : (n : List ℕ) (attributes : List Attribute) (slash : Bool) (st : Construction) → st.insertion_mode ≡ after_head → StartWithin n attributes st (start_after_head n attributes slash st)
 after_head_within n attributes slash st e = by (is_metadata n)
   where
     by : (b : Bool) → StartWithin n attributes st (cond b (stops AfterHead 0) (make_body (start_in_body n attributes slash) st))
     by true = omega arith
     by false = body_within 9 (length n + attributes_size attributes + 8) 0 (start_in_body n attributes slash) st (λ s h. in_body_within n attributes slash s) e
 
-in_head_within : (n : List ℕ) (attributes : List Attribute) (slash : Bool) (st : State) → st.insertion_mode ≡ in_head → StartWithin n attributes st (start_in_head n attributes slash st)
+in_head_within : (n : List ℕ) (attributes : List Attribute) (slash : Bool) (st : Construction) → st.insertion_mode ≡ in_head → StartWithin n attributes st (start_in_head n attributes slash st)
 in_head_within n attributes slash st e = by (is_in_noscript in_head st.path) (is_among n noscript_children) (stands_on n st.path)
   where
     by : (a b c : Bool) → StartWithin n attributes st (cond a (cond b (opened n attributes st) (stops WrongParent 0)) (cond c (opened n attributes st) (close_head (start_after_head n attributes slash) st)))
@@ -311,7 +311,7 @@ in_head_within n attributes slash st e = by (is_in_noscript in_head st.path) (is
     by false b true = opened_within n attributes st
     by false b false = close_within 9 (length n + attributes_size attributes + 8) 0 (start_after_head n attributes slash) st (λ s h. after_head_within n attributes slash s h) e
 
-inside_within : (n : List ℕ) (attributes : List Attribute) (slash : Bool) (p : InsertionMode) (st : State) → st.insertion_mode ≡ p → StartWithin n attributes st (start_inside p n attributes slash st)
+inside_within : (n : List ℕ) (attributes : List Attribute) (slash : Bool) (p : InsertionMode) (st : Construction) → st.insertion_mode ≡ p → StartWithin n attributes st (start_inside p n attributes slash st)
 inside_within n attributes slash initial st e = in_body_within n attributes slash st
 inside_within n attributes slash before_html st e = html_within 9 (length n + attributes_size attributes + 8) 0 (make_head (start_in_head n attributes slash)) st (λ s a. head_within 9 (length n + attributes_size attributes + 8) 0 (start_in_head n attributes slash) s (λ t b. in_head_within n attributes slash t b) a) e
 inside_within n attributes slash before_head st e = head_within 9 (length n + attributes_size attributes + 8) 0 (start_in_head n attributes slash) st (λ t b. in_head_within n attributes slash t b) e
@@ -321,7 +321,7 @@ inside_within n attributes slash in_body st e = in_body_within n attributes slas
 inside_within n attributes slash after_body st e = in_body_within n attributes slash st
 inside_within n attributes slash after_html st e = in_body_within n attributes slash st
 
-open_html_within : (n : List ℕ) (attributes : List Attribute) (p : InsertionMode) (st : State) → st.insertion_mode ≡ p → StartWithin n attributes st (open_html p attributes st)
+open_html_within : (n : List ℕ) (attributes : List Attribute) (p : InsertionMode) (st : Construction) → st.insertion_mode ≡ p → StartWithin n attributes st (open_html p attributes st)
 open_html_within n attributes initial st e = omega arith
 open_html_within n attributes before_html st e = rw e (omega arith, omega arith)
 open_html_within n attributes before_head st e = omega arith
@@ -331,10 +331,10 @@ open_html_within n attributes in_body st e = omega arith
 open_html_within n attributes after_body st e = omega arith
 open_html_within n attributes after_html st e = omega arith
 
-head_here_within : (n : List ℕ) (attributes : List Attribute) (st : State) → st.insertion_mode ≡ before_head → StartWithin n attributes st (open_head_here attributes st)
+head_here_within : (n : List ℕ) (attributes : List Attribute) (st : Construction) → st.insertion_mode ≡ before_head → StartWithin n attributes st (open_head_here attributes st)
 head_here_within n attributes st e = rw e (omega arith, omega arith)
 
-open_head_within : (n : List ℕ) (attributes : List Attribute) (p : InsertionMode) (st : State) → st.insertion_mode ≡ p → StartWithin n attributes st (open_head p attributes st)
+open_head_within : (n : List ℕ) (attributes : List Attribute) (p : InsertionMode) (st : Construction) → st.insertion_mode ≡ p → StartWithin n attributes st (open_head p attributes st)
 open_head_within n attributes initial st e = omega arith
 open_head_within n attributes before_html st e = html_within 9 (length n + attributes_size attributes + 8) 0 (open_head_here attributes) st (λ s h. head_here_within n attributes s h) e
 open_head_within n attributes before_head st e = head_here_within n attributes st e
@@ -344,13 +344,13 @@ open_head_within n attributes in_body st e = omega arith
 open_head_within n attributes after_body st e = omega arith
 open_head_within n attributes after_html st e = omega arith
 
-body_here_within : (n : List ℕ) (attributes : List Attribute) (st : State) → st.insertion_mode ≡ after_head → StartWithin n attributes st (open_body_here attributes st)
+body_here_within : (n : List ℕ) (attributes : List Attribute) (st : Construction) → st.insertion_mode ≡ after_head → StartWithin n attributes st (open_body_here attributes st)
 body_here_within n attributes st e = rw e (omega arith, omega arith)
 
-body_behind_head : (n : List ℕ) (attributes : List Attribute) (st : State) → st.insertion_mode ≡ in_head → StartWithin n attributes st (close_head (open_body_here attributes) st)
+body_behind_head : (n : List ℕ) (attributes : List Attribute) (st : Construction) → st.insertion_mode ≡ in_head → StartWithin n attributes st (close_head (open_body_here attributes) st)
 body_behind_head n attributes st e = close_within 9 (length n + attributes_size attributes + 8) 0 (open_body_here attributes) st (λ s h. body_here_within n attributes s h) e
 
-open_body_within : (n : List ℕ) (attributes : List Attribute) (p : InsertionMode) (st : State) → st.insertion_mode ≡ p → StartWithin n attributes st (open_body p attributes st)
+open_body_within : (n : List ℕ) (attributes : List Attribute) (p : InsertionMode) (st : Construction) → st.insertion_mode ≡ p → StartWithin n attributes st (open_body p attributes st)
 open_body_within n attributes initial st e = omega arith
 open_body_within n attributes before_html st e = html_within 9 (length n + attributes_size attributes + 8) 0 (make_head (close_head (open_body_here attributes))) st (λ s a. head_within 9 (length n + attributes_size attributes + 8) 0 (close_head (open_body_here attributes)) s (λ t b. body_behind_head n attributes t b) a) e
 open_body_within n attributes before_head st e = head_within 9 (length n + attributes_size attributes + 8) 0 (close_head (open_body_here attributes)) st (λ t b. body_behind_head n attributes t b) e
@@ -364,7 +364,7 @@ open_body_within n attributes in_body st e = omega arith
 open_body_within n attributes after_body st e = omega arith
 open_body_within n attributes after_html st e = omega arith
 
-html_start_within : (n : List ℕ) (attributes : List Attribute) (slash : Bool) (st : State) → StartWithin n attributes st (html_start n attributes slash st)
+html_start_within : (n : List ℕ) (attributes : List Attribute) (slash : Bool) (st : Construction) → StartWithin n attributes st (html_start n attributes slash st)
 html_start_within n attributes slash st = by (is_refused n) (bytes_eq n html) (bytes_eq n head) (bytes_eq n body)
   where
     by : (a b c d : Bool) → StartWithin n attributes st (cond a (stops RefusedName 0) (cond b (open_html st.insertion_mode attributes st) (cond c (open_head st.insertion_mode attributes st) (cond d (open_body st.insertion_mode attributes st) (start_inside st.insertion_mode n attributes slash st)))))
@@ -374,7 +374,7 @@ html_start_within n attributes slash st = by (is_refused n) (bytes_eq n html) (b
     by false false false true = open_body_within n attributes st.insertion_mode st refl
     by false false false false = inside_within n attributes slash st.insertion_mode st refl
 
-pub start_within : (n : List ℕ) (attributes : List Attribute) (slash : Bool) (st : State) → StartWithin n attributes st (step_start n attributes slash st)
+pub start_within : (n : List ℕ) (attributes : List Attribute) (slash : Bool) (st : Construction) → StartWithin n attributes st (step_start n attributes slash st)
 unfolding step_start
 start_within n attributes slash st = by (is_outside st.insertion_mode) (is_in_svg st.path)
   where
@@ -385,10 +385,10 @@ start_within n attributes slash st = by (is_outside st.insertion_mode) (is_in_sv
 
 -- ---- end tags, which add nothing but what is missing
 
-abbrev pub EndWithin : State → Stepped → Type 0
+abbrev pub EndWithin : Construction → Stepped → Type 0
 EndWithin st x = Within (load st + 0) (load_size st + 0) 0 x
 
-end_current_within : (n : List ℕ) (st : State) (path : List Element) → length path ≡ length st.path → EndWithin st (end_current n st path)
+end_current_within : (n : List ℕ) (st : Construction) (path : List Element) → length path ≡ length st.path → EndWithin st (end_current n st path)
 end_current_within n st [] h = omega arith
 end_current_within n st (e ∷ path) h = by (bytes_eq e.name n) (is_open n (e ∷ path))
   where
@@ -425,7 +425,7 @@ end_moves_within n path = by (is_in_svg path)
     by true = end_on_within n (length path) [] path (is_open n path) (omega arith)
     by false = end_on_within n (length path) (front (falls_to n) path) (behind (falls_to n) path) (is_open n path) (front_and_behind (falls_to n) path)
 
-after_end_within : (st : State) (m : Moves) → ClosesWithin (length st.path) m → EndWithin st (after_end_moves st m)
+after_end_within : (st : Construction) (m : Moves) → ClosesWithin (length st.path) m → EndWithin st (after_end_moves st m)
 after_end_within st (refuses rule) w = omega arith
 after_end_within st (moves closed made path) w =
     let c : (weight (map end_event closed) ≡ length closed) × (walk_size (map end_event closed) ≡ 0) = ends_weight closed in
@@ -433,20 +433,20 @@ after_end_within st (moves closed made path) w =
     let cs : walk_size (map end_event closed) ≡ 0 = c.1 in
     (omega arith, omega arith)
 
-leave_within : (p : InsertionMode) (st : State) → left p ≡ 0 → left_size p ≡ 0 → EndWithin st (leave_body p st)
+leave_within : (p : InsertionMode) (st : Construction) → left p ≡ 0 → left_size p ≡ 0 → EndWithin st (leave_body p st)
 leave_within p st h k = by (is_at_end st.path)
   where
     by : (b : Bool) → EndWithin st (cond b (went [] (record st { insertion_mode = p })) (stops Unclosed 0))
     by true = (omega arith, omega arith)
     by false = omega arith
 
-end_head_within : (p : InsertionMode) (st : State) → st.insertion_mode ≡ p → EndWithin st (end_head p st)
+end_head_within : (p : InsertionMode) (st : Construction) → st.insertion_mode ≡ p → EndWithin st (end_head p st)
 end_head_within p st e = reach_head_within 0 0 0 StrayEnd (λ here. went (end head false ∷ []) (moved here after_head under_html)) (λ s h. rw h (omega arith, omega arith)) p st e
 
-end_body_within : (p : InsertionMode) (st : State) → st.insertion_mode ≡ p → EndWithin st (end_body p st)
+end_body_within : (p : InsertionMode) (st : Construction) → st.insertion_mode ≡ p → EndWithin st (end_body p st)
 end_body_within p st e = reach_body_within 0 0 0 (leave_body after_body) (λ s h. leave_within after_body s refl refl) p st e
 
-end_html_within : (p : InsertionMode) (st : State) → st.insertion_mode ≡ p → EndWithin st (end_html p st)
+end_html_within : (p : InsertionMode) (st : Construction) → st.insertion_mode ≡ p → EndWithin st (end_html p st)
 end_html_within initial st e = omega arith
 end_html_within before_html st e = reach_body_within 0 0 0 (leave_body after_html) (λ s h. leave_within after_html s refl refl) before_html st e
 end_html_within before_head st e = reach_body_within 0 0 0 (leave_body after_html) (λ s h. leave_within after_html s refl refl) before_head st e
@@ -456,7 +456,7 @@ end_html_within in_body st e = reach_body_within 0 0 0 (leave_body after_html) (
 end_html_within after_body st e = (omega arith, omega arith)
 end_html_within after_html st e = omega arith
 
-end_inside_within : (n : List ℕ) (p : InsertionMode) (st : State) → EndWithin st (end_inside p n st)
+end_inside_within : (n : List ℕ) (p : InsertionMode) (st : Construction) → EndWithin st (end_inside p n st)
 end_inside_within n in_body st = after_end_within st (end_moves n st.path) (end_moves_within n st.path)
 end_inside_within n initial st = omega arith
 end_inside_within n before_html st = omega arith
@@ -466,7 +466,7 @@ end_inside_within n after_head st = omega arith
 end_inside_within n after_body st = omega arith
 end_inside_within n after_html st = omega arith
 
-html_end_within : (n : List ℕ) (st : State) → EndWithin st (html_end n st)
+html_end_within : (n : List ℕ) (st : Construction) → EndWithin st (html_end n st)
 html_end_within n st = by (bytes_eq n head) (bytes_eq n body) (bytes_eq n html)
   where
     by : (a b c : Bool) → EndWithin st (cond a (end_head st.insertion_mode st) (cond b (end_body st.insertion_mode st) (cond c (end_html st.insertion_mode st) (end_inside st.insertion_mode n st))))
@@ -475,7 +475,7 @@ html_end_within n st = by (bytes_eq n head) (bytes_eq n body) (bytes_eq n html)
     by false false true = end_html_within st.insertion_mode st refl
     by false false false = end_inside_within n st.insertion_mode st
 
-outside_within : (n : List ℕ) (p : InsertionMode) (st : State) → EndWithin st (end_outside p n st)
+outside_within : (n : List ℕ) (p : InsertionMode) (st : Construction) → EndWithin st (end_outside p n st)
 outside_within n after_body st = by (bytes_eq n html)
   where
     by : (b : Bool) → EndWithin st (cond b (end_html after_body st) (stops AfterBody 0))
@@ -489,7 +489,7 @@ outside_within n after_head st = omega arith
 outside_within n in_body st = omega arith
 outside_within n after_html st = omega arith
 
-pub end_within : (n : List ℕ) (st : State) → EndWithin st (step_end n st)
+pub end_within : (n : List ℕ) (st : Construction) → EndWithin st (step_end n st)
 unfolding step_end
 end_within n st = by (is_in_text st.path) (is_outside st.insertion_mode) (is_in_svg st.path || is_in_noscript st.insertion_mode st.path)
   where
@@ -501,7 +501,7 @@ end_within n st = by (is_in_text st.path) (is_outside st.insertion_mode) (is_in_
 
 -- ---- a token
 
-doctype_within : (legacy : Bool) (p : InsertionMode) (st : State) → st.insertion_mode ≡ p → Within (load st + 1) (load_size st + 0) 0 (step_doctype p legacy st)
+doctype_within : (legacy : Bool) (p : InsertionMode) (st : Construction) → st.insertion_mode ≡ p → Within (load st + 1) (load_size st + 0) 0 (step_doctype p legacy st)
 doctype_within legacy initial st e = rw e (omega arith, omega arith)
 doctype_within legacy before_html st e = omega arith
 doctype_within legacy before_head st e = omega arith
@@ -515,7 +515,7 @@ texts_size-append : (ss ts : List (List ℕ)) → texts_size (ss ++ ts) ≡ text
 texts_size-append [] ts = omega arith
 texts_size-append (s ∷ ss) ts = let h : texts_size (ss ++ ts) ≡ texts_size ss + texts_size ts = texts_size-append ss ts in omega arith
 
-comment_within : (s : List ℕ) (p : InsertionMode) (st : State) → Within (load st + 1) (load_size st + length s) 0 (step_comment p s st)
+comment_within : (s : List ℕ) (p : InsertionMode) (st : Construction) → Within (load st + 1) (load_size st + length s) 0 (step_comment p s st)
 comment_within s after_body st =
     let a : length (st.behind_body ++ s ∷ []) ≡ length st.behind_body + 1 = length-append st.behind_body (s ∷ []) in
     let b : texts_size (st.behind_body ++ s ∷ []) ≡ texts_size st.behind_body + texts_size (s ∷ []) = texts_size-append st.behind_body (s ∷ []) in
@@ -535,7 +535,7 @@ text_is_within : (a b n : ℕ) (x : Stepped) → WithinText a b n x → Within a
 text_is_within a b n (went es st) w = w
 text_is_within a b n (stops rule k) w = omega arith
 
-pub step_within : (st : State) (token : Seen) → Within (load st + cost token) (load_size st + size_cost token) (span token) (step st token)
+pub step_within : (st : Construction) (token : Seen) → Within (load st + cost token) (load_size st + size_cost token) (span token) (step st token)
 unfolding step
 step_within st (tokens.doctype legacy) = doctype_within legacy st.insertion_mode (no_drop st) refl
 step_within st (tokens.start_tag n attributes slash) = start_within n attributes slash (no_drop st)
@@ -577,7 +577,7 @@ closing_weight (e ∷ f ∷ path) inner last =
     let y : walk_size (closing (f ∷ path) inner last) ≡ texts_size inner + texts_size last = h.1 in
     (omega arith, omega arith)
 
-leave_page_within : (p : InsertionMode) (st : State) → st.insertion_mode ≡ p → EndWithin st (leave_page p st)
+leave_page_within : (p : InsertionMode) (st : Construction) → st.insertion_mode ≡ p → EndWithin st (leave_page p st)
 leave_page_within after_body st e = (omega arith, omega arith)
 leave_page_within after_html st e = (omega arith, omega arith)
 leave_page_within initial st e = by (is_in_noscript initial st.path)
@@ -611,7 +611,7 @@ leave_page_within in_body st e = by (is_in_noscript in_body st.path)
     by true = omega arith
     by false = reach_body_within 0 0 0 (leave_body after_html) (λ s h. leave_within after_html s refl refl) in_body st e
 
-pub over_within : (st : State) → WithinAll (load st) (load_size st) (step_over st)
+pub over_within : (st : Construction) → WithinAll (load st) (load_size st) (step_over st)
 unfolding step_over
 over_within st = by (is_in_text st.path) (leave_page st.insertion_mode st) refl refl (leave_page_within st.insertion_mode st refl)
   where

@@ -6,7 +6,7 @@ use Rattle.hm_elements.specs.Settled.{Settled}
 use Rattle.hm_refs.specs.Names.{Entry}
 use Rattle.hm_tokens.specs.Laws.{IsPlain, SoundNames}
 use Rattle.hm_tree.specs.Tokens.{Seen}
-use Rattle.hm_construction.specs.Steps.{State, step, step_over}
+use Rattle.hm_construction.specs.Steps.{Construction, step, step_over}
 use Rattle.hm_construction.specs.Trees.{built, tree_of_source, page_tree}
 use Rattle.hm_construction.specs.Weights.{load, load_size, cost, size_cost, span, Within, WithinAll}
 
@@ -24,8 +24,8 @@ PagesAreSettled = (t : List Entry) (page : List ℕ) (w : List Event) → SoundN
 
 -- How large a tree can grow: a step adds no more than its token may add and what was still to come, and is refused inside its token.
 abbrev pub StepsAreWithin : Type 0
-StepsAreWithin = (st : State) (token : Seen) → Within (load st + cost token) (load_size st + size_cost token) (span token) (step st token)
+StepsAreWithin = (st : Construction) (token : Seen) → Within (load st + cost token) (load_size st + size_cost token) (span token) (step st token)
 
 -- The end of a page adds no more than what was still to come.
 abbrev pub EndsAreWithin : Type 0
-EndsAreWithin = (st : State) → WithinAll (load st) (load_size st) (step_over st)
+EndsAreWithin = (st : Construction) → WithinAll (load st) (load_size st) (step_over st)

@@ -28,7 +28,7 @@ pub data InsertionMode : Type 0 where
 
 -- The insertion mode, the open elements, whether a line feed that comes next is dropped, and the comments behind body and html,
 -- which stand in the tree only behind what is still open.
-pub record State : Type 0 where
+pub record Construction : Type 0 where
   pub insertion_mode : InsertionMode
   pub path : List Element
   pub drops_line_feed : Bool
@@ -37,14 +37,14 @@ pub record State : Type 0 where
 
 -- the events of a step and the state then, or a rule, with the number of bytes of the token before those that it refuses
 pub data Stepped : Type 0 where
-  went : List Event → State → Stepped
+  went : List Event → Construction → Stepped
   stops : Rule → ℕ → Stepped
 
 abbrev pub behind_events : List Event → Stepped → Stepped
 behind_events es (went fs st) = went (es ++ fs) st
 behind_events es (stops rule n) = stops rule n
 
-abbrev pub moved : State → InsertionMode → List Element → State
+abbrev pub moved : Construction → InsertionMode → List Element → Construction
 moved st insertion_mode path = record st { insertion_mode = insertion_mode; path = path }
 
 -- ---- One element is made or closed, and the step goes on
@@ -58,27 +58,27 @@ under_head = html_element head ∷ under_html
 abbrev pub under_body : List Element
 under_body = html_element body ∷ under_html
 
-abbrev pub make_html : (State → Stepped) → State → Stepped
+abbrev pub make_html : (Construction → Stepped) → Construction → Stepped
 make_html more st = behind_events (start html false [] ∷ []) (more (moved st before_head under_html))
 
-abbrev pub make_head : (State → Stepped) → State → Stepped
+abbrev pub make_head : (Construction → Stepped) → Construction → Stepped
 make_head more st = behind_events (start head false [] ∷ []) (more (moved st in_head under_head))
 
-abbrev pub close_head : (State → Stepped) → State → Stepped
+abbrev pub close_head : (Construction → Stepped) → Construction → Stepped
 close_head more st = behind_events (end head false ∷ []) (more (moved st after_head under_html))
 
-abbrev pub make_body : (State → Stepped) → State → Stepped
+abbrev pub make_body : (Construction → Stepped) → Construction → Stepped
 make_body more st = behind_events (start body false [] ∷ []) (more (moved st in_body under_body))
 
 -- what is missing up to the open head is made
-abbrev pub reach_head : InsertionMode → Rule → (State → Stepped) → State → Stepped
+abbrev pub reach_head : InsertionMode → Rule → (Construction → Stepped) → Construction → Stepped
 reach_head before_html rule more st = make_html (make_head more) st
 reach_head before_head rule more st = make_head more st
 reach_head in_head rule more st = more st
 reach_head insertion_mode rule more st = stops rule 0
 
 -- what is missing up to body is made, and head is closed
-abbrev pub reach_body : InsertionMode → (State → Stepped) → State → Stepped
+abbrev pub reach_body : InsertionMode → (Construction → Stepped) → Construction → Stepped
 reach_body initial more st = stops NoDoctype 0
 reach_body before_html more st = make_html (make_head (close_head (make_body more))) st
 reach_body before_head more st = make_head (close_head (make_body more)) st
@@ -95,33 +95,33 @@ abbrev pub is_in_noscript : InsertionMode → List Element → Bool
 is_in_noscript in_head path = bytes_eq (current path) noscript
 is_in_noscript insertion_mode path = false
 
-abbrev pub keep_byte : ℕ → State → Stepped
+abbrev pub keep_byte : ℕ → Construction → Stepped
 keep_byte c st = went (text (c ∷ []) (is_in_raw st.path) ∷ []) st
 
 -- whitespace is dropped before head, and else stands where it is
-abbrev pub space_byte : InsertionMode → ℕ → State → Stepped
+abbrev pub space_byte : InsertionMode → ℕ → Construction → Stepped
 space_byte initial c st = went [] st
 space_byte before_html c st = went [] st
 space_byte before_head c st = went [] st
 space_byte insertion_mode c st = keep_byte c st
 
-abbrev pub body_byte : ℕ → State → Stepped
+abbrev pub body_byte : ℕ → Construction → Stepped
 body_byte c st = if is_in_blank st.path then stops TextHere 0 else keep_byte c st
 
-abbrev pub other_byte : ℕ → State → Stepped
+abbrev pub other_byte : ℕ → Construction → Stepped
 other_byte c st = if is_in_noscript st.insertion_mode st.path then stops TextHere 0 else reach_body st.insertion_mode (body_byte c) st
 
 -- a byte of a text; in title, textarea, style, iframe and script each stands where it is
-abbrev pub kept_byte : ℕ → State → Stepped
+abbrev pub kept_byte : ℕ → Construction → Stepped
 kept_byte c st =
     if is_in_text st.path then keep_byte c st
     else if is_space c then space_byte st.insertion_mode c st
     else other_byte c st
 
-abbrev pub no_drop : State → State
+abbrev pub no_drop : Construction → Construction
 no_drop st = record st { drops_line_feed = false }
 
-unfoldable pub step_byte : ℕ → State → Stepped
+unfoldable pub step_byte : ℕ → Construction → Stepped
 step_byte c st = if st.drops_line_feed && c == 10 then went [] (no_drop st) else kept_byte c (no_drop st)
 
 -- a step behind n bytes of the same token
@@ -129,11 +129,11 @@ abbrev pub behind_bytes : ℕ → Stepped → Stepped
 behind_bytes n (went es st) = went es st
 behind_bytes n (stops rule k) = stops rule (n + k)
 
-abbrev pub then_step : Stepped → (State → Stepped) → Stepped
+abbrev pub then_step : Stepped → (Construction → Stepped) → Stepped
 then_step (went es st) more = behind_events es (more st)
 then_step (stops rule n) more = stops rule n
 
-abbrev pub step_bytes : List ℕ → State → Stepped
+abbrev pub step_bytes : List ℕ → Construction → Stepped
 step_bytes [] st = went [] st
 step_bytes (c ∷ s) st = then_step (step_byte c st) (λ next. behind_bytes 1 (step_bytes s next))
 
@@ -153,7 +153,7 @@ drops_behind (e ∷ path) = not e.foreign && is_among e.name preformatted
 abbrev pub closes_at_once : Bool → List Element → Bool
 closes_at_once slash path = is_void_open path || (slash && is_in_svg path)
 
-abbrev pub entered : List Attribute → Bool → State → List Element → Stepped
+abbrev pub entered : List Attribute → Bool → Construction → List Element → Stepped
 entered attributes slash st [] = went [] st
 entered attributes slash st (e ∷ path) =
     if closes_at_once slash (e ∷ path) then went (start e.name e.foreign attributes ∷ end e.name e.foreign ∷ []) (record st { path = path })
@@ -170,51 +170,51 @@ abbrev pub starts : List Element → List Event
 starts [] = []
 starts (e ∷ path) = starts path ++ start_event e ∷ []
 
-abbrev pub after_moves : List Attribute → Bool → State → Moves → Stepped
+abbrev pub after_moves : List Attribute → Bool → Construction → Moves → Stepped
 after_moves attributes slash st (moves closed made path) = behind_events (map end_event closed ++ starts made) (entered attributes slash st path)
 after_moves attributes slash st (refuses rule) = stops rule 0
 
-abbrev pub start_in_body : List ℕ → List Attribute → Bool → State → Stepped
+abbrev pub start_in_body : List ℕ → List Attribute → Bool → Construction → Stepped
 start_in_body n attributes slash st = after_moves attributes slash st (start_moves n st.path)
 
-abbrev pub opened : List ℕ → List Attribute → State → Stepped
+abbrev pub opened : List ℕ → List Attribute → Construction → Stepped
 opened n attributes st = entered attributes false st (html_element n ∷ st.path)
 
-abbrev pub open_html : InsertionMode → List Attribute → State → Stepped
+abbrev pub open_html : InsertionMode → List Attribute → Construction → Stepped
 open_html before_html attributes st = went (start html false attributes ∷ []) (moved st before_head under_html)
 open_html insertion_mode attributes st = stops SecondRoot 0
 
-abbrev pub open_head_here : List Attribute → State → Stepped
+abbrev pub open_head_here : List Attribute → Construction → Stepped
 open_head_here attributes st = went (start head false attributes ∷ []) (moved st in_head under_head)
 
-abbrev pub open_head : InsertionMode → List Attribute → State → Stepped
+abbrev pub open_head : InsertionMode → List Attribute → Construction → Stepped
 open_head before_html attributes st = make_html (open_head_here attributes) st
 open_head before_head attributes st = open_head_here attributes st
 open_head insertion_mode attributes st = stops SecondRoot 0
 
-abbrev pub open_body_here : List Attribute → State → Stepped
+abbrev pub open_body_here : List Attribute → Construction → Stepped
 open_body_here attributes st = went (start body false attributes ∷ []) (moved st in_body under_body)
 
-abbrev pub open_body : InsertionMode → List Attribute → State → Stepped
+abbrev pub open_body : InsertionMode → List Attribute → Construction → Stepped
 open_body before_html attributes st = make_html (make_head (close_head (open_body_here attributes))) st
 open_body before_head attributes st = make_head (close_head (open_body_here attributes)) st
 open_body in_head attributes st = if is_in_noscript in_head st.path then stops SecondRoot 0 else close_head (open_body_here attributes) st
 open_body after_head attributes st = open_body_here attributes st
 open_body insertion_mode attributes st = stops SecondRoot 0
 
-abbrev pub start_after_head : List ℕ → List Attribute → Bool → State → Stepped
+abbrev pub start_after_head : List ℕ → List Attribute → Bool → Construction → Stepped
 start_after_head n attributes slash st = if is_metadata n then stops AfterHead 0 else make_body (start_in_body n attributes slash) st
 
-abbrev pub start_in_noscript : List ℕ → List Attribute → State → Stepped
+abbrev pub start_in_noscript : List ℕ → List Attribute → Construction → Stepped
 start_in_noscript n attributes st = if is_among n noscript_children then opened n attributes st else stops WrongParent 0
 
-abbrev pub start_in_head : List ℕ → List Attribute → Bool → State → Stepped
+abbrev pub start_in_head : List ℕ → List Attribute → Bool → Construction → Stepped
 start_in_head n attributes slash st =
     if is_in_noscript in_head st.path then start_in_noscript n attributes st
     else if stands_on n st.path then opened n attributes st
     else close_head (start_after_head n attributes slash) st
 
-abbrev pub start_inside : InsertionMode → List ℕ → List Attribute → Bool → State → Stepped
+abbrev pub start_inside : InsertionMode → List ℕ → List Attribute → Bool → Construction → Stepped
 start_inside before_html n attributes slash st = make_html (make_head (start_in_head n attributes slash)) st
 start_inside before_head n attributes slash st = make_head (start_in_head n attributes slash) st
 start_inside in_head n attributes slash st = start_in_head n attributes slash st
@@ -222,7 +222,7 @@ start_inside after_head n attributes slash st = start_after_head n attributes sl
 start_inside insertion_mode n attributes slash st = start_in_body n attributes slash st
 
 -- a start tag that isn't of SVG
-abbrev pub html_start : List ℕ → List Attribute → Bool → State → Stepped
+abbrev pub html_start : List ℕ → List Attribute → Bool → Construction → Stepped
 html_start n attributes slash st =
     if is_refused n then stops RefusedName 0
     else if bytes_eq n html then open_html st.insertion_mode attributes st
@@ -241,7 +241,7 @@ abbrev pub outside_rule : InsertionMode → Rule
 outside_rule initial = NoDoctype
 outside_rule insertion_mode = AfterBody
 
-unfoldable pub step_start : List ℕ → List Attribute → Bool → State → Stepped
+unfoldable pub step_start : List ℕ → List Attribute → Bool → Construction → Stepped
 step_start n attributes slash st =
     if is_outside st.insertion_mode then stops (outside_rule st.insertion_mode) 0
     else if is_in_svg st.path then start_in_body n attributes slash st
@@ -249,19 +249,19 @@ step_start n attributes slash st =
 
 -- ---- End tags
 
-abbrev pub after_end_moves : State → Moves → Stepped
+abbrev pub after_end_moves : Construction → Moves → Stepped
 after_end_moves st (moves closed made path) = went (map end_event closed) (record st { path = path })
 after_end_moves st (refuses rule) = stops rule 0
 
 -- the innermost element alone may be ended
-abbrev pub end_current : List ℕ → State → List Element → Stepped
+abbrev pub end_current : List ℕ → Construction → List Element → Stepped
 end_current n st [] = stops StrayEnd 0
 end_current n st (e ∷ path) =
     if bytes_eq e.name n then went (end_event e ∷ []) (record st { path = path })
     else if is_open n (e ∷ path) then stops NotCurrent 0
     else stops StrayEnd 0
 
-abbrev pub end_head : InsertionMode → State → Stepped
+abbrev pub end_head : InsertionMode → Construction → Stepped
 end_head insertion_mode st = reach_head insertion_mode StrayEnd (λ here. went (end head false ∷ []) (moved here after_head under_html)) st
 
 -- html and body, with at most one p in it
@@ -278,32 +278,32 @@ is_at_end path = is_frame path
     is_frame (e ∷ f ∷ g ∷ []) = is_named p e && (is_named body f && is_named html g)
     is_frame (e ∷ f ∷ g ∷ h ∷ path) = false
 
-abbrev pub leave_body : InsertionMode → State → Stepped
+abbrev pub leave_body : InsertionMode → Construction → Stepped
 leave_body insertion_mode st = if is_at_end st.path then went [] (record st { insertion_mode = insertion_mode }) else stops Unclosed 0
 
-abbrev pub end_body : InsertionMode → State → Stepped
+abbrev pub end_body : InsertionMode → Construction → Stepped
 end_body insertion_mode st = reach_body insertion_mode (leave_body after_body) st
 
-abbrev pub end_html : InsertionMode → State → Stepped
+abbrev pub end_html : InsertionMode → Construction → Stepped
 end_html after_body st = went [] (record st { insertion_mode = after_html })
 end_html insertion_mode st = reach_body insertion_mode (leave_body after_html) st
 
-abbrev pub end_inside : InsertionMode → List ℕ → State → Stepped
+abbrev pub end_inside : InsertionMode → List ℕ → Construction → Stepped
 end_inside in_body n st = after_end_moves st (end_moves n st.path)
 end_inside insertion_mode n st = stops StrayEnd 0
 
-abbrev pub html_end : List ℕ → State → Stepped
+abbrev pub html_end : List ℕ → Construction → Stepped
 html_end n st =
     if bytes_eq n head then end_head st.insertion_mode st
     else if bytes_eq n body then end_body st.insertion_mode st
     else if bytes_eq n html then end_html st.insertion_mode st
     else end_inside st.insertion_mode n st
 
-abbrev pub end_outside : InsertionMode → List ℕ → State → Stepped
+abbrev pub end_outside : InsertionMode → List ℕ → Construction → Stepped
 end_outside after_body n st = if bytes_eq n html then end_html after_body st else stops AfterBody 0
 end_outside insertion_mode n st = stops (outside_rule insertion_mode) 0
 
-unfoldable pub step_end : List ℕ → State → Stepped
+unfoldable pub step_end : List ℕ → Construction → Stepped
 step_end n st =
     if is_in_text st.path then end_current n st st.path
     else if is_outside st.insertion_mode then end_outside st.insertion_mode n st
@@ -312,18 +312,18 @@ step_end n st =
 
 -- ---- Comments and doctypes
 
-abbrev pub step_comment : InsertionMode → List ℕ → State → Stepped
+abbrev pub step_comment : InsertionMode → List ℕ → Construction → Stepped
 step_comment after_body s st = went [] (record st { behind_body = st.behind_body ++ s ∷ [] })
 step_comment after_html s st = went [] (record st { behind_html = st.behind_html ++ s ∷ [] })
 step_comment insertion_mode s st = went (comment s ∷ []) st
 
-abbrev pub step_doctype : InsertionMode → Bool → State → Stepped
+abbrev pub step_doctype : InsertionMode → Bool → Construction → Stepped
 step_doctype initial legacy st = went (doctype legacy ∷ []) (record st { insertion_mode = before_html })
 step_doctype insertion_mode legacy st = stops SecondDoctype 0
 
 -- ---- A token
 
-unfoldable pub step : State → Seen → Stepped
+unfoldable pub step : Construction → Seen → Stepped
 step st (tokens.doctype legacy) = step_doctype st.insertion_mode legacy (no_drop st)
 step st (tokens.start_tag n attributes slash) = step_start n attributes slash (no_drop st)
 step st (tokens.end_tag n) = step_end n (no_drop st)
@@ -339,13 +339,13 @@ closing [] inner last = map comment inner ++ map comment last
 closing (e ∷ []) inner last = map comment inner ++ end_event e ∷ map comment last
 closing (e ∷ f ∷ path) inner last = end_event e ∷ closing (f ∷ path) inner last
 
-abbrev pub leave_page : InsertionMode → State → Stepped
+abbrev pub leave_page : InsertionMode → Construction → Stepped
 leave_page after_body st = went [] st
 leave_page after_html st = went [] st
 leave_page insertion_mode st = if is_in_noscript insertion_mode st.path then stops Unclosed 0 else reach_body insertion_mode (leave_body after_html) st
 
 -- all is made and closed; a page doesn't end inside title, textarea, style, iframe or script
-unfoldable pub step_over : State → Stepped
+unfoldable pub step_over : Construction → Stepped
 step_over st = if is_in_text st.path then stops Cut 0 else close_all (leave_page st.insertion_mode st)
   where
     close_all : Stepped → Stepped
@@ -353,5 +353,5 @@ step_over st = if is_in_text st.path then stops Cut 0 else close_all (leave_page
     close_all (stops rule n) = stops rule n
 
 -- before the first token
-abbrev pub first_state : State
+abbrev pub first_state : Construction
 first_state = record { insertion_mode = initial; path = []; drops_line_feed = false; behind_body = []; behind_html = [] }

@@ -9,7 +9,7 @@ use Rattle.hm_elements.specs.Paths.{current, is_in_svg}
 use Rattle.hm_refs.specs.Names.{Entry}
 use Rattle.hm_tree.specs.Tokens.{taken, refused}
 use Rattle.hm_tokens.specs.First.{Mode, ordinary, in_svg, rcdata, raw, script, Next, at_end, behind_bytes, first, rule_of}
-use Rattle.hm_construction.specs.Steps.{State, Stepped, went, stops, step, step_over, first_state}
+use Rattle.hm_construction.specs.Steps.{Construction, Stepped, went, stops, step, step_over, first_state}
 
 -- a walk, or the rule that refuses the page and the byte of the page where it does
 pub data Outcome : Type 0 where
@@ -29,21 +29,21 @@ abbrev pub mode_of : List Element → Mode
 mode_of path = if is_in_svg path then in_svg else mode_of_name (current path)
 
 -- a step of a token that begins at an index of the text
-abbrev pub stepped : (ℕ → ℕ) → ℕ → Stepped → (State → Outcome) → Outcome
+abbrev pub stepped : (ℕ → ℕ) → ℕ → Stepped → (Construction → Outcome) → Outcome
 stepped place at (went es st) more = after_events es (more st)
 stepped place at (stops rule n) more = refused_by rule (place (at + n))
 
-abbrev pub over : (ℕ → ℕ) → ℕ → State → Outcome
+abbrev pub over : (ℕ → ℕ) → ℕ → Construction → Outcome
 over place at st = stepped place at (step_over st) (λ next. built [])
 
 -- the next token is stepped, and more reads on behind it
-abbrev pub next_step : (ℕ → ℕ) → ℕ → State → List ℕ → Next → (ℕ → State → Outcome) → Outcome
+abbrev pub next_step : (ℕ → ℕ) → ℕ → Construction → List ℕ → Next → (ℕ → Construction → Outcome) → Outcome
 next_step place at st s at_end more = over place (at + length s) st
 next_step place at st s (behind_bytes n (refused fault)) more = refused_by (rule_of fault) (place (at + n))
 next_step place at st s (behind_bytes n (taken token rest)) more = stepped place (at + n) (step st token) (more (pred (length s - length rest)))
 
 -- the tree of what is left of a text from an index on; the first skip bytes are passed over
-abbrev pub tree_from : List Entry → (ℕ → ℕ) → ℕ → ℕ → State → List ℕ → Outcome
+abbrev pub tree_from : List Entry → (ℕ → ℕ) → ℕ → ℕ → Construction → List ℕ → Outcome
 tree_from t place skip at st [] = over place at st
 tree_from t place (suc skip) at st (c ∷ s) = tree_from t place skip (at + 1) st s
 tree_from t place zero at st (c ∷ s) = next_step place at st (c ∷ s) (first t (mode_of st.path) (c ∷ s)) (λ skip next. tree_from t place skip (at + 1) next s)

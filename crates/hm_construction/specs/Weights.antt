@@ -3,7 +3,7 @@ use Rattle.std.specs.Prelude.{◌≡◌, ℕ, ◌+◌, ◌≤◌, List, [], ◌�
 use Rattle.hm_base.specs.Walks.{Event, doctype, start, text, comment, end, attributes_size, walk_size}
 use Rattle.hm_tree.specs.Tokens.{Seen}
 use Rattle.hm_tree.specs.Tokens as tokens
-use Rattle.hm_construction.specs.Steps.{InsertionMode, initial, before_html, before_head, in_head, after_head, in_body, after_body, after_html, State, Stepped, went, stops}
+use Rattle.hm_construction.specs.Steps.{InsertionMode, initial, before_html, before_head, in_head, after_head, in_body, after_body, after_html, Construction, Stepped, went, stops}
 
 -- one for an event, and one more where it opens an element
 abbrev pub event_weight : Event → ℕ
@@ -42,10 +42,10 @@ abbrev pub texts_size : List (List ℕ) → ℕ
 texts_size [] = 0
 texts_size (s ∷ ss) = length s + texts_size ss
 
-abbrev pub load : State → ℕ
+abbrev pub load : Construction → ℕ
 load st = length st.path + (length st.behind_body + length st.behind_html) + left st.insertion_mode
 
-abbrev pub load_size : State → ℕ
+abbrev pub load_size : Construction → ℕ
 load_size st = texts_size st.behind_body + texts_size st.behind_html + left_size st.insertion_mode
 
 -- how much weight a token may add

@@ -5,7 +5,7 @@ use Rattle.std.proofs.lemmas.Bool.{and_parts}
 use Rattle.hm_elements.specs.declared.class.Class.TheVariants.{Ordinary}
 use Rattle.hm_elements.specs.Kinds.{kind, has_row}
 use Rattle.hm_elements.specs.KnownNames.{other}
-use Rattle.hm_elements.specs.Names.{words, is_among, Row, find, p, table, colgroup, script}
+use Rattle.hm_elements.specs.Names.{words, is_among, PairRow, find, p, table, colgroup, script}
 use Rattle.hm_elements.specs.Nesting.{without, children, own_parents, bound_names, yield_rows, end_rows, yields, ends_with}
 use Rattle.hm_elements.specs.Tables.{roots, voids, rcdata_names, raw_names, refused_names, headings, sections, parts, blocks, paragraph_ends, boundaries, block_names, unnested_names, is_root, is_void, is_rcdata, is_raw, is_refused, is_heading, is_unnested, closes_p, is_boundary, is_block, is_table_part, class_of}
 use Rattle.hm_elements.proofs.TableTools.{not_among, none_among}
@@ -24,14 +24,14 @@ is_listed n = is_among n listed
 abbrev all_listed : List (List ℕ) → Bool
 all_listed ms = list_all is_listed ms
 
-abbrev heads_listed : List Row → Bool
+abbrev heads_listed : List PairRow → Bool
 heads_listed [] = true
 heads_listed (r ∷ rs) = all_listed r.heads && heads_listed rs
 
 pub unlisted : (n : List ℕ) (ms : List (List ℕ)) → is_listed n ≡ false → all_listed ms ≡ true → is_among n ms ≡ false
 unlisted n ms none all = none_among n ms listed none all
 
-no_row : (n : List ℕ) (rows : List Row) → is_listed n ≡ false → heads_listed rows ≡ true → find n rows ≡ None
+no_row : (n : List ℕ) (rows : List PairRow) → is_listed n ≡ false → heads_listed rows ≡ true → find n rows ≡ None
 no_row n [] none all = refl
 no_row n (r ∷ rs) none all =
     let both : (all_listed r.heads ≡ true) × (heads_listed rs ≡ true) = and_parts (all_listed r.heads) (heads_listed rs) all in

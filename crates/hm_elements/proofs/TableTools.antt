@@ -4,7 +4,7 @@ use Rattle.std.proofs.lemmas.Slice.Eq.{bytes_eq-Decides}
 use Rattle.std.specs.List.{list_all}
 use Rattle.std.specs.Option.{is_some}
 use Rattle.std.proofs.lemmas.Bool.{or_cases, and_parts, not-true, false_from_ne_true, both_ways}
-use Rattle.hm_elements.specs.Names.{words, is_among, Row, find, is_among_found, is_pair, head, noscript, div, dl}
+use Rattle.hm_elements.specs.Names.{words, is_among, PairRow, find, is_among_found, is_pair, head, noscript, div, dl}
 use Rattle.hm_elements.specs.Nesting.{is_name, children, noscript_children, own_parents, bound_names, stands_by_parents, stands_by_children, may_stand}
 
 pub same_bytes : (xs ys : List ℕ) → bytes_eq xs ys ≡ true → xs ≡ ys
@@ -25,12 +25,12 @@ entry_passes test n (m ∷ ms) all among =
     ]
 
 -- each pair of the table passes
-abbrev pub each_pair : (List ℕ → List ℕ → Bool) → List Row → Bool
+abbrev pub each_pair : (List ℕ → List ℕ → Bool) → List PairRow → Bool
 each_pair test [] = true
 each_pair test (r ∷ rs) = list_all (λ h. list_all (test h) r.names) r.heads && each_pair test rs
 
 -- the pairs of a row pass
-pub row_passes : (test : List ℕ → List ℕ → Bool) (n : List ℕ) (ms : List (List ℕ)) (rows : List Row) → each_pair test rows ≡ true → find n rows ≡ Some ms → list_all (test n) ms ≡ true
+pub row_passes : (test : List ℕ → List ℕ → Bool) (n : List ℕ) (ms : List (List ℕ)) (rows : List PairRow) → each_pair test rows ≡ true → find n rows ≡ Some ms → list_all (test n) ms ≡ true
 row_passes test n ms [] all found = cc
 row_passes test n ms (r ∷ rs) all found =
     let both : (list_all (λ h. list_all (test h) r.names) r.heads ≡ true) × (each_pair test rs ≡ true) = and_parts (list_all (λ h. list_all (test h) r.names) r.heads) (each_pair test rs) all in
@@ -42,7 +42,7 @@ row_passes test n ms (r ∷ rs) all found =
         rw (sym is) (entry_passes (λ h'. list_all (test h') r.names) n r.heads here e)
     in_row false e here below h = below h
 
-pub pair_passes : (test : List ℕ → List ℕ → Bool) (n m : List ℕ) (rows : List Row) → each_pair test rows ≡ true → is_pair rows n m ≡ true → test n m ≡ true
+pub pair_passes : (test : List ℕ → List ℕ → Bool) (n m : List ℕ) (rows : List PairRow) → each_pair test rows ≡ true → is_pair rows n m ≡ true → test n m ≡ true
 pair_passes test n m rows all h = by_row (find n rows) refl h
   where
     by_row : (o : Option (List (List ℕ))) → find n rows ≡ o → is_among_found m o ≡ true → test n m ≡ true
@@ -83,7 +83,7 @@ stands_passes test h n t g k = by_noscript (bytes_eq t noscript && is_name head 
     by_noscript false e l = stands_by_row test h n t g (find t children) refl l
 
 -- a name without a row is none of the names that have one
-pub no_row : (n m : List ℕ) (rows : List Row) → find n rows ≡ None → is_some (find m rows) ≡ true → bytes_eq n m ≡ false
+pub no_row : (n m : List ℕ) (rows : List PairRow) → find n rows ≡ None → is_some (find m rows) ≡ true → bytes_eq n m ≡ false
 no_row n m rows none some = false_from_ne_true (bytes_eq n m) (λ e. differ (same_bytes n m e))
   where
     differ : n ≡ m → ⊥
@@ -101,7 +101,7 @@ pub none_among : (n : List ℕ) (ks ms : List (List ℕ)) → is_among n ms ≡ 
 none_among n ks ms none all = false_from_ne_true (is_among n ks) (λ e. both_ways (is_among n ms) none (entry_passes (λ m. is_among m ms) n ks all e))
 
 -- a name without a row is in no list of names that have one
-pub no_head : (n : List ℕ) (ks : List (List ℕ)) (rows : List Row) → find n rows ≡ None → list_all (λ m. is_some (find m rows)) ks ≡ true → is_among n ks ≡ false
+pub no_head : (n : List ℕ) (ks : List (List ℕ)) (rows : List PairRow) → find n rows ≡ None → list_all (λ m. is_some (find m rows)) ks ≡ true → is_among n ks ≡ false
 no_head n ks rows none all =
     let missing : is_some (find n rows) ≡ false = rw none refl in
     false_from_ne_true (is_among n ks) (λ e. both_ways (is_some (find n rows)) missing (entry_passes (λ m. is_some (find m rows)) n ks all e))

@@ -1,7 +1,7 @@
 -- What the tables say of a name, all at once.
 use Rattle.std.specs.Prelude.{ℕ, Bool, true, false, ◌||◌, List, Option, Some, None, bytes_eq}
 use Rattle.hm_elements.specs.declared.kind.Kind.{Kind}
-use Rattle.hm_elements.specs.Names.{is_among, Row, find, p, colgroup}
+use Rattle.hm_elements.specs.Names.{is_among, PairRow, find, p, colgroup}
 use Rattle.hm_elements.specs.Nesting.{children, own_parents, bound_names, yield_rows, end_rows, yields, ends_with}
 use Rattle.hm_elements.specs.Tables.{class_of, is_heading, is_unnested, closes_p, is_boundary, is_block}
 
@@ -10,7 +10,7 @@ is_found None = false
 is_found (Some ns) = true
 
 -- whether a row of a table of pairs begins with this name
-abbrev pub has_row : List Row → List ℕ → Bool
+abbrev pub has_row : List PairRow → List ℕ → Bool
 has_row rows n = is_found (find n rows)
 
 -- what the tables say of a name

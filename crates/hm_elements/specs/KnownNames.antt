@@ -1,5 +1,5 @@
 -- What the rows of known names tell of a name.
-use Rattle.std.specs.Prelude.{◌≡◌, ℕ, ◌+◌, ◌<◌, length, get_or, false, List, [], ◌∷◌, if◌then◌else◌, bytes_eq}
+use Rattle.std.specs.Prelude.{◌≡◌, ℕ, ◌+◌, ◌<◌, length, get_or, false, List, [], ◌∷◌, Option, Some, None, if◌then◌else◌, bytes_eq}
 use denote.Ref.{Bor}
 use Rattle.hm_elements.specs.declared.class.Class.TheVariants.{Ordinary}
 use Rattle.hm_elements.specs.declared.kind.Kind.{Kind}
@@ -31,6 +31,16 @@ other = record {
 abbrev pub kind_in : List Known → List ℕ → Kind
 kind_in [] n = other
 kind_in (k ∷ ks) n = if bytes_eq k.0.now n then k.1 else kind_in ks n
+
+-- the kind of a name with this row, if it has one
+abbrev pub kind_at : Option (Bor Known) → Kind
+kind_at None = other
+kind_at (Some k) = k.now.1
+
+-- the row, if any, has this name
+abbrev pub HasName : List ℕ → Option (Bor Known) → Type 0
+HasName n None = Unit {0}
+HasName n (Some k) = k.now.0.now ≡ n
 
 -- The rows tell the kind of each name that begins with this byte.
 pub record TellsKinds (c : ℕ) (ks : List Known) : Type 0 where

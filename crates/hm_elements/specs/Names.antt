@@ -24,15 +24,15 @@ is_among n [] = false
 is_among n (m ∷ ms) = bytes_eq m n || is_among n ms
 
 -- a row of a table of pairs: each of the first names with each of the second
-pub record Row : Type 0 where
+pub record PairRow : Type 0 where
   pub heads : List (List ℕ)
   pub names : List (List ℕ)
 
-abbrev pub row : String → List (List ℕ) → Row
+abbrev pub row : String → List (List ℕ) → PairRow
 row heads names = record { heads = words heads; names = names }
 
 -- the second names of the first row with this name among its first ones
-abbrev pub find : List ℕ → List Row → Option (List (List ℕ))
+abbrev pub find : List ℕ → List PairRow → Option (List (List ℕ))
 find n [] = None
 find n (r ∷ rs) = if is_among n r.heads then Some r.names else find n rs
 
@@ -41,7 +41,7 @@ is_among_found m None = false
 is_among_found m (Some ms) = is_among m ms
 
 -- whether the pair stands in the table
-abbrev pub is_pair : List Row → List ℕ → List ℕ → Bool
+abbrev pub is_pair : List PairRow → List ℕ → List ℕ → Bool
 is_pair rows n m = is_among_found m (find n rows)
 
 abbrev pub html : List ℕ

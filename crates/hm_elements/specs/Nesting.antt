@@ -1,10 +1,10 @@
 -- Which element may stand in which, and which closes before which tag.
 use Rattle.std.specs.Prelude.{ℕ, Bool, false, not, ◌&&◌, ◌||◌, List, [], ◌∷◌, ◌++◌, Option, Some, None, if◌then◌else◌, bytes_eq}
-use Rattle.hm_elements.specs.Names.{words, is_among, Row, row, find, is_pair, head, noscript, div, dl, table, colgroup, col, tbody, tr}
+use Rattle.hm_elements.specs.Names.{words, is_among, PairRow, row, find, is_pair, head, noscript, div, dl, table, colgroup, col, tbody, tr}
 use Rattle.hm_elements.specs.Tables.{voids, rcdata_names, raw_names, sections, cells, parts, blocks, paragraph_ends, is_section}
 
 -- Parents with children of their own.
-unfoldable pub children : List Row
+unfoldable pub children : List PairRow
 children =
     row "head" (words "base link meta noscript script style title")
     ∷ row "table" (words "caption colgroup thead tbody tfoot script style")
@@ -21,7 +21,7 @@ unfoldable pub noscript_children : List (List ℕ)
 noscript_children = words "link meta style"
 
 -- Children with parents of their own, under parents without children of their own. dt and dd also stand under a div in dl.
-unfoldable pub own_parents : List Row
+unfoldable pub own_parents : List PairRow
 own_parents =
     row "li" (words "ul ol menu dir")
     ∷ row "dt dd" (words "dl")
@@ -58,7 +58,7 @@ abbrev pub without : List (List ℕ) → List (List ℕ) → List (List ℕ)
 without ms [] = []
 without ms (n ∷ ns) = if is_among n ms then without ms ns else n ∷ without ms ns
 
-unfoldable pub yield_rows : List Row
+unfoldable pub yield_rows : List PairRow
 yield_rows =
     row "p" (paragraph_ends ++ words "rt rp" ++ parts)
     ∷ row "li" (words "li")
@@ -75,7 +75,7 @@ yield_rows =
 unfoldable pub yields : List ℕ → List ℕ → Bool
 yields current next = if bytes_eq current colgroup then not (bytes_eq next col) else is_pair yield_rows current next
 
-unfoldable pub end_rows : List Row
+unfoldable pub end_rows : List PairRow
 end_rows =
     row "p" (without (words "hr p") blocks ++ words "button li dd dt object td th caption tr" ++ sections)
     ∷ row "li" (words "ul ol menu dir")

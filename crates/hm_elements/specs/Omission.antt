@@ -1,10 +1,10 @@
 -- The tables of tags that may be left out. Those of html, head and body depend on no name.
 use Rattle.std.specs.Prelude.{ℕ, Bool, true, not, ◌&&◌, ◌||◌, List, [], ◌∷◌, ◌++◌, if◌then◌else◌, codes, bytes_eq}
-use Rattle.hm_elements.specs.Names.{words, is_among, Row, row, is_pair, p, option, colgroup, tbody, body}
+use Rattle.hm_elements.specs.Names.{words, is_among, PairRow, row, is_pair, p, option, colgroup, tbody, body}
 use Rattle.hm_elements.specs.Tables.{sections, blocks, is_section}
 use Rattle.hm_elements.specs.Nesting.{without}
 
-unfoldable pub before_rows : List Row
+unfoldable pub before_rows : List PairRow
 before_rows =
     row "caption" (words "colgroup" ++ sections)
     ∷ row "thead tbody" (words "tbody tfoot")
@@ -37,7 +37,7 @@ goes_up n parent =
     else if bytes_eq n option then not (bytes_eq parent (codes "datalist"))
     else is_among n up_names
 
-unfoldable pub start_rows : List Row
+unfoldable pub start_rows : List PairRow
 start_rows = row "colgroup" (words "col") ∷ row "tbody" (words "tr") ∷ []
 
 -- The start tag of this element may be left out before the start tag of that child.

@@ -2,7 +2,7 @@
 use Rattle.std.specs.Prelude.{ℕ, List, [], ◌∷◌, ◌++◌, Option, Some, None}
 use denote.Ref.{Bor}
 use Rattle.hm_elements.specs.Names as names
-use Rattle.hm_elements.specs.declared.look_up.Row.{Row}
+use Rattle.hm_elements.specs.declared.look_up.PairRow.{PairRow}
 
 abbrev pub texts : List (Bor (List ℕ)) → List (List ℕ)
 texts [] = []
@@ -13,10 +13,10 @@ abbrev pub joined_texts : List (Bor (List (Bor (List ℕ)))) → List (List ℕ)
 joined_texts [] = []
 joined_texts (g ∷ gs) = texts g.now ++ joined_texts gs
 
-abbrev pub row_of : Row → names.Row
+abbrev pub row_of : PairRow → names.PairRow
 row_of r = record { heads = texts r.heads.now; names = joined_texts r.names.now }
 
-abbrev pub rows_of : List Row → List names.Row
+abbrev pub rows_of : List PairRow → List names.PairRow
 rows_of [] = []
 rows_of (r ∷ rs) = row_of r ∷ rows_of rs
 

@@ -28,7 +28,7 @@ pub enum Class {
 
 impl Class {
     /// Whether its elements hold nothing.
-    fn holds_nothing(self) -> bool
+    pub(crate) fn holds_nothing(self) -> bool
         ensures { result ≡ classes.holds_nothing self }
     {
         matches!(self, Class::Void)

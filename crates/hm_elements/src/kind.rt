@@ -1,10 +1,13 @@
 //! What the tables say of a name, all at once.
 ghost use Rattle.std.specs.Prelude.{◌≡◌};
+ghost use Rattle.std.specs.Option.{ForSome};
 ghost use Rattle.hm_elements.specs.Kinds as kinds;
-ghost use Rattle.hm_elements.specs.KnownNames.{kind_in};
+ghost use Rattle.hm_elements.specs.KnownNames.{HasName, kind_at, kind_in};
+ghost use Rattle.hm_elements.specs.Tables as tables;
 
 use crate::class::Class;
-use crate::known::{Known, OTHER, beginning_with};
+use crate::known::{Known, OTHER, UNKNOWN, beginning_with};
+use crate::known_name::KnownName;
 use crate::look_up::same_name;
 
 /// What the tables say of a name of an HTML element.
@@ -41,30 +44,44 @@ pub struct Kind {
 pub fn kind_of(name: &str) -> Kind
     ensures { result ≡ kinds.kind name.now }
 {
-    match name.as_bytes().first() {
-        Some(first) => kind_among(name, beginning_with(*first)),
+    match find_known(name) {
+        Some(known) => known.1,
         None => OTHER,
     }
 }
 
-/// The kind of the name, if one of these is it.
-fn kind_among(name: &str, among: &[Known]) -> Kind
-    ensures { result ≡ kind_in among.now name.now }
+/// The name with its kind, if it is known.
+fn find_known(name: &str) -> Option<&'static Known>
+    ensures kind { kind_at result ≡ kinds.kind name.now }
+    ensures name { HasName name.now result }
 {
-    for (known, kind) in among {
-        if same_name(known, name) {
-            return *kind;
+    match name.as_bytes().first() {
+        Some(first) => find_among(name, beginning_with(*first)),
+        None => None,
+    }
+}
+
+/// The name with its kind, if one of these is it.
+fn find_among(name: &str, among: &'static [Known]) -> Option<&'static Known>
+    ensures kind { kind_at result ≡ kind_in among.now name.now }
+    ensures name { HasName name.now result }
+{
+    for known in among {
+        if same_name(known.0, name) {
+            return Some(known);
         }
     }
-    OTHER
+    None
 }
 
 /// A name of an HTML element, with what the tables say of it: looked up once, and kept.
 #[derive(Clone, Copy, Debug)]
 pub struct Named<'n> {
     name: &'n str,
-    kind: Kind,
-    ghost known: { kind ≡ kinds.kind name.now },
+    kind: &'n Kind,
+    text: Option<KnownName>,
+    ghost known: { kind.now ≡ kinds.kind name.now },
+    ghost same: { ForSome text (λ t. t.text.now ≡ name.now) },
 }
 
 impl<'n> Named<'n> {
@@ -72,18 +89,30 @@ impl<'n> Named<'n> {
     pub fn of(name: &'n str) -> Named<'n>
         ensures { result.name.now ≡ name.now }
     {
-        Named {
-            name,
-            kind: kind_of(name),
+        match find_known(name) {
+            Some(known) => Named {
+                name,
+                kind: &known.1,
+                text: Some(KnownName::new(known.0)),
+            },
+            None => Named {
+                name,
+                kind: &UNKNOWN,
+                text: None,
+            },
         }
     }
 
     /// The name with its kind, which is known from an earlier look-up.
-    pub fn known(name: &'n str, kind: Kind) -> Named<'n>
-        requires { kind ≡ kinds.kind name.now }
+    pub fn known(name: &'n str, kind: &'n Kind) -> Named<'n>
+        requires { kind.now ≡ kinds.kind name.now }
         ensures { result.name.now ≡ name.now }
     {
-        Named { name, kind }
+        Named {
+            name,
+            kind,
+            text: None,
+        }
     }
 
     /// The name.
@@ -94,10 +123,25 @@ impl<'n> Named<'n> {
     }
 
     /// What the tables say of it.
-    pub fn kind(self) -> Kind
-        ensures { result ≡ kinds.kind self.entry.name.now }
+    pub fn kind(self) -> &'n Kind
+        ensures { result.now ≡ kinds.kind self.entry.name.now }
     {
         self.kind
+    }
+
+    /// The name as its table holds it, where it was looked up and is known.
+    pub fn known_name(self) -> Option<KnownName>
+        ensures { ForSome result (λ t. t.text.now ≡ self.entry.name.now) }
+    {
+        self.text
+    }
+
+    /// Whether the HTML element holds nothing and has no end tag (HTML Standard, 13.1.2).
+    #[tactic(auto, using(crate::proofs::ClassFacts::void_by_class))]
+    pub fn is_void(self) -> bool
+        ensures { result ≡ tables.is_void self.entry.name.now }
+    {
+        self.kind.class.holds_nothing()
     }
 }
 

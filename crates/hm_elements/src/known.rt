@@ -1,11 +1,11 @@
-//! The names of HTML elements of which some table says something, each with what all tables say of it.
+//! The names of HTML elements of which some table says something, and other common ones, each with what all tables say of it.
 ghost use Rattle.std.specs.Prelude.{◌≡◌, length};
 ghost use Rattle.hm_elements.specs.KnownNames.{TellsKinds, GroupsTell};
 
 use crate::class::Class;
 use crate::kind::Kind;
 
-/// A name that some table lists, with its kind.
+/// A known name, with its kind.
 pub(crate) type Known = (&'static str, Kind);
 
 /// What the tables say of a name that none of them lists.
@@ -260,7 +260,11 @@ const TITLE: Kind = Kind {
     ..OTHER
 };
 
-/// The names that the tables list, by their first letter, from `a` to `z`; those that pages have most come first.
+/// The kind of each name that is not known.
+pub(crate) static UNKNOWN: Kind = OTHER;
+
+/// The names that the tables list, and common ones of which they say nothing, by their first letter, from `a` to `z`;
+/// those that pages have most come first.
 static KNOWN: [&[Known]; 26] = [
     &[
         ("a", UNNESTED),
@@ -269,8 +273,11 @@ static KNOWN: [&[Known]; 26] = [
         ("area", VOID),
         ("article", BLOCK),
         ("aside", BLOCK),
+        ("abbr", OTHER),
+        ("audio", OTHER),
     ],
     &[
+        ("b", OTHER),
         ("br", VOID),
         ("body", BODY),
         ("button", BUTTON),
@@ -278,13 +285,19 @@ static KNOWN: [&[Known]; 26] = [
         ("base", BASE),
         ("basefont", REFUSED),
         ("bgsound", REFUSED),
+        ("bdi", OTHER),
+        ("bdo", OTHER),
+        ("big", OTHER),
     ],
     &[
+        ("code", OTHER),
         ("caption", CELL),
         ("center", BLOCK),
         ("col", COL),
         ("colgroup", COLGROUP),
         ("command", REFUSED),
+        ("canvas", OTHER),
+        ("cite", OTHER),
     ],
     &[
         ("div", BLOCK),
@@ -294,8 +307,12 @@ static KNOWN: [&[Known]; 26] = [
         ("details", BLOCK),
         ("dialog", BLOCK),
         ("dir", BLOCK),
+        ("data", OTHER),
+        ("datalist", OTHER),
+        ("del", OTHER),
+        ("dfn", OTHER),
     ],
-    &[("embed", VOID)],
+    &[("em", OTHER), ("embed", VOID)],
     &[
         ("fieldset", BLOCK),
         ("figcaption", BLOCK),
@@ -304,6 +321,7 @@ static KNOWN: [&[Known]; 26] = [
         ("form", FORM),
         ("frame", REFUSED),
         ("frameset", REFUSED),
+        ("font", OTHER),
     ],
     &[],
     &[
@@ -320,19 +338,22 @@ static KNOWN: [&[Known]; 26] = [
         ("html", HTML),
     ],
     &[
+        ("i", OTHER),
         ("img", VOID),
         ("input", VOID),
         ("iframe", RAW),
         ("image", REFUSED),
         ("isindex", REFUSED),
+        ("ins", OTHER),
     ],
     &[],
-    &[("keygen", REFUSED)],
+    &[("kbd", OTHER), ("keygen", REFUSED)],
     &[
         ("li", ITEM),
         ("link", VOID),
         ("legend", LEGEND),
         ("listing", REFUSED),
+        ("label", OTHER),
     ],
     &[
         ("meta", VOID),
@@ -341,33 +362,44 @@ static KNOWN: [&[Known]; 26] = [
         ("math", REFUSED),
         ("menu", BLOCK),
         ("menuitem", REFUSED),
+        ("map", OTHER),
+        ("mark", OTHER),
+        ("meter", OTHER),
     ],
     &[
         ("nav", BLOCK),
         ("nobr", UNNESTED),
         ("noembed", REFUSED),
         ("noframes", REFUSED),
+        ("noscript", OTHER),
     ],
     &[
         ("option", OPTION),
         ("ol", BLOCK),
         ("object", OBJECT),
         ("optgroup", OPTION),
+        ("output", OTHER),
     ],
     &[
         ("p", PARAGRAPH),
         ("param", VOID),
         ("plaintext", REFUSED),
         ("pre", BLOCK),
+        ("path", OTHER),
+        ("picture", OTHER),
+        ("progress", OTHER),
     ],
-    &[],
+    &[("q", OTHER)],
     &[
         ("rb", REFUSED),
         ("rp", RUBY_TEXT),
         ("rt", RUBY_TEXT),
         ("rtc", REFUSED),
+        ("ruby", OTHER),
     ],
     &[
+        ("span", OTHER),
+        ("strong", OTHER),
         ("script", SCRIPT),
         ("section", BLOCK),
         ("select", SELECT),
@@ -375,6 +407,14 @@ static KNOWN: [&[Known]; 26] = [
         ("search", BLOCK),
         ("source", VOID),
         ("summary", BLOCK),
+        ("small", OTHER),
+        ("sub", OTHER),
+        ("sup", OTHER),
+        ("s", OTHER),
+        ("samp", OTHER),
+        ("slot", OTHER),
+        ("strike", OTHER),
+        ("svg", OTHER),
     ],
     &[
         ("td", CELL),
@@ -388,9 +428,11 @@ static KNOWN: [&[Known]; 26] = [
         ("textarea", TEXTAREA),
         ("template", REFUSED),
         ("track", VOID),
+        ("time", OTHER),
+        ("tt", OTHER),
     ],
-    &[("ul", BLOCK)],
-    &[],
+    &[("ul", BLOCK), ("u", OTHER)],
+    &[("var", OTHER), ("video", OTHER)],
     &[("wbr", VOID)],
     &[("xmp", REFUSED)],
     &[],

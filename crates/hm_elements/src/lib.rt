@@ -4,6 +4,7 @@
 mod class;
 mod kind;
 mod known;
+mod known_name;
 pub mod laws;
 mod lists;
 mod look_up;
@@ -14,6 +15,7 @@ pub use class::{
     is_refused, is_unnested, is_void, svg_name,
 };
 pub use kind::{Kind, Named, kind_of};
+pub use known_name::KnownName;
 pub use lists::{
     is_blank_parent, is_cell, is_metadata, is_preformatted, is_redundant, is_root, is_section,
     is_space_parent, says_nothing_blank,

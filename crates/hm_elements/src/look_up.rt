@@ -5,7 +5,7 @@ ghost use Rattle.hm_elements.specs.Names.{is_among};
 ghost use Rattle.hm_elements.specs.Texts.{texts, joined_texts, rows_of, names_of};
 
 /// A row of a table of pairs: each of `heads` with each of the names that `names` lists.
-pub(crate) struct Row<'t> {
+pub(crate) struct PairRow<'t> {
     pub heads: &'t [&'t str],
     pub names: &'t [&'t [&'t str]],
 }
@@ -56,7 +56,7 @@ pub(crate) fn is_in_one_of(name: &str, lists: &[&[&str]]) -> bool
 }
 
 /// The lists of names of the first row with this head.
-pub(crate) fn find<'t>(rows: &'t [Row<'t>], head: &str) -> Option<&'t [&'t [&'t str]]>
+pub(crate) fn find<'t>(rows: &'t [PairRow<'t>], head: &str) -> Option<&'t [&'t [&'t str]]>
     ensures { names_of result ≡ names.find head.now (rows_of rows.now) }
 {
     for row in rows {
@@ -68,7 +68,7 @@ pub(crate) fn find<'t>(rows: &'t [Row<'t>], head: &str) -> Option<&'t [&'t [&'t 
 }
 
 /// Whether the pair stands in the table.
-pub(crate) fn is_pair(rows: &[Row<'_>], head: &str, name: &str) -> bool
+pub(crate) fn is_pair(rows: &[PairRow<'_>], head: &str, name: &str) -> bool
     ensures { result ≡ names.is_pair (rows_of rows.now) head.now name.now }
 {
     match find(rows, head) {

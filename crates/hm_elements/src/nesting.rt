@@ -7,7 +7,7 @@ ghost use Rattle.hm_elements.specs.Nesting.{is_name};
 ghost use Rattle.hm_elements.specs.Texts.{names_of, text_of};
 
 use crate::kind::{Named, kind_of};
-use crate::look_up::{Row, find, is_in_one_of, is_one_of, is_pair, same_name};
+use crate::look_up::{PairRow, find, is_in_one_of, is_one_of, is_pair, same_name};
 
 /// The sections of a table.
 const SECTIONS: [&str; 3] = ["thead", "tbody", "tfoot"];
@@ -18,38 +18,38 @@ const PARTS: [&str; 9] = [
 ];
 
 /// What an open element yields to, but for `colgroup` and `p`.
-const YIELDS: [Row<'static>; 8] = [
-    Row {
+const YIELDS: [PairRow<'static>; 8] = [
+    PairRow {
         heads: &["li"],
         names: &[&["li"]],
     },
-    Row {
+    PairRow {
         heads: &["dt", "dd"],
         names: &[&["dt", "dd"]],
     },
-    Row {
+    PairRow {
         heads: &["rt", "rp"],
         names: &[&["rt", "rp"]],
     },
-    Row {
+    PairRow {
         heads: &["option"],
         names: &[&["option", "optgroup"]],
     },
-    Row {
+    PairRow {
         heads: &["optgroup"],
         names: &[&["optgroup"]],
     },
-    Row {
+    PairRow {
         heads: &["td", "th", "caption"],
         names: &[&PARTS],
     },
-    Row {
+    PairRow {
         heads: &["tr"],
         names: &[&[
             "caption", "col", "colgroup", "thead", "tbody", "tfoot", "tr",
         ]],
     },
-    Row {
+    PairRow {
         heads: &["thead", "tbody", "tfoot"],
         names: &[&["caption", "col", "colgroup", "thead", "tbody", "tfoot"]],
     },
@@ -80,36 +80,36 @@ fn yields_by_rows(current: &str, next: &str) -> bool
 }
 
 /// What end tags an open element ends with, but for `p`.
-const ENDS: [Row<'static>; 8] = [
-    Row {
+const ENDS: [PairRow<'static>; 8] = [
+    PairRow {
         heads: &["li"],
         names: &[&["ul", "ol", "menu", "dir"]],
     },
-    Row {
+    PairRow {
         heads: &["dt", "dd"],
         names: &[&["dl", "div"]],
     },
-    Row {
+    PairRow {
         heads: &["option"],
         names: &[&["optgroup", "select", "datalist"]],
     },
-    Row {
+    PairRow {
         heads: &["optgroup"],
         names: &[&["select"]],
     },
-    Row {
+    PairRow {
         heads: &["rt", "rp"],
         names: &[&["ruby"]],
     },
-    Row {
+    PairRow {
         heads: &["td", "th"],
         names: &[&["tr", "table"], &SECTIONS],
     },
-    Row {
+    PairRow {
         heads: &["tr"],
         names: &[&["table"], &SECTIONS],
     },
-    Row {
+    PairRow {
         heads: &["thead", "tbody", "tfoot", "caption", "colgroup"],
         names: &[&["table"]],
     },
@@ -138,40 +138,40 @@ fn ends_by_rows(child: &str, ending: &str) -> bool
 }
 
 /// Parents with children of their own.
-const CHILDREN: [Row<'static>; 8] = [
-    Row {
+const CHILDREN: [PairRow<'static>; 8] = [
+    PairRow {
         heads: &["head"],
         names: &[&[
             "base", "link", "meta", "noscript", "script", "style", "title",
         ]],
     },
-    Row {
+    PairRow {
         heads: &["table"],
         names: &[&[
             "caption", "colgroup", "thead", "tbody", "tfoot", "script", "style",
         ]],
     },
-    Row {
+    PairRow {
         heads: &["thead", "tbody", "tfoot"],
         names: &[&["tr", "script", "style"]],
     },
-    Row {
+    PairRow {
         heads: &["tr"],
         names: &[&["td", "th", "script", "style"]],
     },
-    Row {
+    PairRow {
         heads: &["colgroup"],
         names: &[&["col"]],
     },
-    Row {
+    PairRow {
         heads: &["select"],
         names: &[&["option", "optgroup"]],
     },
-    Row {
+    PairRow {
         heads: &["optgroup"],
         names: &[&["option"]],
     },
-    Row {
+    PairRow {
         heads: &[
             "option", "script", "title", "textarea", "style", "iframe", "area", "base", "br",
             "col", "embed", "hr", "img", "input", "link", "meta", "param", "source", "track",
@@ -182,24 +182,24 @@ const CHILDREN: [Row<'static>; 8] = [
 ];
 
 /// Children with parents of their own.
-const PARENTS: [Row<'static>; 5] = [
-    Row {
+const PARENTS: [PairRow<'static>; 5] = [
+    PairRow {
         heads: &["li"],
         names: &[&["ul", "ol", "menu", "dir"]],
     },
-    Row {
+    PairRow {
         heads: &["dt", "dd"],
         names: &[&["dl"]],
     },
-    Row {
+    PairRow {
         heads: &["rt", "rp"],
         names: &[&["ruby"]],
     },
-    Row {
+    PairRow {
         heads: &["option"],
         names: &[&["datalist"]],
     },
-    Row {
+    PairRow {
         heads: &["optgroup"],
         names: &[],
     },

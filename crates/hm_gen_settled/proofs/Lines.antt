@@ -10,7 +10,7 @@ use Rattle.hm_refs.specs.Tables.{IsTable}
 use Rattle.hm_tree.specs.Tokens as tokens
 use Rattle.hm_tokens.specs.First.{ordinary}
 use Rattle.hm_tokens.proofs.References.{no_byte_both}
-use Rattle.hm_construction.specs.Steps.{State, went, under_body, step}
+use Rattle.hm_construction.specs.Steps.{Construction, went, under_body, step}
 use Rattle.hm_construction.specs.Trees.{mode_of}
 use Rattle.hm_gen.specs.declared.block.Block.{Block}
 use Rattle.hm_gen.specs.declared.block.Block.TheVariants.{Paragraph, Items, Table, Titled}
@@ -22,10 +22,10 @@ use Rattle.hm_gen_settled.proofs.Steps.{BeginsLine, in_body_begins, paragraph_en
 
 -- ---- Tags and digits
 
-start_grows : (t : List Entry) → IsTable t → (st next : State) (es : List Event) (n rest : List ℕ) → Named n → mode_of st.path ≡ ordinary → step st (tokens.start_tag n [] false) ≡ went es next → Grows t next rest → Grows t st ((60 ∷ (n ++ 62 ∷ [])) ++ rest)
+start_grows : (t : List Entry) → IsTable t → (st next : Construction) (es : List Event) (n rest : List ℕ) → Named n → mode_of st.path ≡ ordinary → step st (tokens.start_tag n [] false) ≡ went es next → Grows t next rest → Grows t st ((60 ∷ (n ++ 62 ∷ [])) ++ rest)
 start_grows t k st next es n rest named m goes more = token_grows t k ordinary st next es ((60 ∷ (n ++ 62 ∷ [])) ++ rest) (tokens.start_tag n [] false) rest tt m (start_next t n rest named) goes more
 
-end_grows : (t : List Entry) → IsTable t → (st next : State) (es : List Event) (n rest : List ℕ) → Named n → mode_of st.path ≡ ordinary → step st (tokens.end_tag n) ≡ went es next → Grows t next rest → Grows t st ((60 ∷ 47 ∷ (n ++ 62 ∷ [])) ++ rest)
+end_grows : (t : List Entry) → IsTable t → (st next : Construction) (es : List Event) (n rest : List ℕ) → Named n → mode_of st.path ≡ ordinary → step st (tokens.end_tag n) ≡ went es next → Grows t next rest → Grows t st ((60 ∷ 47 ∷ (n ++ 62 ∷ [])) ++ rest)
 end_grows t k st next es n rest named m goes more = token_grows t k ordinary st next es ((60 ∷ 47 ∷ (n ++ 62 ∷ [])) ++ rest) (tokens.end_tag n) rest tt m (end_next t n rest named) goes more
 
 no_sign : (n : ℕ) → n < 2 ^ 32 → has_byte 60 (decimal n) ≡ false
@@ -44,7 +44,7 @@ paragraph_text : (t : List Entry) → IsTable t → (s rest : List ℕ) → has_
 paragraph_text t k s rest none e more =
     body_text_grows t k (inside p under_body) s (codes "</p>\n" ++ rest) text_places.in_paragraph none (tag (codes "/p>\n" ++ rest) (end_tag_begins 112 (codes ">\n" ++ rest))) (paragraph_closes t k rest e more)
 
-paragraph_grows : (t : List Entry) → IsTable t → (st : State) → BeginsLine st → (n : ℕ) (rest : List ℕ) → n < 2 ^ 32 → Ends rest → Grows t (at under_body) rest → Grows t st (line Paragraph n ++ rest)
+paragraph_grows : (t : List Entry) → IsTable t → (st : Construction) → BeginsLine st → (n : ℕ) (rest : List ℕ) → n < 2 ^ 32 → Ends rest → Grows t (at under_body) rest → Grows t st (line Paragraph n ++ rest)
 paragraph_grows t k st here n rest h e more =
     let s : List ℕ = codes "Item " ++ (decimal n ++ codes " &amp; more") in
     let none : has_byte 60 s ≡ false = no_byte_both 60 (decimal n) (codes " &amp; more") (no_sign n h) refl in
@@ -53,7 +53,7 @@ paragraph_grows t k st here n rest h e more =
     ap (λ x. codes "<p>Item " ++ x) (append_assoc (decimal n) (codes " &amp; more</p>\n") rest ∙ sym (append_assoc (decimal n) (codes " &amp; more") (codes "</p>\n" ++ rest))) in
     subst (Grows t st) (sym cut) opened
 
-titled_grows : (t : List Entry) → IsTable t → (st : State) → BeginsLine st → (n : ℕ) (rest : List ℕ) → n < 2 ^ 32 → Ends rest → Grows t (at under_body) rest → Grows t st (line Titled n ++ rest)
+titled_grows : (t : List Entry) → IsTable t → (st : Construction) → BeginsLine st → (n : ℕ) (rest : List ℕ) → n < 2 ^ 32 → Ends rest → Grows t (at under_body) rest → Grows t st (line Titled n ++ rest)
 titled_grows t k st here n rest h e more =
     let inner : List ℕ = decimal n ++ (codes "</p>\n" ++ rest) in
     let opened : Grows t st (codes "<p title=\"a b\">" ++ inner) = token_grows t k ordinary st (at (inside p under_body)) _ (codes "<p title=\"a b\">" ++ inner) (tokens.start_tag p titled false) inner tt here.mode_is (titled_next t inner) (here.paragraph titled) (paragraph_text t k (decimal n) rest (no_sign n h) e more) in
@@ -67,7 +67,7 @@ item_grows t k s rest none more =
     let words : Grows t (at (inside li (inside ul under_body))) (s ++ (codes "</li>" ++ rest)) = body_text_grows t k (inside li (inside ul under_body)) s (codes "</li>" ++ rest) text_places.in_item none (tag (codes "/li>" ++ rest) (end_tag_begins 108 (codes "i>" ++ rest))) closed in
     start_grows t k (at (inside ul under_body)) (at (inside li (inside ul under_body))) _ li (s ++ (codes "</li>" ++ rest)) names.item block_modes.list item_steps.opens words
 
-items_grow : (t : List Entry) → IsTable t → (st : State) → BeginsLine st → (n : ℕ) (rest : List ℕ) → n < 2 ^ 32 → Ends rest → Grows t (at under_body) rest → Grows t st (line Items n ++ rest)
+items_grow : (t : List Entry) → IsTable t → (st : Construction) → BeginsLine st → (n : ℕ) (rest : List ℕ) → n < 2 ^ 32 → Ends rest → Grows t (at under_body) rest → Grows t st (line Items n ++ rest)
 items_grow t k st here n rest h e more =
     let closed : Grows t (at (inside ul under_body)) (codes "</ul>\n" ++ rest) = end_grows t k (at (inside ul under_body)) (at under_body) _ ul (10 ∷ rest) names.list block_modes.list item_steps.ends (line_end t k rest e more) in
     let second : Grows t (at (inside ul under_body)) (codes "<li>two</li></ul>\n" ++ rest) = item_grows t k (codes "two") (codes "</ul>\n" ++ rest) refl closed in
@@ -82,7 +82,7 @@ table_closes t k rest e more =
     let row : Grows t (at (inside tr in_table)) (codes "</tr></table>\n" ++ rest) = end_grows t k (at (inside tr in_table)) (at in_table) _ tr (codes "</table>\n" ++ rest) names.row block_modes.row cell_steps.row_closes closed in
     end_grows t k (at (inside td (inside tr in_table))) (at (inside tr in_table)) _ td (codes "</tr></table>\n" ++ rest) names.cell text_places.in_cell.mode_is cell_steps.cell_closes row
 
-table_grows : (t : List Entry) → IsTable t → (st : State) → BeginsLine st → (n : ℕ) (rest : List ℕ) → n < 2 ^ 32 → Ends rest → Grows t (at under_body) rest → Grows t st (line Table n ++ rest)
+table_grows : (t : List Entry) → IsTable t → (st : Construction) → BeginsLine st → (n : ℕ) (rest : List ℕ) → n < 2 ^ 32 → Ends rest → Grows t (at under_body) rest → Grows t st (line Table n ++ rest)
 table_grows t k st here n rest h e more =
     let after : List ℕ = codes "</td></tr></table>\n" ++ rest in
     let words : Grows t (at (inside td (inside tr in_table))) (decimal n ++ after) = body_text_grows t k (inside td (inside tr in_table)) (decimal n) after text_places.in_cell (no_sign n h) (tag (codes "/td></tr></table>\n" ++ rest) (end_tag_begins 116 (codes "d></tr></table>\n" ++ rest))) (table_closes t k rest e more) in
@@ -94,7 +94,7 @@ table_grows t k st here n rest h e more =
 
 -- ---- Lines
 
-line_grows : (t : List Entry) → IsTable t → (st : State) → BeginsLine st → (b : Block) (n : ℕ) (rest : List ℕ) → n < 2 ^ 32 → Ends rest → Grows t (at under_body) rest → Grows t st (line b n ++ rest)
+line_grows : (t : List Entry) → IsTable t → (st : Construction) → BeginsLine st → (b : Block) (n : ℕ) (rest : List ℕ) → n < 2 ^ 32 → Ends rest → Grows t (at under_body) rest → Grows t st (line b n ++ rest)
 line_grows t k st here Paragraph n rest h e more = paragraph_grows t k st here n rest h e more
 line_grows t k st here Items n rest h e more = items_grow t k st here n rest h e more
 line_grows t k st here Table n rest h e more = table_grows t k st here n rest h e more
@@ -114,7 +114,7 @@ lines_begin number (suc k) rest e =
     subst Ends (sym (append_assoc (lines number k) last rest)) (lines_begin number k (last ++ rest) (line_begins (chosen (chance number (suc k))) (suc k) rest))
 
 -- The lines of a page are read from a state in which blocks may begin, in front of what is read from there and in body.
-pub lines_grow : (t : List Entry) → IsTable t → (st : State) → BeginsLine st → (number size : ℕ) (rest : List ℕ) → size < 2 ^ 32 → Ends rest → Grows t st rest → Grows t (at under_body) rest → Grows t st (lines number size ++ rest)
+pub lines_grow : (t : List Entry) → IsTable t → (st : Construction) → BeginsLine st → (number size : ℕ) (rest : List ℕ) → size < 2 ^ 32 → Ends rest → Grows t st rest → Grows t (at under_body) rest → Grows t st (lines number size ++ rest)
 lines_grow t k st here number zero rest h e first more = first
 lines_grow t k st here number (suc j) rest h e first more =
     let b : Block = chosen (chance number (suc j)) in

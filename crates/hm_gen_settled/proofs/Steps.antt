@@ -9,7 +9,7 @@ use Rattle.hm_elements.specs.Paths.{is_in_text, is_block_in_p, is_nested, is_dee
 use Rattle.hm_settle.specs.Moves.{start_moves, end_moves}
 use Rattle.hm_tree.specs.Tokens as tokens
 use Rattle.hm_tokens.specs.First.{ordinary, rcdata}
-use Rattle.hm_construction.specs.Steps.{before_html, in_head, State, went, first_state, under_head, under_body, is_at_end, step, step_byte, step_start, step_end, step_over}
+use Rattle.hm_construction.specs.Steps.{before_html, in_head, Construction, went, first_state, under_head, under_body, is_at_end, step, step_byte, step_start, step_end, step_over}
 use Rattle.hm_construction.specs.Trees.{mode_of}
 use Rattle.hm_read_back.proofs.Frame.{here}
 use Rattle.hm_read_back.proofs.Runs.{ran, run_bytes}
@@ -19,7 +19,7 @@ use Rattle.hm_gen_settled.proofs.Tags.{title, ul, li, table, tbody, tr, td, insi
 -- ---- Where a line begins
 
 -- the blocks of a page may begin here
-pub record BeginsLine (st : State) : Type 0 where
+pub record BeginsLine (st : Construction) : Type 0 where
   pub mode_is : mode_of st.path ≡ ordinary
   pub before : List Event
   pub paragraph : (attributes : List Attribute) → step st (tokens.start_tag p attributes false) ≡ went (before ++ start p false attributes ∷ []) (at (inside p under_body))

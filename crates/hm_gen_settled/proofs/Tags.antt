@@ -19,7 +19,7 @@ use Rattle.hm_tree.specs.Tokens.{taken}
 use Rattle.hm_tree.specs.Tokens as tokens
 use Rattle.hm_tokens.specs.First.{ordinary, rcdata, behind_bytes, first}
 use Rattle.hm_tokens.proofs.Written.{starts_are_next, ends_are_next}
-use Rattle.hm_construction.specs.Steps.{in_head, in_body, State, under_head, under_body}
+use Rattle.hm_construction.specs.Steps.{in_head, in_body, Construction, under_head, under_body}
 use Rattle.hm_read_back.proofs.Frame.{here}
 
 -- ---- Names and paths
@@ -54,10 +54,10 @@ inside n path = html_element n ∷ path
 abbrev pub in_table : List Element
 in_table = inside tbody (inside table under_body)
 
-abbrev pub at : List Element → State
+abbrev pub at : List Element → Construction
 at path = here in_body path false
 
-abbrev pub at_head : State
+abbrev pub at_head : Construction
 at_head = here in_head under_head false
 
 -- ---- The next token

@@ -19,7 +19,7 @@ use Rattle.hm_tokens.specs.Laws.{IsMode}
 use Rattle.hm_tokens.specs.Decided.{TextPiece, literal, written_so, meant, ArePieces, IsReadAs, ends_text}
 use Rattle.hm_tokens.proofs.TextPieces.{names_of_table}
 use Rattle.hm_tokens.proofs.TextReads.{texts_are_read, element_texts_are_read, markup_ends_texts}
-use Rattle.hm_construction.specs.Steps.{InsertionMode, in_body, State, went, no_drop, kept_byte, step_byte, step}
+use Rattle.hm_construction.specs.Steps.{InsertionMode, in_body, Construction, went, no_drop, kept_byte, step_byte, step}
 use Rattle.hm_construction.specs.Trees.{mode_of}
 use Rattle.hm_construction.proofs.Texts.{texts}
 use Rattle.hm_read_back.proofs.Reading.{Builds, written}
@@ -32,13 +32,13 @@ use Rattle.hm_read_back.proofs.BodyTexts.{Plain, plain_reads}
 use Rattle.hm_gen_settled.proofs.Pieces.{Ends, over, tag, InPieces, texts_in_pieces}
 
 -- some tree is built of the bytes from here on
-pub record Grows (t : List Entry) (st : State) (b : List ℕ) : Type 0 where
+pub record Grows (t : List Entry) (st : Construction) (b : List ℕ) : Type 0 where
   pub tree : List Event
   pub builds : Builds t st b tree
 
 -- ---- Tokens
 
-pub token_grows : (t : List Entry) → IsTable t → (mode : Mode) (st next : State) (es : List Event) (b : List ℕ) (token : Seen) (rest : List ℕ) → IsMode mode → mode_of st.path ≡ mode
+pub token_grows : (t : List Entry) → IsTable t → (mode : Mode) (st next : Construction) (es : List Event) (b : List ℕ) (token : Seen) (rest : List ℕ) → IsMode mode → mode_of st.path ≡ mode
     → first t mode b ≡ behind_bytes 0 (taken token rest) → step st token ≡ went es next → Grows t next rest → Grows t st b
 token_grows t k mode st next es b token rest m e h goes more = record { tree = pushes es more.tree; builds = written t mode st next es more.tree b 0 token rest (names_of_table t k) m e h goes more.builds }
 
@@ -48,7 +48,7 @@ pub ends_here : (t : List Entry) (rest : List ℕ) → Ends rest → ends_text t
 ends_here t rest over = refl
 ends_here t rest (tag s h) = (markup_ends_texts t (60 ∷ s) h).0
 
-pub text_grows : (t : List Entry) → IsTable t → (st next : State) (es : List Event) (s rest : List ℕ) (p : InPieces t s rest) → Plain st → Ends rest → run_bytes (meant p.pieces) st ≡ ran es next → Grows t next rest → Grows t st (s ++ rest)
+pub text_grows : (t : List Entry) → IsTable t → (st next : Construction) (es : List Event) (s rest : List ℕ) (p : InPieces t s rest) → Plain st → Ends rest → run_bytes (meant p.pieces) st ≡ ran es next → Grows t next rest → Grows t st (s ++ rest)
 text_grows t k st next es s rest p plain e runs more =
     let r : IsReadAs t ordinary (s ++ rest) rest (meant p.pieces) = subst (λ x. IsReadAs t ordinary (x ++ rest) rest (meant p.pieces)) p.written (texts_are_read t ordinary p.pieces rest k refl p.good (ends_here t rest e)) in
     record { tree = pushes es more.tree; builds = text_alone t (names_of_table t k) Plain ordinary tt plain_reads (meant p.pieces) (s ++ rest) rest st next es more.tree plain r runs more.builds }

@@ -3,7 +3,7 @@ use Rattle.std.proofs.Common.{◌≡◌, ℕ, Bool, true, false, ◌&&◌, ◌||
 use Rattle.std.specs.List.{list_all}
 use Rattle.std.proofs.lemmas.Bool.{and_parts, false_from_ne_true, both_ways}
 use Rattle.hm_base.specs.Walks.{Event, doctype, start, text, comment, end}
-use Rattle.hm_elements.specs.Names.{is_among, Row, find, html, head, body, p, option, colgroup, tbody}
+use Rattle.hm_elements.specs.Names.{is_among, PairRow, find, html, head, body, p, option, colgroup, tbody}
 use Rattle.hm_elements.specs.Omission.{before_rows, goes_before, up_names, goes_up, start_rows, start_goes_before, bars_start}
 use Rattle.hm_elements.specs.Tables.{voids, is_void, sections, blocks, headings, is_section}
 use Rattle.hm_elements.proofs.TableTools.{same_bytes, entry_passes}
@@ -19,11 +19,11 @@ unlike test n m unlikely passes = false_from_ne_true (bytes_eq n m) (λ e. both_
 unlike_all : (test : List ℕ → Bool) (n : List ℕ) (ms : List (List ℕ)) → test n ≡ false → list_all test ms ≡ true → is_among n ms ≡ false
 unlike_all test n ms unlikely all = false_from_ne_true (is_among n ms) (λ e. both_ways (test n) unlikely (entry_passes test n ms all e))
 
-abbrev heads_pass : (List ℕ → Bool) → List Row → Bool
+abbrev heads_pass : (List ℕ → Bool) → List PairRow → Bool
 heads_pass test [] = true
 heads_pass test (r ∷ rs) = list_all test r.heads && heads_pass test rs
 
-no_row : (test : List ℕ → Bool) (n : List ℕ) (rows : List Row) → test n ≡ false → heads_pass test rows ≡ true → find n rows ≡ None
+no_row : (test : List ℕ → Bool) (n : List ℕ) (rows : List PairRow) → test n ≡ false → heads_pass test rows ≡ true → find n rows ≡ None
 no_row test n [] unlikely all = refl
 no_row test n (r ∷ rs) unlikely all =
     let both : (list_all test r.heads ≡ true) × (heads_pass test rs ≡ true) = and_parts (list_all test r.heads) (heads_pass test rs) all in

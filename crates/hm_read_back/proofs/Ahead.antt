@@ -12,7 +12,7 @@ use Rattle.hm_tokens.specs.Readings.{ReadsAs}
 use Rattle.hm_tokens.specs.Decided.{TextPiece, literal, referred, written_so, meant, ArePieces, IsReadAs, ends_text, in_mode, texts_of, are_texts, is_text}
 use Rattle.hm_tokens.specs.Written.{IsNextMarkup}
 use Rattle.hm_tokens.proofs.TextReads.{texts_are_read, markup_ends_texts}
-use Rattle.hm_construction.specs.Steps.{State, Stepped, went, stops, behind_events, then_step, at_front, step_byte, step_bytes, step}
+use Rattle.hm_construction.specs.Steps.{Construction, Stepped, went, stops, behind_events, then_step, at_front, step_byte, step_bytes, step}
 use Rattle.hm_construction.specs.Steps as steps
 use Rattle.hm_construction.specs.Trees.{Outcome, built, refused_by, after_events, mode_of, stepped, over, tree_from}
 use Rattle.hm_construction.proofs.Standing.{pushes_append}
@@ -54,7 +54,7 @@ any_front t b (point c) h = (c ∷ h.0, h.1)
 any_front t b finish h = ([], no_text t b (rw h refl))
 
 -- at x the state st makes es, and then does what next does
-abbrev pub Agree : State → List Event → State → Ahead → Type 0
+abbrev pub Agree : Construction → List Event → Construction → Ahead → Type 0
 Agree st es next (tag k) = step st k ≡ behind_events es (step next k)
 Agree st es next (point c) = step_byte c st ≡ behind_events es (step_byte c next)
 Agree st es next finish = (place : ℕ → ℕ) (at : ℕ) → over place at st ≡ after_events es (over place at next)
@@ -65,7 +65,7 @@ pub events_twice : (es fs : List Event) (o : Stepped) → behind_events (es ++ f
 events_twice es fs (went gs st) = ap (λ x. went x st) (append_assoc es fs gs)
 events_twice es fs (stops rule n) = refl
 
-then_behind : (es : List Event) (o : Stepped) (f : State → Stepped) → then_step (behind_events es o) f ≡ behind_events es (then_step o f)
+then_behind : (es : List Event) (o : Stepped) (f : Construction → Stepped) → then_step (behind_events es o) f ≡ behind_events es (then_step o f)
 then_behind es (went fs st) f = events_twice es fs (f st)
 then_behind es (stops rule n) f = refl
 
@@ -73,16 +73,16 @@ front_behind : (es : List Event) (o : Stepped) → at_front (behind_events es o)
 front_behind es (went fs st) = refl
 front_behind es (stops rule n) = refl
 
-stepped_behind : (place : ℕ → ℕ) (at : ℕ) (es : List Event) (o : Stepped) (more : State → Outcome) → stepped place at (behind_events es o) more ≡ after_events es (stepped place at o more)
+stepped_behind : (place : ℕ → ℕ) (at : ℕ) (es : List Event) (o : Stepped) (more : Construction → Outcome) → stepped place at (behind_events es o) more ≡ after_events es (stepped place at o more)
 stepped_behind place at es (went fs st) more = after_after es fs (more st)
 stepped_behind place at es (stops rule n) more = refl
 
-bytes_agree : (st next : State) (es : List Event) (c : ℕ) (s : List ℕ) → step_byte c st ≡ behind_events es (step_byte c next) → step_bytes (c ∷ s) st ≡ behind_events es (step_bytes (c ∷ s) next)
+bytes_agree : (st next : Construction) (es : List Event) (c : ℕ) (s : List ℕ) → step_byte c st ≡ behind_events es (step_byte c next) → step_bytes (c ∷ s) st ≡ behind_events es (step_bytes (c ∷ s) next)
 bytes_agree st next es c s agree =
-    let f : State → Stepped = λ here. steps.behind_bytes 1 (step_bytes s here) in
+    let f : Construction → Stepped = λ here. steps.behind_bytes 1 (step_bytes s here) in
     ap (λ o. then_step o f) agree ∙ then_behind es (step_byte c next) f
 
-token_agrees : (st next : State) (es : List Event) (c : ℕ) (s : List ℕ) (k : Seen) → is_text k ≡ true → token_bytes k ≡ c ∷ s → step_byte c st ≡ behind_events es (step_byte c next) → step st k ≡ behind_events es (step next k)
+token_agrees : (st next : Construction) (es : List Event) (c : ℕ) (s : List ℕ) (k : Seen) → is_text k ≡ true → token_bytes k ≡ c ∷ s → step_byte c st ≡ behind_events es (step_byte c next) → step st k ≡ behind_events es (step next k)
 unfolding step
 token_agrees st next es c s (tokens.doctype legacy) is e agree = cc
 token_agrees st next es c s (tokens.start_tag name attributes slash) is e agree = cc
@@ -91,7 +91,7 @@ token_agrees st next es c s (tokens.slice x) is e agree = rw e (bytes_agree st n
 token_agrees st next es c s (tokens.points ps) is e agree = rw e (ap at_front (bytes_agree st next es c s agree) ∙ front_behind es (step_bytes (c ∷ s) next))
 token_agrees st next es c s (tokens.comment x) is e agree = cc
 
-empty_step : (st : State) (k : Seen) → is_text k ≡ true → token_bytes k ≡ [] → step st k ≡ went [] st
+empty_step : (st : Construction) (k : Seen) → is_text k ≡ true → token_bytes k ≡ [] → step st k ≡ went [] st
 unfolding step
 empty_step st (tokens.doctype legacy) is e = cc
 empty_step st (tokens.start_tag name attributes slash) is e = cc
@@ -100,14 +100,14 @@ empty_step st (tokens.slice x) is e = rw e refl
 empty_step st (tokens.points ps) is e = rw e refl
 empty_step st (tokens.comment x) is e = cc
 
-token_hidden : (t : List Entry) (place : ℕ → ℕ) (at : ℕ) (s : List ℕ) (n : ℕ) (k : Seen) (rest : List ℕ) (st next : State) (es : List Event) → SoundNames t → mode_of st.path ≡ ordinary → mode_of next.path ≡ ordinary
+token_hidden : (t : List Entry) (place : ℕ → ℕ) (at : ℕ) (s : List ℕ) (n : ℕ) (k : Seen) (rest : List ℕ) (st next : Construction) (es : List Event) → SoundNames t → mode_of st.path ≡ ordinary → mode_of next.path ≡ ordinary
     → first t ordinary s ≡ behind_bytes n (taken k rest) → step st k ≡ behind_events es (step next k) → tree_from t place 0 at st s ≡ after_events es (tree_from t place 0 at next s)
 token_hidden t place at s n k rest st next es names m m' h agree =
     let one = token_steps t place at ordinary s n k rest names tt h in
-    let more : State → Outcome = λ here. tree_from t place 0 one.0 here rest in
+    let more : Construction → Outcome = λ here. tree_from t place 0 one.0 here rest in
     one.1 st m ∙ ap (λ o. stepped place (at + n) o more) agree ∙ stepped_behind place (at + n) es (step next k) more ∙ ap (after_events es) (sym (one.1 next m'))
 
-texts_hidden : (t : List Entry) (place : ℕ → ℕ) (st next : State) (es : List Event) (c : ℕ) (x : List ℕ) → SoundNames t → mode_of st.path ≡ ordinary → mode_of next.path ≡ ordinary → step_byte c st ≡ behind_events es (step_byte c next)
+texts_hidden : (t : List Entry) (place : ℕ → ℕ) (st next : Construction) (es : List Event) (c : ℕ) (x : List ℕ) → SoundNames t → mode_of st.path ≡ ordinary → mode_of next.path ≡ ordinary → step_byte c st ≡ behind_events es (step_byte c next)
     → (ks : List Seen) (at : ℕ) (s rest : List ℕ) → are_texts ks ≡ true → texts_of ks ≡ c ∷ x → ReadsAs t (map (in_mode ordinary) ks) s rest → tree_from t place 0 at st s ≡ after_events es (tree_from t place 0 at next s)
 texts_hidden t place st next es c x names m m' agree [] at s rest texts e h = cc
 texts_hidden t place st next es c x names m m' agree (k ∷ ks) at s rest texts e (n, left, h, more) =
@@ -117,7 +117,7 @@ texts_hidden t place st next es c x names m m' agree (k ∷ ks) at s rest texts 
     by : (y : List ℕ) → token_bytes k ≡ y → is_text k ≡ true → y ++ texts_of ks ≡ c ∷ x → ((at' : ℕ) → texts_of ks ≡ c ∷ x → tree_from t place 0 at' st left ≡ after_events es (tree_from t place 0 at' next left)) → tree_from t place 0 at st s ≡ after_events es (tree_from t place 0 at next s)
     by [] b is whole on =
         let one = token_steps t place at ordinary s n k left names tt h in
-        let here : (st' : State) → mode_of st'.path ≡ ordinary → tree_from t place 0 at st' s ≡ tree_from t place 0 one.0 st' left =
+        let here : (st' : Construction) → mode_of st'.path ≡ ordinary → tree_from t place 0 at st' s ≡ tree_from t place 0 one.0 st' left =
         λ st' o. one.1 st' o ∙ ap (λ z. stepped place (at + n) z (λ q. tree_from t place 0 one.0 q left)) (empty_step st' k is b) ∙ after_none (tree_from t place 0 one.0 st' left) in
         here st m ∙ on one.0 whole ∙ ap (after_events es) (sym (here next m'))
     by (d ∷ y) b is whole on =
@@ -125,7 +125,7 @@ texts_hidden t place st next es c x names m m' agree (k ∷ ks) at s rest texts 
         token_hidden t place at s n k left st next es names m m' h (token_agrees st next es c y k is (rw same at b) agree)
 
 -- Where two states agree at what is first, the one makes es, and then what the other makes.
-pub hidden : (t : List Entry) → Sound t → (b : List ℕ) (x : Ahead) (st next : State) (es : List Event) → mode_of st.path ≡ ordinary → mode_of next.path ≡ ordinary → Begins t b x → Agree st es next x → (place : ℕ → ℕ) (at : ℕ) → tree_from t place 0 at st b ≡ after_events es (tree_from t place 0 at next b)
+pub hidden : (t : List Entry) → Sound t → (b : List ℕ) (x : Ahead) (st next : Construction) (es : List Event) → mode_of st.path ≡ ordinary → mode_of next.path ≡ ordinary → Begins t b x → Agree st es next x → (place : ℕ → ℕ) (at : ℕ) → tree_from t place 0 at st b ≡ after_events es (tree_from t place 0 at next b)
 hidden t sound b (tag k) st next es m m' h agree place at = token_hidden t place at b 0 k h.0 st next es sound.names m m' h.1.1 agree
 hidden t sound b (point c) st next es m m' h agree place at =
     let f = h.1 in
@@ -134,13 +134,13 @@ hidden t sound b (point c) st next es m m' h agree place at =
 hidden t sound b finish st next es m m' h agree place at = rw h (agree place at)
 
 -- So what the other builds stands behind es.
-pub unseen : (t : List Entry) → Sound t → (b : List ℕ) (x : Ahead) (st next : State) (es : List Event) (w : List Event) → mode_of st.path ≡ ordinary → mode_of next.path ≡ ordinary → Begins t b x → Agree st es next x → Builds t next b w → Builds t st b (pushes es w)
+pub unseen : (t : List Entry) → Sound t → (b : List ℕ) (x : Ahead) (st next : Construction) (es : List Event) (w : List Event) → mode_of st.path ≡ ordinary → mode_of next.path ≡ ordinary → Begins t b x → Agree st es next x → Builds t next b w → Builds t st b (pushes es w)
 unseen t sound b x st next es w m m' h agree more place at = hidden t sound b x st next es m m' h agree place at ∙ ap (after_events es) (more place at)
 
 -- ---- Texts
 
 -- a text that is read by itself, up to rest
-pub text_alone : (t : List Entry) → SoundNames t → (P : State → Type 0) (mode : Mode) → IsMode mode → Reads P mode → (s : List ℕ) (b rest : List ℕ) (st next : State) (es : List Event) (w : List Event) → P st
+pub text_alone : (t : List Entry) → SoundNames t → (P : Construction → Type 0) (mode : Mode) → IsMode mode → Reads P mode → (s : List ℕ) (b rest : List ℕ) (st next : Construction) (es : List Event) (w : List Event) → P st
     → IsReadAs t mode b rest s → run_bytes s st ≡ ran es next → Builds t next rest w → Builds t st b (pushes es w)
 text_alone t names P mode m reads s b rest st next es w p r runs more place at =
     let on = texts_reach t place P mode names m reads r.tokens at b rest r.texts r.reads in
@@ -177,7 +177,7 @@ joined_build t place later later' rest es whole part w (ran fs next) h k e = by 
 joined_build t place later later' rest es whole part w halted h k e = let no : refused_by k.0 k.1 ≡ built w = sym k.2 ∙ e in cc
 
 -- A text in front of what may begin with a text too: tokens may take something of both.
-pub text_before_front : (t : List Entry) → Sound t → (P : State → Type 0) → Reads P ordinary → (ps : List TextPiece) (b rest text : List ℕ) (st next : State) (es : List Event) (w : List Event) → P st → P next
+pub text_before_front : (t : List Entry) → Sound t → (P : Construction → Type 0) → Reads P ordinary → (ps : List TextPiece) (b rest text : List ℕ) (st next : Construction) (es : List Event) (w : List Event) → P st → P next
     → b ≡ written_so ps ++ rest → ArePieces t false ps rest → TextFront t rest text → run_bytes (meant ps) st ≡ ran es next → Builds t next rest w → Builds t st b (pushes es w)
 text_before_front t sound P reads ps b rest text st next es w p p' whole allowed f runs more place at =
     let all : List TextPiece = ps ++ f.pieces in

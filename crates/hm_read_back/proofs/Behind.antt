@@ -10,7 +10,7 @@ use Rattle.hm_tree.specs.Tokens as tokens
 use Rattle.hm_tokens.specs.First.{ordinary}
 use Rattle.hm_spellings.specs.Tags.{Spelling}
 use Rattle.hm_spellings.specs.Spellings.{Before, other, EndForm, is_self_closing, has_no_end_tag, EndSp, behind_end, SpellsFrom}
-use Rattle.hm_construction.specs.Steps.{InsertionMode, in_body, after_body, after_html, State, went, under_body, is_at_end, step, step_end, step_over}
+use Rattle.hm_construction.specs.Steps.{InsertionMode, in_body, after_body, after_html, Construction, went, under_body, is_at_end, step, step_end, step_over}
 use Rattle.hm_construction.specs.Trees.{built, mode_of}
 use Rattle.hm_read_back.proofs.Pieces.{PiecesAreNext}
 use Rattle.hm_read_back.proofs.Reading.{Builds, written}
@@ -27,7 +27,7 @@ p_ended false w = w
 p_ended true w = end p false ∷ w
 
 -- a state behind body, with the comments that are kept
-abbrev pub left : InsertionMode → Bool → List (List ℕ) → List (List ℕ) → State
+abbrev pub left : InsertionMode → Bool → List (List ℕ) → List (List ℕ) → Construction
 left mode loose inner last = record { insertion_mode = mode; path = end_path loose; drops_line_feed = false; behind_body = inner; behind_html = last }
 
 -- what such a state still has to make, in front of what follows

@@ -20,7 +20,7 @@ use Rattle.hm_spellings.specs.Tags.{Spelling, SpellsStart}
 use Rattle.hm_spellings.specs.Omission.{end_goes}
 use Rattle.hm_spellings.specs.Spellings.{Before, other, opening, end_omitted, StartForm, EndForm, StartSp, EndSp, is_self_closing, has_no_end_tag, may_be_slashed, behind_start, behind_end, left_out_before, SpellsFrom}
 use Rattle.hm_settle.specs.Moves.{element}
-use Rattle.hm_construction.specs.Steps.{in_body, State, went, under_body, closes_at_once, entered}
+use Rattle.hm_construction.specs.Steps.{in_body, Construction, went, under_body, closes_at_once, entered}
 use Rattle.hm_construction.specs.Steps as steps
 use Rattle.hm_construction.specs.Trees.{mode_of, mode_of_name}
 use Rattle.hm_construction.proofs.Modes.{is_mode}

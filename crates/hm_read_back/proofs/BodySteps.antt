@@ -14,7 +14,7 @@ use Rattle.hm_elements.proofs.TableTools.{same_bytes, eq_self, each_pair, pair_p
 use Rattle.hm_elements.proofs.TableFacts.{stands_parent, stands_parent_holds, stands_made, ends_is_other, outer_is_not_deep}
 use Rattle.hm_settle.specs.Moves.{moves, refuses, element, opens_in_place, start_on, html_start_moves, start_moves, ends_nothing, end_on, end_moves}
 use Rattle.hm_tree.specs.Tokens as tokens
-use Rattle.hm_construction.specs.Steps.{in_body, State, Stepped, went, stops, behind_events, under_body, drops_behind, closes_at_once, entered, end_event, start_event, starts, after_moves, start_in_body, after_end_moves, end_current, html_end, step, step_start, step_end}
+use Rattle.hm_construction.specs.Steps.{in_body, Construction, Stepped, went, stops, behind_events, under_body, drops_behind, closes_at_once, entered, end_event, start_event, starts, after_moves, start_in_body, after_end_moves, end_current, html_end, step, step_start, step_end}
 use Rattle.hm_read_back.proofs.Ahead.{Ahead, tag, point, finish, Agree, events_twice}
 use Rattle.hm_read_back.proofs.Frame.{here}
 
@@ -174,10 +174,10 @@ pub start_closes : (m : List ℕ) (attributes : List Attribute) (slash : Bool) (
 unfolding step step_start
 start_closes m attributes slash n path drops drops' out closes = rw out (by (is_refused m) (bytes_eq m html) (bytes_eq m head) (bytes_eq m body) (moved_more attributes slash m n path out closes))
   where
-    st : State
+    st : Construction
     st = here in_body (html_element n ∷ path) false
 
-    next : State
+    next : Construction
     next = here in_body path false
 
     by : (a b c d : Bool) → start_in_body m attributes slash st ≡ behind_events (end n false ∷ []) (start_in_body m attributes slash next)
@@ -270,10 +270,10 @@ pub start_made : (attributes : List Attribute) (slash : Bool) (n k t : List ℕ)
 unfolding step step_start
 start_made attributes slash n k t path drops drops' out same s kept none = rw out (by (is_refused k) (bytes_eq k html) (bytes_eq k head) (bytes_eq k body) (made_start attributes slash n k t path out same s kept none))
   where
-    st : State
+    st : Construction
     st = here in_body path false
 
-    next : State
+    next : Construction
     next = here in_body (html_element n ∷ path) false
 
     by : (a b c d : Bool) → start_in_body k attributes slash st ≡ behind_events (start n false [] ∷ []) (start_in_body k attributes slash next)

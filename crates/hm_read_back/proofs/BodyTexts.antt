@@ -12,7 +12,7 @@ use Rattle.hm_tokens.specs.First.{ordinary, in_svg}
 use Rattle.hm_tokens.proofs.TextReads.{markup_ends_texts}
 use Rattle.hm_spellings.specs.Tags.{Spelling}
 use Rattle.hm_spellings.specs.Spellings.{Before, other, TextSp, drops_first_line_feed, SpellsFrom}
-use Rattle.hm_construction.specs.Steps.{InsertionMode, initial, before_html, before_head, in_head, after_head, in_body, after_body, after_html, State, Stepped, went, stops, behind_events, moved, no_drop, under_html, under_head, under_body, make_head, close_head, make_body, reach_body, is_in_noscript, keep_byte, kept_byte, space_byte, body_byte, step_byte}
+use Rattle.hm_construction.specs.Steps.{InsertionMode, initial, before_html, before_head, in_head, after_head, in_body, after_body, after_html, Construction, Stepped, went, stops, behind_events, moved, no_drop, under_html, under_head, under_body, make_head, close_head, make_body, reach_body, is_in_noscript, keep_byte, kept_byte, space_byte, body_byte, step_byte}
 use Rattle.hm_construction.specs.Trees.{mode_of}
 use Rattle.hm_construction.proofs.Bytes.{no_text_no_raw}
 use Rattle.hm_construction.proofs.Texts.{texts}
@@ -30,7 +30,7 @@ use Rattle.hm_read_back.proofs.TextElements.{flag_off, text_ends, element_text}
 
 -- ---- In an element of SVG
 
-abbrev pub InSvg : List Element → State → Type 0
+abbrev pub InSvg : List Element → Construction → Type 0
 InSvg path st = (st.path ≡ path) × (st.insertion_mode ≡ in_body)
 
 pub svg_no_text : (path : List Element) → is_in_svg path ≡ true → (is_in_text path ≡ false) × ((is_in_raw path ≡ false) × (is_in_blank path ≡ false))
@@ -38,14 +38,14 @@ unfolding is_in_blank
 svg_no_text [] h = cc
 svg_no_text (e ∷ path) h = rw h (refl, (refl, refl))
 
-svg_body_byte : (path : List Element) (c : ℕ) (st : State) → InSvg path st → Holds (InSvg path) (run_of (body_byte c st))
+svg_body_byte : (path : List Element) (c : ℕ) (st : Construction) → InSvg path st → Holds (InSvg path) (run_of (body_byte c st))
 svg_body_byte path c st on = by (is_in_blank st.path)
   where
     by : (b : Bool) → Holds (InSvg path) (run_of (cond b (stops TextHere 0) (keep_byte c st)))
     by true = tt
     by false = on
 
-svg_kept_byte : (path : List Element) (c : ℕ) (st : State) → InSvg path st → Holds (InSvg path) (run_of (kept_byte c st))
+svg_kept_byte : (path : List Element) (c : ℕ) (st : Construction) → InSvg path st → Holds (InSvg path) (run_of (kept_byte c st))
 svg_kept_byte path c st on =
     subst (λ (m : InsertionMode). Holds (InSvg path) (run_of (cond (is_in_text st.path) (keep_byte c st) (cond (is_space c) (space_byte m c st) (cond (is_in_noscript m st.path) (stops TextHere 0) (reach_body m (body_byte c) st))))))
     (sym on.1) (by (is_in_text st.path) (is_space c))
@@ -91,30 +91,30 @@ svg_text g sound next path s piece rest before w ins inside a settled sp spells 
 
 -- ---- Ordinary text
 
-abbrev pub Plain : State → Type 0
+abbrev pub Plain : Construction → Type 0
 Plain st = mode_of st.path ≡ ordinary
 
-holds_behind : (P : State → Type 0) (es : List Event) (o : Stepped) → Holds P (run_of o) → Holds P (run_of (behind_events es o))
+holds_behind : (P : Construction → Type 0) (es : List Event) (o : Stepped) → Holds P (run_of o) → Holds P (run_of (behind_events es o))
 holds_behind P es (went fs st) h = h
 holds_behind P es (stops rule n) h = tt
 
-plain_body_byte : (c : ℕ) (st : State) → Plain st → Holds Plain (run_of (body_byte c st))
+plain_body_byte : (c : ℕ) (st : Construction) → Plain st → Holds Plain (run_of (body_byte c st))
 plain_body_byte c st on = by (is_in_blank st.path)
   where
     by : (b : Bool) → Holds Plain (run_of (cond b (stops TextHere 0) (keep_byte c st)))
     by true = tt
     by false = on
 
-plain_made : (c : ℕ) (st : State) → Holds Plain (run_of (make_body (body_byte c) st))
+plain_made : (c : ℕ) (st : Construction) → Holds Plain (run_of (make_body (body_byte c) st))
 plain_made c st = holds_behind Plain (start body false [] ∷ []) (body_byte c (moved st in_body under_body)) (plain_body_byte c (moved st in_body under_body) frame_modes.1.1.1.0)
 
-plain_closed : (c : ℕ) (st : State) → Holds Plain (run_of (close_head (make_body (body_byte c)) st))
+plain_closed : (c : ℕ) (st : Construction) → Holds Plain (run_of (close_head (make_body (body_byte c)) st))
 plain_closed c st = holds_behind Plain (end head false ∷ []) (make_body (body_byte c) (moved st after_head under_html)) (plain_made c (moved st after_head under_html))
 
-plain_head : (c : ℕ) (st : State) → Holds Plain (run_of (make_head (close_head (make_body (body_byte c))) st))
+plain_head : (c : ℕ) (st : Construction) → Holds Plain (run_of (make_head (close_head (make_body (body_byte c))) st))
 plain_head c st = holds_behind Plain (start head false [] ∷ []) (close_head (make_body (body_byte c)) (moved st in_head under_head)) (plain_closed c (moved st in_head under_head))
 
-plain_reached : (mode : InsertionMode) (c : ℕ) (st : State) → Plain st → Holds Plain (run_of (reach_body mode (body_byte c) st))
+plain_reached : (mode : InsertionMode) (c : ℕ) (st : Construction) → Plain st → Holds Plain (run_of (reach_body mode (body_byte c) st))
 plain_reached initial c st on = tt
 plain_reached before_html c st on = holds_behind Plain (start html false [] ∷ []) (make_head (close_head (make_body (body_byte c))) (moved st before_head under_html)) (plain_head c (moved st before_head under_html))
 plain_reached before_head c st on = plain_head c st
@@ -124,7 +124,7 @@ plain_reached in_body c st on = plain_body_byte c st on
 plain_reached after_body c st on = tt
 plain_reached after_html c st on = tt
 
-plain_space : (mode : InsertionMode) (c : ℕ) (st : State) → Plain st → Holds Plain (run_of (space_byte mode c st))
+plain_space : (mode : InsertionMode) (c : ℕ) (st : Construction) → Plain st → Holds Plain (run_of (space_byte mode c st))
 plain_space initial c st on = on
 plain_space before_html c st on = on
 plain_space before_head c st on = on
@@ -134,7 +134,7 @@ plain_space in_body c st on = on
 plain_space after_body c st on = on
 plain_space after_html c st on = on
 
-plain_kept_byte : (c : ℕ) (st : State) → Plain st → Holds Plain (run_of (kept_byte c st))
+plain_kept_byte : (c : ℕ) (st : Construction) → Plain st → Holds Plain (run_of (kept_byte c st))
 plain_kept_byte c st on = by (is_in_text st.path) (is_space c) (is_in_noscript st.insertion_mode st.path)
   where
     by : (a b d : Bool) → Holds Plain (run_of (cond a (keep_byte c st) (cond b (space_byte st.insertion_mode c st) (cond d (stops TextHere 0) (reach_body st.insertion_mode (body_byte c) st)))))

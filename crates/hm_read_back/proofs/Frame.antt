@@ -12,12 +12,12 @@ use Rattle.hm_elements.proofs.TableTools.{same_bytes}
 use Rattle.hm_tokens.specs.First.{ordinary, rcdata, raw, script as script_mode}
 use Rattle.hm_refs.specs.Names.{Entry}
 use Rattle.hm_spellings.specs.Omission.{LeftOut, may_omit_start, may_omit_end, start_falls, end_falls, bars, has_none}
-use Rattle.hm_construction.specs.Steps.{InsertionMode, State, under_html, under_head, under_body}
+use Rattle.hm_construction.specs.Steps.{InsertionMode, Construction, under_html, under_head, under_body}
 use Rattle.hm_construction.specs.Trees.{mode_of}
 use Rattle.hm_read_back.proofs.Ahead.{Ahead, Begins}
 
 -- a state with no comment behind body or html
-abbrev pub here : InsertionMode → List Element → Bool → State
+abbrev pub here : InsertionMode → List Element → Bool → Construction
 here mode path drops = record { insertion_mode = mode; path = path; drops_line_feed = drops; behind_body = []; behind_html = [] }
 
 -- something of this kind is first

@@ -20,7 +20,7 @@ use Rattle.hm_tokens.specs.Written.{IsNext}
 use Rattle.hm_tokens.proofs.Written.{raw_texts_are_next, scripts_are_next}
 use Rattle.hm_spellings.specs.Tags.{Spelling}
 use Rattle.hm_spellings.specs.Spellings.{Before, EndForm, EndSp, TextSp, is_opening, drops_first_line_feed, is_self_closing, SpellsFrom}
-use Rattle.hm_construction.specs.Steps.{InsertionMode, State, went, no_drop, kept_byte, step_byte}
+use Rattle.hm_construction.specs.Steps.{InsertionMode, Construction, went, no_drop, kept_byte, step_byte}
 use Rattle.hm_construction.specs.Trees.{mode_of}
 use Rattle.hm_construction.proofs.Modes.{RawMode, of_script, of_raw, raw_mode, is_mode}
 use Rattle.hm_construction.proofs.Starts.{raw_keeps}
@@ -91,7 +91,7 @@ text_ends g next root after (end m foreign ∷ w) d path before b t named settle
 -- ---- The text
 
 -- a state in the element
-abbrev pub On : List Element → State → Type 0
+abbrev pub On : List Element → Construction → Type 0
 On path st = st.path ≡ path
 
 text_kept : (path : List Element) → is_in_text path ≡ true → Keeps (On path)

@@ -9,7 +9,7 @@ use Rattle.hm_base.specs.Walks.{Event, start, text, comment, doctype, end, Eleme
 use Rattle.hm_base.specs.declared.rules.Rule.TheVariants.{TextHere}
 use Rattle.hm_elements.specs.Paths.{is_in_raw, is_in_text, is_in_blank}
 use Rattle.hm_spellings.specs.Spellings.{Before, is_opening, is_line_feed, drops_first_line_feed}
-use Rattle.hm_construction.specs.Steps.{InsertionMode, in_head, after_head, in_body, State, went, stops, drops_behind, keep_byte, step_byte}
+use Rattle.hm_construction.specs.Steps.{InsertionMode, in_head, after_head, in_body, Construction, went, stops, drops_behind, keep_byte, step_byte}
 use Rattle.hm_construction.proofs.Texts.{texts, texts_join}
 use Rattle.hm_spelled_tokens.specs.Texts.{text_as_read}
 use Rattle.hm_read_back.proofs.Runs.{Run, ran, halted, behind_run, then_run, run_of, run_bytes}
@@ -67,7 +67,7 @@ read_text before path s u = rw (line_feed_first s u) (by (is_opening before) (dr
 -- ---- Runs
 
 -- bytes that pass a test are kept
-pub run_kept : (st : State) (raw : Bool) (q : ℕ → Bool) → ((c : ℕ) → q c ≡ true → run_of (step_byte c st) ≡ ran (text (c ∷ []) raw ∷ []) st) → (s : List ℕ) → all_pass q s ≡ true → run_bytes s st ≡ ran (texts raw s) st
+pub run_kept : (st : Construction) (raw : Bool) (q : ℕ → Bool) → ((c : ℕ) → q c ≡ true → run_of (step_byte c st) ≡ ran (text (c ∷ []) raw ∷ []) st) → (s : List ℕ) → all_pass q s ≡ true → run_bytes s st ≡ ran (texts raw s) st
 run_kept st raw q keeps [] h = refl
 run_kept st raw q keeps (c ∷ s) h =
     let two = and_parts (q c) (all_pass q s) h in

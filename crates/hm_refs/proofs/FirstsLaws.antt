@@ -13,7 +13,7 @@ use Rattle.hm_refs.specs.Tables.{is_for, is_open_for, places_from, places_for, n
 use Rattle.hm_refs.specs.Json.{is_crowded, if_crowded, lesser, least_crowded}
 use Rattle.hm_refs.specs.Nodes.{entry_of, entries_of}
 use Rattle.hm_refs.specs.Firsts.{IsIndex, is_open_at, are_many}
-use Rattle.hm_refs.specs.declared.nodes.Name.{Name}
+use Rattle.hm_refs.specs.declared.nodes.ReferenceName.{ReferenceName}
 
 abbrev if_for : Bool → ℕ → List ℕ
 if_for true i = i ∷ []
@@ -33,7 +33,7 @@ places_push c i (x ∷ t) e = by_test (is_for c x) (places_push c (suc i) t e)
     by_test false h = let n : suc i + length t ≡ i + suc (length t) = omega arith in rw (h, n) refl
 
 -- one name more
-pub places_next : (c : ℕ) (ns : List Name) (i : ℕ) (x : Name) → i < length ns → x ≡ get_or ns i x
+pub places_next : (c : ℕ) (ns : List ReferenceName) (i : ℕ) (x : ReferenceName) → i < length ns → x ≡ get_or ns i x
     → places_for c (take (i + 1) (entries_of ns)) ≡ cond (x.points.first == c) (places_for c (take i (entries_of ns)) ++ i ∷ []) (places_for c (take i (entries_of ns)))
 unfolding places_for
 places_next c ns i x l e =
@@ -123,7 +123,7 @@ lesser_min (Some x) (Some y) None = refl
 lesser_min (Some x) (Some y) (Some z) = ap Some (omega arith)
 
 -- one name more is looked at
-pub least_next : (t : List Entry) (ns : List Name) (i : ℕ) (x : Name) (least found : Option ℕ) → i < length ns → x ≡ get_or ns i x → found ≡ if_crowded t (x.points.first ∷ [])
+pub least_next : (t : List Entry) (ns : List ReferenceName) (i : ℕ) (x : ReferenceName) (least found : Option ℕ) → i < length ns → x ≡ get_or ns i x → found ≡ if_crowded t (x.points.first ∷ [])
     → lesser (lesser least found) (least_crowded t (drop (i + 1) (entries_of ns))) ≡ lesser least (least_crowded t (drop i (entries_of ns)))
 least_next t ns i x least found l e f =
     let m : i < length (entries_of ns) = omega (arith, length-map ns entry_of) in

@@ -9,7 +9,7 @@ use Rattle.hm_refs.specs.Names.{Entry}
 use Rattle.hm_refs.specs.Plain.{plain_bytes, is_plain_byte, is_long, allows, is_plain}
 use Rattle.hm_refs.specs.Nodes.{entry_of, entries_of}
 use Rattle.hm_refs.specs.Flags.{IsFlagged}
-use Rattle.hm_refs.specs.declared.nodes.Name.{Name}
+use Rattle.hm_refs.specs.declared.nodes.ReferenceName.{ReferenceName}
 use Rattle.hm_refs.proofs.Bools.{and_left, and_right, eq_of}
 
 and_true : (b : Bool) → b && true ≡ b
@@ -114,7 +114,7 @@ listed_all i flags l a = record {
 
 -- ---- one name more
 
-name_more : (c : ℕ) (ns : List Name) (i : ℕ) (x : Name) → i < length ns → x ≡ get_or ns i x → is_plain (take (i + 1) (entries_of ns)) c ≡ is_plain (take i (entries_of ns)) c && allows c (entry_of x)
+name_more : (c : ℕ) (ns : List ReferenceName) (i : ℕ) (x : ReferenceName) → i < length ns → x ≡ get_or ns i x → is_plain (take (i + 1) (entries_of ns)) c ≡ is_plain (take i (entries_of ns)) c && allows c (entry_of x)
 name_more c ns i x l e =
     let m : i < length (entries_of ns) = omega (arith, length-map ns entry_of) in
     let g : get_or (entries_of ns) i (entry_of x) ≡ entry_of x = get_or-map entry_of ns i x (entry_of x) l ∙ ap entry_of (sym e) in
@@ -126,7 +126,7 @@ name_more c ns i x l e =
     by_tests true true d = and_true d
 
 -- a name that takes nothing from these characters
-pub flag_stays : (ns : List Name) (i : ℕ) (x : Name) (flags : List Bool) → i < length ns → x ≡ get_or ns i x → (is_long (entry_of x) ≡ true) ⊎ (128 ≤ x.points.first) → IsFlagged (take i (entries_of ns)) flags → IsFlagged (take (i + 1) (entries_of ns)) flags
+pub flag_stays : (ns : List ReferenceName) (i : ℕ) (x : ReferenceName) (flags : List Bool) → i < length ns → x ≡ get_or ns i x → (is_long (entry_of x) ≡ true) ⊎ (128 ≤ x.points.first) → IsFlagged (take i (entries_of ns)) flags → IsFlagged (take (i + 1) (entries_of ns)) flags
 unfolding allows
 flag_stays ns i x flags l e a f = record {
   all = f.all;
@@ -138,7 +138,7 @@ flag_stays ns i x flags l e a f = record {
     allowed c k (inr h) = rw (other_eq c x.points.first (λ i. omega arith)) refl
 
 -- a name that leaves its first code point no longer plain
-pub flag_falls : (ns : List Name) (i : ℕ) (x : Name) (flags : List Bool) → i < length ns → x ≡ get_or ns i x → is_long (entry_of x) ≡ false → x.points.first < 128 → IsFlagged (take i (entries_of ns)) flags → IsFlagged (take (i + 1) (entries_of ns)) (set flags x.points.first false)
+pub flag_falls : (ns : List ReferenceName) (i : ℕ) (x : ReferenceName) (flags : List Bool) → i < length ns → x ≡ get_or ns i x → is_long (entry_of x) ≡ false → x.points.first < 128 → IsFlagged (take i (entries_of ns)) flags → IsFlagged (take (i + 1) (entries_of ns)) (set flags x.points.first false)
 unfolding allows
 flag_falls ns i x flags l e h s f = record {
   all = length-set flags x.points.first false ∙ f.all;

@@ -11,7 +11,7 @@ use Rattle.hm_refs.specs.declared.limits.TheConstants.{LENGTH_LIMIT}
 use Rattle.hm_refs.specs.Names.{Entry, begins, is_front}
 use Rattle.hm_refs.specs.Tables.{names_in, no_entry, entry_at}
 use Rattle.hm_refs.specs.Nodes.{front_in, fronts_of, place, IsChildBy, HasNoChildBy, adopted, Steps, IsKin, IsWeb, HasEnds, IsShort, AreNames, tail_at, front_to, place_at, MayGrow, IsSpread, IsPut, entry_of, entries_of}
-use Rattle.hm_refs.specs.declared.nodes.Name.{Name}
+use Rattle.hm_refs.specs.declared.nodes.ReferenceName.{ReferenceName}
 use Rattle.hm_refs.specs.declared.nodes.TrieNode.{TrieNode}
 use Rattle.hm_refs.proofs.Bools.{and_left, and_right, eq_of}
 use Rattle.hm_refs.proofs.Places.{place_stands, place_stays, place_other, place_last, apart_same, apart_before}
@@ -510,10 +510,10 @@ module _ (t : List Entry) (k at : ℕ) (nodes : List TrieNode) (places : List �
 
 -- ---- names as the code keeps them
 
-pub length_entries : (ns : List Name) → length (entries_of ns) ≡ length ns
+pub length_entries : (ns : List ReferenceName) → length (entries_of ns) ≡ length ns
 length_entries ns = length-map ns entry_of
 
-pub name_read : (ns : List Name) (i : ℕ) (x : Name) (b : List ℕ) → i < length ns → b ≡ string_bytes (get_or ns i x).text → b ≡ (entry_at (entries_of ns) i).name
+pub name_read : (ns : List ReferenceName) (i : ℕ) (x : ReferenceName) (b : List ℕ) → i < length ns → b ≡ string_bytes (get_or ns i x).text → b ≡ (entry_at (entries_of ns) i).name
 name_read ns i x b l e = e ∙ sym (ap (λ (y : Entry). y.name) (get_or-map entry_of ns i x no_entry l))
 
 pub place_read : (places : List ℕ) (i index node : ℕ) → i < length places → index ≡ node → node ≡ get_or places i node → index ≡ place_at places i

@@ -7,13 +7,13 @@ use Rattle.hm_base.specs.Bytes.{is_null}
 use Rattle.hm_refs.specs.declared.limits.TheConstants.{LENGTH_LIMIT, NAMES_LIMIT}
 use Rattle.hm_refs.specs.Names.{Entry, is_front, or_else, found_longer, longest}
 use Rattle.hm_refs.specs.Tables.{names_in, entry_at, points_list, found_at, TableView, front_at}
-use Rattle.hm_refs.specs.declared.nodes.Name.{Name}
+use Rattle.hm_refs.specs.declared.nodes.ReferenceName.{ReferenceName}
 use Rattle.hm_refs.specs.declared.nodes.TrieNode.{TrieNode}
 
-abbrev pub entry_of : Name → Entry
+abbrev pub entry_of : ReferenceName → Entry
 entry_of n = record { name = string_bytes n.text; points = points_list n.points }
 
-abbrev pub entries_of : List Name → List Entry
+abbrev pub entries_of : List ReferenceName → List Entry
 entries_of names = map entry_of names
 
 -- the bytes that lead to a node

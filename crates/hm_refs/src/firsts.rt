@@ -8,7 +8,7 @@ ghost use Rattle.hm_refs.specs.Firsts.{IsIndex, are_many, is_open_at};
 
 use crate::ids::NameId;
 use crate::limits::{ALIKE_LIMIT, OPEN_LIMIT};
-use crate::nodes::Name;
+use crate::nodes::ReferenceName;
 use hm_base::Memory;
 use std::alloc::Global;
 use std::collections::BTreeMap;
@@ -16,7 +16,7 @@ use std::collections::BTreeMap;
 /// For each first code point the names that it begins, in order.
 pub(crate) fn firsts_of(
     alloc: Global,
-    names: &[Name],
+    names: &[ReferenceName],
 ) -> Result<BTreeMap<char, Vec<NameId>>, Memory>
     requires { length names.now ≤ NAMES_LIMIT }
     ensures { IfOk result (IsIndex (entries_of names.now)) }
@@ -30,7 +30,10 @@ pub(crate) fn firsts_of(
 }
 
 /// The least first code point with too many names, or too many without `;`.
-pub(crate) fn least_crowded(names: &[Name], firsts: &BTreeMap<char, Vec<NameId>>) -> Option<char>
+pub(crate) fn least_crowded(
+    names: &[ReferenceName],
+    firsts: &BTreeMap<char, Vec<NameId>>,
+) -> Option<char>
     requires { IsIndex (entries_of names.now) firsts.now }
     ensures { result ≡ least_crowded (entries_of names.now) (entries_of names.now) }
 {
@@ -52,7 +55,11 @@ fn lesser(a: Option<char>, b: Option<char>) -> Option<char>
 }
 
 /// The code point, where too many names begin with it.
-fn if_crowded(names: &[Name], firsts: &BTreeMap<char, Vec<NameId>>, point: char) -> Option<char>
+fn if_crowded(
+    names: &[ReferenceName],
+    firsts: &BTreeMap<char, Vec<NameId>>,
+    point: char,
+) -> Option<char>
     requires { IsIndex (entries_of names.now) firsts.now }
     ensures { result ≡ if_crowded (entries_of names.now) (point ∷ []) }
 {
@@ -63,7 +70,7 @@ fn if_crowded(names: &[Name], firsts: &BTreeMap<char, Vec<NameId>>, point: char)
 }
 
 /// Whether these are more names than may have one first code point, or more without `;`.
-fn are_many(names: &[Name], ids: &[NameId]) -> bool
+fn are_many(names: &[ReferenceName], ids: &[NameId]) -> bool
     requires { All (λ id. id < length names.now) ids.now }
     ensures { result ≡ are_many (entries_of names.now) ids.now }
 {
@@ -74,7 +81,7 @@ fn are_many(names: &[Name], ids: &[NameId]) -> bool
 }
 
 /// How many of these names have no `;`.
-fn open_names(names: &[Name], ids: &[NameId]) -> usize
+fn open_names(names: &[ReferenceName], ids: &[NameId]) -> usize
     requires { All (λ id. id < length names.now) ids.now }
     ensures { result ≡ count_by (is_open_at (entries_of names.now)) ids.now }
 {

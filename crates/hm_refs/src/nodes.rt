@@ -10,7 +10,7 @@ use std::alloc::Global;
 
 /// A name with the code points that it stands for.
 #[derive(Drop)]
-pub(crate) struct Name {
+pub(crate) struct ReferenceName {
     pub(crate) text: String,
     pub(crate) points: Points,
 }
@@ -100,7 +100,7 @@ pub(crate) fn behind_first(text: &[u8]) -> &[u8]
 ///
 /// The names are in byte order, so those that stand at one node come one after another, and so do its children.
 fn grow_deeper(
-    names: &[Name],
+    names: &[ReferenceName],
     depth: u32,
     nodes: &mut Vec<TrieNode>,
     places: &mut [Node],
@@ -126,7 +126,7 @@ fn grow_deeper(
 }
 
 /// Tells each node which name ends there.
-fn mark_ends(names: &[Name], nodes: &mut [TrieNode], places: &[Node])
+fn mark_ends(names: &[ReferenceName], nodes: &mut [TrieNode], places: &[Node])
     requires { IsPut (entries_of names.now) 0 nodes.old places.now }
     ensures { IsWhole (entries_of names.now) nodes.new places.now }
 {
@@ -138,7 +138,7 @@ fn mark_ends(names: &[Name], nodes: &mut [TrieNode], places: &[Node])
 /// Makes the nodes of the names, and tells the node of each.
 pub(crate) fn grow(
     alloc: Global,
-    names: &[Name],
+    names: &[ReferenceName],
     nodes: &mut Vec<TrieNode>,
 ) -> Result<Vec<Node>, Memory>
     requires names { AreNames (entries_of names.now) }

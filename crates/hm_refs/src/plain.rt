@@ -4,7 +4,7 @@ ghost use Rattle.hm_refs.specs.Plain.{is_long};
 ghost use Rattle.hm_refs.specs.Flags.{IsFlagged};
 ghost use Rattle.hm_refs.specs.Nodes.{entries_of, entry_of};
 
-use crate::nodes::Name;
+use crate::nodes::ReferenceName;
 
 const PLAIN: [u8; 87] =
     *b"ABCDEFGHIJKLMNOPQRSTUVWXYZabcdefghijklmnopqrstuvwxyz0123456789!#$%()*+,-./:;?@[\\]^_{|}~";
@@ -12,7 +12,7 @@ const PLAIN: [u8; 87] =
 /// Tells for each ASCII character whether it is plain, where the table has these names.
 ///
 /// A writer asks this of almost every character, so a table keeps the answers.
-pub(crate) fn plain_flags(names: &[Name]) -> [bool; 128]
+pub(crate) fn plain_flags(names: &[ReferenceName]) -> [bool; 128]
     ensures { IsFlagged (entries_of names.now) result }
 {
     let mut flags = without_names();
@@ -37,7 +37,7 @@ fn without_names() -> [bool; 128]
 }
 
 /// Whether the name has one code point, and at least four bytes.
-fn is_long(name: &Name) -> bool
+fn is_long(name: &ReferenceName) -> bool
     ensures { result ≡ is_long (entry_of name.now) }
 {
     name.points.second.is_none() && name.text.len() >= 4

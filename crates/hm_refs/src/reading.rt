@@ -14,7 +14,7 @@ ghost use Rattle.hm_refs.specs.Nodes.{entries_of};
 
 use crate::fault::TableFault;
 use crate::limits::LENGTH_LIMIT;
-use crate::nodes::Name;
+use crate::nodes::ReferenceName;
 use crate::table::{Table, word_of};
 use hm_base::{Points, TABLE_LIMIT};
 use serde_json::{Map, Value};
@@ -86,7 +86,7 @@ fn check_names(alloc: Global, members: &Map<String, Value>) -> Result<(), TableF
 }
 
 /// The names with their code points.
-fn gather(alloc: Global, members: &Map<String, Value>) -> Result<Vec<Name>, TableFault>
+fn gather(alloc: Global, members: &Map<String, Value>) -> Result<Vec<ReferenceName>, TableFault>
     ensures passed { OnOk result
         (first_bad_points (members_view members.now.entries) ≡ None) }
     ensures names { IfOk result
@@ -103,7 +103,7 @@ fn gather(alloc: Global, members: &Map<String, Value>) -> Result<Vec<Name>, Tabl
             return Err(TableFault::BadPoints { key });
         };
         let text = String::from_str(alloc, key.as_str())?;
-        names.push(Name { text, points })?;
+        names.push(ReferenceName { text, points })?;
     }
     Ok(names)
 }

@@ -10,7 +10,7 @@ use crate::fault::TableFault;
 use crate::firsts::{firsts_of, least_crowded};
 use crate::ids::{NameId, Node};
 use crate::limits::NAMES_LIMIT;
-use crate::nodes::Name;
+use crate::nodes::ReferenceName;
 use crate::plain::plain_flags;
 use crate::trie::Trie;
 use hm_base::{Memory, Points, Word};
@@ -57,7 +57,7 @@ impl Table {
     }
 
     /// The table of these names, in byte order, or the first fault that it would have.
-    pub(crate) fn checked(alloc: Global, names: Vec<Name>) -> Result<Table, TableFault>
+    pub(crate) fn checked(alloc: Global, names: Vec<ReferenceName>) -> Result<Table, TableFault>
         requires { IsGathered (entries_of names.items) }
         ensures ok { IfOk result (λ table. checked (entries_of names.items) ≡ Ok table.entries) }
         ensures fault { IfErr result

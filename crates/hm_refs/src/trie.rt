@@ -7,7 +7,7 @@ ghost use Rattle.hm_refs.specs.Nodes.{AreNames, entries_of, place};
 
 use crate::firsts::is_closed;
 use crate::ids::{NameId, Node};
-use crate::nodes::{Name, TrieNode, behind_first, find_child, grow};
+use crate::nodes::{ReferenceName, TrieNode, behind_first, find_child, grow};
 use hm_base::{Memory, Points};
 use std::alloc::Global;
 use std::marker::Model;
@@ -15,7 +15,7 @@ use std::marker::Model;
 /// Names by number, the nodes of their trie, and the node of each name.
 #[derive(Drop)]
 pub(crate) struct Trie {
-    names: Vec<Name>,
+    names: Vec<ReferenceName>,
     nodes: Vec<TrieNode>,
     places: Vec<Node>,
 }
@@ -33,7 +33,7 @@ impl Model for Trie {
 }
 
 impl Trie {
-    pub(crate) fn new(alloc: Global, names: Vec<Name>) -> Result<Trie, Memory>
+    pub(crate) fn new(alloc: Global, names: Vec<ReferenceName>) -> Result<Trie, Memory>
         requires { AreNames (entries_of names.items) }
         ensures { IfOk result (λ trie. trie.entries ≡ entries_of names.items) }
     {

@@ -16,8 +16,8 @@ use Rattle.hm_elements.specs.Names.{html, body}
 use Rattle.hm_elements.specs.Paths.{html_element}
 use Rattle.hm_settle.specs.Elements.{name_of, element_of, onto, path_of, AreMarked, IsPath, IsRoomy, are_names_utf8}
 use Rattle.hm_settle.specs.Plans.{IsPushed}
-use Rattle.hm_settle.specs.declared.element.Name.{Name}
-use Rattle.hm_settle.specs.declared.element.Name.TheVariants.{Html, Body, Tbody, Tr, Colgroup, Given}
+use Rattle.hm_settle.specs.declared.element.ElementName.{ElementName}
+use Rattle.hm_settle.specs.declared.element.ElementName.TheVariants.{Html, Body, Tbody, Tr, Colgroup, Given}
 use Rattle.hm_settle.specs.declared.element.OpenElement.{OpenElement}
 use Rattle.hm_settle.proofs.Elements.{path_of-push, length-path_of, IsPath-push, IsPath-take}
 
@@ -59,7 +59,7 @@ pub begins : (os : List OpenElement) → IsPath os → take 2 (reverse (path_of 
 begins os path =
     ap (take 2) (reversed [] os) ∙ take-map element_of 2 os ∙ sym (reversed [] (take 2 os)) ∙ ap reverse path.begins
 
-name_is_utf8 : (n : Name) → is_utf8 (name_of n) ≡ true
+name_is_utf8 : (n : ElementName) → is_utf8 (name_of n) ≡ true
 unfolding is_utf8 chars encode
 name_is_utf8 Html = refl
 name_is_utf8 Body = refl

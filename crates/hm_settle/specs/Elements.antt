@@ -10,12 +10,12 @@ use Rattle.hm_base.specs.declared.limits.TheConstants.{DEPTH_LIMIT}
 use Rattle.hm_elements.specs.Names.{html, body, tbody, tr, colgroup}
 use Rattle.hm_elements.specs.Kinds.{kind}
 use Rattle.hm_elements.specs.Paths.{html_element, current, is_in_text, is_open, is_heading_open, is_p_open}
-use Rattle.hm_settle.specs.declared.element.Name.{Name}
-use Rattle.hm_settle.specs.declared.element.Name.TheVariants.{Html, Body, Tbody, Tr, Colgroup, Given}
+use Rattle.hm_settle.specs.declared.element.ElementName.{ElementName}
+use Rattle.hm_settle.specs.declared.element.ElementName.TheVariants.{Html, Body, Tbody, Tr, Colgroup, Given}
 use Rattle.hm_settle.specs.declared.element.Marks.{Marks}
 use Rattle.hm_settle.specs.declared.element.OpenElement.{OpenElement}
 
-abbrev pub name_of : Name → List ℕ
+abbrev pub name_of : ElementName → List ℕ
 name_of Html = html
 name_of Body = body
 name_of Tbody = tbody

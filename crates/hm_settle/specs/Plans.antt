@@ -11,10 +11,10 @@ use Rattle.hm_elements.specs.Paths.{is_in_svg, is_open}
 use Rattle.hm_settle.specs.Moves.{Moves, moves, refuses, element, start_moves, end_moves, end_on}
 use Rattle.hm_settle.specs.Answers.{elements_of}
 use Rattle.hm_settle.specs.Elements.{name_of, element_of, path_of, AreMarked}
-use Rattle.hm_settle.specs.declared.element.Name.{Name}
+use Rattle.hm_settle.specs.declared.element.ElementName.{ElementName}
 use Rattle.hm_settle.specs.declared.element.OpenElement.{OpenElement}
 use Rattle.hm_settle.specs.declared.moves.Made.{Made}
-use Rattle.hm_settle.specs.declared.plan.Plan.{Plan}
+use Rattle.hm_settle.specs.declared.plan.MovePlan.{MovePlan}
 
 -- an HTML element, or svg, opens where these are made, or is refused
 abbrev pub opened : List ℕ → List Element → List Element → Result Made Rule → Moves
@@ -26,7 +26,7 @@ abbrev pub opens_as_svg : List ℕ → List Element → Bool
 opens_as_svg n path = is_in_svg path || bytes_eq n svg
 
 -- what a start tag does: so many elements stay, these are made, and the element opens
-pub record IsPlan (os : List OpenElement) (n : List ℕ) (plan : Plan) : Type 0 where
+pub record IsPlan (os : List OpenElement) (n : List ℕ) (plan : MovePlan) : Type 0 where
   pub closed : List Element
   pub does_move : start_moves n (path_of os) ≡ moves closed (elements_of plan.made) (element n (opens_as_svg n (path_of os)) ∷ (elements_of plan.made ++ path_of (take plan.left os)))
   pub closes : length closed + plan.left ≡ length os
@@ -49,12 +49,12 @@ pub record IsEnd (os : List OpenElement) (n : List ℕ) (left : ℕ) : Type 0 wh
   pub least : 2 ≤ left
 
 -- the element that a kept name opens, and none without one
-abbrev pub opened_by : Option Name → Bool → List Element
+abbrev pub opened_by : Option ElementName → Bool → List Element
 opened_by None foreign = []
 opened_by (Some n) foreign = element (name_of n) foreign ∷ []
 
 -- the kind is that of the name that is kept, if any
-abbrev pub IsKindOf : Option Name → Kind → Type 0
+abbrev pub IsKindOf : Option ElementName → Kind → Type 0
 IsKindOf None k = Unit {0}
 IsKindOf (Some n) k = k ≡ kind (name_of n)
 

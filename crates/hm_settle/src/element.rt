@@ -12,7 +12,7 @@ use std::alloc::Global;
 
 /// The name of an open element. Only one that a tag gave takes memory.
 #[derive(Debug, Drop)]
-pub(crate) enum Name {
+pub(crate) enum ElementName {
     Html,
     Body,
     Tbody,
@@ -21,24 +21,24 @@ pub(crate) enum Name {
     Given(String),
 }
 
-impl Name {
+impl ElementName {
     /// A copy of the name that a tag gives.
-    pub(crate) fn given(alloc: Global, name: &str) -> Result<Name, Memory>
+    pub(crate) fn given(alloc: Global, name: &str) -> Result<ElementName, Memory>
         ensures { IfOk result (λ kept. name_of kept ≡ name.now) }
     {
-        Ok(Name::Given(String::from_str(alloc, name)?))
+        Ok(ElementName::Given(String::from_str(alloc, name)?))
     }
 
     pub(crate) fn as_str(&self) -> &str
         ensures { result.now ≡ name_of self.now }
     {
         match self {
-            Name::Html => "html",
-            Name::Body => "body",
-            Name::Tbody => "tbody",
-            Name::Tr => "tr",
-            Name::Colgroup => "colgroup",
-            Name::Given(name) => name.as_str(),
+            ElementName::Html => "html",
+            ElementName::Body => "body",
+            ElementName::Tbody => "tbody",
+            ElementName::Tr => "tr",
+            ElementName::Colgroup => "colgroup",
+            ElementName::Given(name) => name.as_str(),
         }
     }
 }
@@ -166,7 +166,7 @@ fn holds_text(name: Named<'_>, foreign: bool) -> bool
 /// An open element.
 #[derive(Debug, Drop)]
 pub(crate) struct OpenElement {
-    pub name: Name,
+    pub name: ElementName,
     pub foreign: bool,
     pub marks: Marks,
 }

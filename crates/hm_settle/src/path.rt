@@ -11,8 +11,8 @@ ghost use Rattle.hm_settle.specs.Elements.{AreMarked, IsRoomy, are_names_utf8, n
 ghost use Rattle.hm_settle.specs.Moves.{element, refuses, start_moves, end_moves};
 ghost use Rattle.hm_settle.specs.Plans.{IsKindOf, IsPushed, opened_by};
 
-use crate::element::{Name, OpenElement};
-use crate::plan::{DEEPEST, Plan, left_by_end, marks, plan_start};
+use crate::element::{ElementName, OpenElement};
+use crate::plan::{DEEPEST, MovePlan, left_by_end, marks, plan_start};
 use crate::{Made, Moves, SettleFault};
 use hm_base::Memory;
 use hm_elements::{Kind, Named, kind_of};
@@ -44,8 +44,8 @@ impl Path {
         ensures { IfOk result (λ path. path ≡ html_element body ∷ html_element html ∷ []) }
     {
         let mut elements = Vec::with_capacity(alloc, DEEPEST)?;
-        push_made(&mut elements, Name::Html);
-        push_made(&mut elements, Name::Body);
+        push_made(&mut elements, ElementName::Html);
+        push_made(&mut elements, ElementName::Body);
         Ok(Path { elements })
     }
 
@@ -139,22 +139,22 @@ impl Path {
 }
 
 /// The name that stays open, if any.
-fn kept_name(alloc: Global, name: &str, is_void: bool) -> Result<Option<Name>, Memory>
+fn kept_name(alloc: Global, name: &str, is_void: bool) -> Result<Option<ElementName>, Memory>
     ensures opened { IfOk result (λ kept. (foreign : Bool) → opened_by kept foreign ≡ (if is_void then [] else element name.now foreign ∷ [])) }
     ensures kind { IfOk result (λ kept. IsKindOf kept (kinds.kind name.now)) }
 {
     if is_void {
         Ok(None)
     } else {
-        Ok(Some(Name::given(alloc, name)?))
+        Ok(Some(ElementName::given(alloc, name)?))
     }
 }
 
 /// Closes all but the elements that stay, and opens those that are made and one more of this kind, if any.
 fn carry_out(
     elements: &mut Vec<OpenElement>,
-    plan: Plan,
-    opened: Option<Name>,
+    plan: MovePlan,
+    opened: Option<ElementName>,
     kind: Kind,
     foreign: bool,
 )
@@ -182,18 +182,18 @@ fn make(elements: &mut Vec<OpenElement>, made: Made)
 {
     match made {
         Made::Nothing => {}
-        Made::Section => push_made(elements, Name::Tbody),
+        Made::Section => push_made(elements, ElementName::Tbody),
         Made::SectionAndRow => {
-            push_made(elements, Name::Tbody);
-            push_made(elements, Name::Tr);
+            push_made(elements, ElementName::Tbody);
+            push_made(elements, ElementName::Tr);
         }
-        Made::Row => push_made(elements, Name::Tr),
-        Made::Colgroup => push_made(elements, Name::Colgroup),
+        Made::Row => push_made(elements, ElementName::Tr),
+        Made::Colgroup => push_made(elements, ElementName::Colgroup),
     }
 }
 
 /// Opens an element of HTML that no tag named, for which there is room.
-fn push_made(elements: &mut Vec<OpenElement>, name: Name)
+fn push_made(elements: &mut Vec<OpenElement>, name: ElementName)
     requires marked { AreMarked [] elements.old.items }
     requires room { vec_len elements.old < vec_capacity elements.old }
     ensures pushed { IsPushed elements.old.items (html_element (name_of name)) elements.new.items }
@@ -204,7 +204,7 @@ fn push_made(elements: &mut Vec<OpenElement>, name: Name)
 }
 
 /// Opens an element of this kind, for which there is room.
-fn push(elements: &mut Vec<OpenElement>, name: Name, kind: Kind, foreign: bool)
+fn push(elements: &mut Vec<OpenElement>, name: ElementName, kind: Kind, foreign: bool)
     requires marked { AreMarked [] elements.old.items }
     requires room { vec_len elements.old < vec_capacity elements.old }
     requires kind { kind ≡ kinds.kind (name_of name) }

@@ -20,7 +20,7 @@ pub(crate) const DEEPEST: usize = DEPTH_LIMIT as usize;
 
 /// What a start tag does.
 #[derive(Clone, Copy, Debug)]
-pub(crate) struct Plan {
+pub(crate) struct MovePlan {
     /// How many open elements stay.
     pub left: usize,
     pub made: Made,
@@ -40,7 +40,7 @@ pub(crate) fn marks(elements: &[OpenElement]) -> Marks
 }
 
 /// What a start tag of this name does.
-pub(crate) fn plan_start(elements: &[OpenElement], tag: Named<'_>) -> Result<Plan, Rule>
+pub(crate) fn plan_start(elements: &[OpenElement], tag: Named<'_>) -> Result<MovePlan, Rule>
     requires { IsPath elements.now }
     ensures ok { IfOk result (λ plan. IsPlan elements.now tag.entry.name.now plan) }
     ensures rule { IfErr result (λ rule. start_moves tag.entry.name.now (path_of elements.now) ≡ refuses rule) }
@@ -54,7 +54,7 @@ pub(crate) fn plan_start(elements: &[OpenElement], tag: Named<'_>) -> Result<Pla
 }
 
 /// What a start tag does in the element `current` of SVG.
-fn plan_in_svg(elements: &[OpenElement], current: &str, name: &str) -> Result<Plan, Rule>
+fn plan_in_svg(elements: &[OpenElement], current: &str, name: &str) -> Result<MovePlan, Rule>
     requires path { IsPath elements.now }
     requires svg { paths.is_in_svg (path_of elements.now) ≡ true }
     requires current { current.now ≡ paths.current (path_of elements.now) }
@@ -70,7 +70,7 @@ fn plan_in_svg(elements: &[OpenElement], current: &str, name: &str) -> Result<Pl
     if elements.len() == DEEPEST {
         return Err(Rule::TooDeep);
     }
-    Ok(Plan {
+    Ok(MovePlan {
         left: elements.len(),
         made: Made::Nothing,
         is_void: false,
@@ -78,7 +78,7 @@ fn plan_in_svg(elements: &[OpenElement], current: &str, name: &str) -> Result<Pl
 }
 
 /// What a start tag does in an element of HTML.
-fn plan_in_html(elements: &[OpenElement], tag: Named<'_>) -> Result<Plan, Rule>
+fn plan_in_html(elements: &[OpenElement], tag: Named<'_>) -> Result<MovePlan, Rule>
     requires path { IsPath elements.now }
     requires html { paths.is_in_svg (path_of elements.now) ≡ false }
     ensures ok { IfOk result (λ plan. IsPlan elements.now tag.entry.name.now plan) }
@@ -93,7 +93,7 @@ fn plan_in_html(elements: &[OpenElement], tag: Named<'_>) -> Result<Plan, Rule>
     let left = left_by_start(elements, tag);
     let made = made_before(&elements[..left], tag)?;
     let is_void = matches!(class, Class::Void);
-    Ok(Plan {
+    Ok(MovePlan {
         left,
         made,
         is_void,

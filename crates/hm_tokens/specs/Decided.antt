@@ -11,7 +11,7 @@ use Rattle.hm_tree.specs.Tokens.{Seen, slice, points}
 use Rattle.hm_tokens.specs.First as modes
 use Rattle.hm_tokens.specs.First.{Mode}
 use Rattle.hm_tokens.specs.Laws.{reads_markup}
-use Rattle.hm_tokens.specs.Readings.{Step, ReadsAs}
+use Rattle.hm_tokens.specs.Readings.{ReadStep, ReadsAs}
 
 -- ---- references
 
@@ -65,7 +65,7 @@ EndsAreDecided = (t : List Entry) (ps : List TextPiece) (y : List ℕ) → IsTab
 
 -- ---- as they are read
 
-abbrev pub in_mode : Mode → Seen → Step
+abbrev pub in_mode : Mode → Seen → ReadStep
 in_mode mode token = record { mode = mode; token = token }
 
 -- the bytes of the texts that the tokens stand for

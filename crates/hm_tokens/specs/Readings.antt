@@ -22,56 +22,56 @@ abbrev pub NextTokensExtend : Type 0
 NextTokensExtend = (t : List Entry) (mode : Mode) (s y : List ℕ) → ends_itself mode s ≡ true → NextExtends y (first t mode s) (first t mode (s ++ y))
 
 -- a token, and the mode in which it is read
-pub record Step : Type 0 where
+pub record ReadStep : Type 0 where
   pub mode : Mode
   pub token : Seen
 
 -- these tokens are read one after another, and then rest is left
-abbrev pub ReadsAs : List Entry → List Step → List ℕ → List ℕ → Type 0
+abbrev pub ReadsAs : List Entry → List ReadStep → List ℕ → List ℕ → Type 0
 ReadsAs t [] s rest = s ≡ rest
 ReadsAs t (k ∷ ks) s rest = (n : ℕ) × (left : List ℕ) × (first t k.mode s ≡ behind_bytes n (taken k.token left)) × ReadsAs t ks left rest
 
 -- and each of them ends by itself
-abbrev pub ReadsWhole : List Entry → List Step → List ℕ → List ℕ → Type 0
+abbrev pub ReadsWhole : List Entry → List ReadStep → List ℕ → List ℕ → Type 0
 ReadsWhole t [] s rest = s ≡ rest
 ReadsWhole t (k ∷ ks) s rest =
     (n : ℕ) × (left : List ℕ) × (first t k.mode s ≡ behind_bytes n (taken k.token left)) × (ends_itself k.mode s ≡ true) × ReadsWhole t ks left rest
 
 -- Tokens that end by themselves are the same, whatever follows them.
 abbrev pub WholeReadingsExtend : Type 0
-WholeReadingsExtend = (t : List Entry) (ks : List Step) (s y rest : List ℕ) → ReadsWhole t ks s rest → ReadsWhole t ks (s ++ y) (rest ++ y) × ReadsAs t ks (s ++ y) (rest ++ y)
+WholeReadingsExtend = (t : List Entry) (ks : List ReadStep) (s y rest : List ℕ) → ReadsWhole t ks s rest → ReadsWhole t ks (s ++ y) (rest ++ y) × ReadsAs t ks (s ++ y) (rest ++ y)
 
 -- What is read behind tokens is read behind them.
 abbrev pub ReadingsFollow : Type 0
-ReadingsFollow = (t : List Entry) (ks js : List Step) (s left rest : List ℕ) → ReadsAs t ks s left → ReadsAs t js left rest → ReadsAs t (ks ++ js) s rest
+ReadingsFollow = (t : List Entry) (ks js : List ReadStep) (s left rest : List ℕ) → ReadsAs t ks s left → ReadsAs t js left rest → ReadsAs t (ks ++ js) s rest
 
 -- a written piece and the tokens that it is meant to be
-pub record Piece : Type 0 where
+pub record ReadPiece : Type 0 where
   pub bytes : List ℕ
-  pub steps : List Step
+  pub steps : List ReadStep
 
-abbrev pub all_bytes : List Piece → List ℕ
+abbrev pub all_bytes : List ReadPiece → List ℕ
 all_bytes [] = []
 all_bytes (p ∷ ps) = p.bytes ++ all_bytes ps
 
-abbrev pub all_steps : List Piece → List Step
+abbrev pub all_steps : List ReadPiece → List ReadStep
 all_steps [] = []
 all_steps (p ∷ ps) = p.steps ++ all_steps ps
 
 -- each piece is read as its tokens, in front of what follows it
-abbrev pub EachIsRead : List Entry → List Piece → List ℕ → Type 0
+abbrev pub EachIsRead : List Entry → List ReadPiece → List ℕ → Type 0
 EachIsRead t [] after = Unit {0}
 EachIsRead t (p ∷ ps) after = ReadsAs t p.steps (p.bytes ++ (all_bytes ps ++ after)) (all_bytes ps ++ after) × EachIsRead t ps after
 
 -- Then the text that is put together of the pieces is read as the tokens of all of them.
 abbrev pub PiecesAreRead : Type 0
-PiecesAreRead = (t : List Entry) (ps : List Piece) (after : List ℕ) → EachIsRead t ps after → ReadsAs t (all_steps ps) (all_bytes ps ++ after) after
+PiecesAreRead = (t : List Entry) (ps : List ReadPiece) (after : List ℕ) → EachIsRead t ps after → ReadsAs t (all_steps ps) (all_bytes ps ++ after) after
 
 -- each piece is read as its tokens, and ends by itself
-abbrev pub EachIsWhole : List Entry → List Piece → Type 0
+abbrev pub EachIsWhole : List Entry → List ReadPiece → Type 0
 EachIsWhole t [] = Unit {0}
 EachIsWhole t (p ∷ ps) = ReadsWhole t p.steps p.bytes [] × EachIsWhole t ps
 
 -- Pieces that end by themselves may stand in any order.
 abbrev pub WholePiecesAreRead : Type 0
-WholePiecesAreRead = (t : List Entry) (ps : List Piece) (after : List ℕ) → EachIsWhole t ps → ReadsAs t (all_steps ps) (all_bytes ps ++ after) after
+WholePiecesAreRead = (t : List Entry) (ps : List ReadPiece) (after : List ℕ) → EachIsWhole t ps → ReadsAs t (all_steps ps) (all_bytes ps ++ after) after

@@ -1,0 +1,26 @@
+//! Known names as their table holds them.
+ghost use Rattle.std.specs.Prelude.{◌≡◌, true};
+ghost use Rattle.std.specs.Str.{is_utf8};
+
+/// A known name as its table holds it, which takes no memory.
+#[derive(Clone, Copy, Debug)]
+pub struct KnownName {
+    text: &'static str,
+    ghost utf8: { is_utf8 text.now ≡ true },
+}
+
+impl KnownName {
+    /// The name with this text.
+    pub(crate) fn new(text: &'static str) -> KnownName
+        ensures { result.text.now ≡ text.now }
+    {
+        KnownName { text }
+    }
+
+    /// The name.
+    pub fn as_str(self) -> &'static str
+        ensures { result.now ≡ self.text.now }
+    {
+        self.text
+    }
+}

@@ -3,13 +3,13 @@ use Rattle.std.proofs.Common.{◌≡◌, ℕ, suc, ◌+◌, ◌<◌, ◌≢◌, 
 use Rattle.std.proofs.lemmas.Bool.Decides.{nat_tests}
 use Rattle.std.proofs.lemmas.List.{append-nil}
 use Rattle.hm_base.specs.Bytes.{all_pass}
-use Rattle.hm_base.specs.Source.{Placed, Source, numbered, pairs_joined, returns_replaced, is_text_byte}
+use Rattle.hm_base.specs.Source.{PlacedByte, Source, numbered, pairs_joined, returns_replaced, is_text_byte}
 use Rattle.hm_base.specs.Places.{is_nonzero, with_bytes, with_pair, with_lines}
 use Rattle.hm_base.proofs.Bytes.{both_true, first_true, second_true}
 use Rattle.hm_base.proofs.Places.{placed_at, same_source}
 
 -- what is left of a page from the place n on, its line ends as LF
-abbrev lines : ℕ → List ℕ → List Placed
+abbrev lines : ℕ → List ℕ → List PlacedByte
 lines n s = returns_replaced (pairs_joined (numbered n s))
 
 not_return : (c : ℕ) → is_text_byte c ≡ true → nat_eq c 13 ≡ false

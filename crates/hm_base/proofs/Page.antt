@@ -1,7 +1,7 @@
 -- A whole page: its mark and its lines.
 use Rattle.std.proofs.Common.{◌≡◌, ℕ, ◌+◌, Bool, true, false, List, [], ◌++◌, length, refl, sym, ap, ◌∙◌, arith, length-append}
 use Rattle.hm_base.specs.Bytes.{all_pass}
-use Rattle.hm_base.specs.Source.{Placed, Source, is_text_byte, numbered, pairs_joined, returns_replaced, source_of, without_mark}
+use Rattle.hm_base.specs.Source.{PlacedByte, Source, is_text_byte, numbered, pairs_joined, returns_replaced, source_of, without_mark}
 use Rattle.hm_base.specs.Places.{is_nonzero, mark_of, source_from, start_of, with_bytes, with_lines}
 use Rattle.hm_base.proofs.Bytes.{all_pass_second}
 use Rattle.hm_base.proofs.Lines.{with_lines_last}
@@ -27,7 +27,7 @@ source_from_start start pairs text e f =
 -- behind the mark come the lines
 pub source_of_lines : (b : Bool) (page rest : List ℕ) → page ≡ mark_of b ++ rest → without_mark (numbered 0 page) ≡ numbered (start_of b) rest → with_lines (record { placed = []; end = start_of b }) rest ≡ source_of page
 source_of_lines b page rest e places =
-    same_source _ _ _ _ (ap (λ (s : List Placed). returns_replaced (pairs_joined s)) (sym places)) (sym (length_marked b page rest e))
+    same_source _ _ _ _ (ap (λ (s : List PlacedByte). returns_replaced (pairs_joined s)) (sym places)) (sym (length_marked b page rest e))
 
 -- a text that stands in its page as it is
 pub source_of_own : (page pairs : List ℕ) → pairs ≡ [] → without_mark (numbered 0 page) ≡ numbered 0 page → all_pass is_text_byte page ≡ true → source_from 0 pairs page ≡ source_of page

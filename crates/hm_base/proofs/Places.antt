@@ -8,13 +8,13 @@ use Rattle.std.proofs.lemmas.Bool.Decides.{nat_tests}
 use Rattle.std.proofs.lemmas.List.Elements.{All-head, All-tail, All-weaker, All-get_or, All-push}
 use Rattle.std.proofs.lemmas.List.Quantifiers.{all_pairs_push}
 use Rattle.std.proofs.lemmas.List.Sums.{sum_by-cons, sum_by_push}
-use Rattle.hm_base.specs.Source.{Placed, Source, byte_of, numbered, place_in, is_text_byte}
+use Rattle.hm_base.specs.Source.{PlacedByte, Source, byte_of, numbered, place_in, is_text_byte}
 use Rattle.hm_base.specs.Bytes.{all_pass}
 use Rattle.hm_base.specs.declared.limits.TheConstants.{OUTPUT_LIMIT}
 use Rattle.hm_base.proofs.Bytes.{all_pass-append}
 use Rattle.hm_base.specs.Places.{IsSourceText, is_below, place_at, placed_from, source_from, with_bytes, with_pair}
 
-abbrev pub placed_at : ℕ → ℕ → Placed
+abbrev pub placed_at : ℕ → ℕ → PlacedByte
 placed_at byte place = record { byte = byte; place = place }
 
 -- every pair is below an index behind them all
@@ -51,10 +51,10 @@ placed_from_push start i j pairs [] l = refl
 placed_from_push start i j pairs (c ∷ t) l =
     rw (count_push i j pairs (omega arith)) (ap (λ r. placed_at c (place_at start pairs i) ∷ r) (placed_from_push start (i + 1) j pairs t (omega arith)))
 
-abbrev pub source_at : List Placed → ℕ → Source
+abbrev pub source_at : List PlacedByte → ℕ → Source
 source_at placed end = record { placed = placed; end = end }
 
-pub same_source : (p q : List Placed) (m n : ℕ) → p ≡ q → m ≡ n → source_at p m ≡ source_at q n
+pub same_source : (p q : List PlacedByte) (m n : ℕ) → p ≡ q → m ≡ n → source_at p m ≡ source_at q n
 same_source p q m n e f = ap (λ r. source_at r m) e ∙ ap (source_at q) f
 
 -- bytes behind a text
@@ -103,7 +103,7 @@ place_in-placed_from start i (suc k) end pairs (c ∷ t) l =
     let next : i + 1 + k ≡ i + suc k = omega arith in
     place_in-placed_from start (i + 1) k end pairs t (omega arith) ∙ ap (place_at start pairs) next
 
-place_in_end : (placed : List Placed) (end : ℕ) → place_in placed end (length placed) ≡ end
+place_in_end : (placed : List PlacedByte) (end : ℕ) → place_in placed end (length placed) ≡ end
 place_in_end [] end = refl
 place_in_end (a ∷ placed) end = place_in_end placed end
 

@@ -1,7 +1,7 @@
 -- How a text that was read knows the places of its bytes: where it starts in the page, and which of its line feeds were pairs of CR and LF.
 use Rattle.std.specs.Prelude.{ℕ, ◌≡◌, ◌+◌, ◌<◌, ◌≤◌, Bool, true, not, ◌==◌, List, [], ◌∷◌, ◌++◌, length, nat_lt, All, AllPairs, count_by, if◌then◌else◌}
 use Rattle.hm_base.specs.Bytes.{all_pass}
-use Rattle.hm_base.specs.Source.{Placed, Source, numbered, pairs_joined, returns_replaced, is_text_byte}
+use Rattle.hm_base.specs.Source.{PlacedByte, Source, numbered, pairs_joined, returns_replaced, is_text_byte}
 use Rattle.hm_base.specs.declared.limits.TheConstants.{OUTPUT_LIMIT}
 
 -- a text starts behind the mark, where there is one
@@ -16,7 +16,7 @@ abbrev pub place_at : ℕ → List ℕ → ℕ → ℕ
 place_at start pairs i = start + i + count_by (is_below i) pairs
 
 -- the bytes from the index i on, with their places
-abbrev pub placed_from : ℕ → List ℕ → ℕ → List ℕ → List Placed
+abbrev pub placed_from : ℕ → List ℕ → ℕ → List ℕ → List PlacedByte
 placed_from start pairs i [] = []
 placed_from start pairs i (c ∷ s) = record { byte = c; place = place_at start pairs i } ∷ placed_from start pairs (i + 1) s
 

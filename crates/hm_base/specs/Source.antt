@@ -5,38 +5,38 @@ use Rattle.hm_base.specs.declared.rules.Rule.TheVariants.{NotUtf8, Nul}
 use Rattle.std.specs.Str.Lossy.{utf8_valid_len}
 
 -- a byte and the byte of the page that it came from
-pub record Placed : Type 0 where
+pub record PlacedByte : Type 0 where
   pub byte : ℕ
   pub place : ℕ
 
 -- the bytes with their numbers, counted from n
-abbrev pub numbered : ℕ → List ℕ → List Placed
+abbrev pub numbered : ℕ → List ℕ → List PlacedByte
 numbered n [] = []
 numbered n (c ∷ s) = record { byte = c; place = n } ∷ numbered (n + 1) s
 
 -- without one leading EF BB BF
-abbrev pub without_mark : List Placed → List Placed
+abbrev pub without_mark : List PlacedByte → List PlacedByte
 without_mark [] = []
 without_mark (a ∷ []) = a ∷ []
 without_mark (a ∷ b ∷ []) = a ∷ b ∷ []
 without_mark (a ∷ b ∷ c ∷ s) = if a.byte == 0xEF && (b.byte == 0xBB && c.byte == 0xBF) then s else a ∷ b ∷ c ∷ s
 
 -- each CR LF as one LF, with the place of the CR
-abbrev pub pairs_joined : List Placed → List Placed
+abbrev pub pairs_joined : List PlacedByte → List PlacedByte
 pairs_joined [] = []
 pairs_joined (a ∷ []) = a ∷ []
 pairs_joined (a ∷ b ∷ s) = if a.byte == 13 && b.byte == 10 then record { byte = 10; place = a.place } ∷ pairs_joined s else a ∷ pairs_joined (b ∷ s)
 
 -- each CR as LF
-abbrev pub returns_replaced : List Placed → List Placed
+abbrev pub returns_replaced : List PlacedByte → List PlacedByte
 returns_replaced [] = []
 returns_replaced (a ∷ s) = record { byte = if a.byte == 13 then 10 else a.byte; place = a.place } ∷ returns_replaced s
 
 -- the text of a page, each byte with its place
-abbrev pub placed_text : List ℕ → List Placed
+abbrev pub placed_text : List ℕ → List PlacedByte
 placed_text page = returns_replaced (pairs_joined (without_mark (numbered 0 page)))
 
-abbrev pub byte_of : Placed → ℕ
+abbrev pub byte_of : PlacedByte → ℕ
 byte_of a = a.byte
 
 -- the bytes of the text
@@ -48,7 +48,7 @@ abbrev pub is_text_byte : ℕ → Bool
 is_text_byte c = not (c == 0) && not (c == 13)
 
 -- the place of the byte at an index; behind the last one it is the page's length
-abbrev pub place_in : List Placed → ℕ → ℕ → ℕ
+abbrev pub place_in : List PlacedByte → ℕ → ℕ → ℕ
 place_in [] end i = end
 place_in (a ∷ s) end zero = a.place
 place_in (a ∷ s) end (suc i) = place_in s end i
@@ -83,7 +83,7 @@ text_fault page = earlier (bad_sequence page) (zero_from 0 page)
 
 -- what is known of a page that was read: its text with places, and its length
 pub record Source : Type 0 where
-  pub placed : List Placed
+  pub placed : List PlacedByte
   pub end : ℕ
 
 abbrev pub source_of : List ℕ → Source

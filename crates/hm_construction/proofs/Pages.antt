@@ -8,7 +8,7 @@ use Rattle.std.specs.Str.Lossy.{utf8_valid_len, valid_len_up_to}
 use Rattle.std.proofs.lemmas.Str.{IsUtf8-from_is_utf8, is_utf8-from_IsUtf8, IsUtf8-past_char}
 use Rattle.hm_base.specs.Bytes.{all_pass}
 use Rattle.hm_base.specs.Places.{is_nonzero}
-use Rattle.hm_base.specs.Source.{Placed, numbered, without_mark, pairs_joined, returns_replaced, byte_of, is_text_byte, zero_from, bad_sequence, Refusal, refusal_at, earlier, text_fault, source_of}
+use Rattle.hm_base.specs.Source.{PlacedByte, numbered, without_mark, pairs_joined, returns_replaced, byte_of, is_text_byte, zero_from, bad_sequence, Refusal, refusal_at, earlier, text_fault, source_of}
 use Rattle.hm_base.specs.declared.rules.Rule.TheVariants.{NotUtf8, Nul}
 use Rattle.hm_base.specs.Walks.{Event}
 use Rattle.hm_base.proofs.Faults.{no_zero}
@@ -63,7 +63,7 @@ page_utf8 page h = no_bad_is_utf8 page (no_bad_of (bad_sequence page) (zero_from
 
 -- ---- Line ends
 
-abbrev bytes : List Placed → List ℕ
+abbrev bytes : List PlacedByte → List ℕ
 bytes s = map byte_of s
 
 -- UTF-8 without zero byte
@@ -128,7 +128,7 @@ lined_pair u c d s r e clean more =
     let three = and_parts (is_nonzero d) (all_pass is_nonzero s) two.1 in
     one_more u 10 r refl (more (u ++ 10 ∷ []) (record { utf8 = feed_for_pair u s (rw (is, is') at clean.utf8); nonzero = three.1 }))
 
-lined : (s : List Placed) (u : List ℕ) → Clean u (bytes s) → Lined u (bytes (returns_replaced (pairs_joined s)))
+lined : (s : List PlacedByte) (u : List ℕ) → Clean u (bytes s) → Lined u (bytes (returns_replaced (pairs_joined s)))
 lined [] u c = lined_nothing u c
 lined (a ∷ []) u c = lined_first u a.byte [] [] c lined_nothing
 lined (a ∷ b ∷ s) u c = by (a.byte == 13 && b.byte == 10) refl (λ v d. lined s v d) (λ v d. lined (b ∷ s) v d)
@@ -151,7 +151,7 @@ mark_bytes = refl
 behind_mark : (s : List ℕ) → is_utf8 (0xEF ∷ 0xBB ∷ 0xBF ∷ s) ≡ true → is_utf8 s ≡ true
 behind_mark s h = is_utf8-from_IsUtf8 s (IsUtf8-past_char (0xEF ∷ 0xBB ∷ 0xBF ∷ s) s 0xFEFF (IsUtf8-from_is_utf8 (0xEF ∷ 0xBB ∷ 0xBF ∷ s) h) (rw mark_bytes refl))
 
-unmarked : (s : List Placed) → Clean [] (bytes s) → Clean [] (bytes (without_mark s))
+unmarked : (s : List PlacedByte) → Clean [] (bytes s) → Clean [] (bytes (without_mark s))
 unmarked [] c = c
 unmarked (a ∷ []) c = c
 unmarked (a ∷ b ∷ []) c = c

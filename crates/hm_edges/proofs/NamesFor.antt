@@ -13,7 +13,7 @@ use Rattle.hm_units.specs.Edges as graph
 use Rattle.hm_units.specs.States.{Where, Pending}
 use Rattle.hm_units.specs.Units as units
 use Rattle.hm_edges.specs.declared.pieces.Edge.{Edge}
-use Rattle.hm_edges.specs.Found.{Adds}
+use Rattle.hm_edges.specs.Found.{AddsEdges}
 use Rattle.hm_edges.proofs.Adding.{adds_none, adds_then, adds_stopped, adds_as}
 use Rattle.hm_refs.proofs.RunEnds.{rest_cons}
 
@@ -73,7 +73,7 @@ place_inside c t k l = let h : get_or (places_from c 0 t) k 0 < 0 + length t = p
 -- the edges by some names are added, and those at these places are left
 pub record SomeNames (v : TableView) (u : units.Unit) (before now : List Edge) (at : Where) (to : List ℕ → Pending) (points : List ℕ) (left : List ℕ) : Type 0 where
   pub done : List graph.Edge
-  pub adds : Adds {E = Memory} (Ok tt) v u before now done
+  pub adds : AddsEdges {E = Memory} (Ok tt) v u before now done
   pub whole : done ++ map (kept_at at) (names_at to points v.entries left) ≡ map (kept_at at) (by_names to points v.entries)
 
 -- the one at a place, and those at the places behind it
@@ -85,13 +85,13 @@ left_on at to points t is k id l e =
     ∙ ap (λ w. map (kept_at at) (names_at to points t w)) (sym (rest_cons is k l))
 
 pub names_stopped : (q r : Result (Prim.Unit {0}) Memory) (x : Memory) (v : TableView) (u : units.Unit) (before between now : List Edge) (at : Where) (to : List ℕ → Pending) (points is : List ℕ) (k id : ℕ) → k < length is → id ≡ get_or is k 0
-    → SomeNames v u before between at to points (drop k is) → q ≡ Err x → IsErr r → Adds q v u between now (map (kept_at at) (by_names to points (entry_at v.entries id ∷ []))) → Adds r v u before now (map (kept_at at) (by_names to points v.entries))
+    → SomeNames v u before between at to points (drop k is) → q ≡ Err x → IsErr r → AddsEdges q v u between now (map (kept_at at) (by_names to points (entry_at v.entries id ∷ []))) → AddsEdges r v u before now (map (kept_at at) (by_names to points v.entries))
 names_stopped q r x v u before between now at to points is k id l e some was err h =
     adds_as _ _ _ _ _ _ _ (ap (λ w. some.done ++ w) (left_on at to points v.entries is k id l e) ∙ some.whole)
     (adds_then _ _ _ _ _ _ _ _ _ tt refl some.adds (adds_stopped q r x v u between now _ _ was err h))
 
 pub names_more : (q : Result (Prim.Unit {0}) Memory) (x : Prim.Unit {0}) (v : TableView) (u : units.Unit) (before between now : List Edge) (at : Where) (to : List ℕ → Pending) (points is : List ℕ) (k id : ℕ) → k < length is → id ≡ get_or is k 0
-    → SomeNames v u before between at to points (drop k is) → q ≡ Ok x → Adds q v u between now (map (kept_at at) (by_names to points (entry_at v.entries id ∷ []))) → SomeNames v u before now at to points (drop (k + 1) is)
+    → SomeNames v u before between at to points (drop k is) → q ≡ Ok x → AddsEdges q v u between now (map (kept_at at) (by_names to points (entry_at v.entries id ∷ []))) → SomeNames v u before now at to points (drop (k + 1) is)
 names_more (Err y) x v u before between now at to points is k id l e some was h = absurd (cc)
 names_more (Ok y) x v u before between now at to points is k id l e some was h =
     let one : List graph.Edge = map (kept_at at) (by_names to points (entry_at v.entries id ∷ [])) in
@@ -102,7 +102,7 @@ names_more (Ok y) x v u before between now at to points is k id l e some was h =
     }
 
 pub names_done : (v : TableView) (u : units.Unit) (before now : List Edge) (at : Where) (to : List ℕ → Pending) (points is : List ℕ) (k : ℕ) → length is ≤ k
-    → SomeNames v u before now at to points (drop k is) → Adds {E = Memory} (Ok tt) v u before now (map (kept_at at) (by_names to points v.entries))
+    → SomeNames v u before now at to points (drop k is) → AddsEdges {E = Memory} (Ok tt) v u before now (map (kept_at at) (by_names to points v.entries))
 names_done v u before now at to points is k l some =
     let end : drop k is ≡ [] = drop_all k is l in
     let all : some.done ≡ map (kept_at at) (by_names to points v.entries) = sym (append-nil some.done) ∙ ap (λ w. some.done ++ map (kept_at at) (names_at to points v.entries w)) (sym end) ∙ some.whole in

@@ -29,7 +29,7 @@ AreFront v rules unit from es = (u : units.Unit) → StandsFor v.entries unit u 
 
 -- The buffer has more edges behind those from before: these as edges of the unit, or, after an error, a front of them. They
 -- are of the table.
-pub record Adds {E : Type 0} (r : Result (Prim.Unit {0}) E) (v : TableView) (u : units.Unit) (before now : List Edge) (more : List graph.Edge) : Type 0 where
+pub record AddsEdges {E : Type 0} (r : Result (Prim.Unit {0}) E) (v : TableView) (u : units.Unit) (before now : List Edge) (more : List graph.Edge) : Type 0 where
   pub edges : OnOk r (edges_seen v u now ≡ edges_seen v u before ++ more)
   pub front : (rest : List graph.Edge) × (edges_seen v u now ++ rest ≡ edges_seen v u before ++ more)
   pub known : AreOfTable v before → AreOfTable v now

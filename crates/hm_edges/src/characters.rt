@@ -11,7 +11,7 @@ ghost use Rattle.hm_units.specs.States as states;
 ghost use Rattle.hm_units.specs.Steps as steps;
 ghost use Rattle.hm_units.specs.Units as units;
 ghost use Rattle.hm_edges.specs.Characters.{behind_by, edges_by_pair, rules_with};
-ghost use Rattle.hm_edges.specs.Found.{Adds};
+ghost use Rattle.hm_edges.specs.Found.{AddsEdges};
 ghost use Rattle.hm_edges.specs.Pieces.{AreOfTable, own_bytes};
 ghost use Rattle.hm_edges.specs.States.{HasNodes, pending_of, spot_of, state_of, where_of};
 ghost use Rattle.hm_edges.specs.Units.{kind_of};
@@ -117,7 +117,7 @@ fn add_as_itself(
 ) -> Result<(), Memory>
     requires { HasNodes table.now from.pending }
     ensures { (u : units.Unit) → own_bytes u ≡ encode_utf8 c
-        → Adds result table.now u into.old.items into.new.items (map (characters.kept_at (where_of from.at))
+        → AddsEdges result table.now u into.old.items into.new.items (map (characters.kept_at (where_of from.at))
         (characters.as_itself table.now.entries (rules_with table.now.entries ascii) (spot_of spot) c (pending_of table.now from.pending))) }
 {
     if !may_stand(ascii, spot, c) {
@@ -202,7 +202,7 @@ fn add_name(
     at: Where,
 ) -> Result<(), Memory>
     requires { id < length table.now.entries }
-    ensures { (u : units.Unit) → Adds result table.now u into.old.items into.new.items (map (characters.kept_at (where_of at))
+    ensures { (u : units.Unit) → AddsEdges result table.now u into.old.items into.new.items (map (characters.kept_at (where_of at))
         (characters.by_names (behind_by (is_some second)) (c ∷ option_to_list second) (entry_at table.now.entries id ∷ []))) }
 {
     let to = behind_by(second.is_some(), table, id);
@@ -218,7 +218,7 @@ fn add_names(
     second: Option<char>,
     at: Where,
 ) -> Result<(), Memory>
-    ensures { (u : units.Unit) → Adds result table.now u into.old.items into.new.items (map (characters.kept_at (where_of at))
+    ensures { (u : units.Unit) → AddsEdges result table.now u into.old.items into.new.items (map (characters.kept_at (where_of at))
         (characters.by_names (behind_by (is_some second)) (c ∷ option_to_list second) table.now.entries)) }
 {
     for id in table.names_for(c) {
@@ -235,7 +235,7 @@ fn add_pairs(
     pair: Option<char>,
     at: Where,
 ) -> Result<(), Memory>
-    ensures { (u : units.Unit) → Adds result table.now u into.old.items into.new.items (map (characters.kept_at (where_of at))
+    ensures { (u : units.Unit) → AddsEdges result table.now u into.old.items into.new.items (map (characters.kept_at (where_of at))
         (characters.by_pairs table.now.entries c pair)) }
 {
     match pair {
@@ -246,7 +246,7 @@ fn add_pairs(
 
 /// By the best number, without and with a `;`.
 fn add_decimals(into: &mut Vec<Edge>, c: char, at: Where) -> Result<(), Memory>
-    ensures { (v : TableView) (u : units.Unit) → Adds result v u into.old.items into.new.items (map (characters.kept_at (where_of at))
+    ensures { (v : TableView) (u : units.Unit) → AddsEdges result v u into.old.items into.new.items (map (characters.kept_at (where_of at))
         (characters.by_decimal (best_number c))) }
 {
     match best_number(c) {
@@ -284,7 +284,7 @@ fn is_shorter_in_hexadecimal(c: char) -> bool
 
 /// In hexadecimal, where that is shorter.
 fn add_hexadecimals(into: &mut Vec<Edge>, c: char, at: Where) -> Result<(), Memory>
-    ensures { (v : TableView) (u : units.Unit) → Adds result v u into.old.items into.new.items (map (characters.kept_at (where_of at))
+    ensures { (v : TableView) (u : units.Unit) → AddsEdges result v u into.old.items into.new.items (map (characters.kept_at (where_of at))
         (characters.by_hexadecimal c)) }
 {
     let number = c as u32;
@@ -327,7 +327,7 @@ fn add_references(
     pair: Option<char>,
     at: Where,
 ) -> Result<(), Memory>
-    ensures { (u : units.Unit) → Adds result table.now u into.old.items into.new.items (map (characters.kept_at (where_of at))
+    ensures { (u : units.Unit) → AddsEdges result table.now u into.old.items into.new.items (map (characters.kept_at (where_of at))
         (characters.by_references table.now.entries c pair)) }
 {
     add_names(into, table, c, None, at)?;
@@ -360,7 +360,7 @@ fn add_choices(
 ) -> Result<(), Memory>
     requires { HasNodes table.now from.pending }
     ensures { (u : units.Unit) → own_bytes u ≡ encode_utf8 c
-        → Adds result table.now u into.old.items into.new.items (map (characters.kept_at (where_of from.at))
+        → AddsEdges result table.now u into.old.items into.new.items (map (characters.kept_at (where_of from.at))
         (characters.choices table.now.entries (rules_with table.now.entries ascii) (spot_of spot) c pair (pending_of table.now from.pending))) }
 {
     let at = from.at;
@@ -387,7 +387,7 @@ fn add_outside_edges(
     requires { HasNodes table.now from.pending }
     ensures known { AreOfTable table.now into.old.items → AreOfTable table.now into.new.items }
     ensures edges { (u : units.Unit) (next : Option ℕ) → own_bytes u ≡ encode_utf8 character.c → character.more ≡ is_some next
-        → Adds result table.now u into.old.items into.new.items
+        → AddsEdges result table.now u into.old.items into.new.items
         (map (characters.kept_at (where_of from.at)) (characters.choices table.now.entries (rules_with table.now.entries ascii) (characters.spot_at (kind_of character.kind) (where_of from.at)) character.c character.pair (pending_of table.now from.pending))
         ++ characters.opened_sections ascii (characters.spot_at (kind_of character.kind) (where_of from.at)) character.c next (state_of table.now from)) }
 {
@@ -412,7 +412,7 @@ pub(crate) fn add_character_edges(
     requires { HasNodes table.now from.pending }
     ensures known { AreOfTable table.now into.old.items → AreOfTable table.now into.new.items }
     ensures edges { (u : units.Unit) (next : Option ℕ) → own_bytes u ≡ encode_utf8 character.c → character.more ≡ is_some next
-        → Adds result table.now u into.old.items into.new.items (edges_by_pair table.now.entries ascii (kind_of character.kind) character.c character.pair next (state_of table.now from)) }
+        → AddsEdges result table.now u into.old.items into.new.items (edges_by_pair table.now.entries ascii (kind_of character.kind) character.c character.pair next (state_of table.now from)) }
 {
     if is_in_section(from.at) {
         add_section_edges(into, ascii, character.c, character.more, from.pending)

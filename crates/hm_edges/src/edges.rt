@@ -6,7 +6,7 @@ ghost use Rattle.hm_spellings.specs.Characters as spots;
 ghost use Rattle.hm_tag_spell.specs.TagEdges as tags;
 ghost use Rattle.hm_units.specs.States as states;
 ghost use Rattle.hm_units.specs.Units as units;
-ghost use Rattle.hm_edges.specs.Found.{AreEdges, AreFront, Adds};
+ghost use Rattle.hm_edges.specs.Found.{AreEdges, AreFront, AddsEdges};
 ghost use Rattle.hm_edges.specs.Pieces.{AreOfTable};
 ghost use Rattle.hm_edges.specs.States.{HasNodes, spot_of, state_of, where_of};
 
@@ -83,7 +83,7 @@ fn add_start_edges(
     from: State,
 ) -> Result<(), Memory>
     ensures { (v : TableView) (n : List ℕ) → HasNodes v from.pending
-        → Adds result v (units.start_tag n omits firm closes) into.old.items into.new.items (tags.start_edges n omits firm closes (state_of v from)) }
+        → AddsEdges result v (units.start_tag n omits firm closes) into.old.items into.new.items (tags.start_edges n omits firm closes (state_of v from)) }
 {
     let falls = may_fall(omits, firm, from.at);
     add_if(falls, into, Piece::Nothing, unloosed(from.at), from.pending)?;
@@ -134,7 +134,7 @@ fn add_end_edges(
     from: State,
 ) -> Result<(), Memory>
     ensures { (v : TableView) (n : List ℕ) → HasNodes v from.pending
-        → Adds result v (units.end_tag n omits loosens) into.old.items into.new.items (tags.end_edges n omits loosens (state_of v from)) }
+        → AddsEdges result v (units.end_tag n omits loosens) into.old.items into.new.items (tags.end_edges n omits loosens (state_of v from)) }
 {
     if is_self_closed(from.at) {
         return add(into, Piece::Nothing, Where::Outside, Pending::Nothing);
@@ -163,7 +163,7 @@ fn has_gap(tight: bool, at: Where) -> bool
 /// An attribute with an empty value.
 fn add_bare_edges(into: &mut Vec<Edge>, tight: bool, from: State) -> Result<(), Memory>
     ensures { (v : TableView) (n : List ℕ)
-        → Adds result v (units.bare_attribute n) into.old.items into.new.items (attributes.bare_edges tight n (state_of v from)) }
+        → AddsEdges result v (units.bare_attribute n) into.old.items into.new.items (attributes.bare_edges tight n (state_of v from)) }
 {
     let gap = has_gap(tight, from.at);
     add(
@@ -185,7 +185,7 @@ fn add_opening_edges(
     from: State,
 ) -> Result<(), Memory>
     ensures { (v : TableView) (n : List ℕ)
-        → Adds result v (units.attribute_name n) into.old.items into.new.items (attributes.opening_edges tight unquote n (state_of v from)) }
+        → AddsEdges result v (units.attribute_name n) into.old.items into.new.items (attributes.opening_edges tight unquote n (state_of v from)) }
 {
     let gap = has_gap(tight, from.at);
     add_if(
@@ -231,7 +231,7 @@ pub(crate) fn value_spot(at: Where) -> Spot
 
 /// What closes a value.
 fn add_closed(into: &mut Vec<Edge>, at: Where) -> Result<(), Memory>
-    ensures { (v : TableView) → Adds result v units.attribute_end into.old.items into.new.items (attributes.closed_at (where_of at)) }
+    ensures { (v : TableView) → AddsEdges result v units.attribute_end into.old.items into.new.items (attributes.closed_at (where_of at)) }
 {
     match at {
         Where::InUnquoted => add(
@@ -259,7 +259,7 @@ fn add_closed(into: &mut Vec<Edge>, at: Where) -> Result<(), Memory>
 /// What closes a value, where it may end.
 fn add_closing_edges(into: &mut Vec<Edge>, table: &Table, from: State) -> Result<(), Memory>
     requires { HasNodes table.now from.pending }
-    ensures { Adds result table.now units.attribute_end into.old.items into.new.items (attributes.closing_edges table.now.entries (state_of table.now from)) }
+    ensures { AddsEdges result table.now units.attribute_end into.old.items into.new.items (attributes.closing_edges table.now.entries (state_of table.now from)) }
 {
     if may_end(from.pending, table, value_spot(from.at)) {
         add_closed(into, from.at)
@@ -279,7 +279,7 @@ fn is_behind_unquoted(at: Where) -> bool
 
 /// `>`, and where the tag may close itself `/>`, which stands apart from a value without quotes.
 fn add_close_edges(into: &mut Vec<Edge>, closes: bool, from: State) -> Result<(), Memory>
-    ensures { (v : TableView) → Adds result v (units.tag_close closes) into.old.items into.new.items (attributes.close_edges closes (state_of v from)) }
+    ensures { (v : TableView) → AddsEdges result v (units.tag_close closes) into.old.items into.new.items (attributes.close_edges closes (state_of v from)) }
 {
     add(
         into,

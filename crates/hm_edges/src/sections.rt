@@ -5,7 +5,7 @@ ghost use Rattle.hm_refs.specs.Tables.{TableView};
 ghost use Rattle.hm_text_spell.specs.CharacterEdges as characters;
 ghost use Rattle.hm_units.specs.States as states;
 ghost use Rattle.hm_units.specs.Units as units;
-ghost use Rattle.hm_edges.specs.Found.{Adds};
+ghost use Rattle.hm_edges.specs.Found.{AddsEdges};
 ghost use Rattle.hm_edges.specs.Pieces.{own_bytes};
 ghost use Rattle.hm_edges.specs.States.{HasNodes, pending_of, where_of};
 ghost use Rattle.hm_edges.specs.Units.{is_foreign_kind};
@@ -101,7 +101,7 @@ fn add_going_on(
     pending: Pending,
 ) -> Result<(), Memory>
     ensures { (v : TableView) (u : units.Unit) (next : Option ℕ) → own_bytes u ≡ encode_utf8 c → more ≡ is_some next
-        → Adds result v u into.old.items into.new.items (characters.section_edges_by next (if opens then codes "<![CDATA[" else []) c (pending_of v pending)) }
+        → AddsEdges result v u into.old.items into.new.items (characters.section_edges_by next (if opens then codes "<![CDATA[" else []) c (pending_of v pending)) }
 {
     let to = in_section_behind(c, pending);
     add_if(
@@ -134,7 +134,7 @@ pub(crate) fn add_section_edges(
     pending: Pending,
 ) -> Result<(), Memory>
     ensures { (v : TableView) (u : units.Unit) (next : Option ℕ) → own_bytes u ≡ encode_utf8 c → more ≡ is_some next
-        → Adds result v u into.old.items into.new.items (characters.section_edges ascii c next (pending_of v pending)) }
+        → AddsEdges result v u into.old.items into.new.items (characters.section_edges ascii c next (pending_of v pending)) }
 {
     if is_writable(ascii, c) && !closes_section(c, &pending) {
         add_going_on(into, false, c, more, pending)
@@ -151,7 +151,7 @@ pub(crate) fn add_opened_sections(
     more: bool,
 ) -> Result<(), Memory>
     ensures { (v : TableView) (u : units.Unit) (next : Option ℕ) → own_bytes u ≡ encode_utf8 c → more ≡ is_some next
-        → Adds result v u into.old.items into.new.items (if spots.is_writable ascii c then characters.section_edges_by next (codes "<![CDATA[") c states.nothing else []) }
+        → AddsEdges result v u into.old.items into.new.items (if spots.is_writable ascii c then characters.section_edges_by next (codes "<![CDATA[") c states.nothing else []) }
 {
     if is_writable(ascii, c) {
         add_going_on(into, true, c, more, Pending::Nothing)

@@ -7,7 +7,7 @@ use Rattle.std.proofs.lemmas.List.{append-nil}
 use Rattle.std.proofs.lemmas.Str.{IsUtf8-from_ascii, utf8_valid_len-IsUtf8}
 use Rattle.std.proofs.lemmas.Str.Ascii.{IsAscii-nil, IsAscii-cons}
 use Rattle.hm_base.specs.Bytes.{all_pass}
-use Rattle.hm_base.specs.Source.{Placed, byte_of, is_text_byte, numbered, pairs_joined, placed_text, returns_replaced, without_mark, bad_sequence, zero_from, text_fault}
+use Rattle.hm_base.specs.Source.{PlacedByte, byte_of, is_text_byte, numbered, pairs_joined, placed_text, returns_replaced, without_mark, bad_sequence, zero_from, text_fault}
 use Rattle.hm_base.proofs.Bytes.{both_true, first_true, second_true}
 use Rattle.hm_base.proofs.Lines.{lines_line}
 use Rattle.hm_gen.specs.Pages.{page}
@@ -53,8 +53,8 @@ bytes_numbered n (c ∷ s) = ap (λ t. c ∷ t) (bytes_numbered (n + 1) s)
 
 its_text : (s : List ℕ) → all_pass is_plain s ≡ true → without_mark (numbered 0 s) ≡ numbered 0 s → IsItsText s
 its_text s h unmarked =
-    let places : placed_text s ≡ numbered 0 s = ap (λ (r : List Placed). returns_replaced (pairs_joined r)) unmarked ∙ kept_lines s (text_bytes s h) in
-    record { sound = no_fault s h; places = places; bytes = ap (λ (r : List Placed). map byte_of r) places ∙ bytes_numbered 0 s }
+    let places : placed_text s ≡ numbered 0 s = ap (λ (r : List PlacedByte). returns_replaced (pairs_joined r)) unmarked ∙ kept_lines s (text_bytes s h) in
+    record { sound = no_fault s h; places = places; bytes = ap (λ (r : List PlacedByte). map byte_of r) places ∙ bytes_numbered 0 s }
 
 unmarked : (number size : ℕ) → without_mark (numbered 0 (page number size)) ≡ numbered 0 (page number size)
 unfolding page

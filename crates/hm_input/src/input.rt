@@ -20,18 +20,20 @@ use hm_store::Store;
 use hm_tree::Tree;
 use std::alloc::Global;
 
-/// The tree of a page's text, after the rewrites that are asked for.
+/// The tree of a page's text, after the rewrites that are asked for. The text's memory is given back before them.
 fn read_tree(
     alloc: Global,
-    text: &SourceText,
+    text: SourceText,
     table: &Table,
     options: &TreeOptions,
 ) -> Result<Tree, Unread>
-    ensures ok { IfOk result (IsTreeRead table.now.entries text.now options.now) }
+    ensures ok { IfOk result (IsTreeRead table.now.entries text options.now) }
     ensures settled { IfOk result (λ tree. Settled tree) }
-    ensures err { IfErr result (NoTreeRead table.now.entries text.now) }
+    ensures err { IfErr result (NoTreeRead table.now.entries text) }
 {
-    match parse(alloc, text, table) {
+    let parsed = parse(alloc, &text, table);
+    text.release();
+    match parsed {
         Ok(tree) => match rewrite(alloc, tree, options) {
             Ok(tree) => Ok(tree),
             Err(Memory) => Err(Unread::Memory),
@@ -74,7 +76,7 @@ pub fn load_tree<S: Store>(
         Ok(text) => text,
         Err(unread) => return Err(unread),
     };
-    match read_tree(alloc, &text, &table, options) {
+    match read_tree(alloc, text, &table, options) {
         Ok(tree) => Ok(Input { table, tree }),
         Err(unread) => Err(unread),
     }
@@ -115,7 +117,7 @@ pub fn make_tree<S: Store>(
         Ok(made) => made,
         Err(unread) => return Err(unread),
     };
-    match read_tree(alloc, &text, &table, options) {
+    match read_tree(alloc, text, &table, options) {
         Ok(tree) => Ok(MadeInput {
             input: Input { table, tree },
             bytes,

@@ -17,7 +17,7 @@ use Rattle.hm_steps.specs.Steps.{Step}
 use Rattle.hm_layers.specs.Graphs.{IsLowStep, AreLow, IsNamedStep, AreNamed}
 use Rattle.hm_layers.specs.Layers.{edges_under, states_of}
 use Rattle.hm_layers.specs.Met.{MetView, list_at, made_at, Grows, IsStepOf, IsListOf}
-use Rattle.hm_layers.specs.Building.{BuildingView, steps_at, building, IsBuilding, Lead, IsBuilt, Adds}
+use Rattle.hm_layers.specs.Building.{BuildingView, steps_at, building, IsBuilding, Lead, IsBuilt, AddsSteps}
 
 -- ---- Leading on
 
@@ -89,7 +89,7 @@ building_more m n numbers last unit k is grows step few =
     only (suc j) d within = absurd (omega arith)
 
 pub adds_one : (m n : MetView) (numbers : List ℕ) (last : ℕ) (unit : Unit) (k : ℕ) → IsBuilding m numbers last → Grows m n → IsStepOf n last unit k
-    → (u : units.Unit) → StandsFor m.table.entries unit u → Adds (building m numbers last) (building n (numbers ++ k ∷ []) (made_at n k).behind) (u ∷ [])
+    → (u : units.Unit) → StandsFor m.table.entries unit u → AddsSteps (building m numbers last) (building n (numbers ++ k ∷ []) (made_at n k).behind) (u ∷ [])
 adds_one m n numbers last unit k is grows step u stands =
     let edges : Edges = edges_under n.table.entries n.rules in
     let bytes : units.Unit → Piece → List ℕ = piece_bytes n.table.entries in
@@ -107,9 +107,9 @@ adds_one m n numbers last unit k is grows step u stands =
 
 -- ---- Adding more and more
 
-pub adds_none : (a : BuildingView) → Adds a a []
+pub adds_none : (a : BuildingView) → AddsSteps a a []
 adds_none a = record { table = refl; rules = refl; units = λ us built. subst (IsBuilt a) (sym (append-nil us)) built }
 
-pub adds_on : (a b c : BuildingView) (xs ys : List units.Unit) → Adds a b xs → Adds b c ys → Adds a c (xs ++ ys)
+pub adds_on : (a b c : BuildingView) (xs ys : List units.Unit) → AddsSteps a b xs → AddsSteps b c ys → AddsSteps a c (xs ++ ys)
 adds_on a b c xs ys ab bc =
     record { table = bc.table ∙ ab.table; rules = bc.rules ∙ ab.rules; units = λ us built. subst (IsBuilt c) (append_assoc us xs ys) (bc.units (us ++ xs) (ab.units us built)) }

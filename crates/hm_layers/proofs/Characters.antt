@@ -13,7 +13,7 @@ use Rattle.hm_edges.specs.declared.units.TextKind as code
 use Rattle.hm_edges.specs.declared.units.Unit.TheVariants.{Character}
 use Rattle.hm_units.specs.Units as units
 use Rattle.hm_units.specs.Units.{TextKind, character_units, next_of}
-use Rattle.hm_layers.specs.Building.{BuildingView, Adds, AddsFront, IsBuilding, building}
+use Rattle.hm_layers.specs.Building.{BuildingView, AddsSteps, AddsFront, IsBuilding, building}
 use Rattle.hm_layers.specs.Met.{MetView, Grows, LeadsBack}
 use Rattle.hm_layers.proofs.Built.{adds_none, adds_on, adds_one, building_more}
 
@@ -48,7 +48,7 @@ front_on a b d kind cs mid rest one more =
       whole = append_assoc one.done more.done (character_units kind rest) ∙ ap (λ us. one.done ++ us) more.whole ∙ one.whole;
     }
 
-pub front_one : (a b : BuildingView) (kind : TextKind) (c : ℕ) (rest : List ℕ) → Adds a b (units.character kind c (next_of rest) ∷ []) → AddsFront a b kind (c ∷ rest) rest
+pub front_one : (a b : BuildingView) (kind : TextKind) (c : ℕ) (rest : List ℕ) → AddsSteps a b (units.character kind c (next_of rest) ∷ []) → AddsFront a b kind (c ∷ rest) rest
 front_one a b kind c rest one = record { done = units.character kind c (next_of rest) ∷ []; adds = one; whole = refl }
 
 first_of : (cs : List ℕ) → slice_get cs 0 ≡ next_of cs
@@ -56,18 +56,18 @@ first_of [] = refl
 first_of (c ∷ cs) = refl
 
 -- the first character of a text, by the one behind it, where there is one
-pub front_first : (a b : BuildingView) (kind : TextKind) (c : ℕ) (text rest : List ℕ) (next : Option ℕ) → IsUtf8 text → text ≡ encode_utf8 c ++ rest → next ≡ slice_get (chars rest) 0 → Adds a b (units.character kind c next ∷ []) → AddsFront a b kind (chars text) (chars rest)
+pub front_first : (a b : BuildingView) (kind : TextKind) (c : ℕ) (text rest : List ℕ) (next : Option ℕ) → IsUtf8 text → text ≡ encode_utf8 c ++ rest → next ≡ slice_get (chars rest) 0 → AddsSteps a b (units.character kind c next ∷ []) → AddsFront a b kind (chars text) (chars rest)
 front_first a b kind c text rest next utf8 cut is adds =
     subst (λ cs. AddsFront a b kind cs (chars rest)) (sym (chars_past_char text rest c utf8 cut))
-    (front_one a b kind c (chars rest) (subst (λ n. Adds a b (units.character kind c n ∷ [])) (is ∙ first_of (chars rest)) adds))
+    (front_one a b kind c (chars rest) (subst (λ n. AddsSteps a b (units.character kind c n ∷ [])) (is ∙ first_of (chars rest)) adds))
 
-pub front_all : (a b : BuildingView) (kind : TextKind) (cs rest : List ℕ) → rest ≡ [] → AddsFront a b kind cs rest → Adds a b (character_units kind cs)
+pub front_all : (a b : BuildingView) (kind : TextKind) (cs rest : List ℕ) → rest ≡ [] → AddsFront a b kind cs rest → AddsSteps a b (character_units kind cs)
 front_all a b kind cs rest none front =
-    subst (Adds a b) (sym (append-nil front.done) ∙ ap (λ r. front.done ++ character_units kind r) (sym none) ∙ front.whole) front.adds
+    subst (AddsSteps a b) (sym (append-nil front.done) ∙ ap (λ r. front.done ++ character_units kind r) (sym none) ∙ front.whole) front.adds
 
 -- and then the characters of the rest
-pub front_then : (a b d : BuildingView) (kind : TextKind) (cs rest : List ℕ) → AddsFront a b kind cs rest → Adds b d (character_units kind rest) → Adds a d (character_units kind cs)
-front_then a b d kind cs rest front adds = subst (Adds a d) front.whole (adds_on a b d front.done (character_units kind rest) front.adds adds)
+pub front_then : (a b d : BuildingView) (kind : TextKind) (cs rest : List ℕ) → AddsFront a b kind cs rest → AddsSteps b d (character_units kind rest) → AddsSteps a d (character_units kind cs)
+front_then a b d kind cs rest front adds = subst (AddsSteps a d) front.whole (adds_on a b d front.done (character_units kind rest) front.adds adds)
 
 -- ---- Characters that lead back
 
@@ -107,8 +107,8 @@ run_added m numbers last kind n (c ∷ front) d ds is back few =
     subst (λ x. StandsFor m.table.entries (Character kind c None true) (units.character (kind_of kind) c x)) next (edges.character kind c None (Some (next_in front d)) true lone refl) in
     let one : IsBuilding m (numbers ++ n ∷ []) last =
     subst (IsBuilding m (numbers ++ n ∷ [])) own.behind (building_more m m numbers last (Character kind c None true) n is (grows_self m) own.step (omega (arith, few))) in
-    let adds : Adds (building m numbers last) (building m (numbers ++ n ∷ []) last) (u ∷ []) =
-    subst (λ b. Adds (building m numbers last) (building m (numbers ++ n ∷ []) b) (u ∷ [])) own.behind (adds_one m m numbers last (Character kind c None true) n is (grows_self m) own.step u stands) in
+    let adds : AddsSteps (building m numbers last) (building m (numbers ++ n ∷ []) last) (u ∷ []) =
+    subst (λ b. AddsSteps (building m numbers last) (building m (numbers ++ n ∷ []) b) (u ∷ [])) own.behind (adds_one m m numbers last (Character kind c None true) n is (grows_self m) own.step u stands) in
     let more = run_added m (numbers ++ n ∷ []) last kind n front d ds one (λ k e within. back (suc k) e (omega (arith, within))) (omega (arith, few, length-append numbers (n ∷ []))) in
     let same : (numbers ++ n ∷ []) ++ replicate (length front) n ≡ numbers ++ replicate (suc (length front)) n = append_assoc numbers (n ∷ []) (replicate (length front) n) in
     record {

@@ -5,7 +5,7 @@ use Rattle.hm_refs.specs.Tables.{TableView}
 use Rattle.hm_units.specs.Units.{Unit, units_of}
 use Rattle.hm_parts.specs.Events.{units_at, units_left}
 use Rattle.hm_parts.proofs.UnitsLeft.{units_left-next, units_left-none}
-use Rattle.hm_layers.specs.Building.{BuildingView, Adds, IsBuilt}
+use Rattle.hm_layers.specs.Building.{BuildingView, AddsSteps, IsBuilt}
 use Rattle.hm_layers.specs.declared.rules.EdgeRules.{EdgeRules}
 
 -- The steps of some events are there. Those of event i and of all behind it are left.
@@ -19,7 +19,7 @@ pub record SomeEvents (b : BuildingView) (v : TableView) (r : EdgeRules) (w : Li
 pub events_begin : (b : BuildingView) (v : TableView) (r : EdgeRules) (w : List Event) → b.table ≡ v → b.rules ≡ r → IsBuilt b [] → SomeEvents b v r w 0
 events_begin b v r w table rules built = record { table = table; rules = rules; done = []; built = built; whole = refl }
 
-pub events_next : (a b : BuildingView) (v : TableView) (r : EdgeRules) (w : List Event) (i : ℕ) (us : List Unit) → i < length w → us ≡ units_at r.spell w i → SomeEvents a v r w i → Adds a b us → SomeEvents b v r w (i + 1)
+pub events_next : (a b : BuildingView) (v : TableView) (r : EdgeRules) (w : List Event) (i : ℕ) (us : List Unit) → i < length w → us ≡ units_at r.spell w i → SomeEvents a v r w i → AddsSteps a b us → SomeEvents b v r w (i + 1)
 events_next a b v r w i us within is some one =
     record {
       table = one.table ∙ some.table;

@@ -52,7 +52,7 @@ abbrev pub IsBuilt : BuildingView → List units.Unit → Type 0
 IsBuilt b us = Lead (edges_under b.table.entries b.rules) (piece_bytes b.table.entries) us first_layer b.steps (states_of b.table b.last)
 
 -- the steps of more units are added behind
-pub record Adds (old new : BuildingView) (more : List units.Unit) : Type 0 where
+pub record AddsSteps (old new : BuildingView) (more : List units.Unit) : Type 0 where
   pub table : new.table ≡ old.table
   pub rules : new.rules ≡ old.rules
   pub units : (us : List units.Unit) → IsBuilt old us → IsBuilt new (us ++ more)
@@ -60,5 +60,5 @@ pub record Adds (old new : BuildingView) (more : List units.Unit) : Type 0 where
 -- the steps of characters are added, of which the rest is left
 pub record AddsFront (old new : BuildingView) (kind : units.TextKind) (cs rest : List ℕ) : Type 0 where
   pub done : List units.Unit
-  pub adds : Adds old new done
+  pub adds : AddsSteps old new done
   pub whole : done ++ character_units kind rest ≡ character_units kind cs

@@ -6,7 +6,7 @@ ghost use Rattle.hm_units.specs.Units.{character_units};
 ghost use Rattle.hm_edges.specs.Units.{StandsFor, kind_of};
 ghost use Rattle.hm_parts.specs.Parts.{AreParts, IsPart, part_units, parts_units};
 ghost use Rattle.hm_layers.specs.Graphs.{AreNamed};
-ghost use Rattle.hm_layers.specs.Building.{Adds, AddsFront, IsBuilt};
+ghost use Rattle.hm_layers.specs.Building.{AddsSteps, AddsFront, IsBuilt};
 
 use crate::graph::Graph;
 use crate::met::{LIMIT, Met};
@@ -59,7 +59,7 @@ impl<'t> Building<'t> {
 
     /// Adds the step of a unit.
     fn add(&mut self, unit: Unit) -> Result<(), Memory>
-        ensures { OnOk result ((u : units.Unit) → StandsFor self.old.table.entries unit u → Adds self.old self.new (u ∷ [])) }
+        ensures { OnOk result ((u : units.Unit) → StandsFor self.old.table.entries unit u → AddsSteps self.old self.new (u ∷ [])) }
     {
         if self.numbers.len() >= LIMIT - 1 {
             return Err(Memory);
@@ -73,7 +73,7 @@ impl<'t> Building<'t> {
 
     /// Adds the step of a character, behind which the next one stands in the same text.
     fn add_character(&mut self, kind: TextKind, c: char, next: char) -> Result<(), Memory>
-        ensures { OnOk result (Adds self.old self.new (units.character (kind_of kind) c (Some next) ∷ [])) }
+        ensures { OnOk result (AddsSteps self.old self.new (units.character (kind_of kind) c (Some next) ∷ [])) }
     {
         if self.numbers.len() >= LIMIT - 1 {
             return Err(Memory);
@@ -86,7 +86,7 @@ impl<'t> Building<'t> {
 
     /// Adds the step of the last character of a text.
     fn add_last(&mut self, kind: TextKind, c: char) -> Result<(), Memory>
-        ensures { OnOk result (Adds self.old self.new (units.character (kind_of kind) c None ∷ [])) }
+        ensures { OnOk result (AddsSteps self.old self.new (units.character (kind_of kind) c None ∷ [])) }
     {
         self.add(Unit::Character {
             kind,
@@ -136,7 +136,7 @@ impl<'t> Building<'t> {
 
     /// Adds the steps of the characters of a text, the first one by itself.
     fn add_from_first(&mut self, kind: TextKind, text: &str) -> Result<(), Memory>
-        ensures { OnOk result (Adds self.old self.new (character_units (kind_of kind) (chars text.now))) }
+        ensures { OnOk result (AddsSteps self.old self.new (character_units (kind_of kind) (chars text.now))) }
     {
         let mut rest = text;
         while !rest.is_empty() {
@@ -149,7 +149,7 @@ impl<'t> Building<'t> {
 
     /// Adds the steps of the characters of a text.
     fn add_characters(&mut self, kind: TextKind, text: &str) -> Result<(), Memory>
-        ensures { OnOk result (Adds self.old self.new (character_units (kind_of kind) (chars text.now))) }
+        ensures { OnOk result (AddsSteps self.old self.new (character_units (kind_of kind) (chars text.now))) }
     {
         let usual = self.met.usual_number(self.last, kind);
         let rest = self.add_alike(kind, usual, text)?;
@@ -159,7 +159,7 @@ impl<'t> Building<'t> {
     /// Adds the steps of a part.
     fn add_part(&mut self, part: &Part<'_>) -> Result<(), Memory>
         requires { IsPart part.now }
-        ensures { OnOk result (Adds self.old self.new (part_units part.now)) }
+        ensures { OnOk result (AddsSteps self.old self.new (part_units part.now)) }
     {
         match *part {
             Part::One { unit, own: _ } => self.add(unit),
@@ -173,7 +173,7 @@ impl<'t> Building<'t> {
     /// Adds the steps of these parts.
     pub(crate) fn add_parts(&mut self, parts: &[Part<'_>]) -> Result<(), Memory>
         requires { AreParts parts.now }
-        ensures { OnOk result (Adds self.old self.new (parts_units parts.now)) }
+        ensures { OnOk result (AddsSteps self.old self.new (parts_units parts.now)) }
     {
         for part in parts {
             self.add_part(part)?;

@@ -7,7 +7,7 @@ use Rattle.memchr.specs.Find.{IsFirstByte, OccursAt, Passes, is_byte}
 use Rattle.hm_base.specs.Bytes.{cut_at, strip}
 use Rattle.hm_base.specs.RawText.{is_found}
 use Rattle.hm_mark_scan.specs.Comments.{begins, cut_where}
-use Rattle.hm_mark_scan.specs.Found.{IsFound, IsEnd}
+use Rattle.hm_mark_scan.specs.Found.{IsFound, IsMarkEnd}
 use Rattle.hm_mark_scan.proofs.Cuts.{cut_at_where}
 
 -- the cut at the first place where ends finds something
@@ -65,7 +65,7 @@ one_passes s m k o = (Decides-eqb (get_or s k 0) m).1 (rw add-zero at (o.reads 0
 
 -- the piece up to the first end
 pub found_end : (ends : List ℕ → Option (List ℕ)) (s : List ℕ) (from to n : ℕ) → from ≤ to → to ≤ length s → ((k : ℕ) → from ≤ k → k < to → ends (drop k s) ≡ None)
-    → IsEnd ends (drop to s) n → IsFound s from (cut_where ends (drop from s)) (record { from = from; to = to; behind = to + n })
+    → IsMarkEnd ends (drop to s) n → IsFound s from (cut_where ends (drop from s)) (record { from = from; to = to; behind = to + n })
 found_end ends s from to n low high none end =
     let long : length (drop to s) ≡ length s - to = length-drop to s in
     let fits : n ≤ length s - to = subst (λ m. n ≤ m) long end.inside in
@@ -105,7 +105,7 @@ found_piece s mark from k o none some first last inside =
     subst (λ m. strip mark (drop m s) ≡ None) at (rw drop-drop at (not_stripped mark (drop from s) (j - from) (omega arith) (none (j - from) (omega arith)))) in
     let rest : length (drop (from + k) s) ≡ length s - (from + k) = length-drop (from + k) s in
     let beyond : drop (k + length mark) (drop from s) ≡ drop (length mark) (drop (from + k) s) = drop-drop (k + length mark) from s ∙ ap (λ m. drop m s) (omega arith) ∙ sym (drop-drop (length mark) (from + k) s) in
-    let end : IsEnd (strip mark) (drop (from + k) s) (length mark) = record {
+    let end : IsMarkEnd (strip mark) (drop (from + k) s) (length mark) = record {
       some = some;
       inside = omega arith;
       first = rw (reads 0 some) first;

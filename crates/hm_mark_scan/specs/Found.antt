@@ -20,7 +20,7 @@ pub record IsFoundBehind (s : List ℕ) (start : ℕ) (cut : Option Cut) (p : Ma
   pub found : IsFound s p.from cut p
 
 -- The text begins with an end of n bytes, as ends looks for it. Its first and its last byte are ASCII.
-pub record IsEnd (ends : List ℕ → Option (List ℕ)) (s : List ℕ) (n : ℕ) : Type 0 where
+pub record IsMarkEnd (ends : List ℕ → Option (List ℕ)) (s : List ℕ) (n : ℕ) : Type 0 where
   pub some : 0 < n
   pub inside : n ≤ length s
   pub first : slice_index s 0 < 128

@@ -4,7 +4,7 @@ ghost use Rattle.hm_tree.specs.Tokens.{BeginsAt, Reads, refused};
 ghost use Rattle.hm_base.specs.Bytes.{strip};
 ghost use Rattle.hm_mark_scan.specs.Comments as comments;
 ghost use Rattle.hm_mark_scan.specs.Comments.{comment_at, comment_front, read_comment, read_cdata, cut_comment, cut_where, behind_end};
-ghost use Rattle.hm_mark_scan.specs.Found.{Finds, IsEnd, IsFoundBehind};
+ghost use Rattle.hm_mark_scan.specs.Found.{Finds, IsMarkEnd, IsFoundBehind};
 
 use crate::doctypes::begins_doctype;
 use crate::search::{MarkPiece, begins_with, behind_mark, up_to_brackets, up_to_greater};
@@ -40,7 +40,7 @@ pub fn begins_comment(text: &str, at: u32) -> bool
 
 /// The length of the end of a comment that the bytes begin with.
 fn comment_end(bytes: &[u8]) -> Option<usize>
-    ensures { MatchOption result (behind_end bytes.now ≡ None) (IsEnd behind_end bytes.now) }
+    ensures { MatchOption result (behind_end bytes.now ≡ None) (IsMarkEnd behind_end bytes.now) }
 {
     if begins_with(bytes, b"-->") {
         Some(3)

@@ -3,7 +3,7 @@ use Rattle.std.proofs.Common.{◌≡◌, ℕ, ◌+◌, Bool, true, false, not, �
 use Rattle.std.proofs.lemmas.Bool.{and_parts, eqb-true}
 use Rattle.hm_base.specs.Bytes.{is_space, lower, all_pass}
 use Rattle.hm_base.specs.Forms.{is_blank}
-use Rattle.hm_base.specs.Source.{Placed, numbered, without_mark, pairs_joined, returns_replaced, byte_of, text_of}
+use Rattle.hm_base.specs.Source.{PlacedByte, numbered, without_mark, pairs_joined, returns_replaced, byte_of, text_of}
 use Rattle.hm_markup_forms.specs.Gaps.{is_gap}
 use Rattle.hm_markup_forms.proofs.Gaps.{gap_blank}
 
@@ -38,7 +38,7 @@ lines_from n (c ∷ d ∷ s) = by_tests (c == 13) refl (d == 10) refl (lines_fro
     by_tests false e b f far near = rw (e, e) (ap (λ r. c ∷ r) near)
 
 pub text_is_newlines : (page : List ℕ) → without_mark (numbered 0 page) ≡ numbered 0 page → text_of page ≡ newlines page
-text_is_newlines page unmarked = ap (λ (s : List Placed). map byte_of (returns_replaced (pairs_joined s))) unmarked ∙ lines_from 0 page
+text_is_newlines page unmarked = ap (λ (s : List PlacedByte). map byte_of (returns_replaced (pairs_joined s))) unmarked ∙ lines_from 0 page
 
 -- a page that begins with another byte than a mark has none
 pub unmarked : (c : ℕ) (s : List ℕ) → (c == 0xEF) ≡ false → without_mark (numbered 0 (c ∷ s)) ≡ numbered 0 (c ∷ s)

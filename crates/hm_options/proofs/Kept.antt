@@ -4,7 +4,7 @@ use Rattle.hm_base.specs.Walks.{Attribute, has_name}
 use Rattle.hm_elements.specs.Tables.{is_boolean}
 use Rattle.hm_elements.specs.Attributes.{is_redundant}
 use Rattle.hm_options.specs.Rewrites.{without, without_value, is_empty, no_boolean_values}
-use Rattle.hm_options.specs.Rules.{Rule, PlainDoctype, BooleanValues, EmptyAttributes, RedundantAttributes, attributes_rule, attribute_rule, is_dropped, valued}
+use Rattle.hm_options.specs.Rules.{AttributeRule, PlainDoctype, BooleanValues, EmptyAttributes, RedundantAttributes, attributes_rule, attribute_rule, is_dropped, valued}
 use Rattle.hm_options.proofs.OneByOne.{each_count, each_fresh}
 
 pub same_list : (rule : Attribute → List Attribute) → ((a : Attribute) → rule a ≡ a ∷ []) → (attributes : List Attribute) → attributes ≡ flat_map rule attributes
@@ -24,7 +24,7 @@ booleans_each n [] = refl
 booleans_each n (a ∷ attributes) = ap (λ rest. without_value a ∷ rest) (booleans_each n attributes)
 
 -- the attributes are rewritten one by one
-pub rule_each : (rule : Rule) (n : List ℕ) (attributes : List Attribute) → attributes_rule rule n attributes ≡ flat_map (attribute_rule rule n) attributes
+pub rule_each : (rule : AttributeRule) (n : List ℕ) (attributes : List Attribute) → attributes_rule rule n attributes ≡ flat_map (attribute_rule rule n) attributes
 rule_each PlainDoctype n attributes = same_list (attribute_rule PlainDoctype n) (λ a. refl) attributes
 rule_each BooleanValues n attributes = booleans_each n attributes
 rule_each EmptyAttributes n attributes = without_each is_empty attributes
@@ -35,14 +35,14 @@ named_by true a = refl
 named_by false a = refl
 
 -- a rewrite keeps names
-pub valued_name : (rule : Rule) (a : Attribute) → (valued rule a).name ≡ a.name
+pub valued_name : (rule : AttributeRule) (a : Attribute) → (valued rule a).name ≡ a.name
 valued_name PlainDoctype a = refl
 valued_name BooleanValues a = named_by (is_boolean a.name) a
 valued_name EmptyAttributes a = refl
 valued_name RedundantAttributes a = refl
 
-pub rule_count : (rule : Rule) (n : List ℕ) (attributes : List Attribute) → length (flat_map (attribute_rule rule n) attributes) ≤ length attributes
+pub rule_count : (rule : AttributeRule) (n : List ℕ) (attributes : List Attribute) → length (flat_map (attribute_rule rule n) attributes) ≤ length attributes
 rule_count rule n attributes = each_count (is_dropped rule n) (valued rule) attributes
 
-pub fresh_name : (rule : Rule) (n name : List ℕ) (attributes : List Attribute) → has_name name attributes ≡ false → has_name name (flat_map (attribute_rule rule n) attributes) ≡ false
+pub fresh_name : (rule : AttributeRule) (n name : List ℕ) (attributes : List Attribute) → has_name name attributes ≡ false → has_name name (flat_map (attribute_rule rule n) attributes) ≡ false
 fresh_name rule n name attributes h = each_fresh (is_dropped rule n) (valued rule) (valued_name rule) name attributes h

@@ -11,7 +11,7 @@ use Rattle.hm_elements.specs.Paths.{is_in_raw, is_in_text}
 use Rattle.hm_elements.specs.Settled.{no_zero_in_values, all_names_in_form, all_utf8, Settled}
 use Rattle.hm_elements.specs.Places.{AttributesAllowed, TextAllowed, html_path}
 use Rattle.hm_options.specs.Rewrites.{by, no_comment, uncommented}
-use Rattle.hm_options.specs.Rules.{Rule, PlainDoctype, BooleanValues, EmptyAttributes, RedundantAttributes, event_rule, attributes_rule, attribute_rule, is_dropped, valued}
+use Rattle.hm_options.specs.Rules.{AttributeRule, PlainDoctype, BooleanValues, EmptyAttributes, RedundantAttributes, event_rule, attributes_rule, attribute_rule, is_dropped, valued}
 use Rattle.hm_options.proofs.Kept.{rule_each, rule_count, valued_name, fresh_name}
 use Rattle.hm_options.proofs.Ruled.{start_by, svg_by, text_by, comment_by, end_by}
 use Rattle.hm_space.specs.Rewritten.{first_event, rewritten}
@@ -19,14 +19,14 @@ use Rattle.hm_space.proofs.Becoming.{Fine, Becomes, element_of, settled_is_fine,
 use Rattle.hm_space.proofs.Collapsed.{text_before_others}
 
 -- a doctype becomes a doctype
-doctype_one : (rule : Rule) (legacy : Bool) (path : List Element) (before next : Option Event) → (other : Bool) × (event_rule rule path before (doctype legacy) next ≡ doctype other ∷ [])
+doctype_one : (rule : AttributeRule) (legacy : Bool) (path : List Element) (before next : Option Event) → (other : Bool) × (event_rule rule path before (doctype legacy) next ≡ doctype other ∷ [])
 doctype_one PlainDoctype legacy path before next = (false, refl)
 doctype_one BooleanValues legacy path before next = (legacy, refl)
 doctype_one EmptyAttributes legacy path before next = (legacy, refl)
 doctype_one RedundantAttributes legacy path before next = (legacy, refl)
 
 -- where a text comes first, one comes first after the rewrite
-begins_alike : (rule : Rule) (path : List Element) (before : Option Event) (w : List Event) → begins_text (rewritten (event_rule rule) path before w) ≡ begins_text w
+begins_alike : (rule : AttributeRule) (path : List Element) (before : Option Event) (w : List Event) → begins_text (rewritten (event_rule rule) path before w) ≡ begins_text w
 begins_alike rule path before [] = refl
 begins_alike rule path before (doctype legacy ∷ w) = rw ((doctype_one rule legacy path before (first_event w)).1) refl
 begins_alike rule path before (start n false attributes ∷ w) = rw (start_by rule n attributes path before (first_event w)) refl
@@ -70,19 +70,19 @@ value_utf8_by : (b : Bool) (a : Attribute) → is_utf8 a.value ≡ true → is_u
 value_utf8_by true a h = no_bytes
 value_utf8_by false a h = h
 
-valued_zero : (rule : Rule) (a : Attribute) → has_byte 0 a.value ≡ false → has_byte 0 (valued rule a).value ≡ false
+valued_zero : (rule : AttributeRule) (a : Attribute) → has_byte 0 a.value ≡ false → has_byte 0 (valued rule a).value ≡ false
 valued_zero PlainDoctype a h = h
 valued_zero BooleanValues a h = value_zero_by (is_boolean a.name) a h
 valued_zero EmptyAttributes a h = h
 valued_zero RedundantAttributes a h = h
 
-valued_utf8 : (rule : Rule) (a : Attribute) → is_utf8 a.value ≡ true → is_utf8 (valued rule a).value ≡ true
+valued_utf8 : (rule : AttributeRule) (a : Attribute) → is_utf8 a.value ≡ true → is_utf8 (valued rule a).value ≡ true
 valued_utf8 PlainDoctype a h = h
 valued_utf8 BooleanValues a h = value_utf8_by (is_boolean a.name) a h
 valued_utf8 EmptyAttributes a h = h
 valued_utf8 RedundantAttributes a h = h
 
-module _ (rule : Rule) (n : List ℕ) where
+module _ (rule : AttributeRule) (n : List ℕ) where
   still_distinct : (attributes : List Attribute) → has_distinct_names attributes ≡ true → has_distinct_names (flat_map (attribute_rule rule n) attributes) ≡ true
   still_distinct [] h = refl
   still_distinct (a ∷ attributes) h =
@@ -118,7 +118,7 @@ module _ (rule : Rule) (n : List ℕ) where
     utf8 = still_utf8 attributes a.utf8;
   })
 
-module _ (rule : Rule) where
+module _ (rule : AttributeRule) where
   end_first : (path : List Element) (before : Option Event) (w : List Event) → begins_end w ≡ true → begins_end (rewritten (event_rule rule) path before w) ≡ true
   end_first path before [] h = absurd (cc)
   end_first path before (doctype legacy ∷ w) h = absurd (cc)

@@ -32,7 +32,9 @@ fn by_events(alloc: Global, tree: Tree, options: &TreeOptions) -> Result<Tree, M
         || options.empty
         || options.redundant
     {
-        rewritten(alloc, &tree, options)
+        let made = rewritten(alloc, &tree, options)?;
+        tree.release();
+        Ok(made)
     } else {
         Ok(tree)
     }
@@ -42,7 +44,9 @@ fn by_space(alloc: Global, tree: Tree, set: bool, conservative: bool) -> Result<
     ensures { IfOk result (λ made. made ≡ where_set set (collapsed conservative) tree) }
 {
     if set {
-        collapse(alloc, &tree, conservative)
+        let made = collapse(alloc, &tree, conservative)?;
+        tree.release();
+        Ok(made)
     } else {
         Ok(tree)
     }

@@ -4,7 +4,7 @@ use Rattle.std.proofs.lemmas.Bool.{and_parts}
 use Rattle.hm_attr_spell.specs.AttributeEdges.{closed_at}
 use Rattle.hm_graph.specs.UnitEdges.{edges_of}
 use Rattle.hm_graph.specs.Ways.{Way}
-use Rattle.hm_outdone.specs.Laws.{ForgettingIsNoLoss, HasWay}
+use Rattle.hm_outdone.specs.Laws.{ForgettingIsNoLoss, HasWayOver}
 use Rattle.hm_outdone.specs.Outdone.{forgotten, may_forget}
 use Rattle.hm_refs.specs.Names.{Entry, is_front, is_name}
 use Rattle.hm_refs.specs.References.{blocks, is_semicolon}
@@ -255,17 +255,17 @@ edge_under : (g : Spelling) (unit : Unit) (s t : State) → IsUnder t s → AreB
 edge_under g unit s t (inl same) = subst (λ x. AreBettered IsBetter (edges_of g unit s) (edges_of g unit x)) (sym same) (all_bettered (edges_of g unit s))
 edge_under g unit s t (inr (h, is)) = subst (λ x. AreBettered IsBetter (edges_of g unit s) (edges_of g unit x)) (sym is) (unit_bettered g unit s h)
 
-way_under : (g : Spelling) (units : List Unit) (s t : State) (b : List ℕ) → IsUnder t s → Way (edges_of g) units s b → HasWay (edges_of g) units t b
+way_under : (g : Spelling) (units : List Unit) (s t : State) (b : List ℕ) → IsUnder t s → Way (edges_of g) units s b → HasWayOver (edges_of g) units t b
 way_under g [] s t b u w = record { bytes = []; way = refl; short = omega arith }
 way_under g (unit ∷ units) s t b u (e, i, (rest, is, w)) = with_edge (edge_under g unit s t u e i) (λ x v. way_under g units e.to x rest v w)
   where
-    with_way : (f : Edge) → IsIn f (edges_of g unit t) → edge_length f ≤ edge_length e → HasWay (edges_of g) units f.to rest → HasWay (edges_of g) (unit ∷ units) t b
+    with_way : (f : Edge) → IsIn f (edges_of g unit t) → edge_length f ≤ edge_length e → HasWayOver (edges_of g) units f.to rest → HasWayOver (edges_of g) (unit ∷ units) t b
     with_way f j short more =
         let left : length b ≡ length e.bytes + length rest = rw is (length-append e.bytes rest) in
         let right : length (f.bytes ++ more.bytes) ≡ length f.bytes + length more.bytes = length-append f.bytes more.bytes in
         record { bytes = f.bytes ++ more.bytes; way = (f, j, (more.bytes, refl, more.way)); short = let k = more.short in omega (arith, left, right, short, k) }
 
-    with_edge : HasBetter IsBetter (edges_of g unit t) e → ((x : State) → IsUnder x e.to → HasWay (edges_of g) units x rest) → HasWay (edges_of g) (unit ∷ units) t b
+    with_edge : HasBetter IsBetter (edges_of g unit t) e → ((x : State) → IsUnder x e.to → HasWayOver (edges_of g) units x rest) → HasWayOver (edges_of g) (unit ∷ units) t b
     with_edge (f, j, (short, v)) more = with_way f j short (more f.to v)
 
 pub forgetting : ForgettingIsNoLoss

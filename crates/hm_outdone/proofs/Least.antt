@@ -7,7 +7,7 @@ use Rattle.hm_refs.specs.Tables.{IsIn, first, later}
 use Rattle.hm_graph.proofs.LeastPrices.{IsFirst, first_bounds, first_of_best, least_number, least_reached, over_is, same_price_self}
 use Rattle.hm_graph.proofs.States.{same_is}
 use Rattle.hm_graph.specs.Ways.{Edges, lesser, over, best, least, same_price, first_edge, along, first_way}
-use Rattle.hm_outdone.specs.Laws.{HasWay, LosesNothing, OutdoneEdgesAreNeedless, PricesBound, SameFirstWay, SameLeast}
+use Rattle.hm_outdone.specs.Laws.{HasWayOver, LosesNothing, OutdoneEdgesAreNeedless, PricesBound, SameFirstWay, SameLeast}
 use Rattle.hm_outdone.specs.Outdone.{forgotten, kept_behind, kept_edges, may_forget, outdoes_behind, outdoes_in_front, serves, sparse}
 use Rattle.hm_units.specs.Edges.{Edge, edge_length}
 use Rattle.hm_units.specs.States.{State, first_state, same_state}
@@ -180,7 +180,7 @@ same_best f favours es = by_price (best f es) refl
 favours_least : (es : Edges) → LosesNothing es → (units : List Unit) → Favours (least es units)
 favours_least es loses units t s h n k = by_test (same_state t s) refl h
   where
-    of_way : (m : ℕ) → least es units s ≡ Some m → HasWay es units (forgotten s) (first_way es units s) → length (first_way es units s) ≡ m → AtLeast n (least es units (forgotten s)) → n ≤ m
+    of_way : (m : ℕ) → least es units s ≡ Some m → HasWayOver es units (forgotten s) (first_way es units s) → length (first_way es units s) ≡ m → AtLeast n (least es units (forgotten s)) → n ≤ m
     of_way m e w long l =
         let (q, is, short) = least_number es units (forgotten s) w.bytes w.way in
         let z : n ≤ q = subst (AtLeast n) is l in

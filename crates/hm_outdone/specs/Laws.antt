@@ -16,14 +16,14 @@ use Rattle.hm_units.specs.Units.{Unit, units_of}
 use Rattle.hm_ways.specs.Laws.{sparing_plain}
 
 -- a way with no more bytes than b
-pub record HasWay (es : Edges) (units : List Unit) (s : State) (b : List ℕ) : Type 0 where
+pub record HasWayOver (es : Edges) (units : List Unit) (s : State) (b : List ℕ) : Type 0 where
   pub bytes : List ℕ
   pub way : Way es units s bytes
   pub short : length bytes ≤ length b
 
 -- for each way from a state in which what is pending may be forgotten there is one from the same place with nothing pending
 abbrev pub LosesNothing : Edges → Type 0
-LosesNothing es = (units : List Unit) (s : State) (b : List ℕ) → may_forget s ≡ true → Way es units s b → HasWay es units (forgotten s) b
+LosesNothing es = (units : List Unit) (s : State) (b : List ℕ) → may_forget s ≡ true → Way es units s b → HasWayOver es units (forgotten s) b
 
 -- what may be written with something pending may be written with nothing pending, and leaves no more pending
 abbrev pub ForgettingIsNoLoss : Type 0

@@ -1,7 +1,7 @@
 -- Parts that are added to a buffer, one after the other.
 use Rattle.std.proofs.Common.{◌≡◌, List, [], ◌∷◌, ◌++◌, Result, Ok, Err, sym, ap, subst, ◌∙◌, append_assoc, append-nil}
 use Rattle.hm_units.specs.Units as units
-use Rattle.hm_parts.specs.Adding.{Adds}
+use Rattle.hm_parts.specs.Adding.{AddsParts}
 use Rattle.hm_parts.specs.Parts.{AreParts, IsPart, part_units, parts_units}
 use Rattle.hm_parts.specs.declared.parts.Part.{Part}
 
@@ -13,11 +13,11 @@ parts_more : (ps : List Part) (p : Part) → AreParts ps → IsPart p → ArePar
 parts_more [] p are is = (is, tt)
 parts_more (q ∷ ps) p are is = (are.0, parts_more ps p are.1 is)
 
-pub adds_one : {E : Type 0} (before now : List Part) (p : Part) → now ≡ before ++ p ∷ [] → IsPart p → Adds {E = E} (Ok tt) before now (part_units p)
+pub adds_one : {E : Type 0} (before now : List Part) (p : Part) → now ≡ before ++ p ∷ [] → IsPart p → AddsParts {E = E} (Ok tt) before now (part_units p)
 adds_one before now p put is = record { units = rw put (units_more before p); parts = λ are. rw put (parts_more before p are is) }
 
 pub adds_then : {E : Type 0} (q r : Result (Unit {0}) E) (before between now : List Part) (more again : List units.Unit) (x : Unit {0})
-    → q ≡ Ok x → Adds q before between more → Adds r between now again → Adds r before now (more ++ again)
+    → q ≡ Ok x → AddsParts q before between more → AddsParts r between now again → AddsParts r before now (more ++ again)
 adds_then (Err z) r before between now more again x is h k = absurd (cc)
 adds_then (Ok z) (Ok y) before between now more again x is h k = record {
   units = k.units ∙ ap (λ us. us ++ again) h.units ∙ append_assoc (parts_units before) more again;
@@ -25,5 +25,5 @@ adds_then (Ok z) (Ok y) before between now more again x is h k = record {
 }
 adds_then (Ok z) (Err y) before between now more again x is h k = record { units = tt; parts = λ are. tt }
 
-pub adds_as : {E : Type 0} (r : Result (Unit {0}) E) (before now : List Part) (more again : List units.Unit) → more ≡ again → Adds r before now more → Adds r before now again
-adds_as r before now more again e h = subst (λ us. Adds r before now us) e h
+pub adds_as : {E : Type 0} (r : Result (Unit {0}) E) (before now : List Part) (more again : List units.Unit) → more ≡ again → AddsParts r before now more → AddsParts r before now again
+adds_as r before now more again e h = subst (λ us. AddsParts r before now us) e h

@@ -1,7 +1,7 @@
 //! Parts put into a buffer.
 ghost use Rattle.std.specs.Prelude.{◌≡◌, ◌<◌, ◌^◌, [], ◌∷◌, length};
 ghost use Rattle.hm_units.specs.Units as units;
-ghost use Rattle.hm_parts.specs.Adding.{Adds};
+ghost use Rattle.hm_parts.specs.Adding.{AddsParts};
 ghost use Rattle.hm_parts.specs.Parts.{HasOwn, IsPart, part_units, unit_with};
 
 use crate::parts::Part;
@@ -11,7 +11,7 @@ use hm_edges::Unit;
 /// Adds a part behind.
 pub(crate) fn add<'t>(into: &mut Vec<Part<'t>>, part: Part<'t>) -> Result<(), Memory>
     requires { IsPart part }
-    ensures { Adds result into.old.items into.new.items (part_units part.entry) }
+    ensures { AddsParts result into.old.items into.new.items (part_units part.entry) }
 {
     into.push(part)?;
     Ok(())
@@ -20,7 +20,7 @@ pub(crate) fn add<'t>(into: &mut Vec<Part<'t>>, part: Part<'t>) -> Result<(), Me
 /// Adds a unit with its own bytes.
 pub(crate) fn add_one<'t>(into: &mut Vec<Part<'t>>, unit: Unit, own: &'t str) -> Result<(), Memory>
     requires { HasOwn unit own.now }
-    ensures { Adds result into.old.items into.new.items (unit_with unit own.now ∷ []) }
+    ensures { AddsParts result into.old.items into.new.items (unit_with unit own.now ∷ []) }
 {
     add(into, Part::One { unit, own })
 }
@@ -28,7 +28,7 @@ pub(crate) fn add_one<'t>(into: &mut Vec<Part<'t>>, unit: Unit, own: &'t str) ->
 /// Adds bytes without a choice.
 pub(crate) fn add_fixed<'t>(into: &mut Vec<Part<'t>>, bytes: &'t str) -> Result<(), Memory>
     requires { length bytes.now < 2 ^ 32 }
-    ensures { Adds result into.old.items into.new.items (units.fixed bytes.now ∷ []) }
+    ensures { AddsParts result into.old.items into.new.items (units.fixed bytes.now ∷ []) }
 {
     let len = len_of(bytes);
     add_one(into, Unit::Fixed { len }, bytes)

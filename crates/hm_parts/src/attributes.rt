@@ -4,7 +4,7 @@ ghost use Rattle.hm_base.specs.Walks.{attributes_size};
 ghost use Rattle.hm_tree.specs.Views.{attributes_shown};
 ghost use Rattle.hm_units.specs.Units as units;
 ghost use Rattle.hm_units.specs.Units.{attribute_units};
-ghost use Rattle.hm_parts.specs.Adding.{Adds};
+ghost use Rattle.hm_parts.specs.Adding.{AddsParts};
 
 use crate::adding::{add, add_one, len_of};
 use crate::parts::Part;
@@ -15,7 +15,7 @@ use hm_tree::AttrsView;
 /// Adds an attribute.
 fn add_attribute<'t>(into: &mut Vec<Part<'t>>, name: &'t str, value: &'t str) -> Result<(), Memory>
     requires { length name.now < 2 ^ 32 }
-    ensures { Adds result into.old.items into.new.items (attribute_units (record { name = name.now; value = value.now } ∷ [])) }
+    ensures { AddsParts result into.old.items into.new.items (attribute_units (record { name = name.now; value = value.now } ∷ [])) }
 {
     let len = len_of(name);
     if value.is_empty() {
@@ -35,7 +35,7 @@ fn add_attribute<'t>(into: &mut Vec<Part<'t>>, name: &'t str, value: &'t str) ->
 /// Adds the attributes in their order.
 fn add_attributes<'t>(into: &mut Vec<Part<'t>>, attrs: AttrsView<'t>) -> Result<(), Memory>
     requires { attributes_size (attributes_shown attrs) < 2 ^ 32 }
-    ensures { Adds result into.old.items into.new.items (attribute_units (attributes_shown attrs.entry)) }
+    ensures { AddsParts result into.old.items into.new.items (attribute_units (attributes_shown attrs.entry)) }
 {
     for i in 0..attrs.len() {
         let (name, value) = attrs.at(i);
@@ -52,7 +52,7 @@ pub(crate) fn add_tag<'t>(
     closes: bool,
 ) -> Result<(), Memory>
     requires { length name.now + attributes_size (attributes_shown attrs) < 2 ^ 32 }
-    ensures { Adds result into.old.items into.new.items (units.tag_name name.now ∷ (attribute_units (attributes_shown attrs.entry) ++ units.tag_close closes ∷ [])) }
+    ensures { AddsParts result into.old.items into.new.items (units.tag_name name.now ∷ (attribute_units (attributes_shown attrs.entry) ++ units.tag_close closes ∷ [])) }
 {
     let len = len_of(name);
     add_one(into, Unit::TagName { len }, name)?;

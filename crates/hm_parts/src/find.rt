@@ -5,7 +5,7 @@ ghost use Rattle.hm_elements.specs.Paths.{outer};
 ghost use Rattle.hm_elements.specs.Tables as tables;
 ghost use Rattle.hm_tree.specs.Views.{attributes_shown};
 ghost use Rattle.hm_units.specs.Units as units;
-ghost use Rattle.hm_parts.specs.Adding.{Adds};
+ghost use Rattle.hm_parts.specs.Adding.{AddsParts};
 ghost use Rattle.hm_parts.specs.Events.{previous_at, units_at};
 ghost use Rattle.hm_parts.specs.Parts.{AreParts, parts_units};
 
@@ -44,7 +44,7 @@ fn add_text<'t>(
 ) -> Result<(), Memory>
     requires inside { i < length tree.now }
     requires short { length text.now < 2 ^ 32 }
-    ensures { Adds result into.old.items into.new.items (units.text_units (previous_at tree.now i) (path_after [] (take i tree.now)) text.now raw) }
+    ensures { AddsParts result into.old.items into.new.items (units.text_units (previous_at tree.now i) (path_after [] (take i tree.now)) text.now raw) }
 {
     if raw {
         return add_fixed(into, text);
@@ -69,7 +69,7 @@ fn add_start<'t>(
 ) -> Result<(), Memory>
     requires inside { i < length tree.now }
     requires short { length name.now + attributes_size (attributes_shown attrs) < 2 ^ 32 }
-    ensures { Adds result into.old.items into.new.items (units.start_units rules (previous_at tree.now i) name.now foreign (attributes_shown attrs.entry) (drop (i + 1) tree.now)) }
+    ensures { AddsParts result into.old.items into.new.items (units.start_units rules (previous_at tree.now i) name.now foreign (attributes_shown attrs.entry) (drop (i + 1) tree.now)) }
 {
     let closes = may_close_itself(tree, i, foreign);
     if attrs.len() > 0 {
@@ -109,7 +109,7 @@ fn add_end<'t>(
 ) -> Result<(), Memory>
     requires inside { i < length tree.now }
     requires short { length name.now < 2 ^ 32 }
-    ensures { Adds result into.old.items into.new.items (units.end_units rules name.now foreign (outer (path_after [] (take i tree.now))) (drop (i + 1) tree.now)) }
+    ensures { AddsParts result into.old.items into.new.items (units.end_units rules name.now foreign (outer (path_after [] (take i tree.now))) (drop (i + 1) tree.now)) }
 {
     if has_no_end_tag(name, foreign) {
         return Ok(());

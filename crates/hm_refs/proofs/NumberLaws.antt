@@ -4,7 +4,7 @@ use Rattle.std.specs.Char.{InScalarRange, OutOfScalarRange}
 use Rattle.std.specs.List.{list_all}
 use Rattle.std.proofs.lemmas.List.{at_drop_more}
 use Rattle.hm_refs.specs.Numbers.{point_of, replaced, look_up, look_back, or_number, or_itself, best_number}
-use Rattle.hm_refs.specs.Laws.{IsBest}
+use Rattle.hm_refs.specs.Laws.{IsBestNumber}
 use Rattle.hm_refs.proofs.Bools.{and_left, and_right, eq_of, le_of}
 
 -- a test that each pair of the table passes, at a pair that is found
@@ -144,7 +144,7 @@ point_above n h = by_test (n == 0 || (nat_le 0xD800 n && nat_le n 0xDFFF)) (nat_
     by_test false b e = rw e refl
 
 -- the plain reading
-pub best_is_least : (c n : ℕ) → best_number c ≡ Some n → IsBest c n
+pub best_is_least : (c n : ℕ) → best_number c ≡ Some n → IsBestNumber c n
 best_is_least c n h = record { gives = (best_gives c n h).0; least = λ m e. by_least m (best_least m c e) }
   where
     by_least : (m : ℕ) → Least m c → n ≤ m

@@ -13,7 +13,7 @@ use Rattle.hm_refs.specs.References as refs
 use Rattle.hm_refs.specs.References.{numeric, value_of, is_semicolon, blocks}
 use Rattle.hm_refs.specs.Tables.{IsTable, entry_at, found_at, points_list}
 use Rattle.hm_refs.proofs.Found.{longest_is_longest, good_of}
-use Rattle.hm_refs.specs.Reads.{IsEndOf, IsRead}
+use Rattle.hm_refs.specs.Reads.{IsEndOf, IsReadReference}
 use Rattle.hm_refs.specs.declared.scan.Reference.{Reference}
 use Rattle.hm_refs.proofs.Digits.{all_pass_at, digit_is}
 use Rattle.hm_refs.proofs.RunEnds.{front_passes, rest_cons}
@@ -87,7 +87,7 @@ semicolon_end s to more inside by = by_cases (cases_lt to (length s)) by
 
 pub number_read : (s : List ℕ) (from to base first more : ℕ) → base ≤ 16 → IsEndOf (is_digit_of base) s from to → (to ≡ from → ⊥)
     → first ≡ point_of (value_of base (slice_range s from to)) → more ≡ cond (head_is is_semicolon (drop to s)) 1 0
-    → IsRead (numeric from base (front (is_digit_of base) (drop from s)) (behind (is_digit_of base) (drop from s))) s (record { points = record { first = first; second = None }; len = to + more })
+    → IsReadReference (numeric from base (front (is_digit_of base) (drop from s)) (behind (is_digit_of base) (drop from s))) s (record { points = record { first = first; second = None }; len = to + more })
 number_read s from to base first more high e some is by =
     let low : from ≤ to = e.forward in
     let inside : to ≤ length s = e.inside in
@@ -174,7 +174,7 @@ found_named t text id k e =
 -- the reference by a name that was found, where it isn't blocked
 pub name_read : (t : List Entry) (text : List ℕ) (id : ℕ) (in_value blocked : Bool) (r : Reference) → IsTable t → longest t text ≡ Some (found_at t id text)
     → blocked ≡ (in_value && not (is_closed (entry_at t id).name) && head_is blocks (drop (length (entry_at t id).name) text)) → blocked ≡ false
-    → points_list r.points ≡ (entry_at t id).points → r.len ≡ length (entry_at t id).name → IsRead (refs.named in_value (longest t text)) text r
+    → points_list r.points ≡ (entry_at t id).points → r.len ≡ length (entry_at t id).name → IsReadReference (refs.named in_value (longest t text)) text r
 unfolding refs.is_blocked
 name_read t text id in_value blocked r k e by free points len =
     let found = found_named t text id k e in

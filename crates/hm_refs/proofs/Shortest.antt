@@ -10,7 +10,7 @@ use Rattle.std.proofs.lemmas.Int.Digits.{digits_value-lt}
 use Rattle.hm_base.specs.Bytes.{all_pass, is_digit_of, is_null}
 use Rattle.hm_refs.specs.Numbers.{point_of, replaced, look_up, look_back, or_number, or_itself, best_number}
 use Rattle.hm_refs.specs.References.{value_of}
-use Rattle.hm_refs.specs.Laws.{Gives, end_of, decimal_reference, hexadecimal_reference, is_shorter_in_hexadecimal, IsShortest, IsShorter}
+use Rattle.hm_refs.specs.Laws.{Gives, end_of, decimal_reference, hexadecimal_reference, is_shorter_in_hexadecimal, IsShortestNumber, IsShorter}
 use Rattle.hm_refs.proofs.Bools.{and_left, and_right, le_of}
 use Rattle.hm_refs.proofs.NumberLaws.{best_gives, best_least, Least, same_eq, back_passes, up_passes, goes_back, all_go_back}
 
@@ -155,7 +155,7 @@ digits_write : (base n : ℕ) → 2 ≤ base → base ≤ 16 → n < base ^ 64 �
 unfolding value_of
 digits_write base n low high h = (digits_is_IsNumeral base false low high n h).1
 
-pub shortest : (c n : ℕ) → best_number c ≡ Some n → IsShortest c n
+pub shortest : (c n : ℕ) → best_number c ≡ Some n → IsShortestNumber c n
 shortest c n h = record {
   gives = digits_give 10 n c (omega arith) (omega arith) (omega (arith, g.1)) g.0;
   decimals = λ ds closed d. by_decimal ds closed d (best_least (value_of 10 ds) c d.value);

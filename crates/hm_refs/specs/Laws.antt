@@ -27,12 +27,12 @@ abbrev pub NoneIsLongest : Type 0
 NoneIsLongest = (t : List Entry) (s : List ℕ) → longest t s ≡ None → (q r : List ℕ) → q ++ r ≡ s → is_name t q ≡ false
 
 -- n gives the code point c, and no lesser number does
-pub record IsBest (c n : ℕ) : Type 0 where
+pub record IsBestNumber (c n : ℕ) : Type 0 where
   pub gives : point_of n ≡ c
   pub least : (m : ℕ) → point_of m ≡ c → n ≤ m
 
 abbrev pub BestIsLeast : Type 0
-BestIsLeast = (c n : ℕ) → best_number c ≡ Some n → IsBest c n
+BestIsLeast = (c n : ℕ) → best_number c ≡ Some n → IsBestNumber c n
 
 -- where there is none, no number gives c
 abbrev pub NoneIsBest : Type 0
@@ -62,13 +62,13 @@ abbrev pub is_shorter_in_hexadecimal : ℕ → Bool
 is_shorter_in_hexadecimal c = nat_le 1000000 c && nat_le c 1048575
 
 -- the decimal digits of n give c, and but for a few code points no reference by number is shorter
-pub record IsShortest (c n : ℕ) : Type 0 where
+pub record IsShortestNumber (c n : ℕ) : Type 0 where
   pub gives : Gives 10 (decimal n) c
   pub decimals : (ds : List ℕ) (closed : Bool) → Gives 10 ds c → length (decimal_reference (decimal n) closed) ≤ length (decimal_reference ds closed)
   pub hexadecimals : is_shorter_in_hexadecimal c ≡ false → (x : ℕ) (ds : List ℕ) (closed : Bool) → Gives 16 ds c → length (decimal_reference (decimal n) closed) ≤ length (hexadecimal_reference x ds closed)
 
 abbrev pub BestIsShortest : Type 0
-BestIsShortest = (c n : ℕ) → best_number c ≡ Some n → IsShortest c n
+BestIsShortest = (c n : ℕ) → best_number c ≡ Some n → IsShortestNumber c n
 
 -- for those the hexadecimal digits of c give it, are shorter by one byte, and no others are shorter
 pub record IsShorter (c : ℕ) : Type 0 where

@@ -14,7 +14,7 @@ pub record IsEndOf (p : ℕ → Bool) (s : List ℕ) (from to : ℕ) : Type 0 wh
   pub stops : to < length s → p (slice_index s to) ≡ false
 
 -- this reference at the front of the text; its last byte is ASCII
-pub record IsRead (o : Option refs.Reference) (text : List ℕ) (r : Reference) : Type 0 where
+pub record IsReadReference (o : Option refs.Reference) (text : List ℕ) (r : Reference) : Type 0 where
   pub is : o ≡ Some (record { points = points_list r.points; len = r.len })
   pub some : 0 < r.len
   pub inside : r.len ≤ length text

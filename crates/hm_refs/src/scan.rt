@@ -6,7 +6,7 @@ ghost use Rattle.hm_refs.specs.Names as names;
 ghost use Rattle.hm_refs.specs.Names.{longest};
 ghost use Rattle.hm_refs.specs.Numbers.{point_of};
 ghost use Rattle.hm_refs.specs.References as refs;
-ghost use Rattle.hm_refs.specs.Reads.{IsEndOf, IsRead};
+ghost use Rattle.hm_refs.specs.Reads.{IsEndOf, IsReadReference};
 
 use crate::Table;
 use crate::laws::every_table;
@@ -79,7 +79,7 @@ fn numeric_reference(text: &[u8], from: usize, base: u32) -> Option<Reference>
     requires high { base ≤ 16 }
     ensures { let rest = drop from text.now in
         let read = refs.numeric from base (front (is_digit_of base) rest) (behind (is_digit_of base) rest) in
-        MatchOption result (read ≡ None) (IsRead read text.now) }
+        MatchOption result (read ≡ None) (IsReadReference read text.now) }
 {
     let to = digits_end(text, from, base);
     if to == from {
@@ -108,7 +108,7 @@ fn semicolon_len(text: &[u8], at: usize) -> usize
 /// The reference behind whose `&` a `#` stands (13.2.5.75).
 fn hash_reference(text: &[u8]) -> Option<Reference>
     requires { 2 ≤ length text.now }
-    ensures { MatchOption result (refs.hash (drop 2 text.now) ≡ None) (IsRead (refs.hash (drop 2 text.now)) text.now) }
+    ensures { MatchOption result (refs.hash (drop 2 text.now) ≡ None) (IsReadReference (refs.hash (drop 2 text.now)) text.now) }
 {
     if text.len() > 2 && (text[2] == b'x' || text[2] == b'X') {
         numeric_reference(text, 3, 16)
@@ -159,7 +159,7 @@ fn begins_with_blocking(rest: &[u8]) -> bool
 /// The reference by the longest name that the text begins with (13.2.5.73).
 fn named_reference(table: &Table, text: &[u8], in_value: bool) -> Option<Reference>
     ensures { let read = refs.named in_value (longest table.now.entries text.now) in
-        MatchOption result (read ≡ None) (IsRead read text.now) }
+        MatchOption result (read ≡ None) (IsReadReference read text.now) }
 {
     every_table(table);
     let id = table.longest(text)?;
@@ -179,7 +179,7 @@ pub fn read_reference(table: &Table, text: &[u8], in_value: bool) -> Option<Refe
     requires some { 0 < length text.now }
     requires amp { slice_index text.now 0 ≡ 38 }
     ensures { let read = refs.reference table.now.entries in_value text.now in
-        MatchOption result (read ≡ None) (IsRead read text.now) }
+        MatchOption result (read ≡ None) (IsReadReference read text.now) }
 {
     if text.len() > 1 && text[1] == b'#' {
         hash_reference(text)

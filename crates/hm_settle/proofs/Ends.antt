@@ -9,7 +9,7 @@ use Rattle.hm_elements.specs.Paths.{html_element, is_in_svg, front, behind, fall
 use Rattle.hm_elements.proofs.TableTools.{same_bytes}
 use Rattle.hm_settle.specs.Moves.{refuses, end_moves, ends_nothing}
 use Rattle.hm_settle.specs.Elements.{name_of, element_of, path_of, IsPath}
-use Rattle.hm_settle.specs.Plans.{IsReached, IsEnd}
+use Rattle.hm_settle.specs.Plans.{IsReached, IsEndPlan}
 use Rattle.hm_settle.specs.declared.element.OpenElement.{OpenElement}
 use Rattle.hm_settle.proofs.Elements.{path_of-last, path_of-all, length-path_of, is_inner}
 use Rattle.hm_settle.proofs.Fronts.{length-front}
@@ -45,7 +45,7 @@ reached_in_html os n left html least most e =
       least = least;
     }
 
-pub ends_there : (os : List OpenElement) (n : List ℕ) (left : ℕ) (o : OpenElement) → o ≡ get_or os (left - 1) o → IsPath os → IsReached os n left → bytes_eq (name_of o.name) n ≡ true → (n ≡ body → ⊥) → IsEnd os n (left - 1)
+pub ends_there : (os : List OpenElement) (n : List ℕ) (left : ℕ) (o : OpenElement) → o ≡ get_or os (left - 1) o → IsPath os → IsReached os n left → bytes_eq (name_of o.name) n ≡ true → (n ≡ body → ⊥) → IsEndPlan os n (left - 1)
 ends_there os n left o at path reached same other =
     let all : path_of (take left os) ≡ element_of o ∷ path_of (take (left - 1) os) = path_of-last os left (left - 1) o at (omega (arith, reached.least)) (omega (arith, reached.least, reached.closes)) in
     record {

@@ -12,7 +12,7 @@ use Rattle.hm_elements.proofs.TableTools.{same_bytes}
 use Rattle.hm_settle.specs.Moves.{start_moves, start_on}
 use Rattle.hm_settle.specs.Answers.{elements_of}
 use Rattle.hm_settle.specs.Elements.{name_of, path_of, IsPath}
-use Rattle.hm_settle.specs.Plans.{opened, IsPlan}
+use Rattle.hm_settle.specs.Plans.{opened, IsStartPlan}
 use Rattle.hm_settle.specs.declared.element.OpenElement.{OpenElement}
 use Rattle.hm_settle.specs.declared.moves.Made.{Made}
 use Rattle.hm_settle.specs.declared.moves.Made.TheVariants.{Nothing}
@@ -24,7 +24,7 @@ pub boundary_in_svg : (n : List ℕ) → holds_svg_text n ≡ is_boundary n true
 unfolding holds_svg_text is_boundary
 boundary_in_svg n = refl
 
-pub svg_plan : (os : List OpenElement) (n : List ℕ) → IsPath os → is_in_svg (path_of os) ≡ true → is_svg_name n ≡ true → holds_svg_text (current (path_of os)) ≡ false → length os < DEPTH_LIMIT → IsPlan os n (record { left = length os; made = Nothing; is_void = false })
+pub svg_plan : (os : List OpenElement) (n : List ℕ) → IsPath os → is_in_svg (path_of os) ≡ true → is_svg_name n ≡ true → holds_svg_text (current (path_of os)) ≡ false → length os < DEPTH_LIMIT → IsStartPlan os n (record { left = length os; made = Nothing; is_void = false })
 svg_plan os n path svg known text room =
     record {
       closed = [];
@@ -64,7 +64,7 @@ html_opens os n left r html known other e h =
     html_known n (path_of os) html known other ∙ ap (start_on n (front (yields_to n) (path_of os))) (sym e) ∙ h (front (yields_to n) (path_of os))
 
 pub html_plan : (os : List OpenElement) (n : List ℕ) (left : ℕ) (made : Made) (void : Bool) → is_in_svg (path_of os) ≡ false → start_moves n (path_of os) ≡ opened n (front (yields_to n) (path_of os)) (path_of (take left os)) (Ok made) → 2 ≤ left → left ≤ length os → path_of (take left os) ≡ behind (yields_to n) (path_of os)
-    → length (take left os) + length (elements_of made) < DEPTH_LIMIT → is_void n ≡ void → IsPlan os n (record { left = left; made = made; is_void = void })
+    → length (take left os) + length (elements_of made) < DEPTH_LIMIT → is_void n ≡ void → IsStartPlan os n (record { left = left; made = made; is_void = void })
 html_plan os n left made void html moves least most e room v =
     record {
       closed = front (yields_to n) (path_of os);

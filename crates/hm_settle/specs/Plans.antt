@@ -26,7 +26,7 @@ abbrev pub opens_as_svg : List ℕ → List Element → Bool
 opens_as_svg n path = is_in_svg path || bytes_eq n svg
 
 -- what a start tag does: so many elements stay, these are made, and the element opens
-pub record IsPlan (os : List OpenElement) (n : List ℕ) (plan : MovePlan) : Type 0 where
+pub record IsStartPlan (os : List OpenElement) (n : List ℕ) (plan : MovePlan) : Type 0 where
   pub closed : List Element
   pub does_move : start_moves n (path_of os) ≡ moves closed (elements_of plan.made) (element n (opens_as_svg n (path_of os)) ∷ (elements_of plan.made ++ path_of (take plan.left os)))
   pub closes : length closed + plan.left ≡ length os
@@ -42,7 +42,7 @@ pub record IsReached (os : List OpenElement) (n : List ℕ) (left : ℕ) : Type 
   pub least : 2 ≤ left
 
 -- so many elements stay behind an end tag
-pub record IsEnd (os : List OpenElement) (n : List ℕ) (left : ℕ) : Type 0 where
+pub record IsEndPlan (os : List OpenElement) (n : List ℕ) (left : ℕ) : Type 0 where
   pub closed : List Element
   pub does_move : end_moves n (path_of os) ≡ moves closed [] (path_of (take left os))
   pub closes : length closed + left ≡ length os

@@ -8,7 +8,7 @@ ghost use Rattle.hm_elements.specs.Paths.{behind, yields_to, falls_to, stands_on
 ghost use Rattle.hm_settle.specs.Answers.{elements_of};
 ghost use Rattle.hm_settle.specs.Elements.{path_of, marks_of, IsPath, AreMarked};
 ghost use Rattle.hm_settle.specs.Moves.{refuses, start_moves, end_moves, start_on};
-ghost use Rattle.hm_settle.specs.Plans.{IsPlan, IsReached, IsEnd, opened};
+ghost use Rattle.hm_settle.specs.Plans.{IsStartPlan, IsReached, IsEndPlan, opened};
 
 use crate::Made;
 use crate::element::{Marks, OpenElement};
@@ -42,7 +42,7 @@ pub(crate) fn marks(elements: &[OpenElement]) -> Marks
 /// What a start tag of this name does.
 pub(crate) fn plan_start(elements: &[OpenElement], tag: Named<'_>) -> Result<MovePlan, Rule>
     requires { IsPath elements.now }
-    ensures ok { IfOk result (λ plan. IsPlan elements.now tag.entry.name.now plan) }
+    ensures ok { IfOk result (λ plan. IsStartPlan elements.now tag.entry.name.now plan) }
     ensures rule { IfErr result (λ rule. start_moves tag.entry.name.now (path_of elements.now) ≡ refuses rule) }
 {
     let innermost = &elements[elements.len() - 1];
@@ -58,7 +58,7 @@ fn plan_in_svg(elements: &[OpenElement], current: &str, name: &str) -> Result<Mo
     requires path { IsPath elements.now }
     requires svg { paths.is_in_svg (path_of elements.now) ≡ true }
     requires current { current.now ≡ paths.current (path_of elements.now) }
-    ensures ok { IfOk result (λ plan. IsPlan elements.now name.now plan) }
+    ensures ok { IfOk result (λ plan. IsStartPlan elements.now name.now plan) }
     ensures rule { IfErr result (λ rule. start_moves name.now (path_of elements.now) ≡ refuses rule) }
 {
     if !svg_name(name) {
@@ -81,7 +81,7 @@ fn plan_in_svg(elements: &[OpenElement], current: &str, name: &str) -> Result<Mo
 fn plan_in_html(elements: &[OpenElement], tag: Named<'_>) -> Result<MovePlan, Rule>
     requires path { IsPath elements.now }
     requires html { paths.is_in_svg (path_of elements.now) ≡ false }
-    ensures ok { IfOk result (λ plan. IsPlan elements.now tag.entry.name.now plan) }
+    ensures ok { IfOk result (λ plan. IsStartPlan elements.now tag.entry.name.now plan) }
     ensures rule { IfErr result (λ rule. start_moves tag.entry.name.now (path_of elements.now) ≡ refuses rule) }
 {
     let class = tag.kind().class;
@@ -164,7 +164,7 @@ fn stands(elements: &[OpenElement], made: Made, tag: Named<'_>) -> bool
 pub(crate) fn left_by_end(elements: &[OpenElement], name: &str) -> Result<usize, Rule>
     requires path { IsPath elements.now }
     requires name { name.now ≢ body }
-    ensures ok { IfOk result (λ left. IsEnd elements.now name.now left) }
+    ensures ok { IfOk result (λ left. IsEndPlan elements.now name.now left) }
     ensures rule { IfErr result (λ rule. end_moves name.now (path_of elements.now) ≡ refuses rule) }
 {
     let reached = reached_by_end(elements, name);

@@ -9,7 +9,7 @@ use Rattle.std.proofs.lemmas.Grind.{common_steps}
 use Rattle.std.proofs.lemmas.List.{take-append-drop}
 use Rattle.hm_store.specs.Calls.{CallLog}
 use Rattle.hm_store.specs.Files.{FileMap, content, Pulls}
-use Rattle.hm_store.specs.MemStore.{Reading, StoredFiles, rest_of, advanced}
+use Rattle.hm_store.specs.MemStore.{FileReading, StoredFiles, rest_of, advanced}
 
 drop_more : (n t : ℕ) (c : List ℕ) → drop n (drop t c) ≡ drop (t + n) c
 drop_more n t c = grind (arith, common_steps)
@@ -39,19 +39,19 @@ pulls_left c into was t n count copied = record {
 stays : (t : ℕ) (c : List ℕ) → drop (t + 0) c ≡ drop t c
 stays t c = ap (λ k. drop k c) (omega arith)
 
-pulls_by : {E : Type 0} (files : FileMap) (reading : Option Reading) (result : Result ℕ E) (into was : List ℕ) → is_some reading ≡ true
+pulls_by : {E : Type 0} (files : FileMap) (reading : Option FileReading) (result : Result ℕ E) (into was : List ℕ) → is_some reading ≡ true
     → IfOk result (λ n. n ≡ min (length (unwrap_or (rest_of files reading) [])) (length was)) → IfOk result (λ n. into ≡ take n (unwrap_or (rest_of files reading) []) ++ drop n was)
     → IfOk result (λ n. Pulls (rest_of files reading) (rest_of files (advanced reading (result_unwrap_or result 0))) n into)
 pulls_by files None result into was there count copied = absurd (cc)
 pulls_by files (Some r) (Ok n) into was there count copied = pulls_left (content files r.name) into was r.taken n count copied
 pulls_by files (Some r) (Err e) into was there count copied = tt
 
-stays_by : {E : Type 0} (files : FileMap) (reading : Option Reading) (result : Result ℕ E) → OnErr result (rest_of files (advanced reading (result_unwrap_or result 0)) ≡ rest_of files reading)
+stays_by : {E : Type 0} (files : FileMap) (reading : Option FileReading) (result : Result ℕ E) → OnErr result (rest_of files (advanced reading (result_unwrap_or result 0)) ≡ rest_of files reading)
 stays_by files reading (Ok n) = tt
 stays_by files None (Err e) = refl
 stays_by files (Some r) (Err e) = ap Some (stays r.taken (content files r.name))
 
-module _ {E : Type 0} (files : FileMap) (reading : Option Reading) (result : Result ℕ E) (new : StoredFiles) (writing : Option (List ℕ)) (calls : CallLog)
+module _ {E : Type 0} (files : FileMap) (reading : Option FileReading) (result : Result ℕ E) (new : StoredFiles) (writing : Option (List ℕ)) (calls : CallLog)
     (is : new ≡ record { files = files; reading = advanced reading (result_unwrap_or result 0); writing = writing; calls = calls }) where
   pub pulls : (into was : List ℕ) → is_some reading ≡ true
       → IfOk result (λ n. n ≡ min (length (unwrap_or (rest_of files reading) [])) (length was)) → IfOk result (λ n. into ≡ take n (unwrap_or (rest_of files reading) []) ++ drop n was)

@@ -2,12 +2,12 @@
 use Rattle.std.specs.Prelude.{ℕ, ◌<◌, List, Some, None}
 use Rattle.std.specs.declared.option.Option.{Option}
 use Rattle.std.specs.Option.{option_map}
-use Rattle.hm_store.specs.declared.mem_store.Reading.{Reading as Place}
-use Rattle.hm_store.specs.MemStore.{Reading}
+use Rattle.hm_store.specs.declared.mem_store.FileReading.{FileReading as Place}
+use Rattle.hm_store.specs.MemStore.{FileReading}
 use Rattle.hm_store.specs.NamedFiles.{name_at}
 
 -- the reading at a place
-abbrev pub reading_at : List (List ℕ) → Option Place → Option Reading
+abbrev pub reading_at : List (List ℕ) → Option Place → Option FileReading
 reading_at names place = option_map (λ r. record { name = name_at names r.place; taken = r.taken }) place
 
 -- a place is below that number, where there is one

@@ -17,7 +17,7 @@ use std::marker::Model;
 
 /// What is being read: the place of a file, and how many of its bytes were taken.
 #[derive(Clone, Copy)]
-struct Reading {
+struct FileReading {
     place: usize,
     taken: usize,
 }
@@ -26,7 +26,7 @@ struct Reading {
 #[derive(Drop)]
 pub struct MemStore {
     files: FileTable,
-    reading: Option<Reading>,
+    reading: Option<FileReading>,
     // the place of the file that is being written
     writing: Option<usize>,
     calls: Calls,
@@ -140,7 +140,7 @@ impl Store for MemStore {
         }
         match self.files.place(name) {
             Some(place) => {
-                self.reading = Some(Reading { place, taken: 0 });
+                self.reading = Some(FileReading { place, taken: 0 });
                 Ok(true)
             }
             None => Ok(false),
@@ -166,9 +166,9 @@ impl Store for MemStore {
         }
         match self.reading {
             None => unreachable!(),
-            Some(Reading { place, taken }) => {
+            Some(FileReading { place, taken }) => {
                 let count = copy_rest(self.files.bytes(place), taken, into);
-                self.reading = Some(Reading {
+                self.reading = Some(FileReading {
                     place,
                     taken: taken + count,
                 });

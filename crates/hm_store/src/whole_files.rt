@@ -2,7 +2,7 @@
 ghost use Rattle.std.specs.Prelude.{◌≡◌, ◌+◌, ◌≤◌, ◌<◌, ◌⊎◌, ◌^◌, IfOk, OnOk, OnErr, IsOk, IsSome, Err, true, false, length};
 ghost use Rattle.hm_store.specs.Causes.{Rose, HasCause};
 ghost use Rattle.hm_store.specs.Files.{file_of, with_file, Takes, IsMissing, HasFront};
-ghost use Rattle.hm_store.specs.Loading.{Follows};
+ghost use Rattle.hm_store.specs.Loading.{FollowsOn};
 
 use crate::{Failed, Store};
 use std::alloc::{AllocError, Global};
@@ -40,7 +40,7 @@ fn pull_more<S: Store>(store: &mut S, bytes: &mut Vec<u8>, limit: usize) -> Resu
     ensures writing { S.is_writing store.new ≡ S.is_writing store.old }
     ensures target { S.target store.new ≡ S.target store.old }
     ensures follows { IfOk result
-        (λ more. Follows bytes.old.items (S.rest store.old) bytes.new.items (S.rest store.new) more) }
+        (λ more. FollowsOn bytes.old.items (S.rest store.old) bytes.new.items (S.rest store.new) more) }
     ensures within { length bytes.new.items ≤ limit + 1 }
     ensures later { S.faults store.old ≤ S.faults store.new }
     ensures failed { result ≡ Err LoadFault.Store → Rose (S.faults store.old) (S.faults store.new) }

@@ -10,7 +10,7 @@ use Rattle.hm_refs.specs.References as refs
 use Rattle.hm_refs.specs.Tables.{points_list}
 use Rattle.hm_tag_scan.specs.Values.{reference_at, value_from, read_value}
 use Rattle.hm_tag_scan.specs.Reads.{IsNext}
-use Rattle.hm_refs.specs.Reads.{IsRead}
+use Rattle.hm_refs.specs.Reads.{IsReadReference}
 use Rattle.hm_refs.specs.declared.scan.Reference.{Reference}
 use Rattle.hm_tag_scan.proofs.TagParts.{split_at}
 use Rattle.hm_refs.proofs.RunEnds.{range_more}
@@ -107,7 +107,7 @@ after_pred zero h = absurd (omega arith)
 after_pred (suc n) h = refl
 
 -- a reference begins there
-pub next_is : (t : List Entry) (s : List ℕ) (from amp : ℕ) (r : Reference) → IsUtf8 s → IsPassed t s from amp → amp < length s → get_or s amp 0 ≡ 38 → IsRead (refs.reference t true (drop amp s)) (drop amp s) r
+pub next_is : (t : List Entry) (s : List ℕ) (from amp : ℕ) (r : Reference) → IsUtf8 s → IsPassed t s from amp → amp < length s → get_or s amp 0 ≡ 38 → IsReadReference (refs.reference t true (drop amp s)) (drop amp s) r
     → IsNext t s from (record { at = amp; reference = r })
 unfolding reference_at
 next_is t s from amp r u p h is found =

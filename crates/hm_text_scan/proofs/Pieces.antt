@@ -5,7 +5,7 @@ use Rattle.std.proofs.lemmas.Str.{IsCharBoundary-after_ascii, IsCharBoundary-bef
 use Rattle.std.proofs.lemmas.Bool.{cases_lt}
 use Rattle.std.proofs.lemmas.List.{drop-drop, get_or-drop}
 use Rattle.hm_refs.specs.Names.{Entry}
-use Rattle.hm_refs.specs.Reads.{IsRead}
+use Rattle.hm_refs.specs.Reads.{IsReadReference}
 use Rattle.hm_refs.specs.declared.scan.Reference.{Reference}
 use Rattle.hm_tree.specs.Tokens.{Reads, taken, slice, points}
 use Rattle.hm_refs.specs.Tables.{points_list}
@@ -19,7 +19,7 @@ text_by t rcdata [] = refl
 text_by t rcdata (c ∷ s) = refl
 
 -- where a reference begins
-pub reads_points : (t : List Entry) (rcdata : Bool) (s : List ℕ) (at : ℕ) (r : Reference) → IsUtf8 s → at < length s → IsRead (reference_here t (drop at s)) (drop at s) r
+pub reads_points : (t : List Entry) (rcdata : Bool) (s : List ℕ) (at : ℕ) (r : Reference) → IsUtf8 s → at < length s → IsReadReference (reference_here t (drop at s)) (drop at s) r
     → Reads (read_text t rcdata (drop at s)) s (tokens.Points r.points) (at + r.len)
 reads_points t rcdata s at r u h found =
     let some : 0 < r.len = found.some in

@@ -1,7 +1,7 @@
 //! Plain text: what is neither markup nor a character reference.
 ghost use Rattle.std.specs.Prelude.{◌≡◌, ◌<◌, ◌≤◌, drop, length, MatchOption, None};
 ghost use Rattle.memchr.specs.Find.{IsFirstByte};
-ghost use Rattle.hm_refs.specs.Reads.{IsRead};
+ghost use Rattle.hm_refs.specs.Reads.{IsReadReference};
 ghost use Rattle.hm_text_scan.specs.Places as places;
 ghost use Rattle.hm_text_scan.specs.Places.{IsPlainTo, ends_before, is_sign};
 ghost use Rattle.hm_text_scan.specs.Texts as texts;
@@ -40,7 +40,7 @@ pub fn markup_here(bytes: &[u8]) -> bool
 pub fn reference_here(table: &Table, bytes: &[u8]) -> Option<Reference>
     requires { 0 < length bytes.now }
     ensures { let read = places.reference_here table.now.entries bytes.now in
-        MatchOption result (read ≡ None) (IsRead read bytes.now) }
+        MatchOption result (read ≡ None) (IsReadReference read bytes.now) }
 {
     if bytes[0] == b'&' {
         read_reference(table, bytes, false)

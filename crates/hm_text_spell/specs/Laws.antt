@@ -59,7 +59,7 @@ WaysSpell =
     → Spelled t rules kind cs from to b after
 
 -- edges through the code points, with no more bytes than b, to an end that is kept
-pub record HasWay (t : List Entry) (es : UnitEdges) (kind : TextKind) (cs : List ℕ) (from : State) (b after : List ℕ) : Type 0 where
+pub record HasTextWay (t : List Entry) (es : UnitEdges) (kind : TextKind) (cs : List ℕ) (from : State) (b after : List ℕ) : Type 0 where
   pub to : State
   pub bytes : List ℕ
   pub way : WayTo es (character_units kind cs) from bytes to
@@ -73,4 +73,4 @@ abbrev pub SpellingsHaveWays : Type 0
 SpellingsHaveWays =
     (t : List Entry) → IsTable t → (rules : CharacterRules) (es : UnitEdges) → HasCharacterEdges t rules es
     → (kind : TextKind) (cs : List ℕ) (from : State) (b after : List ℕ) → MayStand t kind from → SpellsPoints t rules (spot_at kind from.at) cs b after → keeps_at t kind from (b ++ after) ≡ true
-    → HasWay t es kind cs from b after
+    → HasTextWay t es kind cs from b after

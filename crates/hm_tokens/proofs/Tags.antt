@@ -16,7 +16,7 @@ use Rattle.hm_tag_scan.specs.Reading.{attribute_limit, has_bad_name, tag_fault, 
 use Rattle.hm_tag_scan.proofs.Cases.{tag_name_written}
 use Rattle.hm_tag_scan.proofs.Fronts.{front_all}
 use Rattle.hm_tokens.specs.First.{Mode}
-use Rattle.hm_tokens.specs.Laws.{IsPlain, SoundNames, reads_markup, EndsElement, IsStart, IsEnd, SoundToken, TakesBytes}
+use Rattle.hm_tokens.specs.Laws.{IsPlain, SoundNames, reads_markup, EndsElement, IsStart, IsEndTagOf, SoundToken, TakesBytes}
 use Rattle.hm_tokens.proofs.Plain.{plain_behind, plain_parts}
 use Rattle.hm_tokens.proofs.TagParts.{name_end_low, fits_front, cut_tag_fits, cut_tag_plain}
 use Rattle.hm_tokens.proofs.Attributes.{attributes_allowed, attributes_small}
@@ -103,7 +103,7 @@ pub end_sound : (mode : Mode) (r : List ℕ) (token : Seen) (rest : List ℕ) �
 end_sound mode r token rest own plain k =
     let parts = plain_parts is_name_byte r name_end_low plain in
     let cut = cut_tag_plain (behind is_name_byte r) k.tag parts.behind_plain k.accepts.cut in
-    let end : IsEnd mode (tag_name r) = record { name_allowed = k.accepts.named; ends = own } in
+    let end : IsEndTagOf mode (tag_name r) = record { name_allowed = k.accepts.named; ends = own } in
     (subst (SoundToken mode) k.token_is end, subst IsPlain k.rest_is cut.1)
 
 -- ---- their sizes

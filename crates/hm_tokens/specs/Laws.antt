@@ -61,7 +61,7 @@ pub record IsStart (mode : Mode) (name : List ℕ) (attributes : List Attribute)
   pub name_allowed : is_tag_name name ≡ true
   pub attributes_allowed : AttributesAllowed attributes
 
-pub record IsEnd (mode : Mode) (name : List ℕ) : Type 0 where
+pub record IsEndTagOf (mode : Mode) (name : List ℕ) : Type 0 where
   pub name_allowed : is_tag_name name ≡ true
   pub ends : EndsElement mode name
 
@@ -85,7 +85,7 @@ pub record IsComment (mode : Mode) (s : List ℕ) : Type 0 where
 abbrev pub SoundToken : Mode → Seen → Type 0
 SoundToken mode (doctype legacy) = reads_markup mode ≡ true
 SoundToken mode (start_tag name attributes slash) = IsStart mode name attributes
-SoundToken mode (end_tag name) = IsEnd mode name
+SoundToken mode (end_tag name) = IsEndTagOf mode name
 SoundToken mode (slice s) = IsText mode s
 SoundToken mode (points ps) = IsReference mode ps
 SoundToken mode (comment s) = IsComment mode s

@@ -7,7 +7,7 @@ use Rattle.std.proofs.lemmas.Str.{IsUtf8-nil, is_utf8-from_IsUtf8}
 use Rattle.hm_base.specs.Walks.{Event, start, end, path_after, walk_size}
 use Rattle.hm_tree.specs.Trees.{innermost, end_of}
 use Rattle.hm_tree.specs.Pieces.{HasPieces, IsPiece, bytes_of}
-use Rattle.hm_tree.specs.Rows.{IsTable, event_at, events_of}
+use Rattle.hm_tree.specs.Rows.{IsRowTable, event_at, events_of}
 use Rattle.hm_tree.specs.declared.pieces.AttributePieces.{AttributePieces}
 use Rattle.hm_tree.specs.declared.pieces.TextPiece.{TextPiece}
 use Rattle.hm_tree.specs.declared.appended.AttrsRange.{AttrsRange}
@@ -29,7 +29,7 @@ module _ (s : List ℕ) (pieces : List AttributePieces) (rows : List EventRow) (
   pub start_within : k < length rows
   start_within = row_within s pieces rows w view k within
 
-  module _ (table : IsTable s pieces rows) (r : EventRow) (is : r ≡ get_or rows k r) where
+  module _ (table : IsRowTable s pieces rows) (r : EventRow) (is : r ≡ get_or rows k r) where
     same_event : (part : RowPart) → r.part ≡ part → event_at s pieces part ≡ start around.element.name around.element.foreign around.start.attributes
     same_event part e =
         let both : Some (event_at s pieces part) ≡ Some (start around.element.name around.element.foreign around.start.attributes) =

@@ -3,7 +3,7 @@ use Rattle.std.proofs.Common.{◌≡◌, ℕ, suc, ◌+◌, ◌^◌, ◌<◌, Bo
 use Rattle.std.proofs.lemmas.List.{take_all, take_more, set_split, drop_all, map-append}
 use Rattle.hm_base.specs.Walks.{Event, text, walk_size}
 use Rattle.hm_tree.specs.Pieces.{bytes_of}
-use Rattle.hm_tree.specs.Rows.{IsTable, event_at, events_of, is_text, ends_in_text, with_more, extended}
+use Rattle.hm_tree.specs.Rows.{IsRowTable, event_at, events_of, is_text, ends_in_text, with_more, extended}
 use Rattle.hm_tree.specs.declared.pieces.AttributePieces.{AttributePieces}
 use Rattle.hm_tree.specs.declared.pieces.TextPiece.{TextPiece}
 use Rattle.hm_tree.specs.declared.rows.RowPart.{RowPart}
@@ -60,12 +60,12 @@ module _ (s : List ℕ) (pieces : List AttributePieces) (rows : List EventRow) (
   last_is_other other = last_event ∙ not_text s pieces r.part other
 
   -- the text that stands last can have more bytes
-  pub IsTableOf-extended : (more t : List ℕ) (p q : TextPiece) (raw : Bool) → s ++ more ≡ t → IsTable s pieces rows → r.part ≡ parts.Text p raw → IsUtf8 more
+  pub IsTableOf-extended : (more t : List ℕ) (p q : TextPiece) (raw : Bool) → s ++ more ≡ t → IsRowTable s pieces rows → r.part ≡ parts.Text p raw → IsUtf8 more
       → walk_size w + length more < 2 ^ 29 → q.from ≡ p.from → q.to ≡ length t → IsTableOf t pieces (set rows n (longer r q raw)) (extended w more)
   IsTableOf-extended more t p q raw bytes table is utf8 room from to =
       let front = take n rows in
       let parts_of : rows ≡ front ++ r ∷ [] = split_last rows n r last at in
-      let whole : IsTable s pieces (front ++ r ∷ []) = subst (IsTable s pieces) parts_of table in
+      let whole : IsRowTable s pieces (front ++ r ∷ []) = subst (IsRowTable s pieces) parts_of table in
       let fits : walk_size (events_of s pieces (front ++ r ∷ [])) + length more < 2 ^ 29 = rw (← parts_of, view) room in
       let end_at : q.to ≡ length (s ++ more) = rw bytes to in
       let becomes : extended w more ≡ events_of s pieces front ++ text (bytes_of s p ++ more) raw ∷ [] =

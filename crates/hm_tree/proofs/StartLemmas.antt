@@ -8,7 +8,7 @@ use Rattle.hm_base.specs.Walks.{Attribute, Event, start, event_size, has_distinc
 use Rattle.hm_tree.specs.Attributes.{are_texts}
 use Rattle.hm_tree.specs.Trees.{innermost}
 use Rattle.hm_tree.specs.Pieces.{IsAppended, IsPiece, attribute_in, attributes_in, bytes_of, texts_of}
-use Rattle.hm_tree.specs.Rows.{IsTable, events_of}
+use Rattle.hm_tree.specs.Rows.{IsRowTable, events_of}
 use Rattle.hm_tree.specs.declared.pieces.AttributePieces.{AttributePieces}
 use Rattle.hm_tree.specs.declared.pieces.TextPiece.{TextPiece}
 use Rattle.hm_tree.specs.declared.appended.AttrsRange.{AttrsRange}
@@ -59,7 +59,7 @@ module _ (s n t : List ℕ) (pieces new : List AttributePieces) (rows : List Eve
       counted : length (drop (length pieces) new) ≡ length (attributes_in t (drop (length pieces) new))
       counted = sym (length-map (drop (length pieces) new) (attribute_in t))
 
-  pub IsTableOf-start : events_of s pieces rows ≡ w → IsTable s pieces rows → parent ≡ innermost w → length w + 1 < 2 ^ 29 → walk_size w + event_size (start n foreign attributes) < 2 ^ 29
+  pub IsTableOf-start : events_of s pieces rows ≡ w → IsRowTable s pieces rows → parent ≡ innermost w → length w + 1 < 2 ^ 29 → walk_size w + event_size (start n foreign attributes) < 2 ^ 29
       → IsTableOf t new (rows ++ record { part = parts.Start foreign name attrs; parent = parent } ∷ []) (w ++ start n foreign attributes ∷ [])
   IsTableOf-start view table above room bytes =
       IsTableOf-push s (n ++ texts_of attributes) t pieces (drop (length pieces) new) new rows w (record { part = parts.Start foreign name attrs; parent = parent }) (start n foreign attributes)

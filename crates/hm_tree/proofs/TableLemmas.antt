@@ -9,8 +9,8 @@ use Rattle.std.specs.Str.{is_utf8}
 use Rattle.hm_base.specs.Walks.{Event, start, text, has_distinct_names, event_size, walk_size}
 use Rattle.hm_tree.specs.Trees.{IsTold, is_sound, innermost, parent_of}
 use Rattle.hm_tree.specs.Attributes.{are_texts}
-use Rattle.hm_tree.specs.Pieces.{HasPieces, IsPiece, IsShown, attributes_in, bytes_of}
-use Rattle.hm_tree.specs.Rows.{IsRange, IsInside, AreInside, ReachesEnd, LastReachesEnd, IsTable, event_at, events_of, parents_from}
+use Rattle.hm_tree.specs.Pieces.{HasPieces, IsPiece, ArePiecesShown, attributes_in, bytes_of}
+use Rattle.hm_tree.specs.Rows.{IsRange, IsInside, AreInside, ReachesEnd, LastReachesEnd, IsRowTable, event_at, events_of, parents_from}
 use Rattle.hm_tree.specs.declared.pieces.AttributePieces.{AttributePieces}
 use Rattle.hm_tree.specs.declared.pieces.TextPiece.{TextPiece}
 use Rattle.hm_tree.specs.declared.appended.AttrsRange.{AttrsRange}
@@ -85,16 +85,16 @@ pub record IsNewRow (more t : List ℕ) (extra kept : List AttributePieces) (w :
 
 -- the bytes, attributes and rows are a table for these events
 abbrev pub IsTableOf : List ℕ → List AttributePieces → List EventRow → List Event → Type 0
-IsTableOf s pieces rows w = IsTable s pieces rows × (events_of s pieces rows ≡ w)
+IsTableOf s pieces rows w = IsRowTable s pieces rows × (events_of s pieces rows ≡ w)
 
-module _ (s more : List ℕ) (pieces extra : List AttributePieces) (rows : List EventRow) (r : EventRow) (e : Event) (table : IsTable s pieces rows)
+module _ (s more : List ℕ) (pieces extra : List AttributePieces) (rows : List EventRow) (r : EventRow) (e : Event) (table : IsRowTable s pieces rows)
     (new : IsNewRow more (s ++ more) extra (pieces ++ extra) (events_of s pieces rows) r e) where
   events_more : events_of (s ++ more) (pieces ++ extra) (rows ++ r ∷ []) ≡ events_of s pieces rows ++ e ∷ []
   events_more =
       map-append (λ q. event_at (s ++ more) (pieces ++ extra) q.part) rows (r ∷ [])
       ∙ rw (events_of-append s more pieces extra rows table.inside table.attributes, new.event) refl
 
-  table_more : IsTable (s ++ more) (pieces ++ extra) (rows ++ r ∷ [])
+  table_more : IsRowTable (s ++ more) (pieces ++ extra) (rows ++ r ∷ [])
   table_more =
       let w = events_of s pieces rows in
       record {
@@ -112,12 +112,12 @@ module _ (s more : List ℕ) (pieces extra : List AttributePieces) (rows : List 
       }
 
 -- there are fewer than 2 ^ 32 attributes
-pub row_count : {s : List ℕ} {pieces : List AttributePieces} {rows : List EventRow} → IsTable s pieces rows → length pieces < 2 ^ 30
+pub row_count : {s : List ℕ} {pieces : List AttributePieces} {rows : List EventRow} → IsRowTable s pieces rows → length pieces < 2 ^ 30
 row_count {s} {pieces} {rows} table = omega (arith, table.count, table.told.bytes, table.told.events, length-map rows (λ q. event_at s pieces q.part))
 
 -- one more row
 pub IsTableOf-push : (s more t : List ℕ) (pieces extra kept : List AttributePieces) (rows : List EventRow) (w : List Event) (r : EventRow) (e : Event)
-    → s ++ more ≡ t → pieces ++ extra ≡ kept → events_of s pieces rows ≡ w → IsTable s pieces rows
+    → s ++ more ≡ t → pieces ++ extra ≡ kept → events_of s pieces rows ≡ w → IsRowTable s pieces rows
     → IsNewRow more t extra kept w r e → IsTableOf t kept (rows ++ r ∷ []) (w ++ e ∷ [])
 IsTableOf-push s more t pieces extra kept rows w r e bytes list view table =
     subst (λ v. IsNewRow more t extra kept v r e → IsTableOf t kept (rows ++ r ∷ []) (v ++ e ∷ [])) view
@@ -130,7 +130,7 @@ abbrev pub longer : EventRow → TextPiece → Bool → EventRow
 longer r p raw = record r { part = parts.Text p raw }
 
 module _ (s more : List ℕ) (pieces : List AttributePieces) (rows : List EventRow) (r : EventRow) (p q : TextPiece) (raw : Bool)
-    (table : IsTable s pieces (rows ++ r ∷ [])) (is : r.part ≡ parts.Text p raw) (utf8 : IsUtf8 more)
+    (table : IsRowTable s pieces (rows ++ r ∷ [])) (is : r.part ≡ parts.Text p raw) (utf8 : IsUtf8 more)
     (bytes : walk_size (events_of s pieces (rows ++ r ∷ [])) + length more < 2 ^ 29) (from : q.from ≡ p.from) (to : q.to ≡ length (s ++ more)) where
   piece : IsPiece s p
   piece = let h : IsInside s (length pieces) (parts.Text p raw) = subst (IsInside s (length pieces)) is (AreInside-parts s (length pieces) rows r table.inside).1 in h
@@ -166,7 +166,7 @@ module _ (s more : List ℕ) (pieces : List AttributePieces) (rows : List EventR
         bytes = omega (arith, rw before at bytes, walk_size-push w (text (bytes_of s p) raw), walk_size-push w (text (bytes_of s p ++ more) raw), length-append (bytes_of s p) more);
       }
 
-  pub IsTable-longer : IsTable (s ++ more) pieces (rows ++ longer r q raw ∷ [])
+  pub IsTable-longer : IsRowTable (s ++ more) pieces (rows ++ longer r q raw ∷ [])
   IsTable-longer =
       let w = events_of s pieces rows in
       let size = rw before at table.size in
@@ -185,7 +185,7 @@ module _ (s : List ℕ) (pieces : List AttributePieces) (rows : List EventRow) (
   pub row_within : i < length rows
   row_within = omega (arith, ap length view, length-map rows (λ q. event_at s pieces q.part))
 
-  module _ (table : IsTable s pieces rows) (r : EventRow) (is : r ≡ get_or rows i r) where
+  module _ (table : IsRowTable s pieces rows) (r : EventRow) (is : r ≡ get_or rows i r) where
     at : slice_get rows i ≡ Some r
     at = slice_get_read rows (length rows) i r refl row_within is
 
@@ -199,7 +199,7 @@ module _ (s : List ℕ) (pieces : List AttributePieces) (rows : List EventRow) (
         rw (← view) (slice_get-map (λ q. event_at s pieces q.part) rows i ∙ ap (option_map (λ q. event_at s pieces q.part)) at ∙ ap (λ q. Some (event_at s pieces q)) e)
 
     -- a start shows its attributes
-    pub part_shown : (foreign : Bool) (name : TextPiece) (attrs : AttrsRange) → r.part ≡ parts.Start foreign name attrs → IsShown s (slice_range pieces attrs.from attrs.to)
+    pub part_shown : (foreign : Bool) (name : TextPiece) (attrs : AttrsRange) → r.part ≡ parts.Start foreign name attrs → ArePiecesShown s (slice_range pieces attrs.from attrs.to)
     part_shown foreign name attrs e =
         let own = slice_range pieces attrs.from attrs.to in
         let range : IsRange (length pieces) attrs = (part_inside (parts.Start foreign name attrs) e).1 in

@@ -26,7 +26,7 @@ abbrev pub HasPieces : List ℕ → AttributePieces → Type 0
 HasPieces s a = IsPiece s a.name × IsPiece s a.value
 
 -- these pieces are the attributes of an element
-pub record IsShown (s : List ℕ) (pieces : List AttributePieces) : Type 0 where
+pub record ArePiecesShown (s : List ℕ) (pieces : List AttributePieces) : Type 0 where
   pub inside : All (HasPieces s) pieces
   pub texts : are_texts (attributes_in s pieces) ≡ true
   pub distinct : has_distinct_names (attributes_in s pieces) ≡ true

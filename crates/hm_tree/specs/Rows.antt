@@ -55,7 +55,7 @@ LastReachesEnd s (r ∷ []) = ReachesEnd s r.part
 LastReachesEnd s (r ∷ q ∷ rows) = LastReachesEnd s (q ∷ rows)
 
 -- a table of rows, with the bytes and the attributes that they point into
-pub record IsTable (s : List ℕ) (pieces : List AttributePieces) (rows : List EventRow) : Type 0 where
+pub record IsRowTable (s : List ℕ) (pieces : List AttributePieces) (rows : List EventRow) : Type 0 where
   pub inside : AreInside s (length pieces) rows
   pub attributes : All (HasPieces s) pieces
   pub parents : map (λ r. r.parent) rows ≡ parents_from [] 0 (events_of s pieces rows)

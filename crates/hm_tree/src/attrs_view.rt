@@ -1,5 +1,5 @@
 //! Attributes as a tree shows them.
-ghost use Rattle.hm_tree.specs.Pieces.{IsShown};
+ghost use Rattle.hm_tree.specs.Pieces.{ArePiecesShown};
 
 use crate::pieces::{AttributePieces, cut};
 
@@ -10,7 +10,7 @@ use crate::pieces::{AttributePieces, cut};
 pub struct AttrsView<'t> {
     text: &'t str,
     pieces: &'t [AttributePieces],
-    ghost is_shown: { IsShown text.now pieces.now },
+    ghost is_shown: { ArePiecesShown text.now pieces.now },
 }
 
 impl<'t> AttrsView<'t> {
@@ -21,7 +21,7 @@ impl<'t> AttrsView<'t> {
     ghost use Rattle.hm_tree.specs.Views.{attributes_shown};
 
     pub(crate) fn of(text: &'t str, pieces: &'t [AttributePieces]) -> AttrsView<'t>
-        requires { IsShown text.now pieces.now }
+        requires { ArePiecesShown text.now pieces.now }
         ensures { attributes_shown result ≡ attributes_in text.now pieces.now }
     {
         AttrsView { text, pieces }

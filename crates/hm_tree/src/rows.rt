@@ -66,11 +66,11 @@ impl Model for Rows {
 
     ghost Value = { List Event };
 
-    ghost use Rattle.hm_tree.specs.Rows.{events_of, IsTable};
+    ghost use Rattle.hm_tree.specs.Rows.{events_of, IsRowTable};
 
     ghost view = { λ r. events_of (string_bytes r.text) r.attributes.items r.rows.items };
 
-    ghost invariant = { λ r. IsTable (string_bytes r.text) r.attributes.items r.rows.items };
+    ghost invariant = { λ r. IsRowTable (string_bytes r.text) r.attributes.items r.rows.items };
 }
 
 impl Rows {

@@ -11,7 +11,7 @@ use Rattle.clap.proofs.WalkLemmas.{one_text-rows, raw_values-rows}
 use Rattle.clap.specs.declared.builder.value_parser.Reading.TheVariants.{AsWritten}
 use Rattle.clap.specs.declared.parser.matches.ArgMatches.{ArgMatches}
 use Rattle.hm_words.specs.Words.{flags, has, are_known, are_single, names_in}
-use Rattle.hm_words.specs.Matches.{IsRead, dashed, line}
+use Rattle.hm_words.specs.Matches.{IsMatched, dashed, line}
 use Rattle.hm_words.proofs.Rows.{row_at, values_at, values_in}
 use Rattle.hm_words.proofs.Walks.{rules, stands, with_name, name_of, each_flag}
 use Rattle.hm_words.proofs.Ends.{ends, end_rows, walk_ends, row_ends, names_end, flag_row, single_among}
@@ -56,7 +56,7 @@ names_are ws known =
     ap (values_at (codes "names")) (matches_are ws known) ∙ ap values_in (no_default (codes "names") rules (end_rows ws [] None) names_default) ∙ names_end ws [] None known
 
 -- the matches are those of the words
-pub reads : (ws : List Text) (m : ArgMatches) → are_known flags ws ≡ true → are_single flags ws ≡ true → rows_of (found_of m) ≡ matches_of line ws → IsRead ws m
+pub reads : (ws : List Text) (m : ArgMatches) → are_known flags ws ≡ true → are_single flags ws ≡ true → rows_of (found_of m) ≡ matches_of line ws → IsMatched ws m
 reads ws m known single e = record {
   flags = λ name flag. one_text-rows (found_of m) name ∙ ap (one_of name) e ∙ flag_text ws name known single flag;
   names = ap (λ o. unwrap_or o []) (raw_values-rows (found_of m) (codes "names") ∙ ap (all_of (codes "names")) e) ∙ names_are ws known;

@@ -32,6 +32,6 @@ abbrev pub line : App
 line = with_rule (fold (λ a name. with_rule a (flag_rule name)) bare_line flag_names) names_rule
 
 -- The matches have each flag that is among the words, and the words that are no flags, in their order.
-pub record IsRead (ws : List (List ℕ)) (m : ArgMatches) : Type 0 where
+pub record IsMatched (ws : List (List ℕ)) (m : ArgMatches) : Type 0 where
   pub flags : (name : List ℕ) → has flags (dashed name) ≡ true → one_text (found_of m) name ≡ Some (bool_text (has ws (dashed name)))
   pub names : unwrap_or (option_map raw_values (matched_of (found_of m) (codes "names"))) [] ≡ names_in ws

@@ -5,7 +5,7 @@ ghost use Rattle.clap.specs.Walk.{texts};
 ghost use Rattle.clap.specs.Values.{kind_of};
 ghost use Rattle.hm_words.specs.Answers as answers;
 ghost use Rattle.hm_words.specs.Matches as spec;
-ghost use Rattle.hm_words.specs.Matches.{IsRead, dashed};
+ghost use Rattle.hm_words.specs.Matches.{IsMatched, dashed};
 ghost use Rattle.hm_words.specs.Words.{flags, has, names_in};
 
 use clap::error::ErrorKind;
@@ -54,7 +54,7 @@ fn line<'t>(alloc: Global) -> Result<Command<'t>, AllocError>
 /// What clap finds in words that can be read. The only error is want of memory.
 pub fn parse<'w>(alloc: Global, words: &'w [Word]) -> Result<ArgMatches<'w>, Error>
     requires readable { answers.are_readable words.now ≡ true }
-    ensures ok { IfOk result (IsRead words.now) }
+    ensures ok { IfOk result (IsMatched words.now) }
     ensures memory { IfErr result (λ error. kind_of error ≡ ErrorKind.OutOfMemory) }
 {
     line(alloc)?.try_get_matches_from(words)
@@ -62,15 +62,15 @@ pub fn parse<'w>(alloc: Global, words: &'w [Word]) -> Result<ArgMatches<'w>, Err
 
 /// Whether the flag of this name is among the words.
 pub fn is_given(matches: &ArgMatches<'_>, name: &str) -> bool
-    ensures { (words : List (List ℕ)) → IsRead words matches.now → has flags (dashed name.now) ≡ true → result ≡ has words (dashed name.now) }
+    ensures { (words : List (List ℕ)) → IsMatched words matches.now → has flags (dashed name.now) ≡ true → result ≡ has words (dashed name.now) }
 {
     matches.get_flag(name)
 }
 
 /// The words that are no flags, in their order, if there are any.
 pub fn names_of<'m, 't>(matches: &'m ArgMatches<'t>) -> Option<&'m [&'t str]>
-    ensures some { (words : List (List ℕ)) → IsRead words matches.now → IfSome result (λ names. texts names.now ≡ names_in words) }
-    ensures none { (words : List (List ℕ)) → IsRead words matches.now → IfNone result (names_in words ≡ []) }
+    ensures some { (words : List (List ℕ)) → IsMatched words matches.now → IfSome result (λ names. texts names.now ≡ names_in words) }
+    ensures none { (words : List (List ℕ)) → IsMatched words matches.now → IfNone result (names_in words ≡ []) }
 {
     matches.get_strs("names")
 }

@@ -4,7 +4,7 @@ ghost use Rattle.clap.specs.Walk.{texts};
 ghost use Rattle.hm_words.specs.Words as spec;
 ghost use Rattle.hm_words.specs.Answers as answers;
 ghost use Rattle.hm_words.specs.Answers.{command_of, request_of};
-ghost use Rattle.hm_words.specs.Matches.{IsRead};
+ghost use Rattle.hm_words.specs.Matches.{IsMatched};
 
 use crate::flags::are_readable;
 use crate::line::{is_given, names_of, parse};
@@ -116,7 +116,7 @@ fn is_apart(command: &Command<'_>) -> bool
 /// The rewrites whose flags are given.
 #[tactic(auto, unfolding(crate::specs::Words::options_of, crate::specs::Words::flags))]
 fn options_of(matches: &ArgMatches<'_>) -> TreeOptions
-    ensures { (words : List (List ℕ)) → IsRead words matches.now → result ≡ spec.options_of words }
+    ensures { (words : List (List ℕ)) → IsMatched words matches.now → result ≡ spec.options_of words }
 {
     TreeOptions {
         doctype: is_given(matches, "doctype"),
@@ -132,7 +132,7 @@ fn options_of(matches: &ArgMatches<'_>) -> TreeOptions
 /// The rules of spelling whose flags are given.
 #[tactic(auto, unfolding(crate::specs::Words::rules_of, crate::specs::Words::flags))]
 fn rules_of(matches: &ArgMatches<'_>) -> SpellRules
-    ensures { (words : List (List ℕ)) → IsRead words matches.now → result ≡ spec.rules_of words }
+    ensures { (words : List (List ℕ)) → IsMatched words matches.now → result ≡ spec.rules_of words }
 {
     SpellRules {
         omit: is_given(matches, "omit"),
@@ -146,7 +146,7 @@ fn rules_of(matches: &ArgMatches<'_>) -> SpellRules
 /// How a tree is written, by the flags that are given.
 #[tactic(auto, unfolding(crate::specs::Words::flags))]
 fn writing_of(matches: &ArgMatches<'_>) -> Writing
-    ensures { (words : List (List ℕ)) → IsRead words matches.now → result ≡ spec.writing_of words }
+    ensures { (words : List (List ℕ)) → IsMatched words matches.now → result ≡ spec.writing_of words }
 {
     Writing {
         rules: rules_of(matches),
@@ -244,7 +244,7 @@ fn command_in<'w>(names: &[&'w str]) -> Option<Command<'w>>
 /// Whether `--conservative` is given only beside `--space`.
 #[tactic(auto, unfolding(crate::specs::Words::flags))]
 fn is_guarded(matches: &ArgMatches<'_>) -> bool
-    ensures { (words : List (List ℕ)) → IsRead words matches.now → result ≡ answers.is_guarded words }
+    ensures { (words : List (List ℕ)) → IsMatched words matches.now → result ≡ answers.is_guarded words }
 {
     !is_given(matches, "conservative") || is_given(matches, "space")
 }
@@ -252,7 +252,7 @@ fn is_guarded(matches: &ArgMatches<'_>) -> bool
 /// What the words of these matches ask for, if they have a meaning.
 #[tactic(auto, using(crate::proofs::Meanings::asked_is))]
 fn asked_in<'w>(matches: &ArgMatches<'w>) -> Option<Asked<'w>>
-    ensures asked { (words : List (List ℕ)) → answers.are_readable words ≡ true → IsRead words matches.now → option_map request_of result ≡ spec.asked words }
+    ensures asked { (words : List (List ℕ)) → answers.are_readable words ≡ true → IsMatched words matches.now → option_map request_of result ≡ spec.asked words }
     ensures apart { IfSome result (λ a. spec.is_apart (command_of a.command) ≡ true) }
 {
     if !is_guarded(matches) {

@@ -1,6 +1,6 @@
 use Rattle.std.proofs.Common.{◌∷◌, ◌++◌, [], sym, subst, arith}
 use Rattle.hm_edges.specs.Units.{StandsFor}
-use Rattle.hm_layers.specs.Building.{Adds, IsBuilding, building}
+use Rattle.hm_layers.specs.Building.{AddsSteps, IsBuilding, building}
 use Rattle.hm_layers.proofs.Built.{adds_one, building_kept, building_more}
 use Rattle.hm_layers.proofs.building.Building.add.Goals as goal
 
@@ -20,7 +20,7 @@ invariant_of-self-2 c =
 
 pub returns : goal.returns
 returns c = λ u stands.
-    subst (λ old. Adds old (building c.step.new.self c.push.new.self c.behind-last.result) (u ∷ [])) c.self.view_is
-    (subst (λ ns. Adds (building c.self.inside.met c.self.inside.numbers c.self.inside.last) (building c.step.new.self ns c.behind-last.result) (u ∷ [])) (sym c.in_ok-push.ensures.ok)
-    (subst (λ k. Adds (building c.self.inside.met c.self.inside.numbers c.self.inside.last) (building c.step.new.self (c.self.inside.numbers ++ c.in_ok-number.number ∷ []) k) (u ∷ [])) (sym c.behind-last.ensures)
+    subst (λ old. AddsSteps old (building c.step.new.self c.push.new.self c.behind-last.result) (u ∷ [])) c.self.view_is
+    (subst (λ ns. AddsSteps (building c.self.inside.met c.self.inside.numbers c.self.inside.last) (building c.step.new.self ns c.behind-last.result) (u ∷ [])) (sym c.in_ok-push.ensures.ok)
+    (subst (λ k. AddsSteps (building c.self.inside.met c.self.inside.numbers c.self.inside.last) (building c.step.new.self (c.self.inside.numbers ++ c.in_ok-number.number ∷ []) k) (u ∷ [])) (sym c.behind-last.ensures)
     (adds_one c.self.inside.met c.step.new.self c.self.inside.numbers c.self.inside.last c.args.unit c.in_ok-number.number c.self.invariant c.step.ensures.kept c.in_ok-number.ensures.step u (subst (λ b. StandsFor b.table.entries c.args.unit u) (sym c.self.view_is) stands))))

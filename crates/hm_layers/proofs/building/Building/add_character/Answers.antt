@@ -4,7 +4,7 @@ use Rattle.hm_edges.specs.Units.{kind_of, pair_of}
 use Rattle.hm_edges.specs.declared.units.Unit.{Unit}
 use Rattle.hm_edges.specs.declared.units.Unit.TheVariants.{Character}
 use Rattle.hm_units.specs.Units as units
-use Rattle.hm_layers.specs.Building.{Adds, IsBuilding, building}
+use Rattle.hm_layers.specs.Building.{AddsSteps, IsBuilding, building}
 use Rattle.hm_layers.proofs.Built.{adds_one, building_kept, building_more}
 use Rattle.hm_layers.proofs.building.Building.add_character.Goals as goal
 
@@ -28,8 +28,8 @@ pub returns : goal.returns
 returns c =
     let unit : Unit = Character c.args.kind c.args.c (pair_of c.self.inside.met.table.entries c.args.c (Some c.args.next)) true in
     let u : units.Unit = units.character (kind_of c.args.kind) c.args.c (Some c.args.next) in
-    subst (λ old. Adds old (building c.character_step.new.self c.push.new.self c.in_ok-to.to.behind) (u ∷ [])) c.self.view_is
-    (subst (λ ns. Adds (building c.self.inside.met c.self.inside.numbers c.self.inside.last) (building c.character_step.new.self ns c.in_ok-to.to.behind) (u ∷ [])) (sym c.in_ok-push.ensures.ok)
-    (subst (λ k. Adds (building c.self.inside.met c.self.inside.numbers c.self.inside.last) (building c.character_step.new.self (c.self.inside.numbers ++ c.in_ok-to.to.number ∷ []) k) (u ∷ [])) (sym c.in_ok-to.ensures.behind)
+    subst (λ old. AddsSteps old (building c.character_step.new.self c.push.new.self c.in_ok-to.to.behind) (u ∷ [])) c.self.view_is
+    (subst (λ ns. AddsSteps (building c.self.inside.met c.self.inside.numbers c.self.inside.last) (building c.character_step.new.self ns c.in_ok-to.to.behind) (u ∷ [])) (sym c.in_ok-push.ensures.ok)
+    (subst (λ k. AddsSteps (building c.self.inside.met c.self.inside.numbers c.self.inside.last) (building c.character_step.new.self (c.self.inside.numbers ++ c.in_ok-to.to.number ∷ []) k) (u ∷ [])) (sym c.in_ok-to.ensures.behind)
     (adds_one c.self.inside.met c.character_step.new.self c.self.inside.numbers c.self.inside.last unit c.in_ok-to.to.number c.self.invariant c.character_step.ensures.kept c.in_ok-to.ensures.step u
     (edges.character c.args.kind c.args.c (pair_of c.self.inside.met.table.entries c.args.c (Some c.args.next)) (Some c.args.next) true refl refl))))

@@ -17,7 +17,7 @@ use Rattle.hm_elements.specs.Paths.{html_element}
 use Rattle.hm_settle.specs.Elements.{name_of, element_of, onto, path_of, AreMarked, IsPath, IsRoomy, are_names_utf8}
 use Rattle.hm_settle.specs.Plans.{IsPushed}
 use Rattle.hm_settle.specs.declared.element.ElementName.{ElementName}
-use Rattle.hm_settle.specs.declared.element.ElementName.TheVariants.{Html, Body, Tbody, Tr, Colgroup, Given}
+use Rattle.hm_settle.specs.declared.element.ElementName.TheVariants.{Html, Body, Tbody, Tr, Colgroup, Known, Given}
 use Rattle.hm_settle.specs.declared.element.OpenElement.{OpenElement}
 use Rattle.hm_settle.proofs.Elements.{path_of-push, length-path_of, IsPath-push, IsPath-take}
 
@@ -66,6 +66,7 @@ name_is_utf8 Body = refl
 name_is_utf8 Tbody = refl
 name_is_utf8 Tr = refl
 name_is_utf8 Colgroup = refl
+name_is_utf8 (Known k) = k.utf8
 name_is_utf8 (Given s) = is_utf8-from_IsUtf8 (string_bytes s) (IsUtf8-string_bytes s)
 
 names_utf8 : (path : List Element) (os : List OpenElement) → are_names_utf8 path ≡ true → are_names_utf8 (onto path os) ≡ true

@@ -11,7 +11,7 @@ use Rattle.hm_elements.specs.Names.{html, body, tbody, tr, colgroup}
 use Rattle.hm_elements.specs.Kinds.{kind}
 use Rattle.hm_elements.specs.Paths.{html_element, current, is_in_text, is_open, is_heading_open, is_p_open}
 use Rattle.hm_settle.specs.declared.element.ElementName.{ElementName}
-use Rattle.hm_settle.specs.declared.element.ElementName.TheVariants.{Html, Body, Tbody, Tr, Colgroup, Given}
+use Rattle.hm_settle.specs.declared.element.ElementName.TheVariants.{Html, Body, Tbody, Tr, Colgroup, Known, Given}
 use Rattle.hm_settle.specs.declared.element.Marks.{Marks}
 use Rattle.hm_settle.specs.declared.element.OpenElement.{OpenElement}
 
@@ -21,6 +21,7 @@ name_of Body = body
 name_of Tbody = tbody
 name_of Tr = tr
 name_of Colgroup = colgroup
+name_of (Known k) = k.text.now
 name_of (Given s) = string_bytes s
 
 abbrev pub element_of : OpenElement → Element

@@ -7,10 +7,10 @@ ghost use Rattle.hm_elements.specs.Tables as tables;
 ghost use Rattle.hm_settle.specs.Elements.{KeepsKind, name_of, marks_of};
 
 use hm_base::Memory;
-use hm_elements::{Kind, Named, is_boundary, kind_of, same_name};
+use hm_elements::{Kind, KnownName, Named, is_boundary, kind_of, same_name};
 use std::alloc::Global;
 
-/// The name of an open element. Only one that a tag gave takes memory.
+/// The name of an open element. Only one that a tag gave and that isn't known takes memory.
 #[derive(Debug, Drop)]
 pub(crate) enum ElementName {
     Html,
@@ -18,15 +18,19 @@ pub(crate) enum ElementName {
     Tbody,
     Tr,
     Colgroup,
+    Known(KnownName),
     Given(String),
 }
 
 impl ElementName {
-    /// A copy of the name that a tag gives.
-    pub(crate) fn given(alloc: Global, name: &str) -> Result<ElementName, Memory>
-        ensures { IfOk result (λ kept. name_of kept ≡ name.now) }
+    /// The name that a tag gives, copied only where it isn't known.
+    pub(crate) fn given(alloc: Global, tag: Named<'_>) -> Result<ElementName, Memory>
+        ensures { IfOk result (λ kept. name_of kept ≡ tag.entry.name.now) }
     {
-        Ok(ElementName::Given(String::from_str(alloc, name)?))
+        match tag.known_name() {
+            Some(known) => Ok(ElementName::Known(known)),
+            None => Ok(ElementName::Given(String::from_str(alloc, tag.name())?)),
+        }
     }
 
     pub(crate) fn as_str(&self) -> &str
@@ -38,6 +42,7 @@ impl ElementName {
             ElementName::Tbody => "tbody",
             ElementName::Tr => "tr",
             ElementName::Colgroup => "colgroup",
+            ElementName::Known(name) => name.as_str(),
             ElementName::Given(name) => name.as_str(),
         }
     }
@@ -90,7 +95,7 @@ impl Marks {
             button: is_open(name, "button", self.button),
             form: is_open(name, "form", self.form),
             nobr: is_open(name, "nobr", self.nobr),
-            kind,
+            kind: *kind,
             text: holds_text(name, foreign),
         }
     }
@@ -177,6 +182,6 @@ impl OpenElement {
         requires { KeepsKind self.now }
         ensures { result.name.now ≡ name_of self.now.name }
     {
-        Named::known(self.name.as_str(), self.marks.kind)
+        Named::known(self.name.as_str(), &self.marks.kind)
     }
 }

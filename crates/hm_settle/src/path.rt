@@ -107,10 +107,19 @@ impl Path {
         ensures rule { (rule : Rule) → (result ≡ Err (SettleFault.Rule rule)) ↔ (start_moves name.now self.old ≡ refuses rule) }
         ensures err { OnErr result (self.new ≡ self.old) }
     {
-        let tag = Named::of(name);
+        self.start_known(Named::of(name), foreign)
+    }
+
+    /// Takes a start tag as [`Path::start`] does, where its name was looked up. No memory is taken for a known name.
+    pub fn start_known(&mut self, tag: Named<'_>, foreign: bool) -> Result<Moves, SettleFault>
+        requires { foreign ≡ (paths.is_in_svg self.old || bytes_eq tag.name.now svg) }
+        ensures ok { IfOk result (λ moves. IsStarted (start_moves tag.entry.name.now self.old) moves self.new) }
+        ensures rule { (rule : Rule) → (result ≡ Err (SettleFault.Rule rule)) ↔ (start_moves tag.entry.name.now self.old ≡ refuses rule) }
+        ensures err { OnErr result (self.new ≡ self.old) }
+    {
         let plan = plan_start(&self.elements, tag)?;
         let closes = (self.elements.len() - plan.left) as u32;
-        let opened = kept_name(*self.elements.allocator(), name, plan.is_void)?;
+        let opened = kept_name(*self.elements.allocator(), tag, plan.is_void)?;
         carry_out(&mut self.elements, plan, opened, tag.kind(), foreign);
         Ok(Moves {
             closes,
@@ -139,14 +148,14 @@ impl Path {
 }
 
 /// The name that stays open, if any.
-fn kept_name(alloc: Global, name: &str, is_void: bool) -> Result<Option<ElementName>, Memory>
-    ensures opened { IfOk result (λ kept. (foreign : Bool) → opened_by kept foreign ≡ (if is_void then [] else element name.now foreign ∷ [])) }
-    ensures kind { IfOk result (λ kept. IsKindOf kept (kinds.kind name.now)) }
+fn kept_name(alloc: Global, tag: Named<'_>, is_void: bool) -> Result<Option<ElementName>, Memory>
+    ensures opened { IfOk result (λ kept. (foreign : Bool) → opened_by kept foreign ≡ (if is_void then [] else element tag.entry.name.now foreign ∷ [])) }
+    ensures kind { IfOk result (λ kept. IsKindOf kept (kinds.kind tag.entry.name.now)) }
 {
     if is_void {
         Ok(None)
     } else {
-        Ok(Some(ElementName::given(alloc, name)?))
+        Ok(Some(ElementName::given(alloc, tag)?))
     }
 }
 
@@ -155,14 +164,14 @@ fn carry_out(
     elements: &mut Vec<OpenElement>,
     plan: MovePlan,
     opened: Option<ElementName>,
-    kind: Kind,
+    kind: &Kind,
     foreign: bool,
 )
     requires kept { IsRoomy elements.old }
     requires least { 2 ≤ plan.left }
     requires most { plan.left ≤ length elements.old.items }
     requires room { plan.left + length (elements_of plan.made) < DEPTH_LIMIT }
-    requires kind { IsKindOf opened kind }
+    requires kind { IsKindOf opened kind.now }
     ensures kept { IsRoomy elements.new }
     ensures path { path_of elements.new.items ≡ opened_by opened foreign ++ (elements_of plan.made ++ path_of (take plan.left elements.old.items)) }
 {
@@ -200,14 +209,14 @@ fn push_made(elements: &mut Vec<OpenElement>, name: ElementName)
     ensures capacity { vec_capacity elements.old ≤ vec_capacity elements.new }
 {
     let kind = kind_of(name.as_str());
-    push(elements, name, kind, false);
+    push(elements, name, &kind, false);
 }
 
 /// Opens an element of this kind, for which there is room.
-fn push(elements: &mut Vec<OpenElement>, name: ElementName, kind: Kind, foreign: bool)
+fn push(elements: &mut Vec<OpenElement>, name: ElementName, kind: &Kind, foreign: bool)
     requires marked { AreMarked [] elements.old.items }
     requires room { vec_len elements.old < vec_capacity elements.old }
-    requires kind { kind ≡ kinds.kind (name_of name) }
+    requires kind { kind.now ≡ kinds.kind (name_of name) }
     ensures pushed { IsPushed elements.old.items (element (name_of name) foreign) elements.new.items }
     ensures capacity { vec_capacity elements.old ≤ vec_capacity elements.new }
 {

@@ -6,7 +6,7 @@ use Rattle.hm_settle.proofs.element.Marks.at.Goals.{then-kind, else-kind}
 
 pub returns : goal.returns
 returns c =
-    let known : c.kind-kind.result.heading ≡ is_heading c.args.name.name.now = ap (λ (k : Kind). k.heading) c.kind-kind.ensures in
+    let known : c.kind-kind.result.now.heading ≡ is_heading c.args.name.name.now = ap (λ (k : Kind). k.heading) c.kind-kind.ensures in
     let heading : c.if-kind.result ≡ is_heading c.args.name.name.now || c.args.self.heading =
     elim c.if-kind.branch [
       | then-kind w ↦ w.result-is ∙ w.if-kind.true ∙ rw (sym known ∙ w.if-kind.true) refl

@@ -19,7 +19,7 @@ use crate::make::make_missing;
 use crate::moves::{end_elements, start_made};
 use crate::parts::Parts;
 use hm_base::{Memory, Rule};
-use hm_elements::{is_preformatted, is_refused, is_root, is_void, same_name};
+use hm_elements::{Named, is_preformatted, is_refused, is_root, same_name};
 use hm_settle::{Moves, Path};
 use hm_tree::{Attrs, Maker};
 use std::alloc::Global;
@@ -105,32 +105,33 @@ impl Parts {
         ensures { Takes (reach_body (insertion_mode_of self.old.insertion_mode) (start_in_body name.now attrs.now slash) (state_of self.old)) result self.old self.new }
     {
         let foreign = opens_as_svg(&self.path, name);
-        let moves = self.path.start(name, foreign)?;
+        let tag = Named::of(name);
+        let moves = self.path.start_known(tag, foreign)?;
         make_missing(alloc, &mut self.maker, self.insertion_mode)?;
         self.insertion_mode = BuilderMode::InBody;
         move_and_start(alloc, &mut self.maker, moves, name, foreign, attrs)?;
-        self.close_at_once(name, foreign, slash)
+        self.close_at_once(tag, foreign, slash)
     }
 
     /// Closes a void element, and one of SVG whose tag closes itself; else the element stays open. Behind `pre` and
     /// `textarea` a line feed is dropped (13.2.6.4.7, 13.2.6.5).
-    fn close_at_once(&mut self, name: &str, foreign: bool, slash: bool) -> Result<(), BuildFault>
-        requires { IsOpened name.now foreign self.old }
+    fn close_at_once(&mut self, tag: Named<'_>, foreign: bool, slash: bool) -> Result<(), BuildFault>
+        requires { IsOpened tag.name.now foreign self.old }
         ensures ok { OnOk result (IsEntered slash self.old self.new) }
         ensures err { IfErr result (λ fault. fault ≡ BuildFault.Memory) }
     {
         if foreign {
             if slash {
-                self.path.end(name)?;
+                self.path.end(tag.name())?;
                 self.maker.end()?;
             }
             return Ok(());
         }
-        if is_void(name) {
+        if tag.is_void() {
             self.maker.end()?;
             return Ok(());
         }
-        self.drops_line_feed = is_preformatted(name);
+        self.drops_line_feed = is_preformatted(tag.name());
         Ok(())
     }
 }

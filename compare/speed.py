@@ -8,10 +8,11 @@ Printed are megabytes of the page a second: by the processor time of the run (us
 other work on the machine disturbs less, and by the wall's clock, median and best of the runs; and the peak of memory in
 bytes for a byte of the page. A peak can't be less than that of this script, some 3 bytes a byte. PROGRAM is
 `crates/hminify/out/hminify` where none is named; `--peer none` leaves the peer out. Without a FILE there are five documents
-of Debian's packages. Needs Linux and the standard library of Python 3.9 or later.
+of Debian's packages, and a made page of long values. Needs Linux and the standard library of Python 3.9 or later.
 """
 import argparse
 import os
+import random
 import re
 import shutil
 import statistics
@@ -31,6 +32,9 @@ DOCUMENTS = {
     "tables": "/usr/share/doc/apache2-doc/manual/en/mod/quickreference.html",
     "values": "/usr/share/doc/erlang-doc/lib/jinterface-1.13.1/doc/html/java/com/ericsson/otp/erlang/OtpOutputStream.html",
 }
+# Words for the made page of long values.
+WORDS = ("a view of the old harbour in the morning, with boats on their way out; behind it stand the houses of the fishermen and the"
+         " church on its hill, seen from the path that leads along the shore to the lighthouse").split()
 PACKAGES = "python-django-doc anarchism developers-reference apache2-doc erlang-doc"
 
 
@@ -52,6 +56,21 @@ def repeated(source, target):
             size += len(body)
         file.write(behind)
     return size
+
+
+def long_values(target):
+    """Writes a page of figures whose attributes have values of some 300 bytes of words each, and gives the number of its bytes."""
+    choose = random.Random(7)
+    parts = ["<!DOCTYPE html>\n<html>\n<head>\n<title>Figures</title>\n</head>\n<body>\n"]
+    size = len(parts[0])
+    while size < SIZE:
+        alt, title = (" ".join(choose.choice(WORDS) for _ in range(choose.randint(30, 90))) for _ in range(2))
+        parts.append('<p><img src="figures/%d.png" alt="%s" title="%s"></p>\n' % (len(parts), alt, title))
+        size += len(parts[-1])
+    parts.append("</body>\n</html>\n")
+    with open(target, "w") as file:
+        file.write("".join(parts))
+    return os.path.getsize(target)
 
 
 class Call:
@@ -111,10 +130,10 @@ def main():
     peer = None if given.peer == "none" else shutil.which(given.peer)
     if given.peer != "none" and peer is None:
         raise SystemExit("no %s: apt-get install minify, or say --peer none" % given.peer)
-    documents = dict(word.split("=", 1) for word in given.documents) or DOCUMENTS
+    documents = dict(word.split("=", 1) for word in given.documents) or dict(DOCUMENTS, **{"long values": None})
     for path in documents.values():
-        if not os.path.exists(path):
-            raise SystemExit("no %s; the four documents: apt-get install %s" % (path, PACKAGES))
+        if path and not os.path.exists(path):
+            raise SystemExit("no %s; the five documents: apt-get install %s" % (path, PACKAGES))
     if peer:
         said = subprocess.run([peer, "--version"], capture_output=True, text=True)
         print("peer: %s" % (said.stdout or said.stderr).strip())
@@ -124,7 +143,8 @@ def main():
     print("|---|---|---|---|---|---|---|---|")
     for name, path in documents.items():
         with tempfile.TemporaryDirectory(prefix="hminify-speed-") as folder:
-            size = repeated(path, os.path.join(folder, "page.html"))
+            target = os.path.join(folder, "page.html")
+            size = repeated(path, target) if path else long_values(target)
             turns = calls(program, peer)
             for _ in range(given.runs):
                 for call in turns:

@@ -115,7 +115,12 @@ impl Parts {
 
     /// Closes a void element, and one of SVG whose tag closes itself; else the element stays open. Behind `pre` and
     /// `textarea` a line feed is dropped (13.2.6.4.7, 13.2.6.5).
-    fn close_at_once(&mut self, tag: Named<'_>, foreign: bool, slash: bool) -> Result<(), BuildFault>
+    fn close_at_once(
+        &mut self,
+        tag: Named<'_>,
+        foreign: bool,
+        slash: bool,
+    ) -> Result<(), BuildFault>
         requires { IsOpened tag.name.now foreign self.old }
         ensures ok { OnOk result (IsEntered slash self.old self.new) }
         ensures err { IfErr result (λ fault. fault ≡ BuildFault.Memory) }

@@ -33,11 +33,7 @@ pub fn put_line_reversed(out: &mut Vec<u8>, row: &[u64]) -> Result<(), Memory>
 
 /// Appends the line of a row, the last byte first, with the hundreds that were kept from the line before. Where memory is
 /// refused, a part may have been appended.
-pub fn put_next_line(
-    out: &mut Vec<u8>,
-    hundreds: &mut Hundreds,
-    row: &[u64],
-) -> Result<(), Memory>
+pub fn put_next_line(out: &mut Vec<u8>, hundreds: &mut Hundreds, row: &[u64]) -> Result<(), Memory>
     ensures { OnOk result (out.new.items ≡ out.old.items ++ reverse (row_line (map told row.now))) }
 {
     out.push(b'\n')?;

@@ -2,6 +2,7 @@
 #![tactic(auto)]
 
 mod certificate;
+mod hundreds;
 mod kept;
 pub mod laws;
 mod lines;
@@ -11,10 +12,11 @@ mod short;
 mod text;
 
 pub use certificate::Certificate;
+pub use hundreds::Hundreds;
 pub use kept::{RowPlace, WrittenRows};
 pub use lines::{CertificateFault, Head, Lines, read_head};
 pub use prices::{CLOSED, Prices, price_of};
-pub use reversed::{put_head_reversed, put_line_reversed};
+pub use reversed::{put_head_reversed, put_line_reversed, put_next_line};
 pub use text::{Format, write_certificate};
 
 #[cfg(test)]

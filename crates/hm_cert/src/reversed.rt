@@ -4,6 +4,7 @@ ghost use Rattle.std.specs.Fmt.{decimal};
 ghost use Rattle.hm_cert.specs.Certificate.{flag_text, head_lines, more_prices, price_text, row_line};
 ghost use Rattle.hm_cert.specs.Layout.{told};
 
+use crate::hundreds::Hundreds;
 use crate::prices::CLOSED;
 use crate::text::Format;
 use hm_base::{Memory, SpellRules};
@@ -26,62 +27,43 @@ pub fn put_head_reversed(out: &mut Vec<u8>, format: Format, rules: SpellRules) -
 pub fn put_line_reversed(out: &mut Vec<u8>, row: &[u64]) -> Result<(), Memory>
     ensures { OnOk result (out.new.items ≡ out.old.items ++ reverse (row_line (map told row.now))) }
 {
+    let mut hundreds = Hundreds::new(*out.allocator());
+    put_next_line(out, &mut hundreds, row)
+}
+
+/// Appends the line of a row, the last byte first, with the hundreds that were kept from the line before. Where memory is
+/// refused, a part may have been appended.
+pub fn put_next_line(out: &mut Vec<u8>, hundreds: &mut Hundreds, row: &[u64]) -> Result<(), Memory>
+    ensures { OnOk result (out.new.items ≡ out.old.items ++ reverse (row_line (map told row.now))) }
+{
     out.push(b'\n')?;
     if let [first, more @ ..] = row {
-        put_more(out, more)?;
-        put_price(out, *first)?;
+        put_more(out, hundreds, more)?;
+        put_price(out, hundreds, *first)?;
     }
     Ok(())
 }
 
 /// Appends prices, each behind a space, the last byte first.
-fn put_more(out: &mut Vec<u8>, row: &[u64]) -> Result<(), Memory>
+fn put_more(out: &mut Vec<u8>, hundreds: &mut Hundreds, row: &[u64]) -> Result<(), Memory>
     ensures { OnOk result (out.new.items ≡ out.old.items ++ reverse (more_prices (map told row.now))) }
 {
     for k in (0..row.len()).rev() {
-        put_price(out, row[k])?;
+        put_price(out, hundreds, row[k])?;
         out.push(b' ')?;
     }
     Ok(())
 }
 
 /// Appends a price, the last byte first.
-fn put_price(out: &mut Vec<u8>, price: u64) -> Result<(), Memory>
+fn put_price(out: &mut Vec<u8>, hundreds: &mut Hundreds, price: u64) -> Result<(), Memory>
     ensures { OnOk result (out.new.items ≡ out.old.items ++ reverse (price_text (told price))) }
 {
     if price == CLOSED {
         out.push(b'-')?;
         return Ok(());
     }
-    put_number(out, price)
-}
-
-/// Appends the digits of a number, the last first.
-fn put_number(out: &mut Vec<u8>, number: u64) -> Result<(), Memory>
-    ensures { OnOk result (out.new.items ≡ out.old.items ++ reverse (decimal number)) }
-{
-    let mut rest = number;
-    while rest >= 100 {
-        put_pair(out, (rest % 100) as u8)?;
-        rest /= 100;
-    }
-    if rest >= 10 {
-        return put_pair(out, rest as u8);
-    }
-    out.push(b'0' + rest as u8)?;
-    Ok(())
-}
-
-/// Appends the two digits of a number below 100, the last first.
-#[inline(always)]
-fn put_pair(out: &mut Vec<u8>, pair: u8) -> Result<(), Memory>
-    requires { pair < 100 }
-    ensures { OnOk result (out.new.items ≡ out.old.items ++ (48 + pair % 10) ∷ (48 + pair / 10) ∷ []) }
-{
-    out.reserve(2)?;
-    out.push_reserved(b'0' + pair % 10);
-    out.push_reserved(b'0' + pair / 10);
-    Ok(())
+    hundreds.put_number(out, price)
 }
 
 /// Appends a word behind a space, where it is set, the last byte first.

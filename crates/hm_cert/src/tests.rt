@@ -29,8 +29,9 @@ fn reversed(
     prices: &Prices,
 ) -> Result<Vec<u8>, Memory> {
     let mut out = Vec::new(alloc);
+    let mut hundreds = Hundreds::new(alloc);
     for k in (0..prices.rows()).rev() {
-        put_line_reversed(&mut out, prices.row(k))?;
+        put_next_line(&mut out, &mut hundreds, prices.row(k))?;
     }
     put_head_reversed(&mut out, format, rules)?;
     out.reverse();

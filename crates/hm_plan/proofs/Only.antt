@@ -1,5 +1,5 @@
 -- Steps of one state with one hop.
-use Rattle.std.proofs.Common.{◌≡◌, ℕ, zero, suc, ◌<◌, ◌^◌, not, ◌&&◌, ◌==◌, true, List, [], ◌∷◌, slice_get, Some, None, refl, sym, ap, subst}
+use Rattle.std.proofs.Common.{◌≡◌, ℕ, zero, suc, ◌<◌, ◌^◌, not, ◌&&◌, ◌==◌, Bool, List, [], ◌∷◌, slice_get, Some, None, refl, sym, ap, subst}
 use Rattle.std.proofs.lemmas.Bool.{false_from_ne_true}
 use Rattle.std.proofs.lemmas.Bool.Decides.{Decides-eqb}
 use Rattle.hm_cert.specs.declared.text.Format.{Format}
@@ -34,9 +34,9 @@ only_named t step h e named = let n : IsNamedStep t ((h ∷ []) ∷ []) = subst 
 pub only_low : (step : Step) (h : Hop) → only_hop step ≡ Some h → IsLowStep step → h.len < 2 ^ 33
 only_low step h e low = let n : IsLowStep ((h ∷ []) ∷ []) = subst IsLowStep (sym (only_is step h e)) low in n.0.0
 
--- where a format leaves its layer out, that isn't the first one
-pub left_out_later : (format : Format) (k : ℕ) (step : Step) → (k ≡ 0 → ⊥) → leaves_out format step ≡ true → is_left_out format k step ≡ true
-left_out_later format k step other left = λ i. not (false_from_ne_true (k == 0) (λ t. other ((Decides-eqb k 0).0 t)) i) && left i
+-- whether a format leaves its layer out, which isn't the first one
+pub left_out_later : (format : Format) (k : ℕ) (step : Step) (b : Bool) → (k ≡ 0 → ⊥) → leaves_out format step ≡ b → is_left_out format k step ≡ b
+left_out_later format k step b other left = λ i. not (false_from_ne_true (k == 0) (λ t. other ((Decides-eqb k 0).0 t)) i) && left i
 
 -- its layer has one price and no choices
 pub only_row : (behind : Row) (step : Step) (h : Hop) → only_hop step ≡ Some h → price_over behind h ∷ [] ≡ row_over behind step

@@ -1,10 +1,11 @@
 -- What is found from the last layer of a graph on.
-use Rattle.std.specs.Prelude.{◌≡◌, ℕ, List, drop, map, reverse}
+use Rattle.std.specs.Prelude.{◌≡◌, ℕ, zero, suc, ◌*◌, List, [], ◌++◌, drop, map, reverse}
 use Rattle.hm_base.specs.declared.plain.SpellRules.{SpellRules}
-use Rattle.hm_cert.specs.Certificate.{certificate_text, row_lines}
+use Rattle.hm_cert.specs.Certificate.{certificate_text, row_line, row_lines}
 use Rattle.hm_cert.specs.Layout.{told}
 use Rattle.hm_cert.specs.declared.text.Format.{Format}
 use Rattle.hm_graph.specs.Prices.{Row, first_price}
+use Rattle.hm_graph.specs.Ways.{over}
 use Rattle.hm_layers.specs.Graphs.{GraphView}
 use Rattle.hm_steps.specs.Prices.{first_row, rows_of, written_rows}
 use Rattle.hm_steps.specs.Ways.{choices_of}
@@ -26,3 +27,8 @@ pub record IsBack (g : GraphView) (format : Format) (k : ℕ) (text choices : Li
 -- what was found from layer k on
 abbrev pub IsFound : GraphView → Format → ℕ → Back → Type 0
 IsFound g format k back = IsBack g format k back.text.items back.choices.items (map told back.row.items)
+
+-- the lines of so many rows, from their end: the first has so many bytes more than this one, and each next one as many again
+abbrev pub raised_lines : ℕ → ℕ → Row → List ℕ
+raised_lines zero len row = []
+raised_lines (suc count) len row = raised_lines count len row ++ reverse (row_line (map (over (suc count * len)) row))

@@ -1,5 +1,5 @@
 //! Least prices, from the last layer on: the certificate that tells them, and what the first way chooses.
-ghost use Rattle.std.specs.Prelude.{◌≡◌, ◌++◌, ◌∷◌, [], ◌<◌, ◌≤◌, ◌^◌, length, map, reverse, if◌then◌else◌, Some, None, IfOk, IsTrue, OnOk, slice_index_or};
+ghost use Rattle.std.specs.Prelude.{◌≡◌, ◌++◌, ◌∷◌, [], ◌*◌, ◌<◌, ◌≤◌, ◌^◌, length, map, reverse, if◌then◌else◌, Some, None, IfOk, IsTrue, OnOk, slice_index_or};
 ghost use Rattle.hm_cert.specs.Certificate.{head_lines, row_line};
 ghost use Rattle.hm_cert.specs.Layout.{told};
 ghost use Rattle.hm_graph.specs.Ways.{over};
@@ -7,11 +7,11 @@ ghost use Rattle.hm_layers.specs.Graphs.{AreLowHops, IsLowStep, IsPlace};
 ghost use Rattle.hm_steps.specs.Prices.{best_price, row_over, zeros};
 ghost use Rattle.hm_steps.specs.Prices as prices;
 ghost use Rattle.hm_steps.specs.Ways.{choice, step_choices};
-ghost use Rattle.hm_plan.specs.Plans.{IsFound, IsPlan};
+ghost use Rattle.hm_plan.specs.Plans.{IsFound, IsPlan, raised_lines};
 ghost use Rattle.hm_plan.specs.Rows.{AreBelow, IsBelow};
 
 use hm_base::{Memory, SpellRules};
-use hm_cert::{CLOSED, Format, put_head_reversed, put_line_reversed};
+use hm_cert::{CLOSED, Format, Hundreds, put_head_reversed, put_line_reversed, put_next_line};
 use hm_layers::{Cursor, Graph, Step, are_still, first_len};
 use hm_steps::Hop;
 use std::alloc::Global;
@@ -148,20 +148,47 @@ fn is_left_out(format: Format, k: usize, step: &Step) -> bool
 }
 
 /// Appends the line of a row, the last byte first, where it isn't left out.
-fn put_line(out: &mut Vec<u8>, left_out: bool, row: &[u64]) -> Result<(), Memory>
+fn put_line(
+    out: &mut Vec<u8>,
+    hundreds: &mut Hundreds,
+    left_out: bool,
+    row: &[u64],
+) -> Result<(), Memory>
     ensures { OnOk result (out.new.items ≡ out.old.items ++ (if left_out then [] else reverse (row_line (map told row.now)))) }
 {
     if left_out {
         Ok(())
     } else {
-        put_line_reversed(out, row)
+        put_next_line(out, hundreds, row)
     }
+}
+
+/// Appends the lines of so many rows, the last byte first: the first has so many bytes more for each price than this one, and
+/// each next one has as many more again.
+fn put_raised(
+    out: &mut Vec<u8>,
+    hundreds: &mut Hundreds,
+    row: &[u64],
+    count: u64,
+    len: u64,
+    spare: &mut Vec<u64>,
+) -> Result<(), Memory>
+    requires below { AreBelow (2 ^ 62) (map told row.now) }
+    requires low { count * len < 2 ^ 62 }
+    ensures { OnOk result (out.new.items ≡ out.old.items ++ raised_lines count len (map told row.now)) }
+{
+    for i in 0..count {
+        add_each(row, (i + 1) * len, spare)?;
+        put_next_line(out, hundreds, spare)?;
+    }
+    Ok(())
 }
 
 /// What was found from a layer on: the lines of the certificate, from their end, the choices and the prices of the layer.
 #[derive(Drop)]
 struct Back {
     text: Vec<u8>,
+    hundreds: Hundreds,
     choices: Vec<u8>,
     row: Vec<u64>,
     spare: Vec<u64>,
@@ -179,6 +206,7 @@ impl Back {
         put_line_reversed(&mut text, &row)?;
         Ok(Back {
             text,
+            hundreds: Hundreds::new(alloc),
             choices: Vec::new(alloc),
             row,
             spare: Vec::new(alloc),
@@ -254,7 +282,8 @@ impl Back {
         ensures row { OnOk result (map told self.new.row.items ≡ row_over (map told self.old.row.items) step.now) }
     {
         self.pass(step)?;
-        put_line(&mut self.text, is_left_out(format, k, step), &self.row)
+        let left_out = is_left_out(format, k, step);
+        put_line(&mut self.text, &mut self.hundreds, left_out, &self.row)
     }
 
     /// Adds so many bytes to each price.
@@ -268,6 +297,28 @@ impl Back {
         add_each(&self.row, len, &mut self.spare)?;
         mem::swap(&mut self.row, &mut self.spare);
         Ok(())
+    }
+
+    /// Goes over so many layers, each of which has so many bytes more for each price than the one behind it, and writes their
+    /// lines, where they aren't left out.
+    fn pass_alike(&mut self, left_out: bool, count: u64, len: u64) -> Result<(), Memory>
+        requires below { AreBelow (2 ^ 62) (map told self.old.row.items) }
+        requires low { count * len < 2 ^ 62 }
+        ensures text { OnOk result (self.new.text.items ≡ self.old.text.items ++ (if left_out then [] else raised_lines count len (map told self.old.row.items))) }
+        ensures choices { self.new.choices ≡ self.old.choices }
+        ensures row { OnOk result (map told self.new.row.items ≡ map (over (count * len)) (map told self.old.row.items)) }
+    {
+        if !left_out {
+            put_raised(
+                &mut self.text,
+                &mut self.hundreds,
+                &self.row,
+                count,
+                len,
+                &mut self.spare,
+            )?;
+        }
+        self.add(count * len)
     }
 
     /// The plan, when the first layer is reached.
@@ -291,8 +342,7 @@ impl Back {
     }
 }
 
-/// Goes on over layers in front of one that have the same step, where no state changes its place and none is written, but
-/// not to the first layer.
+/// Goes on over layers in front of one that have the same step, where no state changes its place, but not to the first layer.
 fn go_on(back: &mut Back, graph: &Graph, format: Format, at: Cursor) -> Result<Cursor, Memory>
     requires place { IsPlace graph.now at }
     requires inside { at.layer < length graph.now.steps }
@@ -309,7 +359,7 @@ fn go_on(back: &mut Back, graph: &Graph, format: Format, at: Cursor) -> Result<C
         return Ok(at);
     }
     let step = graph.step(at);
-    if !step.is_left_out(format) {
+    if !step.is_forced() {
         return Ok(at);
     }
     graph.is_small();
@@ -318,7 +368,7 @@ fn go_on(back: &mut Back, graph: &Graph, format: Format, at: Cursor) -> Result<C
         return Ok(at);
     }
     let count = (at.layer - front.layer) as u64;
-    back.add(count * len)?;
+    back.pass_alike(step.is_left_out(format), count, len)?;
     Ok(front)
 }
 

@@ -2,7 +2,7 @@ use Rattle.std.proofs.Common.{◌++◌, ◌+◌, ◌%◌, ◌/◌, ◌∷◌, []
 use Rattle.std.specs.Fmt.{decimal}
 use Rattle.std.proofs.lemmas.Result.{on_ok_weaker}
 use Rattle.hm_cert.proofs.Texts.{turned_pair, turned_two, turned_digit}
-use Rattle.hm_cert.proofs.reversed.put_number.Goals as goal
+use Rattle.hm_cert.proofs.hundreds.put_number.Goals as goal
 
 pub loop-rest-preserved : goal.loop-rest-preserved
 loop-rest-preserved c =

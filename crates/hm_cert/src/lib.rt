@@ -4,6 +4,7 @@
 mod certificate;
 mod kept;
 pub mod laws;
+mod leading;
 mod lines;
 mod prices;
 mod reversed;

@@ -20,7 +20,7 @@ pub struct Case {
 
 /// How a run ended.
 #[derive(Clone, Copy, Debug, PartialEq, Eq)]
-pub enum Verdict {
+pub enum CaseVerdict {
     Agrees,
     /// Its exit status is this one.
     OtherStatus(u8),
@@ -132,17 +132,17 @@ impl Case {
     }
 
     /// Runs the case, and compares.
-    pub fn verdict(&mut self, alloc: Global) -> Verdict {
+    pub fn verdict(&mut self, alloc: Global) -> CaseVerdict {
         let mut sink = MemSink::new(alloc);
         let status = run(alloc, self.words.as_slice(), &mut self.store, &mut sink).code();
         if status != self.status {
-            Verdict::OtherStatus(status)
+            CaseVerdict::OtherStatus(status)
         } else if sink.bytes() != self.wanted.as_slice() {
-            Verdict::OtherOutput
+            CaseVerdict::OtherOutput
         } else if !holds(&self.store, "out", &self.out) || !holds(&self.store, "cert", &self.cert) {
-            Verdict::OtherFile
+            CaseVerdict::OtherFile
         } else {
-            Verdict::Agrees
+            CaseVerdict::Agrees
         }
     }
 }

@@ -6,25 +6,25 @@
 mod case;
 mod escapes;
 
-use case::{Case, Verdict};
+use case::{Case, CaseVerdict};
 use std::alloc::Global;
 use std::{fs, io};
 
 /// Runs a case and prints how it differs: whether it does.
 fn differs(rt: &impl Print, alloc: Global, case: &mut Case) -> io::Result<bool> {
     match case.verdict(alloc) {
-        Verdict::Agrees => Ok(false),
-        Verdict::OtherStatus(status) => {
+        CaseVerdict::Agrees => Ok(false),
+        CaseVerdict::OtherStatus(status) => {
             let (name, wanted) = (case.name(), case.status());
             println!(rt; "{name}: status {status}, wanted {wanted}")?;
             Ok(true)
         }
-        Verdict::OtherOutput => {
+        CaseVerdict::OtherOutput => {
             let name = case.name();
             println!(rt; "{name}: other output")?;
             Ok(true)
         }
-        Verdict::OtherFile => {
+        CaseVerdict::OtherFile => {
             let name = case.name();
             println!(rt; "{name}: other file")?;
             Ok(true)

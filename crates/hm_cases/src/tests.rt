@@ -1,11 +1,11 @@
-use crate::case::{Case, Verdict};
+use crate::case::{Case, CaseVerdict};
 use crate::escapes::bytes_of;
 use std::alloc::Global;
 use std::io;
 use std::test::Fail;
 
 /// How a run without a page compares with a status and a printed line.
-fn verdict_without_page(alloc: Global, status: &str, line: &str) -> io::Result<Verdict> {
+fn verdict_without_page(alloc: Global, status: &str, line: &str) -> io::Result<CaseVerdict> {
     let mut case = Case::new(alloc);
     case.take(alloc, "words", "minify none page out cert --omit --unquote")?;
     case.take(alloc, "status", status)?;
@@ -26,8 +26,8 @@ fn a_case_compares_status_and_output(rt: HostRuntime) -> Result<(), Fail> {
     let agrees = verdict_without_page(alloc, "5", "store fault")?;
     let other_status = verdict_without_page(alloc, "0", "store fault")?;
     let other_output = verdict_without_page(alloc, "5", "store")?;
-    assert_eq!(rt; agrees, Verdict::Agrees);
-    assert_eq!(rt; other_status, Verdict::OtherStatus(5));
-    assert_eq!(rt; other_output, Verdict::OtherOutput);
+    assert_eq!(rt; agrees, CaseVerdict::Agrees);
+    assert_eq!(rt; other_status, CaseVerdict::OtherStatus(5));
+    assert_eq!(rt; other_output, CaseVerdict::OtherOutput);
     Ok(())
 }

@@ -9,3 +9,4 @@ pub mod Written
 pub mod ShortLines
 pub mod Read
 pub mod BackNumbers
+pub mod LeadingDigits

@@ -5,5 +5,6 @@ pub mod Reading
 pub mod First
 pub mod Places
 pub mod Short
+pub mod Leading
 pub mod Laws
 pub mod Examples

@@ -4,6 +4,7 @@ ghost use Rattle.hm_cert.specs.Layout.{told};
 ghost use Rattle.hm_cert.specs.Places.{AreCounted, IsLineStart, IsRowPlace};
 ghost use Rattle.hm_cert.specs.Reading.{RowsAre, rows_in};
 
+use crate::leading::LeadingDigits;
 use crate::lines::{CertificateFault, Lines, read_row};
 use crate::short::short_row_before;
 use hm_base::Memory;
@@ -33,11 +34,13 @@ impl<'a> Model for WrittenRows<'a> {
 
 /// A place between rows: in front of one, or behind the last one.
 #[derive(Clone, Copy)]
-pub struct RowPlace {
+pub struct RowPlace<'a> {
     /// How many rows are in front.
     pub row: usize,
     // how many bytes their lines have
     at: usize,
+    // the first digits of a price behind
+    known: LeadingDigits<'a>,
 }
 
 impl<'a> WrittenRows<'a> {
@@ -58,45 +61,57 @@ impl<'a> WrittenRows<'a> {
     }
 
     /// The place behind the last row.
-    pub fn end(&self) -> RowPlace
+    pub fn end(&self) -> RowPlace<'a>
         ensures place { IsRowPlace self.now result }
         ensures row { result.row ≡ length self.now }
     {
         RowPlace {
             row: self.count,
             at: self.lines.len(),
+            known: LeadingDigits::any(),
         }
     }
 
     /// Reads the row in front of a place, of any form, in place of what the list held.
-    fn any_row_before(&self, place: RowPlace, into: &mut Vec<u64>) -> Result<RowPlace, Memory>
+    fn any_row_before(
+        &self,
+        place: RowPlace<'a>,
+        into: &mut Vec<u64>,
+    ) -> Result<RowPlace<'a>, Memory>
         requires place { IsRowPlace self.now place }
         requires some { 0 < place.row }
-        ensures row { IfOk result (λ _. map told into.new.items ≡ slice_index_or self.now (place.row - 1) []) }
+        ensures row { IfOk result (λ _. map told into.new.items ≡ slice_index_or self.now (place.entry.row - 1) []) }
         ensures place { IfOk result (λ before. IsRowPlace self.now before) }
-        ensures before { IfOk result (λ before. before.row + 1 ≡ place.row) }
+        ensures before { IfOk result (λ before. before.row + 1 ≡ place.entry.row) }
     {
         let (at, line) = line_before(self.lines, place.at - 1);
         read_row(line, into)?;
         Ok(RowPlace {
             row: place.row - 1,
             at,
+            known: place.known,
         })
     }
 
     /// Reads the row in front of a place into a list, in place of what is there, a closed price as `CLOSED`, and gives the place
     /// in front of it.
-    pub fn row_before(&self, place: RowPlace, into: &mut Vec<u64>) -> Result<RowPlace, Memory>
+    pub fn row_before(
+        &self,
+        place: RowPlace<'a>,
+        into: &mut Vec<u64>,
+    ) -> Result<RowPlace<'a>, Memory>
         requires place { IsRowPlace self.now place }
         requires some { 0 < place.row }
-        ensures row { IfOk result (λ _. map told into.new.items ≡ slice_index_or self.now (place.row - 1) []) }
+        ensures row { IfOk result (λ _. map told into.new.items ≡ slice_index_or self.now (place.entry.row - 1) []) }
         ensures place { IfOk result (λ before. IsRowPlace self.now before) }
-        ensures before { IfOk result (λ before. before.row + 1 ≡ place.row) }
+        ensures before { IfOk result (λ before. before.row + 1 ≡ place.entry.row) }
     {
-        match short_row_before(self.lines, place.at - 1, into)? {
+        let mut known = place.known;
+        match short_row_before(self.lines, place.at - 1, into, &mut known)? {
             Some(at) => Ok(RowPlace {
                 row: place.row - 1,
                 at,
+                known,
             }),
             None => self.any_row_before(place, into),
         }
@@ -122,7 +137,8 @@ fn count_rows(alloc: Global, mut lines: Lines<'_>) -> Result<usize, CertificateF
 {
     let mut count = 0;
     let mut spare = Vec::new(alloc);
-    while lines.pass_row(&mut spare)? {
+    let mut known = LeadingDigits::any();
+    while lines.pass_row(&mut spare, &mut known)? {
         count += 1;
     }
     Ok(count)

@@ -5,6 +5,7 @@ mod certificate;
 mod hundreds;
 mod kept;
 pub mod laws;
+mod leading;
 mod lines;
 mod prices;
 mod reversed;

@@ -7,6 +7,7 @@ ghost use Rattle.hm_cert.specs.First.{IsFirst, IsNoFirst};
 ghost use Rattle.hm_cert.specs.Words.{HasNumberForm, IsNumber, IsUpTo};
 ghost use Rattle.hm_cert.specs.Reading.{IsBadHead, IsNext, IsPassed, given, line_format, line_row, line_rules, pieces, rows_in, with_head, word_price};
 
+use crate::leading::LeadingDigits;
 use crate::prices::CLOSED;
 use crate::short::short_line;
 use crate::text::Format;
@@ -110,13 +111,17 @@ impl<'a> Lines<'a> {
         Ok(true)
     }
 
-    /// Goes past the next row. False at the end. A row of prices of few digits isn't read, and of another one the list is left
-    /// with what was read. After a refusal the lines are as they were.
-    pub(crate) fn pass_row(&mut self, spare: &mut Vec<u64>) -> Result<bool, CertificateFault>
+    /// Goes past the next row, where the first digits of a price are known. False at the end. A row of prices of few digits isn't
+    /// read, and of another one the list is left with what was read. After a refusal the lines are as they were.
+    pub(crate) fn pass_row(
+        &mut self,
+        spare: &mut Vec<u64>,
+        known: &mut LeadingDigits<'a>,
+    ) -> Result<bool, CertificateFault>
         ensures row { IsPassed (rows_in self.old.number self.old.rest.now) (rows_in self.new.number self.new.rest.now) result }
         ensures shorter { IfOk result (λ more. more ≡ true → length self.new.rest.now < length self.old.rest.now) }
     {
-        match short_line(self.rest) {
+        match short_line(self.rest, known) {
             Some(end) => {
                 *self = Lines {
                     rest: &self.rest[end + 1..],
@@ -201,7 +206,7 @@ fn behind<'a>(text: &'a [u8], word: &[u8]) -> Option<&'a [u8]>
 
 /// The price whose text a line begins with.
 #[derive(Drop)]
-struct First<'a> {
+struct FirstPrice<'a> {
     price: u64,
     /// What is behind the space behind it, where there is one.
     more: Option<&'a [u8]>,
@@ -224,26 +229,26 @@ pub(crate) fn read_row(line: &[u8], into: &mut Vec<u64>) -> Result<bool, Memory>
 }
 
 /// The price whose text the first word of a line is.
-fn first_price(line: &[u8]) -> Option<First<'_>>
+fn first_price(line: &[u8]) -> Option<FirstPrice<'_>>
     ensures { MatchOption result (IsNoFirst line.now) (IsFirst line.now) }
 {
     match cut(line, b' ') {
         Some((word, more)) => match read_price(word) {
-            Some(price) => Some(First {
+            Some(price) => Some(FirstPrice {
                 price,
                 more: Some(more),
             }),
             None => None,
         },
         None => match read_price(line) {
-            Some(price) => Some(First { price, more: None }),
+            Some(price) => Some(FirstPrice { price, more: None }),
             None => None,
         },
     }
 }
 
 /// The price whose text a word is.
-fn read_price(word: &[u8]) -> Option<u64>
+pub(crate) fn read_price(word: &[u8]) -> Option<u64>
     ensures { option_map told result ≡ word_price word.now }
 {
     if word == b"-".as_slice() {

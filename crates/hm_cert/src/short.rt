@@ -1,9 +1,9 @@
 //! Lines of prices of few digits, judged from their front and read from their end.
 ghost use Rattle.std.specs.Prelude.{◌≡◌, ◌<◌, length, map, IfOk, IfSome};
-ghost use Rattle.hm_cert.specs.Certificate.{IsPrice, price_text};
 ghost use Rattle.hm_cert.specs.Layout.{told};
 ghost use Rattle.hm_cert.specs.Short.{AreDigits, IsBackTo, IsLastPrice, IsShortLine, IsShortRow, IsShortWord};
 
+use crate::leading::LeadingDigits;
 use crate::lines::has_number_form;
 use crate::prices::CLOSED;
 use hm_base::Memory;
@@ -48,12 +48,39 @@ fn short_word(text: &[u8]) -> Option<usize>
     Some(len)
 }
 
+/// The length of a price with these first digits, where a text begins with one and something is behind.
+fn word_with(known: &LeadingDigits<'_>, text: &[u8]) -> Option<usize>
+    ensures { IfSome result (IsShortWord text.now) }
+{
+    if text.len() == known.width() {
+        return None;
+    }
+    match known.number_of(text) {
+        Some(_) => Some(known.width()),
+        None => None,
+    }
+}
+
+/// As `short_word`, where the first digits of a price are known: it often has them too. Otherwise its own take their place.
+fn short_word_like<'a>(text: &'a [u8], known: &mut LeadingDigits<'a>) -> Option<usize>
+    ensures { IfSome result (IsShortWord text.now) }
+{
+    if let Some(len) = word_with(known, text) {
+        return Some(len);
+    }
+    let len = short_word(text)?;
+    if let Some(leading) = LeadingDigits::read(&text[..len]) {
+        *known = leading;
+    }
+    Some(len)
+}
+
 /// Where the first line of a text ends, in bytes, where each of its words is such a price.
-pub(crate) fn short_line(text: &[u8]) -> Option<usize>
+pub(crate) fn short_line<'a>(text: &'a [u8], known: &mut LeadingDigits<'a>) -> Option<usize>
     ensures { IfSome result (IsShortLine text.now) }
 {
     let mut at = 0;
-    while let Some(len) = short_word(&text[at..]) {
+    while let Some(len) = short_word_like(&text[at..], known) {
         let end = at + len;
         if text[end] == b'\n' {
             return Some(end);
@@ -100,33 +127,46 @@ fn back_price(text: &[u8]) -> Option<(u64, usize)>
     }
 }
 
-/// As `back_price`, where a word and the price whose text it is are known: in a row they often come again.
-fn back_price_like(text: &[u8], word: &[u8], price: u64) -> Option<(u64, usize)>
-    requires can { IsPrice (told price) }
-    requires word { word.now ≡ price_text (told price) }
+/// The price with these first digits that a text ends with, and where it begins.
+fn price_with(known: &LeadingDigits<'_>, text: &[u8]) -> Option<(u64, usize)>
     ensures { IfSome result (λ found. IsLastPrice text.now found.1 found.0) }
 {
-    if text.ends_with(word) {
-        return Some((price, text.len() - word.len()));
+    if text.len() < known.width() {
+        return None;
     }
-    back_price(text)
+    let at = text.len() - known.width();
+    let number = known.number_of(&text[at..])?;
+    Some((number, at))
+}
+
+/// As `back_price`, where the first digits of a price are known: it often has them too. Otherwise its own take their place.
+fn back_price_like<'a>(text: &'a [u8], known: &mut LeadingDigits<'a>) -> Option<(u64, usize)>
+    ensures { IfSome result (λ found. IsLastPrice text.now found.1 found.0) }
+{
+    if let Some(found) = price_with(known, text) {
+        return Some(found);
+    }
+    let (price, at) = back_price(text)?;
+    if let Some(leading) = LeadingDigits::of(&text[at..], price) {
+        *known = leading;
+    }
+    Some((price, at))
 }
 
 /// Reads the row whose line ends at a place into a list, in place of what is there, a closed price as `CLOSED`, and gives
 /// where the line begins, where each price is closed or has at most 18 digits.
-pub(crate) fn short_row_before(
-    text: &[u8],
+pub(crate) fn short_row_before<'a>(
+    text: &'a [u8],
     end: usize,
     into: &mut Vec<u64>,
+    known: &mut LeadingDigits<'a>,
 ) -> Result<Option<usize>, Memory>
     requires { end < length text.now }
     ensures { IfOk result (λ found. IfSome found (IsShortRow text.now end (map told into.new.items))) }
 {
     into.clear();
     let mut front = end;
-    let mut word = b"-".as_slice();
-    let mut price = CLOSED;
-    while let Some((next, at)) = back_price_like(&text[..front], word, price) {
+    while let Some((next, at)) = back_price_like(&text[..front], known) {
         into.push(next)?;
         if at == 0 || text[at - 1] == b'\n' {
             into.reverse();
@@ -135,8 +175,6 @@ pub(crate) fn short_row_before(
         if text[at - 1] != b' ' {
             return Ok(None);
         }
-        word = &text[at..front];
-        price = next;
         front = at - 1;
     }
     Ok(None)

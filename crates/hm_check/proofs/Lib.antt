@@ -8,3 +8,4 @@ pub mod Accepted
 pub mod Shown
 pub mod Checking
 pub mod Alike
+pub mod Within

@@ -15,7 +15,7 @@ use Rattle.hm_check.specs.Rows.{OtherWidth, HighPrice, high_in, high_at_end, or_
 use Rattle.hm_check.specs.Steps.{count_over, other_width_over, high_price_over, by_full_over, by_width_over}
 use Rattle.hm_check.specs.Verdicts.{by_first, by_high}
 use Rattle.hm_check.specs.Sweeps.{width_why, high_why, AreBelow, AreInPlace, ArePriced, AreKnown, IsSwept, judged, judged_at_end}
-use Rattle.hm_check.specs.declared.sweep.Found.{Found}
+use Rattle.hm_check.specs.declared.sweep.SweepFound.{SweepFound}
 use Rattle.hm_check.specs.declared.sweep.Sweep.{Sweep}
 use Rattle.hm_check.specs.declared.verdicts.Why.{Why}
 use Rattle.hm_check.specs.declared.verdicts.Why.TheVariants.{WrongWidth}
@@ -51,24 +51,24 @@ swept_below format g rows k s few h right =
 
 -- ---- What is found with one more row
 
-pub judged_other : (found : Found) (k : ℕ) (numbers behind : List ℕ) (step : Step) → length numbers ≢ length step
+pub judged_other : (found : SweepFound) (k : ℕ) (numbers behind : List ℕ) (step : Step) → length numbers ≢ length step
     → record { right = false; why = Some (WrongWidth k (length numbers) (length step)) } ≡ judged found k (map told numbers) (map told behind) step
 judged_other found k numbers behind step h = sym (rw (length-map numbers told, other_test (length numbers) (length step) h) refl)
 
-pub judged_wrong : (found : Found) (k : ℕ) (numbers behind : List ℕ) (step : Step) → length numbers ≡ length step → found.right ≡ false → found ≡ judged found k (map told numbers) (map told behind) step
+pub judged_wrong : (found : SweepFound) (k : ℕ) (numbers behind : List ℕ) (step : Step) → length numbers ≡ length step → found.right ≡ false → found ≡ judged found k (map told numbers) (map told behind) step
 judged_wrong found k numbers behind step h e = sym (rw (length-map numbers told, eq-eqb (length numbers) (length step) h, e) refl)
 
-pub judged_right : (found : Found) (k : ℕ) (numbers behind : List ℕ) (step : Step) (why high : Option Why) → length numbers ≡ length step → found.right ≡ true → why ≡ option_or high found.why
+pub judged_right : (found : SweepFound) (k : ℕ) (numbers behind : List ℕ) (step : Step) (why high : Option Why) → length numbers ≡ length step → found.right ≡ true → why ≡ option_or high found.why
     → high ≡ option_map high_why (high_in k 0 (map told numbers) (row_over (map told behind) step)) → record { right = true; why = why } ≡ judged found k (map told numbers) (map told behind) step
 judged_right found k numbers behind step why high h e is f =
     ap (λ w. record { right = true; why = w }) (is ∙ ap (λ o. option_or o found.why) f)
     ∙ sym (rw (length-map numbers told, eq-eqb (length numbers) (length step) h, e) refl)
 
-pub judged_high : (found : Found) (k : ℕ) (numbers behind : List ℕ) (step : Step) (why : Why) → length numbers ≡ length step → found.right ≡ true
+pub judged_high : (found : SweepFound) (k : ℕ) (numbers behind : List ℕ) (step : Step) (why : Why) → length numbers ≡ length step → found.right ≡ true
     → Some why ≡ option_map high_why (high_in k 0 (map told numbers) (row_over (map told behind) step)) → record { right = found.right; why = Some why } ≡ judged found k (map told numbers) (map told behind) step
 judged_high found k numbers behind step why h e f = ap (λ r. record { right = r; why = Some why }) e ∙ judged_right found k numbers behind step (Some why) (Some why) h e refl f
 
-pub judged_low : (found : Found) (k : ℕ) (numbers behind : List ℕ) (step : Step) → length numbers ≡ length step → found.right ≡ true
+pub judged_low : (found : SweepFound) (k : ℕ) (numbers behind : List ℕ) (step : Step) → length numbers ≡ length step → found.right ≡ true
     → None ≡ option_map high_why (high_in k 0 (map told numbers) (row_over (map told behind) step)) → found ≡ judged found k (map told numbers) (map told behind) step
 judged_low found k numbers behind step h e f = ap (λ r. record { right = r; why = found.why }) e ∙ judged_right found k numbers behind step found.why None h e refl f
 
@@ -225,7 +225,7 @@ in_swept format g rows k s t place within kept h stands at row found = record {
     there : t.at.row < length rows
     there = has_row format g rows k t.at.row written
 
-    better : Found
+    better : SweepFound
     better = record { right = true; why = option_or (option_map high_why (high_in k 0 here (row_over next step))) s.found.why }
 
     by_known : length here ≡ length step → t.found ≡ cond s.found.right better s.found → (o : Option OtherWidth) → AreKnown format g rows (k + 1) s o → AreKnown format g rows k t o

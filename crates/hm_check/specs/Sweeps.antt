@@ -9,9 +9,10 @@ use Rattle.hm_graph.specs.Prices.{Row}
 use Rattle.hm_layers.specs.Graphs.{GraphView}
 use Rattle.hm_steps.specs.Prices.{row_over, full_rows}
 use Rattle.hm_steps.specs.Steps.{Step}
+use Rattle.hm_steps.specs.Still.{AreStill}
 use Rattle.hm_check.specs.Rows.{OtherWidth, HighPrice, high_in, high_at_end}
 use Rattle.hm_check.specs.Steps.{count_over, other_width_over, high_price_over}
-use Rattle.hm_check.specs.declared.sweep.Found.{Found}
+use Rattle.hm_check.specs.declared.sweep.SweepFound.{SweepFound}
 use Rattle.hm_check.specs.declared.sweep.Sweep.{Sweep}
 use Rattle.hm_check.specs.declared.verdicts.Why.{Why}
 use Rattle.hm_check.specs.declared.verdicts.Why.TheVariants.{WrongWidth, TooHigh}
@@ -39,14 +40,18 @@ pub record AreInPlace (format : Format) (g : GraphView) (rows : List Row) : Type
   pub prices : AreRows rows
   pub count : length rows ≡ count_over format 0 g.steps
 
+-- no state changes its place over a step, and each hop has this length
+abbrev pub IsStillOver : Step → ℕ → Type 0
+IsStillOver step len = AreStill len step × (len < 2 ^ 33)
+
 -- what is found with the row of layer k in front, by the prices behind
-abbrev pub judged : Found → ℕ → Row → Row → Step → Found
+abbrev pub judged : SweepFound → ℕ → Row → Row → Step → SweepFound
 judged found k row behind step =
     if length row == length step then (if found.right then record { right = true; why = option_or (option_map high_why (high_in k 0 row (row_over behind step))) found.why } else found)
     else record { right = false; why = Some (WrongWidth k (length row) (length step)) }
 
 -- what is found of the row of the last layer, layer k
-abbrev pub judged_at_end : ℕ → Row → ℕ → Found
+abbrev pub judged_at_end : ℕ → Row → ℕ → SweepFound
 judged_at_end k row last =
     if length row == last then record { right = true; why = option_map high_why (high_at_end k 0 row) }
     else record { right = false; why = Some (WrongWidth k (length row) last) }

@@ -1,10 +1,11 @@
 //! The bounds of prices, and the first price of a layer above its bound.
-ghost use Rattle.std.specs.Prelude.{◌≡◌, ◌<◌, ◌+◌, ◌^◌, length, map, option_map};
+ghost use Rattle.std.specs.Prelude.{◌≡◌, ℕ, ◌<◌, ◌+◌, ◌^◌, None, length, map, option_map, IsTrue};
 ghost use Rattle.hm_cert.specs.Layout.{told};
+ghost use Rattle.hm_graph.specs.Ways.{over};
 ghost use Rattle.hm_layers.specs.Graphs.{AreLowHops, IsLowStep};
 ghost use Rattle.hm_steps.specs.Prices as steps;
 ghost use Rattle.hm_check.specs.Rows as rows;
-ghost use Rattle.hm_check.specs.Sweeps.{AreBelow, high_why};
+ghost use Rattle.hm_check.specs.Sweeps.{AreBelow, IsBelow, high_why};
 
 use crate::Why;
 use hm_cert::{CLOSED, price_of};
@@ -24,7 +25,7 @@ fn price_over(behind: &[u64], hop: Hop) -> u64
 }
 
 /// The least price over these hops, by the prices of the layer behind.
-pub(crate) fn best_price(behind: &[u64], hops: &[Hop]) -> u64
+fn least_price(behind: &[u64], hops: &[Hop]) -> u64
     requires below { AreBelow (2 ^ 63 + 2 ^ 62) (map told behind.now) }
     requires low { AreLowHops hops.now }
     ensures { told result ≡ steps.best_price (map told behind.now) hops.now }
@@ -36,11 +37,47 @@ pub(crate) fn best_price(behind: &[u64], hops: &[Hop]) -> u64
     best
 }
 
+/// As `least_price`. Most states have one hop.
+pub(crate) fn best_price(behind: &[u64], hops: &[Hop]) -> u64
+    requires below { AreBelow (2 ^ 63 + 2 ^ 62) (map told behind.now) }
+    requires low { AreLowHops hops.now }
+    ensures { told result ≡ steps.best_price (map told behind.now) hops.now }
+{
+    match hops {
+        [hop] => price_over(behind, *hop),
+        _ => least_price(behind, hops),
+    }
+}
+
+/// The price with so many bytes more.
+pub(crate) fn more(price: u64, len: u64) -> u64
+    requires below { IsBelow (2 ^ 63 + 2 ^ 62) (told price) }
+    requires low { len < 2 ^ 62 }
+    ensures { told result ≡ over len (told price) }
+{
+    len.saturating_add(price)
+}
+
 /// Whether a price is above its bound. A closed one is the greatest.
 fn is_above(price: u64, bound: u64) -> bool
     ensures { result ≡ rows.is_above (told price) (told bound) }
 {
     price > bound
+}
+
+/// Whether no price is above the one behind it with so many bytes more.
+pub(crate) fn are_within(row: &[u64], behind: &[u64], len: u64) -> bool
+    requires below { AreBelow (2 ^ 63 + 2 ^ 62) (map told behind.now) }
+    requires low { len < 2 ^ 62 }
+    requires width { length row.now ≡ length behind.now }
+    ensures { (k : ℕ) → IsTrue result → rows.high_in k 0 (map told row.now) (map (over len) (map told behind.now)) ≡ None }
+{
+    for i in 0..row.len() {
+        if is_above(row[i], more(behind[i], len)) {
+            return false;
+        }
+    }
+    true
 }
 
 /// The first price of layer `k` above its bound, by the prices of the layer behind.

@@ -16,12 +16,12 @@ use hm_layers::Graph;
 use std::alloc::Global;
 
 /// What is known at the first layer.
-fn sweep(
+fn sweep<'a>(
     alloc: Global,
     graph: &Graph,
-    prices: &WrittenRows<'_>,
+    prices: &WrittenRows<'a>,
     format: Format,
-) -> Result<Sweep, Memory>
+) -> Result<Sweep<'a>, Memory>
     requires { AreInPlace format graph.now prices.now }
     ensures { IfOk result (IsSwept format graph.now prices.now 0) }
 {

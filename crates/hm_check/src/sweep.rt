@@ -1,14 +1,15 @@
 //! The prices of all layers, from the last layer on.
-ghost use Rattle.std.specs.Prelude.{◌≡◌, ◌<◌, ◌≤◌, ◌+◌, ◌^◌, true, false, [], length, map, slice_index_or, IfOk, OnOk};
+ghost use Rattle.std.specs.Prelude.{◌≡◌, ℕ, ◌<◌, ◌≤◌, ◌+◌, ◌^◌, true, false, [], length, map, slice_index_or, IfOk, IfSome, OnOk};
 ghost use Rattle.hm_cert.specs.Layout.{told};
 ghost use Rattle.hm_graph.specs.Ways.{over};
 ghost use Rattle.hm_layers.specs.Graphs.{IsLowStep, IsPlace};
 ghost use Rattle.hm_steps.specs.Prices.{row_over};
 ghost use Rattle.hm_steps.specs.Prices as steps;
-ghost use Rattle.hm_check.specs.Sweeps.{AreBelow, AreInPlace, IsBelow, IsSwept, judged, judged_at_end};
+ghost use Rattle.hm_steps.specs.Steps.{leaves_out};
+ghost use Rattle.hm_check.specs.Sweeps.{AreBelow, AreInPlace, IsStillOver, IsSwept, judged, judged_at_end};
 
 use crate::Why;
-use crate::bounds::{best_price, find_high, find_high_at_end};
+use crate::bounds::{are_within, best_price, find_high, find_high_at_end, more};
 use crate::layers::is_left_out;
 use hm_base::Memory;
 use hm_cert::{Format, RowPlace, WrittenRows};
@@ -18,7 +19,7 @@ use std::mem;
 
 /// What is found of the rows from a layer on.
 #[derive(Clone, Copy)]
-pub(crate) struct Found {
+pub(crate) struct SweepFound {
     /// Whether each has as many prices as its layer has states.
     pub(crate) right: bool,
     /// The first row that hasn't, else the first price above its bound.
@@ -27,23 +28,23 @@ pub(crate) struct Found {
 
 /// What is known from a layer on.
 #[derive(Drop)]
-pub(crate) struct Sweep {
+pub(crate) struct Sweep<'a> {
     /// Behind this place are the rows of these layers.
-    pub(crate) at: RowPlace,
+    pub(crate) at: RowPlace<'a>,
     /// The prices of the layer, where all rows have the right widths.
     pub(crate) behind: Vec<u64>,
-    pub(crate) found: Found,
+    pub(crate) found: SweepFound,
     spare: Vec<u64>,
 }
 
 /// Adds to what is found what is found of the row of layer `k` in front, by the prices behind.
-fn judge(found: &mut Found, k: u64, row: &[u64], behind: &[u64], step: &Step)
+fn judge(found: &mut SweepFound, k: u64, row: &[u64], behind: &[u64], step: &Step)
     requires below { found.old.right ≡ true → AreBelow (2 ^ 63 + 2 ^ 62) (map told behind.now) }
     requires low { IsLowStep step.now }
     ensures { found.new ≡ judged found.old k (map told row.now) (map told behind.now) step.now }
 {
     if row.len() != step.width() {
-        *found = Found {
+        *found = SweepFound {
             right: false,
             why: Some(Why::WrongWidth {
                 layer: k,
@@ -61,12 +62,38 @@ fn judge(found: &mut Found, k: u64, row: &[u64], behind: &[u64], step: &Step)
     }
 }
 
+/// As `judge`, over a step over which no state changes its place and each hop has this length in bytes, where one is given.
+fn judge_over(
+    found: &mut SweepFound,
+    k: u64,
+    row: &[u64],
+    behind: &[u64],
+    step: &Step,
+    still: Option<u64>,
+)
+    requires below { found.old.right ≡ true → AreBelow (2 ^ 63 + 2 ^ 62) (map told behind.now) }
+    requires low { IsLowStep step.now }
+    requires still { IfSome still (IsStillOver step.now) }
+    ensures { found.new ≡ judged found.old k (map told row.now) (map told behind.now) step.now }
+{
+    if let Some(len) = still {
+        if found.right
+            && row.len() == step.width()
+            && behind.len() == row.len()
+            && are_within(row, behind, len)
+        {
+            return;
+        }
+    }
+    judge(found, k, row, behind, step)
+}
+
 /// What is found of the row of the last layer, layer `k`, which has so many states.
-fn judge_at_end(k: u64, row: &[u64], last: usize) -> Found
+fn judge_at_end(k: u64, row: &[u64], last: usize) -> SweepFound
     ensures { result ≡ judged_at_end k (map told row.now) last }
 {
     if row.len() != last {
-        return Found {
+        return SweepFound {
             right: false,
             why: Some(Why::WrongWidth {
                 layer: k,
@@ -75,7 +102,7 @@ fn judge_at_end(k: u64, row: &[u64], last: usize) -> Found
             }),
         };
     }
-    Found {
+    SweepFound {
         right: true,
         why: find_high_at_end(k, row),
     }
@@ -105,15 +132,6 @@ fn follow(behind: &mut Vec<u64>, spare: &mut Vec<u64>, step: &Step) -> Result<()
     Ok(())
 }
 
-/// The price with so many bytes more.
-fn more(price: u64, len: u64) -> u64
-    requires below { IsBelow (2 ^ 63 + 2 ^ 62) (told price) }
-    requires low { len < 2 ^ 62 }
-    ensures { told result ≡ over len (told price) }
-{
-    len.saturating_add(price)
-}
-
 /// Puts these prices with so many bytes more in place of what the row held.
 fn add_each(prices: &[u64], len: u64, row: &mut Vec<u64>) -> Result<(), Memory>
     requires below { AreBelow (2 ^ 63 + 2 ^ 62) (map told prices.now) }
@@ -127,14 +145,14 @@ fn add_each(prices: &[u64], len: u64, row: &mut Vec<u64>) -> Result<(), Memory>
     Ok(())
 }
 
-impl Sweep {
+impl<'a> Sweep<'a> {
     /// What is known at the last layer.
     pub(crate) fn at_end(
         alloc: Global,
         graph: &Graph,
-        prices: &WrittenRows<'_>,
+        prices: &WrittenRows<'a>,
         format: Format,
-    ) -> Result<Sweep, Memory>
+    ) -> Result<Sweep<'a>, Memory>
         requires { AreInPlace format graph.now prices.now }
         ensures { IfOk result (IsSwept format graph.now prices.now (length graph.now.steps)) }
     {
@@ -153,7 +171,7 @@ impl Sweep {
     fn pass_over(
         &mut self,
         graph: &Graph,
-        prices: &WrittenRows<'_>,
+        prices: &WrittenRows<'a>,
         format: Format,
         k: usize,
         step: &Step,
@@ -171,30 +189,34 @@ impl Sweep {
         follow(&mut self.behind, &mut self.spare, step)
     }
 
-    /// Goes on to layer `k`, which is written.
+    /// Goes on to layer `k`, which is written. Where a length is given, no state changes its place over the step, and each hop
+    /// has this length in bytes.
     fn read_layer(
         &mut self,
         graph: &Graph,
-        prices: &WrittenRows<'_>,
+        prices: &WrittenRows<'a>,
         format: Format,
         k: usize,
         step: &Step,
+        still: Option<u64>,
     ) -> Result<(), Memory>
         requires place { AreInPlace format graph.now prices.now }
         requires layer { k < length graph.now.steps }
         requires step { step.now ≡ slice_index_or graph.now.steps k [] }
         requires kept { steps.is_left_out format k step.now ≡ false }
+        requires still { IfSome still (IsStillOver step.now) }
         requires swept { IsSwept format graph.now prices.now (k + 1) self.old }
         ensures { OnOk result (IsSwept format graph.now prices.now k self.new) }
     {
         graph.is_small();
         self.at = prices.row_before(self.at, &mut self.spare)?;
-        judge(
+        judge_over(
             &mut self.found,
             k as u64,
             self.spare.as_slice(),
             self.behind.as_slice(),
             step,
+            still,
         );
         mem::swap(&mut self.behind, &mut self.spare);
         Ok(())
@@ -204,7 +226,7 @@ impl Sweep {
     pub(crate) fn take_layer(
         &mut self,
         graph: &Graph,
-        prices: &WrittenRows<'_>,
+        prices: &WrittenRows<'a>,
         format: Format,
         k: usize,
         step: &Step,
@@ -218,7 +240,7 @@ impl Sweep {
         if is_left_out(format, k, step) {
             self.pass_over(graph, prices, format, k, step)
         } else {
-            self.read_layer(graph, prices, format, k, step)
+            self.read_layer(graph, prices, format, k, step, None)
         }
     }
 
@@ -235,15 +257,46 @@ impl Sweep {
         Ok(())
     }
 
-    /// Goes on over layers in front of one that have the same step, where no state changes its place and none is written, but
-    /// not to the first layer.
+    /// Goes on over layers that are written, from the one in front of a layer down to another, which isn't the first. They have
+    /// the same step, over which no state changes its place, and each hop has this length in bytes.
+    fn read_on(
+        &mut self,
+        graph: &Graph,
+        prices: &WrittenRows<'a>,
+        format: Format,
+        from: usize,
+        front: usize,
+        step: &Step,
+        len: u64,
+    ) -> Result<(), Memory>
+        requires place { AreInPlace format graph.now prices.now }
+        requires inside { from < length graph.now.steps }
+        requires order { front ≤ from }
+        requires some { 0 < front }
+        requires alike { (k : ℕ) → front ≤ k → k < from → slice_index_or graph.now.steps k [] ≡ step.now }
+        requires kept { leaves_out format step.now ≡ false }
+        requires still { IsStillOver step.now len }
+        requires swept { IsSwept format graph.now prices.now from self.old }
+        ensures { OnOk result (IsSwept format graph.now prices.now front self.new) }
+    {
+        let mut layer = from;
+        while layer > front {
+            layer -= 1;
+            self.read_layer(graph, prices, format, layer, step, Some(len))?;
+        }
+        Ok(())
+    }
+
+    /// Goes on over layers in front of one that have the same step, where no state changes its place over it, but not to the
+    /// first layer. Where none is written all are passed at once.
     pub(crate) fn go_on(
         &mut self,
         graph: &Graph,
-        prices: &WrittenRows<'_>,
+        prices: &WrittenRows<'a>,
         format: Format,
         at: Cursor,
     ) -> Result<Cursor, Memory>
+        requires rows { AreInPlace format graph.now prices.now }
         requires place { IsPlace graph.now at }
         requires inside { at.layer < length graph.now.steps }
         requires swept { IsSwept format graph.now prices.now at.layer self.old }
@@ -255,17 +308,29 @@ impl Sweep {
             return Ok(at);
         }
         let front = graph.back_alike(at, at.layer - 1);
-        let step = graph.step(at);
-        if front.layer == at.layer || !step.is_left_out(format) {
+        if front.layer == at.layer {
             return Ok(at);
         }
         graph.is_small();
+        let step = graph.step(at);
         let len = first_len(step);
         if self.behind.len() != step.width() || !are_still(step, len) {
             return Ok(at);
         }
-        let count = (at.layer - front.layer) as u64;
-        self.add(count * len)?;
+        if step.is_left_out(format) {
+            let count = (at.layer - front.layer) as u64;
+            self.add(count * len)?;
+            return Ok(front);
+        }
+        self.read_on(
+            graph,
+            prices,
+            format,
+            at.layer,
+            front.layer,
+            step,
+            len,
+        )?;
         Ok(front)
     }
 }

@@ -15,10 +15,10 @@ first_len-len-requires c = subst IsLowStep (sym c.step-step.ensures) (low_step c
 pub add-requires-clause-below : goal.add-requires-clause-below
 add-requires-clause-below c = swept_below c.args.format c.args.graph.now c.args.prices.now c.args.at.layer c.args.self.now c.is_small.ensures.few c.requires.swept c.if-not-self.false
 
-pub returns-clause-swept : goal.returns-clause-swept
-returns-clause-swept c =
+pub returns-then-is_left_out-clause-swept : goal.returns-then-is_left_out-clause-swept
+returns-then-is_left_out-clause-swept c =
     let still : AreStill c.first_len-len.result (get_or c.args.graph.now.steps c.args.at.layer []) = subst (AreStill c.first_len-len.result) c.step-step.ensures (c.if-not-are_still.ensures refl) in
-    let left : leaves_out c.args.format (get_or c.args.graph.now.steps c.args.at.layer []) ≡ true = ap (leaves_out c.args.format) (sym c.step-step.ensures) ∙ sym c.is_left_out.ensures ∙ c.if-not-is_left_out.false in
+    let left : leaves_out c.args.format (get_or c.args.graph.now.steps c.args.at.layer []) ≡ true = ap (leaves_out c.args.format) (sym c.step-step.ensures) ∙ sym c.is_left_out.ensures ∙ c.if-is_left_out.true in
     let same : length (map told c.args.self.now.behind.items) ≡ length (get_or c.args.graph.now.steps c.args.at.layer []) =
     omega (arith, length-map c.args.self.now.behind.items told, c.len.ensures, c.width.ensures, c.if-len-width.false, ap length c.step-step.ensures) in
     along_swept c.args.format c.args.graph.now c.args.prices.now c.args.at.layer c.back_alike-front.result.layer (c.args.at.layer - c.back_alike-front.result.layer) c.first_len-len.result c.args.self.now c.add.new.self c.is_small.ensures.low still left same

@@ -1,7 +1,7 @@
 use Rattle.std.proofs.Common.{◌<◌, ◌^◌, sym, subst, ◌∙◌, map, arith}
 use Rattle.hm_cert.specs.Layout.{told}
 use Rattle.hm_check.proofs.Sums.{low_hop, best_turn}
-use Rattle.hm_check.proofs.bounds.best_price.Goals as goal
+use Rattle.hm_check.proofs.bounds.least_price.Goals as goal
 
 pub price_over-requires-clause-low : goal.price_over-requires-clause-low
 price_over-requires-clause-low c =

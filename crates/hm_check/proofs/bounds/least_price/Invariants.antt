@@ -2,7 +2,7 @@ use Rattle.std.proofs.Common.{◌≡◌, ◌≤◌, drop, map}
 use Rattle.hm_cert.specs.Layout.{told}
 use Rattle.hm_graph.specs.Ways.{lesser}
 use Rattle.hm_steps.specs.Prices.{best_price}
-use Rattle.hm_check.proofs.bounds.best_price.Given as goal
+use Rattle.hm_check.proofs.bounds.least_price.Given as goal
 
 abbrev pub invariant-loop-hop : goal.invariant-loop-hop
 invariant-loop-hop l = record {

@@ -1,0 +1,45 @@
+-- Rows of layers in front of steps over which no state changes its place.
+use Rattle.std.proofs.Common.{◌≡◌, ◌∙◌, ℕ, suc, ◌+◌, ◌<◌, ◌≤◌, ◌==◌, ◌&&◌, not, Bool, true, false, List, [], ◌∷◌, length, map, get_or, drop, Some, None, Option, refl, sym, ap, add-one, arith}
+use Rattle.std.specs.Option.{option_map}
+use Rattle.std.proofs.lemmas.List.{drop_more, drop_all, length-map}
+use Rattle.hm_cert.specs.declared.text.Format.{Format}
+use Rattle.hm_cert.specs.Layout.{told}
+use Rattle.hm_graph.specs.Ways.{over}
+use Rattle.hm_steps.specs.Prices.{row_over, is_left_out}
+use Rattle.hm_steps.specs.Steps.{Step, leaves_out}
+use Rattle.hm_steps.specs.Still.{AreStill}
+use Rattle.hm_steps.proofs.Still.{still_row}
+use Rattle.hm_check.specs.Rows.{HighPrice, high_in, is_above}
+use Rattle.hm_check.specs.Sweeps.{high_why, judged}
+use Rattle.hm_check.specs.declared.sweep.SweepFound.{SweepFound}
+use Rattle.hm_check.proofs.Sums.{high_later}
+use Rattle.hm_check.proofs.Sweeping.{judged_low}
+
+-- what is left to find from a place on
+abbrev pub high_from : ℕ → ℕ → ℕ → List ℕ → List ℕ → Option HighPrice
+high_from k i len row behind = high_in k i (map told (drop i row)) (map (over len) (map told (drop i behind)))
+
+pub within_more : (k i len : ℕ) (row behind : List ℕ) → i < length row → i < length behind → is_above (told (get_or row i 0)) (over len (told (get_or behind i 0))) ≡ false → high_from k (i + 1) len row behind ≡ high_from k i len row behind
+within_more k i len row behind inside there e = sym (
+  (λ j. high_in k i (map told (drop_more row i 0 inside j)) (map (over len) (map told (drop_more behind i 0 there j))))
+  ∙ high_later k i (told (get_or row i 0)) (over len (told (get_or behind i 0))) (map told (drop (i + 1) row)) (map (over len) (map told (drop (i + 1) behind))) e
+  ∙ ap (λ n. high_in k n (map told (drop (i + 1) row)) (map (over len) (map told (drop (i + 1) behind)))) (sym (add-one i))
+)
+
+pub within_end : (k i len : ℕ) (row behind : List ℕ) → length row ≤ i → high_from k i len row behind ≡ None
+within_end k i len row behind past = ap (λ r. high_in k i (map told r) (map (over len) (map told (drop i behind)))) (drop_all i row past)
+
+-- a row none of whose prices is above the one behind with the length more
+pub judged_still : (found : SweepFound) (k len : ℕ) (numbers behind : List ℕ) (step : Step) → found.right ≡ true → length numbers ≡ length step → length behind ≡ length numbers → AreStill len step
+    → high_in k 0 (map told numbers) (map (over len) (map told behind)) ≡ None → found ≡ judged found k (map told numbers) (map told behind) step
+judged_still found k len numbers behind step right width same still none =
+    let bounds : row_over (map told behind) step ≡ map (over len) (map told behind) = still_row (map told behind) len step (length-map behind told ∙ same ∙ width) still in
+    judged_low found k numbers behind step width right (sym (ap (option_map high_why) (ap (high_in k 0 (map told numbers)) bounds ∙ none)))
+
+-- a layer behind the first one, in front of a step that leaves none out
+pub kept_later : (format : Format) (k : ℕ) (step : Step) → leaves_out format step ≡ false → is_left_out format k step ≡ false
+kept_later format k step e = by_test (k == 0)
+  where
+    by_test : (b : Bool) → (not b && leaves_out format step) ≡ false
+    by_test true = refl
+    by_test false = e

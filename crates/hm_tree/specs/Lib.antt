@@ -1,4 +1,5 @@
 pub mod Attributes
+pub mod Buckets
 pub mod Dump
 pub mod Lexemes
 pub mod Pairs

@@ -1,6 +1,6 @@
 -- Attributes whose names and values stand in one text, one behind the other.
-use Rattle.std.specs.Prelude.{◌≡◌, ℕ, ◌+◌, ◌^◌, ◌<◌, Bool, true, false, List, [], ◌∷◌, bytes_eq, length, map, All, if◌then◌else◌}
-use Rattle.hm_base.specs.Walks.{Attribute, has_name, has_distinct_names}
+use Rattle.std.specs.Prelude.{◌≡◌, ℕ, ◌+◌, ◌^◌, ◌<◌, true, List, length, map, All}
+use Rattle.hm_base.specs.Walks.{Attribute, has_distinct_names}
 use Rattle.hm_tree.specs.Pieces.{HasPieces, attributes_in, texts_of}
 use Rattle.hm_tree.specs.declared.pieces.AttributePieces.{AttributePieces}
 use Rattle.hm_tree.specs.declared.pieces.Pair.{Pair}
@@ -11,15 +11,6 @@ pieces_of p = record { name = record { from = p.from; to = p.middle }; value = r
 
 abbrev pub attributes_of : List ℕ → List Pair → List Attribute
 attributes_of s pairs = attributes_in s (map pieces_of pairs)
-
--- one of the names is n
-abbrev pub is_name_of : List (List ℕ) → List ℕ → Bool
-is_name_of [] n = false
-is_name_of (m ∷ names) n = if bytes_eq m n then true else is_name_of names n
-
--- exactly the names of these attributes
-abbrev pub HasNames : List (List ℕ) → List Attribute → Type 0
-HasNames names attributes = (n : List ℕ) → is_name_of names n ≡ has_name n attributes
 
 -- name and value can be cut out of the text
 abbrev pub HasPair : List ℕ → Pair → Type 0

@@ -5,7 +5,7 @@ ghost use Rattle.hm_tree.specs.Attributes.{are_texts};
 ghost use Rattle.hm_tree.specs.Pairs.{HasPair, attributes_of};
 ghost use Rattle.hm_tree.specs.Pieces.{texts_of};
 
-use crate::names::{NameIndex, has_among, note};
+use crate::names::{NameTable, has_among, note};
 use crate::pieces::{Pair, name_in, value_in};
 use hm_base::Memory;
 use std::alloc::Global;
@@ -13,13 +13,13 @@ use std::marker::Model;
 
 /// Names and values in order, each name once. Contracts see the list of them.
 ///
-/// They stand in one text, names and values one behind the other. Above 16 of them an index has the names, so that a
+/// They stand in one text, names and values one behind the other. Above 16 of them a table has the names, so that a
 /// repeated one is found at once.
 #[derive(Debug, Drop)]
 pub struct Attrs {
     text: String,
     pairs: Vec<Pair>,
-    index: Option<Box<NameIndex>>,
+    table: Option<NameTable>,
 }
 
 impl Model for Attrs {
@@ -29,11 +29,12 @@ impl Model for Attrs {
     ghost Value = { List Attribute };
 
     ghost use Rattle.std.specs.Prelude.{IfSome};
-    ghost use Rattle.hm_tree.specs.Pairs.{attributes_of, HasNames, IsAttributeList};
+    ghost use Rattle.hm_tree.specs.Buckets.{HasFirsts};
+    ghost use Rattle.hm_tree.specs.Pairs.{attributes_of, IsAttributeList};
 
     ghost view = { λ a. attributes_of (string_bytes a.text) a.pairs.items };
 
-    ghost invariant = { λ a. IsAttributeList (string_bytes a.text) a.pairs.items × IfSome a.index (λ x. HasNames x.value (attributes_of (string_bytes a.text) a.pairs.items)) };
+    ghost invariant = { λ a. IsAttributeList (string_bytes a.text) a.pairs.items × IfSome a.table (λ firsts. HasFirsts firsts (attributes_of (string_bytes a.text) a.pairs.items)) };
 }
 
 impl Attrs {
@@ -44,7 +45,7 @@ impl Attrs {
         Attrs {
             text: String::new(alloc),
             pairs: Vec::new(alloc),
-            index: None,
+            table: None,
         }
     }
 
@@ -110,7 +111,7 @@ impl Attrs {
         let alloc = *self.text.allocator();
         note(
             alloc,
-            &mut self.index,
+            &mut self.table,
             self.text.as_str(),
             self.pairs.as_slice(),
             name,
@@ -130,16 +131,18 @@ impl Attrs {
     {
         self.text.clear();
         self.pairs.clear();
-        self.index = None;
+        self.table = None;
     }
 
     // Whether an attribute has this name.
     fn has(&self, name: &str) -> bool
         ensures { result ≡ has_name name.now self.now }
     {
-        match &self.index {
-            Some(index) => index.has(name),
-            None => has_among(self.text.as_str(), self.pairs.as_slice(), name),
+        let text = self.text.as_str();
+        let pairs = self.pairs.as_slice();
+        match &self.table {
+            Some(table) => table.has_among(text, pairs, name),
+            None => has_among(text, pairs, name),
         }
     }
 

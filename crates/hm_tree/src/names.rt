@@ -1,59 +1,81 @@
 //! Names of attributes: whether one is there.
-ghost use Rattle.std.specs.Prelude.{◌≡◌, ◌++◌, ◌∷◌, [], ℕ, List, ◌||◌, bytes_eq, string_bytes, All, IfSome, IfOk, OnOk, OnErr};
+ghost use Rattle.std.specs.Prelude.{◌≡◌, ◌<◌, ◌++◌, ◌∷◌, [], List, length, All, IfSome, IfOk, OnOk, OnErr};
 ghost use Rattle.hm_base.specs.Walks.{Attribute, has_name};
-ghost use Rattle.hm_tree.specs.Pairs.{HasNames, HasPair, attributes_of, is_name_of};
+ghost use Rattle.hm_tree.specs.Buckets.{HasFirsts, bucket_of};
+ghost use Rattle.hm_tree.specs.Pairs.{HasPair, attributes_of};
 
 use crate::pieces::{Pair, name_in};
 use hm_base::Memory;
-use indexmap::IndexMap;
 use std::alloc::Global;
 use std::marker::Model;
 
-// How many names are gone through one by one. Where there are more, an index has them.
+// How many names are gone through one by one. Where there are more, a table has them.
 const FEW: usize = 16;
 
-// How many names an index has room for from the start: as many as there may be in a tag that is read.
-const MANY: usize = 256;
+// How many buckets a table has: many more than names in a tag that is read, so that few share one.
+const BUCKETS: usize = 8192;
 
-// Names to look up. Contracts see the list of them.
+// For each bucket the first attribute whose name falls into it, or 255 where none of the first 255 does. Contracts see
+// the list of these.
 #[derive(Debug, Drop)]
-pub(crate) struct NameIndex {
-    names: IndexMap<String, ()>,
+pub(crate) struct NameTable {
+    firsts: Vec<u8>,
 }
 
-impl Model for NameIndex {
-    ghost use Rattle.std.specs.Prelude.{ℕ, List, map, string_bytes};
+impl Model for NameTable {
+    ghost use Rattle.std.specs.Prelude.{ℕ, List};
 
-    ghost Value = { List (List ℕ) };
+    ghost Value = { List ℕ };
 
-    ghost view = { λ x. map (λ e. string_bytes e.0) x.names.entries };
+    ghost use Rattle.std.specs.Prelude.{◌≡◌, length};
+
+    ghost view = { λ table. table.firsts.items };
+
+    ghost invariant = { λ table. length table.firsts.items ≡ 8192 };
 }
 
-impl NameIndex {
+impl NameTable {
     // No names.
-    fn new(alloc: Global) -> Result<NameIndex, Memory>
-        ensures { IfOk result (λ index. index ≡ []) }
+    fn new(alloc: Global) -> Result<NameTable, Memory>
+        ensures { IfOk result (λ table. HasFirsts table []) }
     {
-        Ok(NameIndex {
-            names: IndexMap::with_capacity(alloc, MANY)?,
+        Ok(NameTable {
+            firsts: vec![in alloc; u8::MAX; BUCKETS]?,
         })
     }
 
-    // Whether it has a name.
-    pub(crate) fn has(&self, name: &str) -> bool
-        ensures { result ≡ is_name_of self.now name.now }
+    // Notes the name of the attribute that stands behind so many others.
+    fn add(&mut self, name: &str, count: usize)
+        ensures { (attributes : List Attribute) (a : Attribute) → length attributes ≡ count → a.name ≡ name.now → HasFirsts self.old attributes → HasFirsts self.new (attributes ++ a ∷ []) }
     {
-        self.names.contains_key(name)
+        let bucket = bucket(name);
+        if usize::from(self.firsts[bucket]) > count {
+            self.firsts[bucket] = count as u8;
+        }
     }
 
-    // Adds a name.
-    fn add(&mut self, name: String) -> Result<(), Memory>
-        ensures ok { OnOk result ((n : List ℕ) → is_name_of self.new n ≡ (is_name_of self.old n || bytes_eq (string_bytes name) n)) }
-        ensures err { OnErr result (self.new ≡ self.old) }
+    // Whether one of the attributes has a name. Those before the first one of its bucket are left out.
+    pub(crate) fn has_among(&self, text: &str, pairs: &[Pair], name: &str) -> bool
+        requires pieces { All (HasPair text.now) pairs.now }
+        requires noted { HasFirsts self.now (attributes_of text.now pairs.now) }
+        ensures { result ≡ has_name name.now (attributes_of text.now pairs.now) }
     {
-        self.names.insert(name, ())?;
-        Ok(())
+        let first = usize::from(self.firsts[bucket(name)]).min(pairs.len());
+        has_among(text, &pairs[first..], name)
     }
+}
+
+// The bucket of a name.
+fn bucket(name: &str) -> usize
+    ensures is { result ≡ bucket_of name.now }
+    ensures within { result < 8192 }
+{
+    let bytes = name.as_bytes();
+    let mut place = 0;
+    for byte in bytes {
+        place = (place * 31 + usize::from(*byte)) % BUCKETS;
+    }
+    place
 }
 
 // Whether one of the attributes has a name.
@@ -69,43 +91,40 @@ pub(crate) fn has_among(text: &str, pairs: &[Pair], name: &str) -> bool
     false
 }
 
-// An index of the names of the attributes.
-fn index_of(alloc: Global, text: &str, pairs: &[Pair]) -> Result<NameIndex, Memory>
+// A table of the names of the attributes.
+fn table_of(alloc: Global, text: &str, pairs: &[Pair]) -> Result<NameTable, Memory>
     requires { All (HasPair text.now) pairs.now }
-    ensures { IfOk result (λ index. HasNames index (attributes_of text.now pairs.now)) }
+    ensures { IfOk result (λ table. HasFirsts table (attributes_of text.now pairs.now)) }
 {
-    let mut index = NameIndex::new(alloc)?;
-    for pair in pairs {
-        index.add(String::from_str(alloc, name_in(text, *pair))?)?;
+    let mut table = NameTable::new(alloc)?;
+    for i in 0..pairs.len() {
+        table.add(name_in(text, pairs[i]), i);
     }
-    Ok(index)
+    Ok(table)
 }
 
 // Notes the name of one more attribute, behind these.
 pub(crate) fn note(
     alloc: Global,
-    index: &mut Option<Box<NameIndex>>,
+    table: &mut Option<NameTable>,
     text: &str,
     pairs: &[Pair],
     name: &str,
 ) -> Result<(), Memory>
     requires pieces { All (HasPair text.now) pairs.now }
-    requires noted { IfSome index.old (λ x. HasNames x.value (attributes_of text.now pairs.now)) }
-    ensures ok { OnOk result ((a : Attribute) → a.name ≡ name.now → IfSome index.new (λ x. HasNames x.value (attributes_of text.now pairs.now ++ a ∷ []))) }
-    ensures err { OnErr result (IfSome index.new (λ x. HasNames x.value (attributes_of text.now pairs.now))) }
+    requires noted { IfSome table.old (λ firsts. HasFirsts firsts (attributes_of text.now pairs.now)) }
+    ensures ok { OnOk result ((a : Attribute) → a.name ≡ name.now → IfSome table.new (λ firsts. HasFirsts firsts (attributes_of text.now pairs.now ++ a ∷ []))) }
+    ensures err { OnErr result (IfSome table.new (λ firsts. HasFirsts firsts (attributes_of text.now pairs.now))) }
 {
-    match index {
-        Some(index) => {
-            index.add(String::from_str(alloc, name)?)?;
-            Ok(())
-        }
+    match table {
+        Some(table) => table.add(name, pairs.len()),
         None => {
             if pairs.len() >= FEW {
-                let mut fresh = index_of(alloc, text, pairs)?;
-                fresh.add(String::from_str(alloc, name)?)?;
-                *index = Some(Box::new(alloc, fresh)?);
+                let mut fresh = table_of(alloc, text, pairs)?;
+                fresh.add(name, pairs.len());
+                *table = Some(fresh);
             }
-            Ok(())
         }
     }
+    Ok(())
 }

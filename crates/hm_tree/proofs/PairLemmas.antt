@@ -43,12 +43,6 @@ attributes_at s pairs i p within at =
 abbrev pub no_pair : Pair
 no_pair = record { from = 0; middle = 0; to = 0 }
 
--- the attributes up to the next one
-pub attributes_of-next : (s : List ℕ) (pairs : List Pair) (i : ℕ) → i < length pairs → attributes_of s (take (i + 1) pairs) ≡ attributes_of s (take i pairs) ++ attribute_in s (pieces_of (get_or pairs i no_pair)) ∷ []
-attributes_of-next s pairs i within =
-    let p = get_or pairs i no_pair in
-    ap (attributes_of s) (take_more pairs i no_pair within) ∙ ap (attributes_in s) (map-append pieces_of (take i pairs) (p ∷ [])) ∙ map-append (attribute_in s) (map pieces_of (take i pairs)) (pieces_of p ∷ [])
-
 -- one more attribute, whose name and value are put behind the text
 module _ (s : List ℕ) (pairs : List Pair) (inside : All (HasPair s) pairs) (a : Attribute) (name_utf8 : IsUtf8 a.name) (value_utf8 : IsUtf8 a.value) (p : Pair)
     (from : p.from ≡ length s) (middle : p.middle ≡ length (s ++ a.name)) (to : p.to ≡ length ((s ++ a.name) ++ a.value)) where

@@ -1,5 +1,5 @@
 //! Names of attributes: whether one is there.
-ghost use Rattle.std.specs.Prelude.{◌≡◌, ◌<◌, ◌++◌, ◌∷◌, [], List, length, All, IfSome, IfOk, OnOk, OnErr};
+ghost use Rattle.std.specs.Prelude.{◌≡◌, ◌<◌, ◌++◌, ◌∷◌, [], List, bytes_eq, length, All, IfSome, IfOk, OnOk, OnErr};
 ghost use Rattle.hm_base.specs.Walks.{Attribute, has_name};
 ghost use Rattle.hm_tree.specs.Buckets.{HasFirsts, bucket_of};
 ghost use Rattle.hm_tree.specs.Pairs.{HasPair, attributes_of};
@@ -78,13 +78,27 @@ fn bucket(name: &str) -> usize
     place
 }
 
+// Whether names are the same. Most that aren't differ in their lengths or their last bytes.
+fn is_same(name: &str, other: &str) -> bool
+    ensures { result ≡ bytes_eq name.now other.now }
+{
+    let len = name.len();
+    if len != other.len() {
+        return false;
+    }
+    if len > 0 && name.as_bytes()[len - 1] != other.as_bytes()[len - 1] {
+        return false;
+    }
+    name == other
+}
+
 // Whether one of the attributes has a name.
 pub(crate) fn has_among(text: &str, pairs: &[Pair], name: &str) -> bool
     requires { All (HasPair text.now) pairs.now }
     ensures { result ≡ has_name name.now (attributes_of text.now pairs.now) }
 {
     for pair in pairs {
-        if name_in(text, *pair) == name {
+        if is_same(name_in(text, *pair), name) {
             return true;
         }
     }

@@ -18,6 +18,7 @@ use std::marker::Model;
 
 // What is left of the table's text and of its lists when their memory is given back.
 const FEW_BYTES: usize = 4096;
+
 const FEW: usize = 128;
 
 // An event, with pieces of the table's text, and for a start the indices of its attributes.

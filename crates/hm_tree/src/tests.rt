@@ -209,7 +209,11 @@ const JOINED: [MakerCall; 4] = [
     MakerCall::End,
 ];
 
-const NAMED: [MakerCall; 3] = [MakerCall::With("p", "id", "x"), MakerCall::Text("a"), MakerCall::End];
+const NAMED: [MakerCall; 3] = [
+    MakerCall::With("p", "id", "x"),
+    MakerCall::Text("a"),
+    MakerCall::End,
+];
 
 const LONGER: [MakerCall; 4] = [
     MakerCall::Start("p"),
@@ -219,7 +223,11 @@ const LONGER: [MakerCall; 4] = [
 ];
 
 // Where the trees differ first, and whether they are the same.
-fn compared(alloc: Global, one: &[MakerCall], other: &[MakerCall]) -> Result<(Option<u32>, bool), Memory>
+fn compared(
+    alloc: Global,
+    one: &[MakerCall],
+    other: &[MakerCall],
+) -> Result<(Option<u32>, bool), Memory>
     requires one { length one.now < 100 }
     requires other { length other.now < 100 }
 {

@@ -16,18 +16,18 @@ use Rattle.std.specs.List.{All}
 use Rattle.hm_layers.specs.Graphs.{GraphView, IsGraphOf, AreNamed, AreNumbers, spread}
 use Rattle.hm_layers.specs.Layers.{edges_under, states_of}
 use Rattle.hm_layers.specs.Met.{MetView, none_made}
-use Rattle.hm_layers.specs.declared.made.Made.{Made}
+use Rattle.hm_layers.specs.declared.made.MadeStep.{MadeStep}
 use Rattle.hm_layers.specs.declared.rules.EdgeRules.{EdgeRules}
 use Rattle.hm_layers.proofs.Built.{lead_fits}
 
 pub spread_made : (m : MetView) (steps : List Step) (numbers : List ℕ) → steps ≡ map (λ x. x.step) m.made → spread steps numbers ≡ steps_at m numbers
 spread_made m steps [] is = refl
 spread_made m steps (n ∷ numbers) is =
-    let one : lists.get_or steps n [] ≡ (lists.get_or m.made n none_made).step = ap (λ ss. lists.get_or ss n []) is ∙ lists.get_or-map (λ (x : Made). x.step) m.made n none_made in
+    let one : lists.get_or steps n [] ≡ (lists.get_or m.made n none_made).step = ap (λ ss. lists.get_or ss n []) is ∙ lists.get_or-map (λ (x : MadeStep). x.step) m.made n none_made in
     λ i. one i ∷ spread_made m steps numbers is i
 
 pub numbers_are : (m : MetView) (steps : List Step) (numbers : List ℕ) → steps ≡ map (λ x. x.step) m.made → All (λ n. n < length m.made) numbers → AreNumbers steps numbers
-numbers_are m steps numbers is are = λ k d within. let low : get_or numbers k d < length m.made = are k d within in omega (arith, low, ap length is, length-map m.made (λ (x : Made). x.step))
+numbers_are m steps numbers is are = λ k d within. let low : get_or numbers k d < length m.made = are k d within in omega (arith, low, ap length is, length-map m.made (λ (x : MadeStep). x.step))
 
 pub graph_made : (r : Result GraphView Memory) (b : BuildingView) (v : TableView) (rules : EdgeRules) (w : List Event) → IfOk r (λ g. g.steps ≡ b.steps) → IfOk r (λ g. g.last ≡ length b.last) → AreNamed b.table.entries b.steps
     → b.table ≡ v → b.rules ≡ rules → IsBuilt b (units_of rules.spell w) → IfOk r (IsGraphOf v.entries rules.spell rules.format w)

@@ -12,12 +12,12 @@ use Rattle.hm_edges.specs.declared.units.Unit.TheVariants.{Character}
 use Rattle.hm_layers.specs.Layers.{HaveNodes, IsLayer}
 use Rattle.hm_layers.specs.Met.{MetView, none_made, list_at, made_at, BeginsNoPair, IsListOf, IsMet, IsPlainStep, IsSeen, Grows, IsStepOf, LeadsBack, AreMarks}
 use Rattle.hm_layers.specs.declared.made.CharacterStep.{CharacterStep}
-use Rattle.hm_layers.specs.declared.made.Made.{Made}
-use Rattle.hm_layers.specs.declared.made.Seen.{Seen}
-use Rattle.hm_layers.specs.declared.marks.Marks.{Marks}
+use Rattle.hm_layers.specs.declared.made.MadeStep.{MadeStep}
+use Rattle.hm_layers.specs.declared.made.KnownStep.{KnownStep}
+use Rattle.hm_layers.specs.declared.marks.ByteMarks.{ByteMarks}
 use Rattle.hm_edges.specs.declared.units.TextKind.{TextKind}
 
-abbrev pub met : TableView → EdgeRules → List (List State) → List Made → MetView
+abbrev pub met : TableView → EdgeRules → List (List State) → List MadeStep → MetView
 met v rules lists made = record { table = v; rules = rules; lists = lists; made = made }
 
 -- ---- Growing
@@ -32,11 +32,11 @@ grows_on a b c ab bc =
     }
 
 -- a layer is one of equal lists, and by an equal table and rules
-layer_as : (v w : TableView) (q r : EdgeRules) (unit : Unit) (from behind other after : List State) (x : Made) → w ≡ v → r ≡ q → other ≡ from → after ≡ behind → IsLayer v q unit from behind x.step → IsLayer w r unit other after x.step
+layer_as : (v w : TableView) (q r : EdgeRules) (unit : Unit) (from behind other after : List State) (x : MadeStep) → w ≡ v → r ≡ q → other ≡ from → after ≡ behind → IsLayer v q unit from behind x.step → IsLayer w r unit other after x.step
 layer_as v w q r unit from behind other after x of_table of_rules of_from of_behind is = subst (λ A. A) (λ i. IsLayer (sym of_table i) (sym of_rules i) unit (sym of_from i) (sym of_behind i) x.step) is
 
 -- a number that a step has been given is that of the step of a unit from a list
-pub made_is : (a b : MetView) (list : ℕ) (unit : Unit) (n : ℕ) (x : Made) → Grows a b → list < length a.lists → x.behind < length a.lists → IsLayer a.table a.rules unit (list_at a list) (list_at a x.behind) x.step
+pub made_is : (a b : MetView) (list : ℕ) (unit : Unit) (n : ℕ) (x : MadeStep) → Grows a b → list < length a.lists → x.behind < length a.lists → IsLayer a.table a.rules unit (list_at a list) (list_at a x.behind) x.step
     → n < length b.made → made_at b n ≡ x → IsStepOf b list unit n
 made_is a b list unit n x grows within inside is there at =
     let from : IsListOf b (list_at a list) list = grows.lists list within in
@@ -50,14 +50,14 @@ made_is a b list unit n x grows within inside is there at =
 
 step_kept : (a b : MetView) (list : ℕ) (unit : Unit) (n : ℕ) → Grows a b → list < length a.lists → IsStepOf a list unit n → IsStepOf b list unit n
 step_kept a b list unit n grows within is =
-    let x : Made = made_at a n in
+    let x : MadeStep = made_at a n in
     let made : (n < length b.made) × (made_at b n ≡ x) = grows.made n is.there in
     made_is a b list unit n x grows within is.behind is.layer made.0 made.1
 
-pub seen_kept : (a b : MetView) (x : Seen) → Grows a b → IsSeen a x → IsSeen b x
+pub seen_kept : (a b : MetView) (x : KnownStep) → Grows a b → IsSeen a x → IsSeen b x
 seen_kept a b x grows is = record { from = (grows.lists x.list is.from).there; step = step_kept a b x.list x.unit x.number grows is.from is.step }
 
-pub all_kept : (a b : MetView) (seen : List Seen) → Grows a b → All (IsSeen a) seen → All (IsSeen b) seen
+pub all_kept : (a b : MetView) (seen : List KnownStep) → Grows a b → All (IsSeen a) seen → All (IsSeen b) seen
 all_kept a b seen grows are = λ n d within. seen_kept a b (get_or seen n d) grows (are n d within)
 
 plain_kept : (a b : MetView) (x : CharacterStep) → Grows a b → IsPlainStep a x → IsPlainStep b x
@@ -81,21 +81,21 @@ leads_kept a b list kind n c grows is =
       lone = subst (λ t. BeginsNoPair t.entries c) (sym grows.table) is.lone;
     }
 
-pub all_marks_kept : (a b : MetView) (marks : List Marks) → Grows a b → All (AreMarks a) marks → All (AreMarks b) marks
+pub all_marks_kept : (a b : MetView) (marks : List ByteMarks) → Grows a b → All (AreMarks a) marks → All (AreMarks b) marks
 all_marks_kept a b marks grows are = λ n d within c is.
-    let x : Marks = get_or marks n d in
+    let x : ByteMarks = get_or marks n d in
     leads_kept a b x.list x.kind x.number c grows (are n d within c is)
 
-pub all_noted : (m : MetView) (seen : List Seen) (x : Seen) → All (IsSeen m) seen → x.list < length m.lists → IsStepOf m x.list x.unit x.number → All (IsSeen m) (seen ++ x ∷ [])
+pub all_noted : (m : MetView) (seen : List KnownStep) (x : KnownStep) → All (IsSeen m) seen → x.list < length m.lists → IsStepOf m x.list x.unit x.number → All (IsSeen m) (seen ++ x ∷ [])
 all_noted m seen x are from step = All-append (IsSeen m) seen (x ∷ []) are (λ n d within. only n d within)
   where
-    only : (n : ℕ) (d : Seen) → n < 1 → IsSeen m (get_or (x ∷ []) n d)
+    only : (n : ℕ) (d : KnownStep) → n < 1 → IsSeen m (get_or (x ∷ []) n d)
     only zero d within = record { from = from; step = step }
     only (suc n) d within = absurd (omega arith)
 
 -- ---- One more list
 
-pub list_grows : (v : TableView) (rules : EdgeRules) (lists : List (List State)) (made : List Made) (states : List State) → Grows (met v rules lists made) (met v rules (lists ++ states ∷ []) made)
+pub list_grows : (v : TableView) (rules : EdgeRules) (lists : List (List State)) (made : List MadeStep) (states : List State) → Grows (met v rules lists made) (met v rules (lists ++ states ∷ []) made)
 list_grows v rules lists made states =
     record {
       table = refl;
@@ -104,7 +104,7 @@ list_grows v rules lists made states =
       made = λ n within. (within, refl);
     }
 
-pub list_added : (v : TableView) (rules : EdgeRules) (lists : List (List State)) (made : List Made) (states : List State) (k : ℕ) → k ≡ length lists → IsListOf (met v rules (lists ++ states ∷ []) made) states k
+pub list_added : (v : TableView) (rules : EdgeRules) (lists : List (List State)) (made : List MadeStep) (states : List State) (k : ℕ) → k ≡ length lists → IsListOf (met v rules (lists ++ states ∷ []) made) states k
 list_added v rules lists made states k is = record { there = omega (arith, length_push lists states); list = ap (λ i. get_or (lists ++ states ∷ []) i []) is ∙ get_or-append_seam lists states [] [] }
 
 nodes_at : (v : TableView) (lists : List (List State)) (states : List State) → ((k : ℕ) → HaveNodes v (get_or lists k [])) → HaveNodes v states → (k : ℕ) → HaveNodes v (get_or (lists ++ states ∷ []) k [])
@@ -113,12 +113,12 @@ nodes_at v [] states nodes own (suc k) = tt
 nodes_at v (l ∷ lists) states nodes own zero = nodes 0
 nodes_at v (l ∷ lists) states nodes own (suc k) = nodes_at v lists states (λ j. nodes (suc j)) own k
 
-pub met_list : (v : TableView) (rules : EdgeRules) (lists : List (List State)) (made : List Made) (states : List State) → IsMet (met v rules lists made) → HaveNodes v states → IsMet (met v rules (lists ++ states ∷ []) made)
+pub met_list : (v : TableView) (rules : EdgeRules) (lists : List (List State)) (made : List MadeStep) (states : List State) → IsMet (met v rules lists made) → HaveNodes v states → IsMet (met v rules (lists ++ states ∷ []) made)
 met_list v rules lists made states is own = record { nodes = nodes_at v lists states is.nodes own }
 
 -- ---- One more step
 
-pub made_grows : (v : TableView) (rules : EdgeRules) (lists : List (List State)) (made : List Made) (x : Made) → Grows (met v rules lists made) (met v rules lists (made ++ x ∷ []))
+pub made_grows : (v : TableView) (rules : EdgeRules) (lists : List (List State)) (made : List MadeStep) (x : MadeStep) → Grows (met v rules lists made) (met v rules lists (made ++ x ∷ []))
 made_grows v rules lists made x =
     record { table = refl; rules = refl; lists = λ k within. record { there = within; list = refl }; made = λ n within. (omega (arith, length_push made x), get_or_append_left made (x ∷ []) none_made n within) }
 
@@ -128,7 +128,7 @@ made_grows v rules lists made x =
 pub seen_at : {A B : Type 0} (f : A → B) (xs : List A) (k : ℕ) (x : A) (e : B) → k < length (map f xs) → x ≡ get_or xs k x → f x ≡ get_or (map f xs) k e
 seen_at f xs k x e within is = ap f is ∙ sym (get_or-map f xs k x e (omega (arith, length-map xs f)))
 
-pub seen_there : {A : Type 0} (f : A → List State) (v : TableView) (rules : EdgeRules) (xs ys : List A) (made : List Made) (states other : List State) (k : ℕ) (d : A)
+pub seen_there : {A : Type 0} (f : A → List State) (v : TableView) (rules : EdgeRules) (xs ys : List A) (made : List MadeStep) (states other : List State) (k : ℕ) (d : A)
     → ys ≡ xs → other ≡ states → k < length ys → f (get_or ys k d) ≡ other → IsListOf (met v rules (map f xs) made) states k
 seen_there f v rules xs ys made states other k d same like within is =
     let inside : k < length xs = subst (λ zs. k < length zs) same within in

@@ -11,9 +11,9 @@ use Rattle.hm_edges.specs.declared.units.Unit.{Unit}
 use Rattle.hm_edges.specs.declared.units.Unit.TheVariants.{Character}
 use Rattle.hm_layers.specs.Layers.{HaveNodes, IsLayer}
 use Rattle.hm_layers.specs.declared.made.CharacterStep.{CharacterStep}
-use Rattle.hm_layers.specs.declared.made.Made.{Made}
-use Rattle.hm_layers.specs.declared.made.Seen.{Seen}
-use Rattle.hm_layers.specs.declared.marks.Marks.{Marks}
+use Rattle.hm_layers.specs.declared.made.MadeStep.{MadeStep}
+use Rattle.hm_layers.specs.declared.made.KnownStep.{KnownStep}
+use Rattle.hm_layers.specs.declared.marks.ByteMarks.{ByteMarks}
 use Rattle.hm_layers.specs.declared.rules.EdgeRules.{EdgeRules}
 
 -- lists of states, and what was made from them
@@ -21,15 +21,15 @@ pub record MetView : Type 0 where
   pub table : TableView
   pub rules : EdgeRules
   pub lists : List (List State)
-  pub made : List Made
+  pub made : List MadeStep
 
 abbrev pub list_at : MetView → ℕ → List State
 list_at m k = slice_index_or m.lists k []
 
-abbrev pub none_made : Made
+abbrev pub none_made : MadeStep
 none_made = record { step = []; behind = 0 }
 
-abbrev pub made_at : MetView → ℕ → Made
+abbrev pub made_at : MetView → ℕ → MadeStep
 made_at m n = slice_index_or m.made n none_made
 
 -- the state in front of the first unit
@@ -63,7 +63,7 @@ pub record IsStepOf (m : MetView) (list : ℕ) (unit : Unit) (n : ℕ) : Type 0 
   pub layer : IsLayer m.table m.rules unit (list_at m list) (list_at m (made_at m n).behind) (made_at m n).step
 
 -- it has the number of the step of its unit from its list
-pub record IsSeen (m : MetView) (x : Seen) : Type 0 where
+pub record IsSeen (m : MetView) (x : KnownStep) : Type 0 where
   pub from : x.list < length m.lists
   pub step : IsStepOf m x.list x.unit x.number
 
@@ -95,5 +95,5 @@ abbrev pub IsMarked : List Bool → ℕ → Type 0
 IsMarked marked c = slice_index_or marked c false ≡ true
 
 -- with each character that is marked it is so
-abbrev pub AreMarks : MetView → Marks → Type 0
+abbrev pub AreMarks : MetView → ByteMarks → Type 0
 AreMarks m x = (c : ℕ) → IsMarked x.marked.items c → LeadsBack m x.list x.kind x.number c

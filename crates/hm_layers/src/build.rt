@@ -2,7 +2,7 @@
 ghost use Rattle.std.specs.Prelude.{IfOk};
 ghost use Rattle.hm_layers.specs.Graphs.{IsGraphOf};
 
-use crate::building::Building;
+use crate::building::GraphBuilder;
 use crate::graph::Graph;
 use crate::rules::EdgeRules;
 use hm_base::{Memory, SpellRules};
@@ -26,7 +26,7 @@ impl Graph {
     ) -> Result<Graph, Memory>
         ensures { IfOk result (IsGraphOf table.now.entries rules format tree.now) }
     {
-        let mut building = Building::new(
+        let mut building = GraphBuilder::new(
             alloc,
             table,
             EdgeRules {

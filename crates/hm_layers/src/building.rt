@@ -21,13 +21,13 @@ use std::marker::Model;
 
 /// The steps so far, by their numbers, and the number of the list behind them.
 #[derive(Drop)]
-pub(crate) struct Building<'t> {
+pub(crate) struct GraphBuilder<'t> {
     met: Met<'t>,
     numbers: Numbers,
     last: u32,
 }
 
-impl<'t> Model for Building<'t> {
+impl<'t> Model for GraphBuilder<'t> {
     ghost use Rattle.hm_layers.specs.Building.{BuildingView};
 
     ghost Value = { BuildingView };
@@ -39,18 +39,18 @@ impl<'t> Model for Building<'t> {
     ghost invariant = { λ b. IsBuilding b.met b.numbers b.last };
 }
 
-impl<'t> Building<'t> {
+impl<'t> GraphBuilder<'t> {
     /// Nothing is built but the first layer.
     pub(crate) fn new(
         alloc: Global,
         table: &'t Table,
         rules: EdgeRules,
-    ) -> Result<Building<'t>, Memory>
+    ) -> Result<GraphBuilder<'t>, Memory>
         ensures table { IfOk result (λ building. building.table ≡ table.now) }
         ensures rules { IfOk result (λ building. building.rules ≡ rules) }
         ensures built { IfOk result (λ building. IsBuilt building []) }
     {
-        Ok(Building {
+        Ok(GraphBuilder {
             met: Met::new(alloc, table, rules)?,
             numbers: Numbers::new(alloc),
             last: 0,
@@ -187,7 +187,7 @@ impl<'t> Building<'t> {
         ensures last { IfOk result (λ graph. graph.last ≡ length self.entry.last) }
         ensures named { AreNamed self.entry.table.entries self.entry.steps }
     {
-        let Building { met, numbers, last } = self;
+        let GraphBuilder { met, numbers, last } = self;
         let last = met.list(last).len();
         let steps = met.into_steps()?;
         let len = numbers.len();

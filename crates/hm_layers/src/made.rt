@@ -17,14 +17,14 @@ pub(crate) struct Front {
 
 /// A step, and the number of the list behind it.
 #[derive(Drop)]
-pub(crate) struct Made {
+pub(crate) struct MadeStep {
     pub(crate) step: Step,
     pub(crate) behind: u32,
 }
 
 /// The number of the step of a unit from the states of a list.
 #[derive(Clone, Copy)]
-pub(crate) struct Seen {
+pub(crate) struct KnownStep {
     pub(crate) list: u32,
     pub(crate) unit: Unit,
     pub(crate) number: u32,
@@ -72,7 +72,7 @@ fn is_unit(one: &Unit, other: &Unit) -> bool
     one == other
 }
 
-impl Seen {
+impl KnownStep {
     /// Whether it is of this unit from this list.
     pub(crate) fn is_from(&self, front: &Front) -> bool
         ensures list { IsTrue result → self.now.list ≡ front.now.list }
@@ -83,7 +83,7 @@ impl Seen {
 }
 
 /// The place of a step with these hops and this list behind it, where it is one of the first steps.
-pub(crate) fn equal_made(made: &[Made], step: &Step, behind: u32) -> Option<u32>
+pub(crate) fn equal_made(made: &[MadeStep], step: &Step, behind: u32) -> Option<u32>
     ensures there { IfSome result (λ n. n < length made.now) }
     ensures step { IfSome result (HoldsAt (λ x. x.step ≡ step.now) made.now) }
     ensures behind { IfSome result (HoldsAt (λ x. x.behind ≡ behind) made.now) }

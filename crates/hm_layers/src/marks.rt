@@ -10,19 +10,19 @@ use std::alloc::Global;
 
 /// For each ASCII character whether it is known to lead back to a list by a step, in such a text.
 #[derive(Drop)]
-pub(crate) struct Marks {
+pub(crate) struct ByteMarks {
     pub(crate) list: u32,
     pub(crate) kind: TextKind,
     pub(crate) number: u32,
     pub(crate) marked: Vec<bool>,
 }
 
-impl Marks {
+impl ByteMarks {
     /// The mark of the character of this step alone.
-    pub(crate) fn of(alloc: Global, step: &CharacterStep) -> Result<Marks, Memory>
+    pub(crate) fn of(alloc: Global, step: &CharacterStep) -> Result<ByteMarks, Memory>
         ensures { IfOk result (λ marks. (m : MetView) → LeadsBack m step.now.list step.now.kind step.now.number step.now.c → AreMarks m marks) }
     {
-        let mut marks = Marks {
+        let mut marks = ByteMarks {
             list: step.list,
             kind: step.kind,
             number: step.number,
@@ -52,7 +52,7 @@ impl Marks {
 }
 
 /// The place of the marks of this step from this list.
-pub(crate) fn place_of(marks: &[Marks], list: u32, kind: TextKind, number: u32) -> Option<usize>
+pub(crate) fn place_of(marks: &[ByteMarks], list: u32, kind: TextKind, number: u32) -> Option<usize>
     ensures there { IfSome result (λ k. k < length marks.now) }
     ensures list { IfSome result (HoldsAt (λ x. x.list ≡ list) marks.now) }
     ensures kind { IfSome result (HoldsAt (λ x. x.kind ≡ kind) marks.now) }
@@ -67,7 +67,7 @@ pub(crate) fn place_of(marks: &[Marks], list: u32, kind: TextKind, number: u32) 
 }
 
 /// The number of the first marks of this list; 0 where it has none.
-pub(crate) fn usual_number(marks: &[Marks], list: u32, kind: TextKind) -> u32 {
+pub(crate) fn usual_number(marks: &[ByteMarks], list: u32, kind: TextKind) -> u32 {
     for one in marks {
         if one.list == list && is_kind(one.kind, kind) {
             return one.number;
@@ -77,7 +77,7 @@ pub(crate) fn usual_number(marks: &[Marks], list: u32, kind: TextKind) -> u32 {
 }
 
 /// Marks the character of a step at the place of its marks.
-pub(crate) fn mark_at(marks: &mut Vec<Marks>, place: usize, step: &CharacterStep)
+pub(crate) fn mark_at(marks: &mut Vec<ByteMarks>, place: usize, step: &CharacterStep)
     requires there { place < length marks.old.items }
     requires list { HoldsAt (λ x. x.list ≡ step.now.list) marks.old.items place }
     requires kind { HoldsAt (λ x. x.kind ≡ step.now.kind) marks.old.items place }

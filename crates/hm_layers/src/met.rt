@@ -7,8 +7,8 @@ ghost use Rattle.hm_edges.specs.declared.units.Unit.TheVariants.{Character};
 ghost use Rattle.hm_layers.specs.Met.{BeginsNoPair, Grows, IsListOf, LeadsBack, IsPlainStep, IsStepOf, list_at, first_states, made_at, only_first};
 
 use crate::layer::{Layer, find_layer, is_state};
-use crate::made::{CharacterStep, Front, Made, Reached, Seen, equal_made};
-use crate::marks::{Marks, mark_at, marked_run, place_of, usual_number};
+use crate::made::{CharacterStep, Front, KnownStep, MadeStep, Reached, equal_made};
+use crate::marks::{ByteMarks, mark_at, marked_run, place_of, usual_number};
 use crate::pairs::{lone_characters, pair_of};
 use crate::rules::EdgeRules;
 use crate::step::Step;
@@ -32,8 +32,8 @@ pub(crate) struct Met<'t> {
     table: &'t Table,
     rules: EdgeRules,
     lists: Vec<Vec<State>>,
-    made: Vec<Made>,
-    seen: Vec<Seen>,
+    made: Vec<MadeStep>,
+    seen: Vec<KnownStep>,
     /// Where a list and a unit may be seen. What is there is looked at before it is taken.
     known: HashMap<Front, u32>,
     /// Where a list and a unit may be seen that have a place in common, as `known`.
@@ -43,7 +43,7 @@ pub(crate) struct Met<'t> {
     /// Steps of such characters with another one behind them, each at the place of its list and character.
     plain: Vec<CharacterStep>,
     /// Which of them lead back to their list, for some lists and steps.
-    marks: Vec<Marks>,
+    marks: Vec<ByteMarks>,
 }
 
 impl<'t> Model for Met<'t> {
@@ -245,7 +245,7 @@ impl<'t> Met<'t> {
         } = self;
         let mut steps = Vec::new(alloc);
         for made in made {
-            let Made { step, behind: _ } = made;
+            let MadeStep { step, behind: _ } = made;
             steps.push(step)?;
         }
         Ok(steps)
@@ -299,7 +299,7 @@ impl<'t> Met<'t> {
     }
 
     /// The number of a step with these hops and this list behind it: of an earlier one, or of one that is added.
-    fn made_of(&mut self, made: Made) -> Result<u32, Memory>
+    fn made_of(&mut self, made: MadeStep) -> Result<u32, Memory>
         ensures there { IfOk result (λ n. n < length self.new.made) }
         ensures made { IfOk result (λ n. made_at self.new n ≡ made) }
         ensures kept { Grows self.old self.new }
@@ -325,7 +325,7 @@ impl<'t> Met<'t> {
         if place >= LIMIT {
             return Err(Memory);
         }
-        self.seen.push(Seen {
+        self.seen.push(KnownStep {
             list: front.list,
             unit: front.unit,
             number,
@@ -348,7 +348,7 @@ impl<'t> Met<'t> {
             self.list(front.list),
         )?;
         let behind = self.list_of(behind)?;
-        let number = self.made_of(Made {
+        let number = self.made_of(MadeStep {
             step: Step::new(hops),
             behind,
         })?;
@@ -467,7 +467,7 @@ impl<'t> Met<'t> {
         ensures { self.new ≡ self.old }
     {
         if self.marks.len() < MARKED {
-            self.marks.push(Marks::of(self.alloc, step)?)?;
+            self.marks.push(ByteMarks::of(self.alloc, step)?)?;
         }
         Ok(())
     }

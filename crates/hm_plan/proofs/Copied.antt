@@ -15,7 +15,7 @@ use Rattle.hm_steps.specs.Ways.{along, choice, choices_of, way_from}
 use Rattle.hm_steps.specs.declared.hops.Hop.{Hop}
 use Rattle.hm_units.specs.Units.{TextKind, Unit, character, character_units, next_of}
 use Rattle.hm_plan.specs.Paths.{Copies, GoesOver, HasChoices, IsCopied, row_behind, way_on}
-use Rattle.hm_plan.specs.declared.paths.Way.{Way}
+use Rattle.hm_plan.specs.declared.paths.WrittenWay.{WrittenWay}
 use Rattle.hm_plan.proofs.FirstWay.{forced_choice, forced_none, step_next, way_next}
 
 -- ---- Steps
@@ -68,7 +68,7 @@ way_copied t g kind (c ∷ front) rest units k p inside are ascii =
     ∙ ap (λ x. c ∷ x) (way_copied t g kind front rest units (k + 1) p (omega (arith, inside)) (later_copied g k (length front) p are) (λ i. ascii (suc i)))
     ∙ ap (λ j. c ∷ (front ++ way_on t g (character_units kind rest ++ units) j (Some p))) same
 
-over_copied : (t : List Entry) (g : GraphView) (front rest : List ℕ) (p : ℕ) (old new : Way) → old.at.layer + length front ≤ length g.steps → AreCopied g old.at.layer (length front) p → IsAscii front → HasChoices g old
+over_copied : (t : List Entry) (g : GraphView) (front rest : List ℕ) (p : ℕ) (old new : WrittenWay) → old.at.layer + length front ≤ length g.steps → AreCopied g old.at.layer (length front) p → IsAscii front → HasChoices g old
     → IsPlace g new.at → new.at.layer ≡ old.at.layer + length front → new.out.items ≡ old.out.items ++ front → old.place ≡ Some p → new.place ≡ Some p → new.choices.now ≡ old.choices.now → GoesOver t g (front ++ rest) rest old new
 over_copied t g front rest p old new inside are ascii has stands layer out before after choices = record {
   count = omega (arith, layer, length-append front rest);
@@ -86,7 +86,7 @@ copied_place step None is = absurd is
 copied_place step (Some p) is = (p, refl, is)
 
 -- the way over the first n bytes of a text, whose steps are the same as the one that the way stands in front of
-pub text_copied : (t : List Entry) (g : GraphView) (text : List ℕ) (n : ℕ) (old new : Way) → IsCopied (get_or g.steps old.at.layer []) old.place → HasChoices g old → old.at.layer + length (chars text) ≤ length g.steps → n ≤ length text
+pub text_copied : (t : List Entry) (g : GraphView) (text : List ℕ) (n : ℕ) (old new : WrittenWay) → IsCopied (get_or g.steps old.at.layer []) old.place → HasChoices g old → old.at.layer + length (chars text) ≤ length g.steps → n ≤ length text
     → IsPlace g new.at → new.at.layer ≡ old.at.layer + n → ((k : ℕ) → old.at.layer ≤ k → k < new.at.layer → get_or g.steps k [] ≡ get_or g.steps old.at.layer []) → IsAscii (take n text)
     → new.out.items ≡ old.out.items ++ take n text → new.place ≡ old.place → new.choices.now ≡ old.choices.now → GoesOver t g (chars text) (chars (drop n text)) old new
 text_copied t g text n old new is has inside few stands layer alike ascii out place choices =

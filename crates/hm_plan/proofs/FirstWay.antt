@@ -21,7 +21,7 @@ use Rattle.hm_parts.specs.Parts.{AreParts, IsPart, part_units, parts_units}
 use Rattle.hm_parts.specs.declared.parts.Part.{Part}
 use Rattle.hm_parts.proofs.UnitsLeft.{units_left-next, units_left-none}
 use Rattle.hm_plan.specs.Paths.{Goes, GoesOver, HasChoices, Passes, onward, row_behind, way_on}
-use Rattle.hm_plan.specs.declared.paths.Way.{Way}
+use Rattle.hm_plan.specs.declared.paths.WrittenWay.{WrittenWay}
 use Rattle.hm_plan.proofs.Prices.{same_self}
 
 -- ---- The hop that is taken
@@ -82,7 +82,7 @@ way_next t g u units k None inside = refl
 way_next t g u units k (Some place) inside = ap (λ steps. way_from (piece_bytes t) g.last (u ∷ units) steps place) (step_next g.steps k inside)
 
 -- the way over one unit
-pub goes_one : (t : List Entry) (g : GraphView) (u : Unit) (own : List ℕ) (hop : Option Hop) (old new : Way) → old.at.layer < length g.steps → new.at.layer ≡ old.at.layer + 1 → own_bytes u ≡ own
+pub goes_one : (t : List Entry) (g : GraphView) (u : Unit) (own : List ℕ) (hop : Option Hop) (old new : WrittenWay) → old.at.layer < length g.steps → new.at.layer ≡ old.at.layer + 1 → own_bytes u ≡ own
     → hop ≡ option_and_then (hop_taken (row_behind g old.at.layer) (get_or g.steps old.at.layer [])) old.place
     → ((more : ℕ → List ℕ) → new.out.items ++ onward more new.place ≡ old.out.items ++ along (piece_text t own) more hop)
     → Goes t g (u ∷ []) old new
@@ -95,17 +95,17 @@ goes_one t g u own hop old new inside next is taken put units =
 
 -- ---- The characters of a text
 
-pub none_over : (t : List Entry) (g : GraphView) (cs : List ℕ) (way : Way) → HasChoices g way → GoesOver t g cs cs way way
+pub none_over : (t : List Entry) (g : GraphView) (cs : List ℕ) (way : WrittenWay) → HasChoices g way → GoesOver t g cs cs way way
 none_over t g cs way h = record { count = refl; choices = h; goes = λ kind units. refl }
 
-pub over_on : (t : List Entry) (g : GraphView) (cs middle rest : List ℕ) (old between new : Way) → GoesOver t g cs middle old between → GoesOver t g middle rest between new → GoesOver t g cs rest old new
+pub over_on : (t : List Entry) (g : GraphView) (cs middle rest : List ℕ) (old between new : WrittenWay) → GoesOver t g cs middle old between → GoesOver t g middle rest between new → GoesOver t g cs rest old new
 over_on t g cs middle rest old between new first next = record { count = next.count ∙ first.count; choices = next.choices; goes = λ kind units. next.goes kind units ∙ first.goes kind units }
 
 -- the steps that are left are enough for the rest
-pub over_inside : (t : List Entry) (g : GraphView) (cs rest : List ℕ) (old new : Way) → old.at.layer + length cs ≤ length g.steps → GoesOver t g cs rest old new → new.at.layer + length rest ≤ length g.steps
+pub over_inside : (t : List Entry) (g : GraphView) (cs rest : List ℕ) (old new : WrittenWay) → old.at.layer + length cs ≤ length g.steps → GoesOver t g cs rest old new → new.at.layer + length rest ≤ length g.steps
 over_inside t g cs rest old new inside over = omega (arith, over.count)
 
-pub char_over : (t : List Entry) (g : GraphView) (cs rest : List ℕ) (c : ℕ) (old new : Way) → cs ≡ c ∷ rest → Passes g 1 old new → ((u : Unit) → own_bytes u ≡ encode_utf8 c → Goes t g (u ∷ []) old new) → GoesOver t g cs rest old new
+pub char_over : (t : List Entry) (g : GraphView) (cs rest : List ℕ) (c : ℕ) (old new : WrittenWay) → cs ≡ c ∷ rest → Passes g 1 old new → ((u : Unit) → own_bytes u ≡ encode_utf8 c → Goes t g (u ∷ []) old new) → GoesOver t g cs rest old new
 char_over t g cs rest c old new cut passes goes = record {
   count = omega (arith, passes.taken, ap length cut);
   choices = passes.choices;
@@ -113,10 +113,10 @@ char_over t g cs rest c old new cut passes goes = record {
       goes (character kind c (next_of rest)) refl (character_units kind rest ++ units) ∙ ap (λ x. old.out.items ++ way_on t g (character_units kind x ++ units) old.at.layer old.place) (sym cut);
 }
 
-pub all_chars : (t : List Entry) (g : GraphView) (cs rest : List ℕ) (old new : Way) → rest ≡ [] → GoesOver t g cs rest old new → Passes g (length cs) old new
+pub all_chars : (t : List Entry) (g : GraphView) (cs rest : List ℕ) (old new : WrittenWay) → rest ≡ [] → GoesOver t g cs rest old new → Passes g (length cs) old new
 all_chars t g cs rest old new none over = record { taken = omega (arith, over.count, ap length none); choices = over.choices }
 
-pub chars_go : (t : List Entry) (g : GraphView) (cs rest : List ℕ) (old new : Way) → rest ≡ [] → GoesOver t g cs rest old new → (kind : TextKind) → Goes t g (character_units kind cs) old new
+pub chars_go : (t : List Entry) (g : GraphView) (cs rest : List ℕ) (old new : WrittenWay) → rest ≡ [] → GoesOver t g cs rest old new → (kind : TextKind) → Goes t g (character_units kind cs) old new
 chars_go t g cs rest old new none over kind units = ap (λ x. new.out.items ++ way_on t g (character_units kind x ++ units) new.at.layer new.place) (sym none) ∙ over.goes kind units
 
 pub length_characters : (kind : TextKind) (cs : List ℕ) → length (character_units kind cs) ≡ length cs
@@ -126,15 +126,15 @@ length_characters kind (c ∷ cs) = omega (arith, length_characters kind cs)
 -- ---- The parts of an event
 
 -- n of the parts were taken
-pub record PartsTaken (t : List Entry) (g : GraphView) (parts : List Part) (n : ℕ) (old way : Way) : Type 0 where
+pub record PartsTaken (t : List Entry) (g : GraphView) (parts : List Part) (n : ℕ) (old way : WrittenWay) : Type 0 where
   pub count : way.at.layer + length (parts_units (drop n parts)) ≡ old.at.layer + length (parts_units parts)
   pub choices : HasChoices g way
   pub goes : (units : List Unit) → way.out.items ++ way_on t g (parts_units (drop n parts) ++ units) way.at.layer way.place ≡ old.out.items ++ way_on t g (parts_units parts ++ units) old.at.layer old.place
 
-pub no_parts : (t : List Entry) (g : GraphView) (parts : List Part) (way : Way) → HasChoices g way → PartsTaken t g parts 0 way way
+pub no_parts : (t : List Entry) (g : GraphView) (parts : List Part) (way : WrittenWay) → HasChoices g way → PartsTaken t g parts 0 way way
 no_parts t g parts way h = record { count = refl; choices = h; goes = λ units. refl }
 
-pub part_inside : (t : List Entry) (g : GraphView) (parts : List Part) (n : ℕ) (part : Part) (old way : Way) → drop n parts ≡ part ∷ drop (n + 1) parts → old.at.layer + length (parts_units parts) ≤ length g.steps → PartsTaken t g parts n old way
+pub part_inside : (t : List Entry) (g : GraphView) (parts : List Part) (n : ℕ) (part : Part) (old way : WrittenWay) → drop n parts ≡ part ∷ drop (n + 1) parts → old.at.layer + length (parts_units parts) ≤ length g.steps → PartsTaken t g parts n old way
     → way.at.layer + length (part_units part) ≤ length g.steps
 part_inside t g parts n part old way cut inside taken =
     omega (arith, taken.count, ap (λ x. length (parts_units x)) cut, length-append (part_units part) (parts_units (drop (n + 1) parts)))
@@ -144,7 +144,7 @@ part_is [] n none inside h = absurd (omega arith)
 part_is (part ∷ parts) zero none inside h = h.0
 part_is (part ∷ parts) (suc n) none inside h = part_is parts n none (omega arith) h.1
 
-pub part_taken : (t : List Entry) (g : GraphView) (parts : List Part) (n : ℕ) (part : Part) (old between new : Way) → drop n parts ≡ part ∷ drop (n + 1) parts → PartsTaken t g parts n old between
+pub part_taken : (t : List Entry) (g : GraphView) (parts : List Part) (n : ℕ) (part : Part) (old between new : WrittenWay) → drop n parts ≡ part ∷ drop (n + 1) parts → PartsTaken t g parts n old between
     → Passes g (length (part_units part)) between new → Goes t g (part_units part) between new → PartsTaken t g parts (n + 1) old new
 part_taken t g parts n part old between new cut taken passes goes =
     let rest : List Unit = parts_units (drop (n + 1) parts) in record {
@@ -159,22 +159,22 @@ part_taken t g parts n part old between new cut taken passes goes =
 parts_past : (parts : List Part) (n : ℕ) → length parts ≤ n → drop n parts ≡ []
 parts_past parts n past = drop_all n parts past
 
-pub all_parts : (t : List Entry) (g : GraphView) (parts : List Part) (n : ℕ) (old new : Way) → length parts ≤ n → PartsTaken t g parts n old new → Passes g (length (parts_units parts)) old new
+pub all_parts : (t : List Entry) (g : GraphView) (parts : List Part) (n : ℕ) (old new : WrittenWay) → length parts ≤ n → PartsTaken t g parts n old new → Passes g (length (parts_units parts)) old new
 all_parts t g parts n old new past taken = record { taken = omega (arith, taken.count, ap (λ x. length (parts_units x)) (parts_past parts n past)); choices = taken.choices }
 
-pub parts_go : (t : List Entry) (g : GraphView) (parts : List Part) (n : ℕ) (old new : Way) → length parts ≤ n → PartsTaken t g parts n old new → Goes t g (parts_units parts) old new
+pub parts_go : (t : List Entry) (g : GraphView) (parts : List Part) (n : ℕ) (old new : WrittenWay) → length parts ≤ n → PartsTaken t g parts n old new → Goes t g (parts_units parts) old new
 parts_go t g parts n old new past taken units =
     ap (λ x. new.out.items ++ way_on t g (parts_units x ++ units) new.at.layer new.place) (sym (parts_past parts n past)) ∙ taken.goes units
 
 -- ---- The events of a tree
 
 -- the units that are left at event i are those of the steps that are left, and what was written and the way from here on are all bytes
-pub record EventsTaken (t : List Entry) (rules : SpellRules) (w : List Event) (g : GraphView) (i : ℕ) (way : Way) : Type 0 where
+pub record EventsTaken (t : List Entry) (rules : SpellRules) (w : List Event) (g : GraphView) (i : ℕ) (way : WrittenWay) : Type 0 where
   pub count : way.at.layer + length (units_left rules w i) ≡ length g.steps
   pub choices : HasChoices g way
   pub goes : way.out.items ++ way_on t g (units_left rules w i) way.at.layer way.place ≡ way_from (piece_bytes t) g.last (units_of rules w) g.steps 0
 
-pub no_events : (t : List Entry) (rules : SpellRules) (w : List Event) (g : GraphView) (way : Way) → length (units_of rules w) ≡ length g.steps → way.out.items ≡ [] → way.at.layer ≡ 0 → way.place ≡ Some 0
+pub no_events : (t : List Entry) (rules : SpellRules) (w : List Event) (g : GraphView) (way : WrittenWay) → length (units_of rules w) ≡ length g.steps → way.out.items ≡ [] → way.at.layer ≡ 0 → way.place ≡ Some 0
     → way.choices.now ≡ choices_of g.last g.steps → IsPlace g way.at → EventsTaken t rules w g 0 way
 no_events t rules w g way whole none first place choices stands = record {
   count = ap (λ k. k + length (units_of rules w)) first ∙ (let e : 0 + length (units_of rules w) ≡ length g.steps = omega arith in e);
@@ -182,12 +182,12 @@ no_events t rules w g way whole none first place choices stands = record {
   goes = λ i. none i ++ way_on t g (units_of rules w) (first i) (place i);
 }
 
-pub event_inside : (t : List Entry) (rules : SpellRules) (w : List Event) (g : GraphView) (i : ℕ) (parts : List Part) (way : Way) → i < length w → parts_units parts ≡ units_at rules w i → EventsTaken t rules w g i way
+pub event_inside : (t : List Entry) (rules : SpellRules) (w : List Event) (g : GraphView) (i : ℕ) (parts : List Part) (way : WrittenWay) → i < length w → parts_units parts ≡ units_at rules w i → EventsTaken t rules w g i way
     → way.at.layer + length (parts_units parts) ≤ length g.steps
 event_inside t rules w g i parts way inside are taken =
     omega (arith, taken.count, ap length (units_left-next rules w i inside), length-append (units_at rules w i) (units_left rules w (i + 1)), ap length are)
 
-pub event_taken : (t : List Entry) (rules : SpellRules) (w : List Event) (g : GraphView) (i : ℕ) (parts : List Part) (between new : Way) → i < length w → parts_units parts ≡ units_at rules w i → EventsTaken t rules w g i between
+pub event_taken : (t : List Entry) (rules : SpellRules) (w : List Event) (g : GraphView) (i : ℕ) (parts : List Part) (between new : WrittenWay) → i < length w → parts_units parts ≡ units_at rules w i → EventsTaken t rules w g i between
     → Passes g (length (parts_units parts)) between new → Goes t g (parts_units parts) between new → EventsTaken t rules w g (i + 1) new
 event_taken t rules w g i parts between new inside are taken passes goes =
     let rest : List Unit = units_left rules w (i + 1) in
@@ -205,7 +205,7 @@ onward_ends : (more : ℕ → List ℕ) (place : Option ℕ) → ((k : ℕ) → 
 onward_ends more None h = refl
 onward_ends more (Some k) h = h k
 
-pub all_events : (t : List Entry) (rules : SpellRules) (w : List Event) (g : GraphView) (i : ℕ) (way : Way) → i ≡ length w → EventsTaken t rules w g i way
+pub all_events : (t : List Entry) (rules : SpellRules) (w : List Event) (g : GraphView) (i : ℕ) (way : WrittenWay) → i ≡ length w → EventsTaken t rules w g i way
     → way.out.items ≡ way_from (piece_bytes t) g.last (units_of rules w) g.steps 0
 all_events t rules w g i way whole taken =
     let none : units_left rules w i ≡ [] = ap (units_left rules w) whole ∙ units_left-none rules w in

@@ -23,7 +23,7 @@ use std::alloc::Global;
 
 /// How far the way is written.
 #[derive(Drop)]
-struct Way<'c> {
+struct WrittenWay<'c> {
     out: Vec<u8>,
     /// The layer that was reached.
     at: Cursor,
@@ -119,7 +119,7 @@ fn put_hop(
 }
 
 /// Takes the next step, which is that of a unit with these bytes of its own.
-fn take(way: &mut Way, graph: &Graph, table: &Table, own: Own) -> Result<(), Memory>
+fn take(way: &mut WrittenWay, graph: &Graph, table: &Table, own: Own) -> Result<(), Memory>
     requires inside { way.old.at.layer < length graph.now.steps }
     requires choices { HasChoices graph.now way.old }
     requires named { AreNamed table.now.entries graph.now.steps }
@@ -159,7 +159,7 @@ fn is_copied(step: &Step, place: Option<usize>) -> bool
 
 /// Takes the steps of the characters that a text begins with, as long as the same step copies one byte, and gives the rest
 /// of the text.
-fn copy_alike<'t>(way: &mut Way, graph: &Graph, text: &'t str) -> Result<&'t str, Memory>
+fn copy_alike<'t>(way: &mut WrittenWay, graph: &Graph, text: &'t str) -> Result<&'t str, Memory>
     requires inside { way.old.at.layer + length (chars text.now) ≤ length graph.now.steps }
     requires some { 0 < length text.now }
     requires choices { HasChoices graph.now way.old }
@@ -183,7 +183,7 @@ fn copy_alike<'t>(way: &mut Way, graph: &Graph, text: &'t str) -> Result<&'t str
 
 /// Takes the step of the first character of a text, and gives the rest of the text.
 fn take_char<'t>(
-    way: &mut Way,
+    way: &mut WrittenWay,
     graph: &Graph,
     table: &Table,
     text: &'t str,
@@ -204,7 +204,7 @@ fn take_char<'t>(
 
 /// Takes the steps of some characters that a text begins with, and gives the rest of the text.
 fn take_some<'t>(
-    way: &mut Way,
+    way: &mut WrittenWay,
     graph: &Graph,
     table: &Table,
     text: &'t str,
@@ -225,7 +225,7 @@ fn take_some<'t>(
 }
 
 /// Takes the steps of the characters of a text.
-fn take_chars(way: &mut Way, graph: &Graph, table: &Table, text: &str) -> Result<(), Memory>
+fn take_chars(way: &mut WrittenWay, graph: &Graph, table: &Table, text: &str) -> Result<(), Memory>
     requires inside { way.old.at.layer + length (chars text.now) ≤ length graph.now.steps }
     requires choices { HasChoices graph.now way.old }
     requires named { AreNamed table.now.entries graph.now.steps }
@@ -240,7 +240,7 @@ fn take_chars(way: &mut Way, graph: &Graph, table: &Table, text: &str) -> Result
 }
 
 /// Takes the steps of a part.
-fn take_part(way: &mut Way, graph: &Graph, table: &Table, part: Part) -> Result<(), Memory>
+fn take_part(way: &mut WrittenWay, graph: &Graph, table: &Table, part: Part) -> Result<(), Memory>
     requires inside { way.old.at.layer + length (part_units part) ≤ length graph.now.steps }
     requires choices { HasChoices graph.now way.old }
     requires named { AreNamed table.now.entries graph.now.steps }
@@ -256,7 +256,12 @@ fn take_part(way: &mut Way, graph: &Graph, table: &Table, part: Part) -> Result<
 }
 
 /// Takes the steps of the parts of an event.
-fn take_parts(way: &mut Way, graph: &Graph, table: &Table, parts: &[Part]) -> Result<(), Memory>
+fn take_parts(
+    way: &mut WrittenWay,
+    graph: &Graph,
+    table: &Table,
+    parts: &[Part],
+) -> Result<(), Memory>
     requires inside { way.old.at.layer + length (parts_units parts.now) ≤ length graph.now.steps }
     requires choices { HasChoices graph.now way.old }
     requires named { AreNamed table.now.entries graph.now.steps }
@@ -285,7 +290,7 @@ pub fn write_path(
     ensures { IfOk result (λ out. out.items ≡ way_from (piece_bytes table.now.entries) graph.now.last (units_of rules tree.now) graph.now.steps 0) }
 {
     let mut parts = Vec::new(alloc);
-    let mut way = Way {
+    let mut way = WrittenWay {
         out: Vec::new(alloc),
         at: graph.first_layer(),
         place: Some(0),

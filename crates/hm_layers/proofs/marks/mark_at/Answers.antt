@@ -1,12 +1,12 @@
 use Rattle.std.proofs.Common.{◌≡◌, ◌∙◌, sym, ap, subst}
 use Rattle.std.proofs.lemmas.List.Elements.{All-set}
 use Rattle.hm_layers.specs.Met.{AreMarks, LeadsBack}
-use Rattle.hm_layers.specs.declared.marks.Marks.{Marks}
+use Rattle.hm_layers.specs.declared.marks.ByteMarks.{ByteMarks}
 use Rattle.hm_layers.proofs.marks.mark_at.Goals as goal
 
 pub returns : goal.returns
 returns c = λ m all own.
-    let before : Marks = c.index_mut.result.now in
+    let before : ByteMarks = c.index_mut.result.now in
     let at = c.index_mut.ensures.value in
     let list : before.list ≡ c.args.step.now.list = ap (λ x. x.list) at ∙ c.requires.list before in
     let kind : before.kind ≡ c.args.step.now.kind = ap (λ x. x.kind) at ∙ c.requires.kind before in

@@ -1,7 +1,7 @@
 use Rattle.std.proofs.Common.{◌≡◌, ◌∙◌, ℕ, ◌-◌, [], ◌++◌, get_or, chars, take, refl, sym, ap, subst, arith}
 use Rattle.std.specs.Str.{IsAscii}
 use Rattle.hm_plan.specs.Paths.{GoesOver, IsCopied}
-use Rattle.hm_plan.specs.declared.paths.Way.{Way}
+use Rattle.hm_plan.specs.declared.paths.WrittenWay.{WrittenWay}
 use Rattle.hm_layers.proofs.Characters.{ascii_boundary, some_chars}
 use Rattle.hm_plan.proofs.Copied.{text_copied}
 use Rattle.hm_plan.proofs.paths.copy_alike.Goals as goal
@@ -18,7 +18,7 @@ range_from-requires c = λ some.
 pub returns-clause-goes : goal.returns-clause-goes
 returns-clause-goes c = λ t.
     let n : ℕ = c.next_alike-at.result.layer - c.args.way.now.at.layer in
-    let new : Way = record { out = c.extend_from_slice.new.self; at = c.next_alike-at.result; place = c.args.way.now.place; choices = c.args.way.now.choices } in
+    let new : WrittenWay = record { out = c.extend_from_slice.new.self; at = c.next_alike-at.result; place = c.args.way.now.place; choices = c.args.way.now.choices } in
     let copied : IsCopied (get_or c.args.graph.now.steps c.args.way.now.at.layer []) c.args.way.now.place = subst (λ step. IsCopied step c.args.way.now.place) c.step.ensures (c.if-not-is_copied.ensures refl) in
     let ascii : IsAscii (take n c.args.text.now) = subst (λ b. IsAscii (take n b)) c.as_bytes.ensures.value c.if-not-is_ascii.ensures.cases in
     let out : c.extend_from_slice.new.self.items ≡ c.args.way.now.out.items ++ take n c.args.text.now = c.in_ok-extend_from_slice.ensures.items ∙ ap (λ b. c.args.way.now.out.items ++ take n b) c.as_bytes.ensures.value in

@@ -3,7 +3,7 @@ use Rattle.std.specs.List.{All}
 use Rattle.std.proofs.lemmas.List.Elements.{All-push}
 use Rattle.hm_layers.specs.Met.{AreMarks, LeadsBack, MetView}
 use Rattle.hm_layers.specs.declared.made.CharacterStep.{CharacterStep}
-use Rattle.hm_layers.specs.declared.marks.Marks.{Marks}
+use Rattle.hm_layers.specs.declared.marks.ByteMarks.{ByteMarks}
 use Rattle.hm_layers.proofs.Lists.{met}
 use Rattle.hm_layers.proofs.met.Met.add_marks.Goals as goal
 
@@ -16,5 +16,5 @@ invariant_of-self-in_ok-push c =
       c.self.invariant.1,
       c.self.invariant.2,
       c.self.invariant.3,
-      subst (All (AreMarks m)) (sym {A = List Marks} c.in_ok-push.ensures.items) (All-push (AreMarks m) c.self.inside.marks.items c.in_ok-of.field-0 c.self.invariant.4 (c.in_ok-of.ensures m leads)),
+      subst (All (AreMarks m)) (sym {A = List ByteMarks} c.in_ok-push.ensures.items) (All-push (AreMarks m) c.self.inside.marks.items c.in_ok-of.field-0 c.self.invariant.4 (c.in_ok-of.ensures m leads)),
     )

@@ -2,7 +2,7 @@ use Rattle.std.proofs.Common.{◌∷◌, ◌++◌, [], sym, subst, arith}
 use Rattle.hm_edges.specs.Units.{StandsFor}
 use Rattle.hm_layers.specs.Building.{AddsSteps, IsBuilding, building}
 use Rattle.hm_layers.proofs.Built.{adds_one, building_kept, building_more}
-use Rattle.hm_layers.proofs.building.Building.add.Goals as goal
+use Rattle.hm_layers.proofs.building.GraphBuilder.add.Goals as goal
 
 pub invariant_of-self : goal.invariant_of-self
 invariant_of-self c = building_kept c.self.inside.met c.step.new.self c.self.inside.numbers c.self.inside.last c.self.invariant c.step.ensures.kept

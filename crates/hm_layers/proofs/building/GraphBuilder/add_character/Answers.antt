@@ -6,7 +6,7 @@ use Rattle.hm_edges.specs.declared.units.Unit.TheVariants.{Character}
 use Rattle.hm_units.specs.Units as units
 use Rattle.hm_layers.specs.Building.{AddsSteps, IsBuilding, building}
 use Rattle.hm_layers.proofs.Built.{adds_one, building_kept, building_more}
-use Rattle.hm_layers.proofs.building.Building.add_character.Goals as goal
+use Rattle.hm_layers.proofs.building.GraphBuilder.add_character.Goals as goal
 
 pub invariant_of-self : goal.invariant_of-self
 invariant_of-self c = building_kept c.self.inside.met c.character_step.new.self c.self.inside.numbers c.self.inside.last c.self.invariant c.character_step.ensures.kept

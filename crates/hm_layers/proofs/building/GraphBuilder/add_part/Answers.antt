@@ -6,7 +6,7 @@ use Rattle.hm_parts.proofs.OwnBytes.{stands_for}
 use Rattle.hm_parts.specs.Parts.{HasOwn, IsPart, comment_bytes, part_units, unit_with}
 use Rattle.hm_layers.specs.Building.{AddsSteps}
 use Rattle.hm_layers.proofs.Parts.{comment_length}
-use Rattle.hm_layers.proofs.building.Building.add_part.Goals as goal
+use Rattle.hm_layers.proofs.building.GraphBuilder.add_part.Goals as goal
 
 pub returns-in-One : goal.returns-in-One
 returns-in-One c =

@@ -4,7 +4,7 @@ use Rattle.hm_edges.specs.Units.{kind_of}
 use Rattle.hm_layers.specs.Building.{AddsFront, IsBuilding, building}
 use Rattle.hm_layers.specs.Met.{LeadsBack}
 use Rattle.hm_layers.proofs.Characters.{ascii_boundary, back_ascii, text_added}
-use Rattle.hm_layers.proofs.building.Building.add_alike.Goals as goal
+use Rattle.hm_layers.proofs.building.GraphBuilder.add_alike.Goals as goal
 
 pub range_from-requires : goal.range_from-requires
 range_from-requires c = λ some.

@@ -4,7 +4,7 @@ use Rattle.std.proofs.lemmas.List.{nil_from_length}
 use Rattle.std.proofs.lemmas.Str.{chars-nil}
 use Rattle.hm_edges.specs.Units.{kind_of}
 use Rattle.hm_layers.proofs.Characters.{front_all, front_none, front_on}
-use Rattle.hm_layers.proofs.building.Building.add_from_first.Goals as goal
+use Rattle.hm_layers.proofs.building.GraphBuilder.add_from_first.Goals as goal
 
 pub loop-rest-init : goal.loop-rest-init
 loop-rest-init c = (c.utf8.text, front_none c.args.self.now (kind_of c.args.kind) (chars c.args.text.now))

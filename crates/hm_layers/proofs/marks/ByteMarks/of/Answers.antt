@@ -1,6 +1,6 @@
 use Rattle.std.proofs.Common.{◌≡◌, ◌∙◌, ap, false, get_or}
 use Rattle.hm_layers.proofs.Marked.{none_marked}
-use Rattle.hm_layers.proofs.marks.Marks.of.Goals as goal
+use Rattle.hm_layers.proofs.marks.ByteMarks.of.Goals as goal
 
 pub returns : goal.returns
 returns c = λ m own.

@@ -1,7 +1,7 @@
 use Rattle.std.proofs.Common.{◌∙◌, length, ap, subst, sym}
 use Rattle.hm_layers.specs.Graphs.{AreLow, AreNumbers, spread}
 use Rattle.hm_layers.proofs.Finished.{spread_made, numbers_are}
-use Rattle.hm_layers.proofs.building.Building.into_graph.Goals as goal
+use Rattle.hm_layers.proofs.building.GraphBuilder.into_graph.Goals as goal
 
 pub from_parts-requires-clause-numbers : goal.from_parts-requires-clause-numbers
 from_parts-requires-clause-numbers c =

@@ -1,5 +1,5 @@
 use Rattle.hm_layers.proofs.Parts.{part_at, parts_next}
-use Rattle.hm_layers.proofs.building.Building.add_parts.Goals as goal
+use Rattle.hm_layers.proofs.building.GraphBuilder.add_parts.Goals as goal
 
 pub add_part-requires : goal.add_part-requires
 add_part-requires c = part_at c.args.parts.now c.loop-part.part-index _ c.requires c.loop-part-test.true

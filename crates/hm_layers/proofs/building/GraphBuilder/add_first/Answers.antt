@@ -3,8 +3,8 @@ use Rattle.std.specs.Prelude.{encode_utf8}
 use Rattle.hm_edges.specs.Units.{kind_of}
 use Rattle.hm_layers.specs.Building.{AddsFront}
 use Rattle.hm_layers.proofs.Characters.{front_first, front_none}
-use Rattle.hm_layers.proofs.building.Building.add_first.Goals.{in-Some+in-Some-next+in_ok-add_character-in-Some-next, in-Some+in-None+in_ok-add_last-in-None, in_default}
-use Rattle.hm_layers.proofs.building.Building.add_first.Goals as goal
+use Rattle.hm_layers.proofs.building.GraphBuilder.add_first.Goals.{in-Some+in-Some-next+in_ok-add_character-in-Some-next, in-Some+in-None+in_ok-add_last-in-None, in_default}
+use Rattle.hm_layers.proofs.building.GraphBuilder.add_first.Goals as goal
 
 pub returns-clause-adds : goal.returns-clause-adds
 returns-clause-adds c =

@@ -2,7 +2,7 @@ use Rattle.std.proofs.Common.{chars}
 use Rattle.std.proofs.lemmas.Result.{on_ok_weaker}
 use Rattle.hm_edges.specs.Units.{kind_of}
 use Rattle.hm_layers.proofs.Characters.{front_then}
-use Rattle.hm_layers.proofs.building.Building.add_characters.Goals as goal
+use Rattle.hm_layers.proofs.building.GraphBuilder.add_characters.Goals as goal
 
 pub returns : goal.returns
 returns c =

@@ -21,6 +21,10 @@ const SPARSE: &str = "html-cert 3\nrules omit unquote\n23\n0\n";
 
 const WIDE: &str = "html-cert 2\nrules omit unquote\n10 - 9223372036854775807\n- -\n0\n";
 
+/// Prices that have the first digits of one beside them, and some that only seem to.
+const NEAR: &str =
+    "html-cert 2\nrules omit unquote\n123456 123499 123400\n123455 12345678\n99123456 123455\n99999 100000 - 100001\n1234567890 1234567899 1234567800 0\n";
+
 /// The text of a certificate, written from its end and turned round.
 fn reversed(
     alloc: Global,
@@ -104,6 +108,25 @@ fn read(rt: HostRuntime) -> Result<(), CertificateFault> {
 }
 
 #[test]
+fn near_rows(rt: HostRuntime) -> Result<(), CertificateFault> {
+    let read = Certificate::read(rt.alloc(), NEAR.as_bytes())?;
+    let mut row = Vec::new(rt.alloc());
+    let place = read.prices.end();
+    assert!(rt; place.row == 5);
+    let place = read.prices.row_before(place, &mut row)?;
+    assert!(rt; row.as_slice() == [1_234_567_890, 1_234_567_899, 1_234_567_800, 0].as_slice());
+    let place = read.prices.row_before(place, &mut row)?;
+    assert!(rt; row.as_slice() == [99_999, 100_000, CLOSED, 100_001].as_slice());
+    let place = read.prices.row_before(place, &mut row)?;
+    assert!(rt; row.as_slice() == [99_123_456, 123_455].as_slice());
+    let place = read.prices.row_before(place, &mut row)?;
+    assert!(rt; row.as_slice() == [123_455, 12_345_678].as_slice());
+    let place = read.prices.row_before(place, &mut row)?;
+    assert!(rt; place.row == 0 && row.as_slice() == [123_456, 123_499, 123_400].as_slice());
+    Ok(())
+}
+
+#[test]
 fn bad_lines(rt: HostRuntime) {
     for (text, want) in [
         ("", 1),
@@ -142,6 +165,9 @@ fn bad_lines(rt: HostRuntime) {
             "html-cert 1\nrules\n0\n10000000000000000000000000000000000000000\n",
             4,
         ),
+        ("html-cert 1\nrules\n123456 12345x\n", 3),
+        ("html-cert 1\nrules\n123456\n1234567x\n", 4),
+        ("html-cert 1\nrules\n123456\n123456", 4),
         ("html-cert 1\nrules\n0\n0\r\n", 4),
         ("html-cert 1\nrules\n0\n1\t2\n", 4),
     ] {

@@ -1,5 +1,5 @@
 -- Rows of layers in front of steps over which no state changes its place.
-use Rattle.std.proofs.Common.{◌≡◌, ◌∙◌, ℕ, suc, ◌+◌, ◌<◌, ◌≤◌, ◌==◌, ◌&&◌, not, Bool, true, false, List, [], ◌∷◌, length, map, get_or, drop, Some, None, Option, refl, sym, ap, add-one, arith}
+use Rattle.std.proofs.Common.{◌≡◌, ◌∙◌, ℕ, ◌+◌, ◌<◌, ◌≤◌, ◌==◌, ◌&&◌, not, Bool, true, false, List, length, map, get_or, drop, None, Option, refl, sym, ap, add-one}
 use Rattle.std.specs.Option.{option_map}
 use Rattle.std.proofs.lemmas.List.{drop_more, drop_all, length-map}
 use Rattle.hm_cert.specs.declared.text.Format.{Format}
@@ -21,10 +21,10 @@ high_from k i len row behind = high_in k i (map told (drop i row)) (map (over le
 
 pub within_more : (k i len : ℕ) (row behind : List ℕ) → i < length row → i < length behind → is_above (told (get_or row i 0)) (over len (told (get_or behind i 0))) ≡ false → high_from k (i + 1) len row behind ≡ high_from k i len row behind
 within_more k i len row behind inside there e = sym (
-  (λ j. high_in k i (map told (drop_more row i 0 inside j)) (map (over len) (map told (drop_more behind i 0 there j))))
-  ∙ high_later k i (told (get_or row i 0)) (over len (told (get_or behind i 0))) (map told (drop (i + 1) row)) (map (over len) (map told (drop (i + 1) behind))) e
-  ∙ ap (λ n. high_in k n (map told (drop (i + 1) row)) (map (over len) (map told (drop (i + 1) behind)))) (sym (add-one i))
-)
+    (λ j. high_in k i (map told (drop_more row i 0 inside j)) (map (over len) (map told (drop_more behind i 0 there j))))
+    ∙ high_later k i (told (get_or row i 0)) (over len (told (get_or behind i 0))) (map told (drop (i + 1) row)) (map (over len) (map told (drop (i + 1) behind))) e
+    ∙ ap (λ n. high_in k n (map told (drop (i + 1) row)) (map (over len) (map told (drop (i + 1) behind)))) (sym (add-one i))
+    )
 
 pub within_end : (k i len : ℕ) (row behind : List ℕ) → length row ≤ i → high_from k i len row behind ≡ None
 within_end k i len row behind past = ap (λ r. high_in k i (map told r) (map (over len) (map told (drop i behind)))) (drop_all i row past)

@@ -322,15 +322,7 @@ impl<'a> Sweep<'a> {
             self.add(count * len)?;
             return Ok(front);
         }
-        self.read_on(
-            graph,
-            prices,
-            format,
-            at.layer,
-            front.layer,
-            step,
-            len,
-        )?;
+        self.read_on(graph, prices, format, at.layer, front.layer, step, len)?;
         Ok(front)
     }
 }

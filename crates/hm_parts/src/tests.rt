@@ -21,7 +21,7 @@ const RULES: SpellRules = SpellRules {
 
 /// A call of a maker: the start of an element, of one of SVG, of one with an attribute; a text; an end.
 #[derive(Clone, Copy)]
-enum MakerCall {
+enum EventCall {
     Start(&'static str),
     Svg(&'static str),
     With(&'static str, &'static str, &'static str),
@@ -81,7 +81,7 @@ fn end(maker: &mut Maker) -> Result<(), Memory>
     Ok(())
 }
 
-fn take(alloc: Global, maker: &mut Maker, step: MakerCall) -> Result<(), Memory>
+fn take(alloc: Global, maker: &mut Maker, step: EventCall) -> Result<(), Memory>
     requires events { length maker.old + length (path_after [] maker.old) + 2 < 2 ^ 29 }
     requires bytes { walk_size maker.old + 300 < 2 ^ 29 }
     requires plain { last_agrees maker.old false ≡ true }
@@ -90,21 +90,21 @@ fn take(alloc: Global, maker: &mut Maker, step: MakerCall) -> Result<(), Memory>
     ensures plain { OnOk result (last_agrees maker.new false ≡ true) }
 {
     match step {
-        MakerCall::Start(name) => start(maker, name, false, Attrs::new(alloc)),
-        MakerCall::Svg(name) => start(maker, name, true, Attrs::new(alloc)),
-        MakerCall::With(name, attr, value) => {
+        EventCall::Start(name) => start(maker, name, false, Attrs::new(alloc)),
+        EventCall::Svg(name) => start(maker, name, true, Attrs::new(alloc)),
+        EventCall::With(name, attr, value) => {
             if attr.len() > 100 || value.len() > 100 {
                 return Err(Memory);
             }
             start(maker, name, false, attributes(alloc, attr, value)?)
         }
-        MakerCall::Text(s) => text(maker, s),
-        MakerCall::End => end(maker),
+        EventCall::Text(s) => text(maker, s),
+        EventCall::End => end(maker),
     }
 }
 
 /// The tree of these calls.
-fn made(alloc: Global, steps: &[MakerCall]) -> Result<Tree, Memory>
+fn made(alloc: Global, steps: &[EventCall]) -> Result<Tree, Memory>
     requires { length steps.now < 100 }
 {
     let mut maker = Tree::maker(alloc);
@@ -161,7 +161,7 @@ fn end_tag(len: u32, omits: bool, loosens: bool, name: &'static str) -> Shown {
 }
 
 /// Whether the events of the tree of these calls have these parts, in their order.
-fn has_parts(alloc: Global, steps: &[MakerCall], wanted: &[Shown]) -> Result<bool, Memory>
+fn has_parts(alloc: Global, steps: &[EventCall], wanted: &[Shown]) -> Result<bool, Memory>
     requires { length steps.now < 100 }
 {
     let tree = made(alloc, steps)?;
@@ -183,15 +183,15 @@ fn has_parts(alloc: Global, steps: &[MakerCall], wanted: &[Shown]) -> Result<boo
 #[test]
 fn texts_and_attributes(rt: HostRuntime) -> Result<(), Fail> {
     let steps = [
-        MakerCall::With("div", "id", "x"),
-        MakerCall::Start("pre"),
-        MakerCall::Text("\na"),
-        MakerCall::Start("br"),
-        MakerCall::End,
-        MakerCall::End,
-        MakerCall::With("p", "hidden", ""),
-        MakerCall::End,
-        MakerCall::End,
+        EventCall::With("div", "id", "x"),
+        EventCall::Start("pre"),
+        EventCall::Text("\na"),
+        EventCall::Start("br"),
+        EventCall::End,
+        EventCall::End,
+        EventCall::With("p", "hidden", ""),
+        EventCall::End,
+        EventCall::End,
     ];
     let wanted = [
         (Some(Unit::TagName { len: 3 }), None, "div"),
@@ -218,14 +218,14 @@ fn texts_and_attributes(rt: HostRuntime) -> Result<(), Fail> {
 #[test]
 fn sections(rt: HostRuntime) -> Result<(), Fail> {
     let steps = [
-        MakerCall::Start("table"),
-        MakerCall::Start("thead"),
-        MakerCall::End,
-        MakerCall::Start("tbody"),
-        MakerCall::Start("tr"),
-        MakerCall::End,
-        MakerCall::End,
-        MakerCall::End,
+        EventCall::Start("table"),
+        EventCall::Start("thead"),
+        EventCall::End,
+        EventCall::Start("tbody"),
+        EventCall::Start("tr"),
+        EventCall::End,
+        EventCall::End,
+        EventCall::End,
     ];
     let wanted = [
         start_tag(5, false, false, false, "table"),
@@ -246,22 +246,22 @@ fn sections(rt: HostRuntime) -> Result<(), Fail> {
 #[test]
 fn second_section(rt: HostRuntime) -> Result<(), Fail> {
     let steps = [
-        MakerCall::Start("table"),
-        MakerCall::Start("thead"),
-        MakerCall::Start("tr"),
-        MakerCall::Start("td"),
-        MakerCall::Text("a"),
-        MakerCall::End,
-        MakerCall::End,
-        MakerCall::End,
-        MakerCall::Start("tbody"),
-        MakerCall::Start("tr"),
-        MakerCall::Start("td"),
-        MakerCall::Text("b"),
-        MakerCall::End,
-        MakerCall::End,
-        MakerCall::End,
-        MakerCall::End,
+        EventCall::Start("table"),
+        EventCall::Start("thead"),
+        EventCall::Start("tr"),
+        EventCall::Start("td"),
+        EventCall::Text("a"),
+        EventCall::End,
+        EventCall::End,
+        EventCall::End,
+        EventCall::Start("tbody"),
+        EventCall::Start("tr"),
+        EventCall::Start("td"),
+        EventCall::Text("b"),
+        EventCall::End,
+        EventCall::End,
+        EventCall::End,
+        EventCall::End,
     ];
     let wanted = [
         start_tag(5, false, false, false, "table"),
@@ -289,20 +289,20 @@ fn second_section(rt: HostRuntime) -> Result<(), Fail> {
 #[test]
 fn caption_before_a_script(rt: HostRuntime) -> Result<(), Fail> {
     let steps = [
-        MakerCall::Start("table"),
-        MakerCall::Start("caption"),
-        MakerCall::Text("x"),
-        MakerCall::End,
-        MakerCall::Start("script"),
-        MakerCall::End,
-        MakerCall::Start("tbody"),
-        MakerCall::Start("tr"),
-        MakerCall::Start("td"),
-        MakerCall::Text("y"),
-        MakerCall::End,
-        MakerCall::End,
-        MakerCall::End,
-        MakerCall::End,
+        EventCall::Start("table"),
+        EventCall::Start("caption"),
+        EventCall::Text("x"),
+        EventCall::End,
+        EventCall::Start("script"),
+        EventCall::End,
+        EventCall::Start("tbody"),
+        EventCall::Start("tr"),
+        EventCall::Start("td"),
+        EventCall::Text("y"),
+        EventCall::End,
+        EventCall::End,
+        EventCall::End,
+        EventCall::End,
     ];
     let wanted = [
         start_tag(5, false, false, false, "table"),
@@ -328,11 +328,11 @@ fn caption_before_a_script(rt: HostRuntime) -> Result<(), Fail> {
 #[test]
 fn paragraph_in_a_span(rt: HostRuntime) -> Result<(), Fail> {
     let steps = [
-        MakerCall::Start("span"),
-        MakerCall::Start("p"),
-        MakerCall::Text("x"),
-        MakerCall::End,
-        MakerCall::End,
+        EventCall::Start("span"),
+        EventCall::Start("p"),
+        EventCall::Text("x"),
+        EventCall::End,
+        EventCall::End,
     ];
     let wanted = [
         start_tag(4, false, false, false, "span"),
@@ -349,20 +349,20 @@ fn paragraph_in_a_span(rt: HostRuntime) -> Result<(), Fail> {
 #[test]
 fn paragraphs(rt: HostRuntime) -> Result<(), Fail> {
     let steps = [
-        MakerCall::Start("html"),
-        MakerCall::Start("head"),
-        MakerCall::End,
-        MakerCall::Start("body"),
-        MakerCall::Start("div"),
-        MakerCall::Start("p"),
-        MakerCall::Text("x"),
-        MakerCall::End,
-        MakerCall::End,
-        MakerCall::Start("p"),
-        MakerCall::Text("y"),
-        MakerCall::End,
-        MakerCall::End,
-        MakerCall::End,
+        EventCall::Start("html"),
+        EventCall::Start("head"),
+        EventCall::End,
+        EventCall::Start("body"),
+        EventCall::Start("div"),
+        EventCall::Start("p"),
+        EventCall::Text("x"),
+        EventCall::End,
+        EventCall::End,
+        EventCall::Start("p"),
+        EventCall::Text("y"),
+        EventCall::End,
+        EventCall::End,
+        EventCall::End,
     ];
     let wanted = [
         start_tag(4, true, false, false, "html"),
@@ -388,14 +388,14 @@ fn paragraphs(rt: HostRuntime) -> Result<(), Fail> {
 #[test]
 fn svg(rt: HostRuntime) -> Result<(), Fail> {
     let steps = [
-        MakerCall::Svg("svg"),
-        MakerCall::Svg("path"),
-        MakerCall::End,
-        MakerCall::Text("a"),
-        MakerCall::End,
-        MakerCall::Start("title"),
-        MakerCall::Text("b"),
-        MakerCall::End,
+        EventCall::Svg("svg"),
+        EventCall::Svg("path"),
+        EventCall::End,
+        EventCall::Text("a"),
+        EventCall::End,
+        EventCall::Start("title"),
+        EventCall::Text("b"),
+        EventCall::End,
     ];
     let wanted = [
         start_tag(3, false, false, false, "svg"),

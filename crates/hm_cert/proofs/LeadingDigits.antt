@@ -10,7 +10,7 @@ use Rattle.std.proofs.lemmas.Str.Parse.{digits_value_short}
 use Rattle.std.specs.Str.Parse.{digits_value}
 use Rattle.hm_cert.specs.Certificate.{IsPrice, price_text}
 use Rattle.hm_cert.specs.Layout.{told}
-use Rattle.hm_cert.specs.Leading.{IsLeading, IsPair, BeginsWith}
+use Rattle.hm_cert.specs.Leading.{IsLeading, WritesPair, BeginsWith}
 use Rattle.hm_cert.specs.Short.{IsShortWord, IsLastPrice}
 use Rattle.hm_cert.proofs.PriceTexts.{own, digits_of_decimal, told_number}
 
@@ -82,7 +82,7 @@ leading_of word price can is some few = by_test (price == 18446744073709551615) 
 
 -- ---- Of a text
 
-pub begins : (text digits : List ℕ) (f m : ℕ) → length digits + 2 ≤ length text → take (length digits) text ≡ digits → IsLeading digits f → IsPair (get_or text (length digits) 0) (get_or text (length digits + 1) 0) m
+pub begins : (text digits : List ℕ) (f m : ℕ) → length digits + 2 ≤ length text → take (length digits) text ≡ digits → IsLeading digits f → WritesPair (get_or text (length digits) 0) (get_or text (length digits + 1) 0) m
     → BeginsWith text (length digits + 2) (f * 100 + m)
 begins text digits f m inside front h p = record {
   inside = inside;

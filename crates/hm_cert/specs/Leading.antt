@@ -15,7 +15,7 @@ abbrev pub HasFour : List ℕ → ℕ → List ℕ → Type 0
 HasFour text at bytes = bytes ≡ slice_index text at ∷ slice_index text (at + 1) ∷ slice_index text (at + 2) ∷ slice_index text (at + 3) ∷ []
 
 -- two bytes are the digits of a number
-pub record IsPair (tens ones number : ℕ) : Type 0 where
+pub record WritesPair (tens ones number : ℕ) : Type 0 where
   pub high : ℕ
   pub low : ℕ
   pub high_digit : high ≤ 9

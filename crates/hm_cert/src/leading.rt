@@ -4,7 +4,7 @@ ghost use Rattle.std.specs.Fmt.{decimal};
 ghost use Rattle.std.specs.Int.{w32, to_le_bytes};
 ghost use Rattle.hm_cert.specs.Certificate.{IsPrice, price_text};
 ghost use Rattle.hm_cert.specs.Layout.{told};
-ghost use Rattle.hm_cert.specs.Leading.{BeginsWith, HasFour, IsLeading, IsPair};
+ghost use Rattle.hm_cert.specs.Leading.{BeginsWith, HasFour, IsLeading, WritesPair};
 
 use crate::lines::read_price;
 
@@ -38,7 +38,7 @@ fn begins_with(text: &[u8], digits: &[u8]) -> bool
 
 /// The number that two bytes write, where they are digits.
 fn pair(tens: u8, ones: u8) -> Option<u64>
-    ensures { IfSome result (IsPair tens ones) }
+    ensures { IfSome result (WritesPair tens ones) }
 {
     if !tens.is_ascii_digit() || !ones.is_ascii_digit() {
         return None;

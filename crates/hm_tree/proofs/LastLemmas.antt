@@ -5,7 +5,7 @@ use Rattle.hm_base.specs.Walks.{Event, text, walk_size}
 use Rattle.hm_tree.specs.Pieces.{bytes_of}
 use Rattle.hm_tree.specs.Rows.{IsRowTable, event_at, events_of, is_text, ends_in_text, with_more, extended}
 use Rattle.hm_tree.specs.declared.pieces.AttributePieces.{AttributePieces}
-use Rattle.hm_tree.specs.declared.pieces.TextPiece.{TextPiece}
+use Rattle.hm_tree.specs.declared.pieces.TextRange.{TextRange}
 use Rattle.hm_tree.specs.declared.rows.RowPart.{RowPart}
 use Rattle.hm_tree.specs.declared.rows.RowPart.TheVariants as parts
 use Rattle.hm_tree.specs.declared.rows.EventRow.{EventRow}
@@ -38,7 +38,7 @@ pub some_last : (w : List Event) → ends_in_text w ≡ true → 0 < length w
 some_last [] h = absurd (cc)
 some_last (e ∷ w) h = omega arith
 
-not_text : (s : List ℕ) (pieces : List AttributePieces) (part : RowPart) → ((p : TextPiece) (raw : Bool) → part ≡ parts.Text p raw → ⊥) → is_text (event_at s pieces part) ≡ false
+not_text : (s : List ℕ) (pieces : List AttributePieces) (part : RowPart) → ((p : TextRange) (raw : Bool) → part ≡ parts.Text p raw → ⊥) → is_text (event_at s pieces part) ≡ false
 not_text s pieces (parts.Doctype legacy) other = refl
 not_text s pieces (parts.Start foreign name attrs) other = refl
 not_text s pieces (parts.Text p raw) other = absurd (other p raw refl)
@@ -53,14 +53,14 @@ module _ (s : List ℕ) (pieces : List AttributePieces) (rows : List EventRow) (
   last_event = ap ends_in_text split ∙ ends_in_text-push (events_of s pieces (take n rows)) (event_at s pieces r.part)
 
   -- a text stands last exactly where the last row is one
-  pub last_is_text : (p : TextPiece) (raw : Bool) → r.part ≡ parts.Text p raw → ends_in_text w ≡ true
+  pub last_is_text : (p : TextRange) (raw : Bool) → r.part ≡ parts.Text p raw → ends_in_text w ≡ true
   last_is_text p raw is = last_event ∙ ap (λ part. is_text (event_at s pieces part)) is
 
-  pub last_is_other : ((p : TextPiece) (raw : Bool) → r.part ≡ parts.Text p raw → ⊥) → ends_in_text w ≡ false
+  pub last_is_other : ((p : TextRange) (raw : Bool) → r.part ≡ parts.Text p raw → ⊥) → ends_in_text w ≡ false
   last_is_other other = last_event ∙ not_text s pieces r.part other
 
   -- the text that stands last can have more bytes
-  pub IsTableOf-extended : (more t : List ℕ) (p q : TextPiece) (raw : Bool) → s ++ more ≡ t → IsRowTable s pieces rows → r.part ≡ parts.Text p raw → IsUtf8 more
+  pub IsTableOf-extended : (more t : List ℕ) (p q : TextRange) (raw : Bool) → s ++ more ≡ t → IsRowTable s pieces rows → r.part ≡ parts.Text p raw → IsUtf8 more
       → walk_size w + length more < 2 ^ 29 → q.from ≡ p.from → q.to ≡ length t → IsTableOf t pieces (set rows n (longer r q raw)) (extended w more)
   IsTableOf-extended more t p q raw bytes table is utf8 room from to =
       let front = take n rows in

@@ -14,7 +14,7 @@ use Rattle.hm_tree.specs.Pairs.{HasPair, IsShifted, pieces_of, attributes_of}
 use Rattle.hm_tree.specs.Pieces.{HasPieces, IsAppended, IsPiece, attribute_in, attributes_in, bytes_of, texts_of}
 use Rattle.hm_tree.specs.declared.pieces.AttributePieces.{AttributePieces}
 use Rattle.hm_tree.specs.declared.pieces.Pair.{Pair}
-use Rattle.hm_tree.specs.declared.pieces.TextPiece.{TextPiece}
+use Rattle.hm_tree.specs.declared.pieces.TextRange.{TextRange}
 use Rattle.hm_tree.proofs.PieceLemmas.{IsPiece-append, IsPiece-new, bytes_of-append, bytes_of-new, IsUtf8-bytes_of}
 use Rattle.hm_tree.proofs.ShownLemmas.{HasPieces-append, attributes_in-append}
 
@@ -95,7 +95,7 @@ module _ (s : List ℕ) (pairs : List Pair) (inside : All (HasPair s) pairs) (a 
 boundary_behind : (s u : List ℕ) (i : ℕ) → IsCharBoundary u i → IsCharBoundary (s ++ u) (length s + i)
 boundary_behind s u i b = (omega (arith, b.0, length-append s u), λ h. rw (get_or-append-add s u i 0) (b.1 (omega (arith, h, length-append s u))))
 
-module _ (s u : List ℕ) (p q : TextPiece) (from : q.from ≡ length s + p.from) (to : q.to ≡ length s + p.to) where
+module _ (s u : List ℕ) (p q : TextRange) (from : q.from ≡ length s + p.from) (to : q.to ≡ length s + p.to) where
   IsPiece-behind : IsPiece u p → IsPiece (s ++ u) q
   IsPiece-behind h = record {
     ordered = omega (arith, h.ordered, from, to);

@@ -10,7 +10,7 @@ use Rattle.hm_tree.specs.Trees.{innermost}
 use Rattle.hm_tree.specs.Pieces.{IsAppended, IsPiece, attribute_in, attributes_in, bytes_of, texts_of}
 use Rattle.hm_tree.specs.Rows.{IsRowTable, events_of}
 use Rattle.hm_tree.specs.declared.pieces.AttributePieces.{AttributePieces}
-use Rattle.hm_tree.specs.declared.pieces.TextPiece.{TextPiece}
+use Rattle.hm_tree.specs.declared.pieces.TextRange.{TextRange}
 use Rattle.hm_tree.specs.declared.appended.AttrsRange.{AttrsRange}
 use Rattle.hm_tree.specs.declared.rows.RowPart.TheVariants as parts
 use Rattle.hm_tree.specs.declared.rows.EventRow.{EventRow}
@@ -19,7 +19,7 @@ use Rattle.hm_tree.proofs.ShownLemmas.{IsUtf8-texts_of, few_attributes, length-t
 use Rattle.hm_tree.proofs.TableLemmas.{IsNewRow, IsTableOf, IsTableOf-push}
 
 -- the name is n, and t and `new` are the bytes and the attributes that are then there
-module _ (s n t : List ℕ) (pieces new : List AttributePieces) (rows : List EventRow) (w : List Event) (foreign : Bool) (attributes : List Attribute) (parent : Option ℕ) (name : TextPiece) (attrs : AttrsRange)
+module _ (s n t : List ℕ) (pieces new : List AttributePieces) (rows : List EventRow) (w : List Event) (foreign : Bool) (attributes : List Attribute) (parent : Option ℕ) (name : TextRange) (attrs : AttrsRange)
     (utf8 : IsUtf8 n) (texts : are_texts attributes ≡ true) (distinct : has_distinct_names attributes ≡ true) (from : name.from ≡ length s) (to : name.to ≡ length s + length n)
     (appended : IsAppended (s ++ n) pieces attributes t new) (first : attrs.from ≡ length pieces) (last : attrs.to ≡ length new) where
   texts_utf8 : IsUtf8 (texts_of attributes)

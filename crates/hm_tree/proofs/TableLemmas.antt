@@ -12,7 +12,7 @@ use Rattle.hm_tree.specs.Attributes.{are_texts}
 use Rattle.hm_tree.specs.Pieces.{HasPieces, IsPiece, ArePiecesShown, attributes_in, bytes_of}
 use Rattle.hm_tree.specs.Rows.{IsRange, IsInside, AreInside, ReachesEnd, LastReachesEnd, IsRowTable, event_at, events_of, parents_from}
 use Rattle.hm_tree.specs.declared.pieces.AttributePieces.{AttributePieces}
-use Rattle.hm_tree.specs.declared.pieces.TextPiece.{TextPiece}
+use Rattle.hm_tree.specs.declared.pieces.TextRange.{TextRange}
 use Rattle.hm_tree.specs.declared.appended.AttrsRange.{AttrsRange}
 use Rattle.hm_tree.specs.declared.rows.RowPart.{RowPart}
 use Rattle.hm_tree.specs.declared.rows.RowPart.TheVariants as parts
@@ -126,10 +126,10 @@ IsTableOf-push s more t pieces extra kept rows w r e bytes list view table =
     (λ new. (table_more s more pieces extra rows r e table new, events_more s more pieces extra rows r e table new))))
 
 -- the row of a text that stands last, with more bytes
-abbrev pub longer : EventRow → TextPiece → Bool → EventRow
+abbrev pub longer : EventRow → TextRange → Bool → EventRow
 longer r p raw = record r { part = parts.Text p raw }
 
-module _ (s more : List ℕ) (pieces : List AttributePieces) (rows : List EventRow) (r : EventRow) (p q : TextPiece) (raw : Bool)
+module _ (s more : List ℕ) (pieces : List AttributePieces) (rows : List EventRow) (r : EventRow) (p q : TextRange) (raw : Bool)
     (table : IsRowTable s pieces (rows ++ r ∷ [])) (is : r.part ≡ parts.Text p raw) (utf8 : IsUtf8 more)
     (bytes : walk_size (events_of s pieces (rows ++ r ∷ [])) + length more < 2 ^ 29) (from : q.from ≡ p.from) (to : q.to ≡ length (s ++ more)) where
   piece : IsPiece s p
@@ -199,7 +199,7 @@ module _ (s : List ℕ) (pieces : List AttributePieces) (rows : List EventRow) (
         rw (← view) (slice_get-map (λ q. event_at s pieces q.part) rows i ∙ ap (option_map (λ q. event_at s pieces q.part)) at ∙ ap (λ q. Some (event_at s pieces q)) e)
 
     -- a start shows its attributes
-    pub part_shown : (foreign : Bool) (name : TextPiece) (attrs : AttrsRange) → r.part ≡ parts.Start foreign name attrs → ArePiecesShown s (slice_range pieces attrs.from attrs.to)
+    pub part_shown : (foreign : Bool) (name : TextRange) (attrs : AttrsRange) → r.part ≡ parts.Start foreign name attrs → ArePiecesShown s (slice_range pieces attrs.from attrs.to)
     part_shown foreign name attrs e =
         let own = slice_range pieces attrs.from attrs.to in
         let range : IsRange (length pieces) attrs = (part_inside (parts.Start foreign name attrs) e).1 in

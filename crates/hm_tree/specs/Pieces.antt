@@ -2,15 +2,15 @@
 use Rattle.std.specs.Prelude.{◌≡◌, ℕ, ◌-◌, ◌^◌, ◌<◌, ◌≤◌, true, List, take, drop, length, map, flat_map, All, ◌++◌, IsCharBoundary}
 use Rattle.hm_base.specs.Walks.{Attribute, has_distinct_names}
 use Rattle.hm_tree.specs.Attributes.{are_texts}
-use Rattle.hm_tree.specs.declared.pieces.TextPiece.{TextPiece}
+use Rattle.hm_tree.specs.declared.pieces.TextRange.{TextRange}
 use Rattle.hm_tree.specs.declared.pieces.AttributePieces.{AttributePieces}
 
 -- the bytes of a piece of the text
-abbrev pub bytes_of : List ℕ → TextPiece → List ℕ
+abbrev pub bytes_of : List ℕ → TextRange → List ℕ
 bytes_of s p = take (p.to - p.from) (drop p.from s)
 
 -- a piece can be cut out of the text
-pub record IsPiece (s : List ℕ) (p : TextPiece) : Type 0 where
+pub record IsPiece (s : List ℕ) (p : TextRange) : Type 0 where
   pub ordered : p.from ≤ p.to
   pub from_boundary : IsCharBoundary s p.from
   pub to_boundary : IsCharBoundary s p.to

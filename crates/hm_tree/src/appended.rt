@@ -6,7 +6,7 @@ ghost use Rattle.hm_tree.specs.Pieces.{IsAppended};
 ghost use Rattle.hm_tree.specs.Sources.{listed};
 ghost use Rattle.hm_tree.specs.Views.{attributes_shown};
 
-use crate::pieces::{AttributePieces, Pair, TextPiece};
+use crate::pieces::{AttributePieces, Pair, TextRange};
 use crate::sources::AttributeSource;
 use crate::{Attrs, AttrsView};
 
@@ -87,11 +87,11 @@ fn shifted(pair: &Pair, start: u32) -> AttributePieces
 {
     let middle = start + pair.middle as u32;
     AttributePieces {
-        name: TextPiece {
+        name: TextRange {
             from: start + pair.from as u32,
             to: middle,
         },
-        value: TextPiece {
+        value: TextRange {
             from: middle,
             to: start + pair.to as u32,
         },
@@ -124,7 +124,7 @@ fn append_shown(
 }
 
 // Appends a text for which there is room.
-pub(crate) fn append(text: &mut String, more: &str) -> TextPiece
+pub(crate) fn append(text: &mut String, more: &str) -> TextRange
     requires room { string_len text.old + length more.now ≤ string_capacity text.old }
     requires places { length (string_bytes text.old) + length more.now < 2 ^ 32 }
     ensures room { string_capacity text.old ≤ string_capacity text.new }
@@ -136,5 +136,5 @@ pub(crate) fn append(text: &mut String, more: &str) -> TextPiece
     let from = text.len() as u32;
     text.push_str(more).unwrap();
     let to = text.len() as u32;
-    TextPiece { from, to }
+    TextRange { from, to }
 }

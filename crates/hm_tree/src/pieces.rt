@@ -5,7 +5,7 @@ ghost use Rattle.hm_tree.specs.Pieces.{IsPiece, bytes_of};
 
 // The bytes of a text from one place up to another.
 #[derive(Clone, Copy, Debug)]
-pub(crate) struct TextPiece {
+pub(crate) struct TextRange {
     pub(crate) from: u32,
     pub(crate) to: u32,
 }
@@ -13,8 +13,8 @@ pub(crate) struct TextPiece {
 // An attribute, with pieces of the table's text.
 #[derive(Clone, Copy, Debug)]
 pub(crate) struct AttributePieces {
-    pub(crate) name: TextPiece,
-    pub(crate) value: TextPiece,
+    pub(crate) name: TextRange,
+    pub(crate) value: TextRange,
 }
 
 // Where an attribute stands in a text: its name from one place up to the second, and its value from there up to the third.
@@ -26,7 +26,7 @@ pub(crate) struct Pair {
 }
 
 // The bytes of a piece.
-pub(crate) fn cut(text: &str, piece: TextPiece) -> &str
+pub(crate) fn cut(text: &str, piece: TextRange) -> &str
     requires { IsPiece text.now piece }
     ensures { result.now ≡ bytes_of text.now piece }
 {

@@ -9,7 +9,7 @@ ghost use Rattle.hm_tree.specs.Views.{event_of};
 
 use crate::appended::{AttrsRange, append, append_attributes, text_len};
 use crate::parent::Parent;
-use crate::pieces::{AttributePieces, TextPiece, cut};
+use crate::pieces::{AttributePieces, TextRange, cut};
 use crate::sources::{AttributeSource, count};
 use crate::{AttrsView, EventView};
 use hm_base::Memory;
@@ -30,18 +30,18 @@ enum RowPart {
     // The flag stands first, beside the variant's mark, where it makes no row longer.
     Start {
         foreign: bool,
-        name: TextPiece,
+        name: TextRange,
         attrs: AttrsRange,
     },
     Text {
-        text: TextPiece,
+        text: TextRange,
         raw: bool,
     },
     Comment {
-        text: TextPiece,
+        text: TextRange,
     },
     End {
-        name: TextPiece,
+        name: TextRange,
         foreign: bool,
     },
 }
@@ -302,7 +302,7 @@ impl Rows {
             unreachable!()
         };
         self.text.push_str(more)?;
-        let text = TextPiece {
+        let text = TextRange {
             from: text.from,
             to: self.text.len() as u32,
         };

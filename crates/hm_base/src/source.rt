@@ -13,9 +13,6 @@ use std::marker::Model;
 use std::str;
 use thiserror::Error;
 
-// What is left of a text when its memory is given back.
-const FEW_BYTES: usize = 4096;
-
 /// Why a page has no text. Places count bytes of the page.
 #[derive(Clone, Copy, Debug, PartialEq, Eq, Error)]
 pub enum TextFault {
@@ -132,7 +129,7 @@ impl SourceText {
     pub fn release(self) {
         let mut text = self.text;
         text.clear();
-        text.shrink_to(FEW_BYTES);
+        text.shrink_to(1);
     }
 
     // The text of a page that is UTF-8.

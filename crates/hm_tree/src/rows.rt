@@ -16,11 +16,6 @@ use hm_base::Memory;
 use std::alloc::Global;
 use std::marker::Model;
 
-// What is left of the table's text and of its lists when their memory is given back.
-const FEW_BYTES: usize = 4096;
-
-const FEW: usize = 128;
-
 // An event, with pieces of the table's text, and for a start the indices of its attributes.
 #[derive(Clone, Copy, Debug)]
 enum RowPart {
@@ -130,11 +125,11 @@ impl Rows {
             mut rows,
         } = self;
         text.clear();
-        text.shrink_to(FEW_BYTES);
+        text.shrink_to(1);
         attributes.clear();
-        attributes.shrink_to(FEW);
+        attributes.shrink_to(1);
         rows.clear();
-        rows.shrink_to(FEW);
+        rows.shrink_to(1);
     }
 
     pub(crate) fn event(&self, i: u32) -> EventView<'_>

@@ -1,8 +1,8 @@
 //! The whitespace of one text.
-ghost use Rattle.std.specs.Prelude.{◌≡◌, ◌≤◌, ◌++◌, length, Bool, true, false, OnOk, string_bytes};
+ghost use Rattle.std.specs.Prelude.{◌≡◌, ◌<◌, ◌≤◌, ◌++◌, length, take, drop, Bool, true, false, OnOk, string_bytes};
 ghost use Rattle.hm_base.specs.Bytes as bytes;
 ghost use Rattle.hm_space.specs.Fronts as fronts;
-ghost use Rattle.hm_space.specs.Fronts.{IsSpacedFront};
+ghost use Rattle.hm_space.specs.Fronts.{AreSteady, IsSpacedFront, IsSteady};
 ghost use Rattle.hm_space.specs.Space.{spaced, without_leading, without_trailing};
 
 use hm_base::{Memory, is_space};
@@ -23,6 +23,23 @@ fn is_blank(byte: u8) -> bool
     byte <= b' ' && is_space(byte as char)
 }
 
+// As `is_blank`. Each test is made, so that many bytes are tested at once.
+#[inline(always)]
+#[tactic(auto, unfolding(hm_base::specs::Bytes::is_space))]
+fn is_any_space(byte: u8) -> bool
+    ensures { result ≡ bytes.is_space byte }
+{
+    (byte == b'\t') | (byte == b'\n') | (byte == 12) | (byte == b'\r') | (byte == b' ')
+}
+
+// As `changes`. Each test is made.
+#[inline(always)]
+fn changes_at(after: bool, byte: u8) -> bool
+    ensures { result ≡ fronts.changes after byte }
+{
+    is_any_space(byte) & (after | (byte != b' '))
+}
+
 // Whether a byte is whitespace that changes: `after` tells whether whitespace stands directly before.
 fn changes(after: bool, byte: u8) -> bool
     ensures { result ≡ fronts.changes after byte }
@@ -30,12 +47,59 @@ fn changes(after: bool, byte: u8) -> bool
     is_blank(byte) && (after || byte != b' ')
 }
 
+// Whether one of the bytes is whitespace that changes, behind those that stand one place earlier. All are looked at, with no
+// branch between them.
+#[inline(always)]
+fn has_change(earlier: &[u8], here: &[u8]) -> bool
+    requires { length earlier.now ≡ length here.now }
+    ensures { result ≡ false → AreSteady earlier.now here.now }
+{
+    let mut found = false;
+    for i in 0..here.len() {
+        found |= changes_at(is_any_space(earlier[i]), here[i]);
+    }
+    found
+}
+
+// Where a front ends behind whose first byte no whitespace changes, by 16 bytes at a time.
+fn steady_end(bytes: &[u8]) -> usize
+    requires { 0 < length bytes.now }
+    ensures inside { result ≤ length bytes.now }
+    ensures some { 0 < result }
+    ensures steady { IsSteady bytes.now 1 result }
+{
+    let mut at = 1;
+    while bytes.len() - at >= 16 && !has_change(&bytes[at - 1..at + 15], &bytes[at..at + 16]) {
+        at += 16;
+    }
+    at
+}
+
+// A front in which no whitespace changes.
+fn steady_front(bytes: &[u8]) -> SpacedFront
+    ensures inside { result.to ≤ length bytes.now }
+    ensures same { spaced false bytes.now ≡ take result.to bytes.now ++ spaced result.after (drop result.to bytes.now) }
+{
+    if bytes.is_empty() || changes(false, bytes[0]) {
+        return SpacedFront {
+            to: 0,
+            after: false,
+        };
+    }
+    let to = steady_end(bytes);
+    SpacedFront {
+        to,
+        after: is_blank(bytes[to - 1]),
+    }
+}
+
 // The longest such front.
 pub(crate) fn spaced_front(bytes: &[u8]) -> SpacedFront
     ensures { IsSpacedFront bytes.now result }
 {
-    let mut to = 0;
-    let mut after = false;
+    let front = steady_front(bytes);
+    let mut to = front.to;
+    let mut after = front.after;
     while to < bytes.len() && !changes(after, bytes[to]) {
         after = is_blank(bytes[to]);
         to += 1;

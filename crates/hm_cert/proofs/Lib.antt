@@ -10,3 +10,4 @@ pub mod ShortLines
 pub mod Read
 pub mod BackNumbers
 pub mod LeadingDigits
+pub mod Slots

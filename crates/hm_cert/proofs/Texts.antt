@@ -1,9 +1,9 @@
 -- Lines of prices, from the front and from the end.
-use Rattle.std.proofs.Common.{◌≡◌, ◌+◌, ◌-◌, ◌<◌, ◌≤◌, ◌^◌, ◌/◌, ◌%◌, drop-cons, ℕ, List, [], ◌∷◌, ◌++◌, length, get_or, take, drop, map, reverse, sym, ap, ◌∙◌, add-one, append_assoc, arith}
-use Rattle.std.specs.Prelude.{Option}
+use Rattle.std.proofs.Common.{◌≡◌, ◌+◌, ◌-◌, ◌<◌, ◌≤◌, ◌^◌, ◌/◌, ◌%◌, drop-cons, ℕ, List, [], ◌∷◌, ◌++◌, length, get_or, take, drop, length-take, length-drop, map, reverse, refl, sym, ap, ◌∙◌, add-one, append_assoc, arith}
+use Rattle.std.specs.Prelude.{Option, slice_range}
 use Rattle.std.specs.Fmt.{decimal}
 use Rattle.std.proofs.lemmas.Fmt.{decimal_step, decimal_digit}
-use Rattle.std.proofs.lemmas.List.{append-nil, take_all, reverse-append}
+use Rattle.std.proofs.lemmas.List.{append-nil, append_cancel_right, drop-drop, take_all, take-append-drop, reverse-append}
 use Rattle.hm_cert.specs.Certificate.{price_text, row_text, row_line, row_lines, more_prices}
 use Rattle.hm_cert.specs.Layout.{told}
 
@@ -12,7 +12,7 @@ pub row_text_cons : (price : Option ℕ) (row : List (Option ℕ)) → row_text 
 row_text_cons price [] = sym (append-nil (price_text price))
 row_text_cons price (next ∷ row) = ap (λ xs. price_text price ++ 32 ∷ xs) (row_text_cons next row)
 
-cut_at : {A : Type 0} (xs : List A) (k : ℕ) (d : A) → k < length xs → drop k xs ≡ get_or xs k d ∷ drop (k + 1) xs
+pub cut_at : {A : Type 0} (xs : List A) (k : ℕ) (d : A) → k < length xs → drop k xs ≡ get_or xs k d ∷ drop (k + 1) xs
 cut_at xs k d h = rw add-one (drop-cons xs k d h)
 
 -- one price more of those behind a space
@@ -68,11 +68,56 @@ pub row_parts : (row : List ℕ) → 1 ≤ length row → row_text (map told row
 row_parts [] h = absurd (omega arith)
 row_parts (number ∷ row) h = row_text_cons (told number) (map told row) ∙ ap (λ x. price_text (told number) ++ more_prices (map told x)) (sym (take_all (length (number ∷ row) - 1) row (omega arith)))
 
--- a line, turned round
-pub turned_line : (row : List ℕ) → 1 ≤ length row → reverse (row_line (map told row)) ≡ 10 ∷ (reverse (more_prices (map told (take (length row - 1) (drop 1 row)))) ++ reverse (price_text (told (get_or row 0 0))))
-turned_line row h =
-    let price : List ℕ = price_text (told (get_or row 0 0)) in
-    let rest : List ℕ = more_prices (map told (take (length row - 1) (drop 1 row))) in
-    ap (λ x. reverse (x ++ 10 ∷ [])) (row_parts row h)
-    ∙ reverse-append (price ++ rest) (10 ∷ [])
-    ∙ ap (λ x. 10 ∷ x) (reverse-append price rest)
+-- a row, turned round
+pub turned_row : (row : List ℕ) → 1 ≤ length row → reverse (row_text (map told row)) ≡ reverse (more_prices (map told (take (length row - 1) (drop 1 row)))) ++ reverse (price_text (told (get_or row 0 0)))
+turned_row row h = ap reverse (row_parts row h) ∙ reverse-append (price_text (told (get_or row 0 0))) (more_prices (map told (take (length row - 1) (drop 1 row))))
+
+-- ---- A row in parts
+
+more_append : (a b : List ℕ) → more_prices (map told (a ++ b)) ≡ more_prices (map told a) ++ more_prices (map told b)
+more_append [] b = refl
+more_append (p ∷ a) b =
+    ap (λ x. 32 ∷ (price_text (told p) ++ x)) (more_append a b)
+    ∙ ap (λ x. 32 ∷ x) (sym (append_assoc (price_text (told p)) (more_prices (map told a)) (more_prices (map told b))))
+
+more_row : (row : List ℕ) → 0 < length row → more_prices (map told row) ≡ 32 ∷ row_text (map told row)
+more_row [] h = absurd (omega (arith, h))
+more_row (p ∷ row) h = ap (λ x. 32 ∷ x) (sym (row_text_cons (told p) (map told row)))
+
+turned_part : (a b : List ℕ) → 0 < length a → reverse (more_prices (map told (a ++ b))) ≡ reverse (more_prices (map told b)) ++ (reverse (row_text (map told a)) ++ 32 ∷ [])
+turned_part a b h =
+    ap reverse (more_append a b ∙ ap (λ x. x ++ more_prices (map told b)) (more_row a h))
+    ∙ reverse-append (32 ∷ row_text (map told a)) (more_prices (map told b))
+    ∙ ap (λ x. reverse (more_prices (map told b)) ++ x) (reverse-append (32 ∷ []) (row_text (map told a)))
+
+-- one part more
+pub part_put : (row before out after : List ℕ) (start end mark : ℕ) → start < end → end ≤ length row
+    → out ++ mark ∷ [] ≡ before ++ 10 ∷ reverse (more_prices (map told (drop end row)))
+    → after ≡ out ++ mark ∷ reverse (row_text (map told (slice_range row start end)))
+    → after ++ 32 ∷ [] ≡ before ++ 10 ∷ reverse (more_prices (map told (drop start row)))
+part_put row before out after start end mark order inside h is =
+    let part : List ℕ = take (end - start) (drop start row) in
+    let text : List ℕ = reverse (row_text (map told part)) in
+    let rest : List ℕ = reverse (more_prices (map told (drop end row))) in
+    let sum : start + (end - start) ≡ end = omega (arith, order) in
+    let cut : part ++ drop end row ≡ drop start row = ap (λ n. part ++ drop n row) (sym sum) ∙ ap (λ x. part ++ x) (sym (drop-drop (end - start) start row)) ∙ take-append-drop (end - start) (drop start row) in
+    let some : 0 < length part = omega (arith, order, inside, length-take (end - start) (drop start row), length-drop start row) in
+    ap (λ x. x ++ 32 ∷ []) (is ∙ sym (append_assoc out (mark ∷ []) text) ∙ ap (λ x. x ++ text) h ∙ append_assoc before (10 ∷ rest) text)
+    ∙ append_assoc before (10 ∷ (rest ++ text)) (32 ∷ [])
+    ∙ ap (λ x. before ++ 10 ∷ x) (append_assoc rest text (32 ∷ []) ∙ sym (turned_part part (drop end row) some) ∙ ap (λ x. reverse (more_prices (map told x))) cut)
+
+-- all parts
+pub parts_put : (row before out : List ℕ) (end mark : ℕ) → 0 < length row → end ≤ 0 → mark ≡ 32
+    → out ++ mark ∷ [] ≡ before ++ 10 ∷ reverse (more_prices (map told (drop end row)))
+    → out ≡ before ++ reverse (row_line (map told row))
+parts_put row before out end mark some last is h =
+    let none : end ≡ 0 = omega (arith, last) in
+    let text : List ℕ = reverse (row_text (map told row)) in
+    append_cancel_right out (before ++ reverse (row_line (map told row))) (32 ∷ []) (
+    ap (λ m. out ++ m ∷ []) (sym is)
+    ∙ h
+    ∙ ap (λ n. before ++ 10 ∷ reverse (more_prices (map told (drop n row)))) none
+    ∙ ap (λ x. before ++ 10 ∷ reverse x) (more_row row some)
+    ∙ ap (λ x. before ++ 10 ∷ x) (reverse-append (32 ∷ []) (row_text (map told row)))
+    ∙ sym (append_assoc before (10 ∷ text) (32 ∷ []))
+    ∙ ap (λ x. (before ++ x) ++ 32 ∷ []) (sym (reverse-append (row_text (map told row)) (10 ∷ []))))

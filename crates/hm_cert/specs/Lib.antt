@@ -6,5 +6,6 @@ pub mod First
 pub mod Places
 pub mod Short
 pub mod Leading
+pub mod Hundreds
 pub mod Laws
 pub mod Examples

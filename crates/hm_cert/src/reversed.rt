@@ -1,10 +1,9 @@
 //! The text of a certificate, from its end, for a writer that has the prices of the last layer first.
-ghost use Rattle.std.specs.Prelude.{◌≡◌, ℕ, [], ◌∷◌, ◌++◌, ◌+◌, ◌/◌, ◌%◌, ◌<◌, map, reverse, OnOk};
-ghost use Rattle.std.specs.Fmt.{decimal};
-ghost use Rattle.hm_cert.specs.Certificate.{flag_text, head_lines, more_prices, price_text, row_line};
+ghost use Rattle.std.specs.Prelude.{◌≡◌, ◌∷◌, ◌++◌, ◌<◌, ◌≤◌, length, map, reverse, OnOk};
+ghost use Rattle.hm_cert.specs.Certificate.{flag_text, head_lines, more_prices, price_text, row_line, row_text};
 ghost use Rattle.hm_cert.specs.Layout.{told};
 
-use crate::hundreds::Hundreds;
+use crate::hundreds::{GROUP, Hundreds, put_number};
 use crate::prices::CLOSED;
 use crate::text::Format;
 use hm_base::{Memory, SpellRules};
@@ -27,8 +26,7 @@ pub fn put_head_reversed(out: &mut Vec<u8>, format: Format, rules: SpellRules) -
 pub fn put_line_reversed(out: &mut Vec<u8>, row: &[u64]) -> Result<(), Memory>
     ensures { OnOk result (out.new.items ≡ out.old.items ++ reverse (row_line (map told row.now))) }
 {
-    let mut hundreds = Hundreds::new(*out.allocator());
-    put_next_line(out, &mut hundreds, row)
+    put_row(out, row, b'\n')
 }
 
 /// Appends the line of a row, the last byte first, with the hundreds that were kept from the line before. Where memory is
@@ -36,34 +34,82 @@ pub fn put_line_reversed(out: &mut Vec<u8>, row: &[u64]) -> Result<(), Memory>
 pub fn put_next_line(out: &mut Vec<u8>, hundreds: &mut Hundreds, row: &[u64]) -> Result<(), Memory>
     ensures { OnOk result (out.new.items ≡ out.old.items ++ reverse (row_line (map told row.now))) }
 {
-    out.push(b'\n')?;
+    if row.is_empty() {
+        return put_line_reversed(out, row);
+    }
+    if row.len() <= GROUP {
+        return put_group(out, hundreds, row, b'\n');
+    }
+    put_long_line(out, hundreds, row)
+}
+
+/// As `put_next_line`, for a row of any length.
+fn put_long_line(out: &mut Vec<u8>, hundreds: &mut Hundreds, row: &[u64]) -> Result<(), Memory>
+    requires { 0 < length row.now }
+    ensures { OnOk result (out.new.items ≡ out.old.items ++ reverse (row_line (map told row.now))) }
+{
+    let mut mark = b'\n';
+    let mut end = row.len();
+    while end > 0 {
+        let start = end.saturating_sub(GROUP);
+        put_group(out, hundreds, &row[start..end], mark)?;
+        mark = b' ';
+        end = start;
+    }
+    Ok(())
+}
+
+/// Appends at most three prices with a space between and a byte behind, the last byte first. The hundreds of the first price
+/// are kept.
+fn put_group(
+    out: &mut Vec<u8>,
+    hundreds: &mut Hundreds,
+    prices: &[u64],
+    mark: u8,
+) -> Result<(), Memory>
+    requires some { 0 < length prices.now }
+    requires few { length prices.now ≤ 3 }
+    ensures { OnOk result (out.new.items ≡ out.old.items ++ mark ∷ reverse (row_text (map told prices.now))) }
+{
+    if hundreds.put_group(out, prices, mark)? {
+        return Ok(());
+    }
+    put_row(out, prices, mark)?;
+    hundreds.keep(prices[0])
+}
+
+/// Appends prices with a space between and a byte behind, the last byte first.
+fn put_row(out: &mut Vec<u8>, row: &[u64], mark: u8) -> Result<(), Memory>
+    ensures { OnOk result (out.new.items ≡ out.old.items ++ mark ∷ reverse (row_text (map told row.now))) }
+{
+    out.push(mark)?;
     if let [first, more @ ..] = row {
-        put_more(out, hundreds, more)?;
-        put_price(out, hundreds, *first)?;
+        put_more(out, more)?;
+        put_price(out, *first)?;
     }
     Ok(())
 }
 
 /// Appends prices, each behind a space, the last byte first.
-fn put_more(out: &mut Vec<u8>, hundreds: &mut Hundreds, row: &[u64]) -> Result<(), Memory>
+fn put_more(out: &mut Vec<u8>, row: &[u64]) -> Result<(), Memory>
     ensures { OnOk result (out.new.items ≡ out.old.items ++ reverse (more_prices (map told row.now))) }
 {
     for k in (0..row.len()).rev() {
-        put_price(out, hundreds, row[k])?;
+        put_price(out, row[k])?;
         out.push(b' ')?;
     }
     Ok(())
 }
 
 /// Appends a price, the last byte first.
-fn put_price(out: &mut Vec<u8>, hundreds: &mut Hundreds, price: u64) -> Result<(), Memory>
+fn put_price(out: &mut Vec<u8>, price: u64) -> Result<(), Memory>
     ensures { OnOk result (out.new.items ≡ out.old.items ++ reverse (price_text (told price))) }
 {
     if price == CLOSED {
         out.push(b'-')?;
         return Ok(());
     }
-    hundreds.put_number(out, price)
+    put_number(out, price)
 }
 
 /// Appends a word behind a space, where it is set, the last byte first.

@@ -1,6 +1,9 @@
-use Rattle.std.proofs.Common.{rules, append_assoc}
-use Rattle.hm_cert.proofs.Texts.{turned_line}
+use Rattle.std.proofs.Common.{[], ◌∷◌, ◌++◌, map, sym, ap, ◌∙◌}
+use Rattle.std.proofs.lemmas.List.{reverse-append}
+use Rattle.std.proofs.lemmas.Result.{on_ok_weaker}
+use Rattle.hm_cert.specs.Certificate.{row_text}
+use Rattle.hm_cert.specs.Layout.{told}
 use Rattle.hm_cert.proofs.reversed.put_next_line.Goals as goal
 
-pub returns-in_ok-put_price : goal.returns-in_ok-put_price
-returns-in_ok-put_price c = rw (turned_line c.args.row.now c.in-len1-up.len_at_least) (search (rules, append_assoc))
+pub returns-then-row-le-GROUP : goal.returns-then-row-le-GROUP
+returns-then-row-le-GROUP c = on_ok_weaker c.put_group.result (λ e. e ∙ ap (λ x. c.args.out.now.items ++ x) (sym (reverse-append (row_text (map told c.args.row.now)) (10 ∷ [])))) c.put_group.ensures

@@ -1,0 +1,10 @@
+use Rattle.std.proofs.Common.{[], ◌∷◌, ◌++◌, map, sym, ap}
+use Rattle.std.proofs.lemmas.List.{reverse-append}
+use Rattle.std.proofs.lemmas.Result.{on_ok_weaker}
+use Rattle.std.proofs.Common.{◌∙◌}
+use Rattle.hm_cert.specs.Certificate.{row_text}
+use Rattle.hm_cert.specs.Layout.{told}
+use Rattle.hm_cert.proofs.reversed.put_line_reversed.Goals as goal
+
+pub returns : goal.returns
+returns c = on_ok_weaker c.put_row.result (λ e. e ∙ ap (λ x. c.args.out.now.items ++ x) (sym (reverse-append (row_text (map told c.args.row.now)) (10 ∷ [])))) c.put_row.ensures

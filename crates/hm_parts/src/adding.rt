@@ -2,7 +2,7 @@
 ghost use Rattle.std.specs.Prelude.{◌≡◌, ◌<◌, ◌^◌, [], ◌∷◌, length};
 ghost use Rattle.hm_units.specs.Units as units;
 ghost use Rattle.hm_parts.specs.Adding.{AddsParts};
-ghost use Rattle.hm_parts.specs.Parts.{HasOwn, IsPart, part_units, unit_with};
+ghost use Rattle.hm_parts.specs.Parts.{IsPart, part_units};
 
 use crate::parts::Part;
 use hm_base::Memory;
@@ -17,21 +17,19 @@ pub(crate) fn add<'t>(into: &mut Vec<Part<'t>>, part: Part<'t>) -> Result<(), Me
     Ok(())
 }
 
-/// Adds a unit with its own bytes.
-pub(crate) fn add_one<'t>(into: &mut Vec<Part<'t>>, unit: Unit, own: &'t str) -> Result<(), Memory>
-    requires { HasOwn unit own.now }
-    ensures { AddsParts result into.old.items into.new.items (unit_with unit own.now ∷ []) }
-{
-    add(into, Part::One { unit, own })
-}
-
 /// Adds bytes without a choice.
 pub(crate) fn add_fixed<'t>(into: &mut Vec<Part<'t>>, bytes: &'t str) -> Result<(), Memory>
     requires { length bytes.now < 2 ^ 32 }
     ensures { AddsParts result into.old.items into.new.items (units.fixed bytes.now ∷ []) }
 {
     let len = len_of(bytes);
-    add_one(into, Unit::Fixed { len }, bytes)
+    add(
+        into,
+        Part::One {
+            unit: Unit::Fixed { len },
+            own: bytes,
+        },
+    )
 }
 
 /// How many bytes the text has.

@@ -6,7 +6,7 @@ ghost use Rattle.hm_units.specs.Units as units;
 ghost use Rattle.hm_units.specs.Units.{attribute_units};
 ghost use Rattle.hm_parts.specs.Adding.{AddsParts};
 
-use crate::adding::{add, add_one, len_of};
+use crate::adding::{add, len_of};
 use crate::parts::Part;
 use hm_base::Memory;
 use hm_edges::{TextKind, Unit};
@@ -19,9 +19,21 @@ fn add_attribute<'t>(into: &mut Vec<Part<'t>>, name: &'t str, value: &'t str) ->
 {
     let len = len_of(name);
     if value.is_empty() {
-        return add_one(into, Unit::BareAttribute { len }, name);
+        return add(
+            into,
+            Part::One {
+                unit: Unit::BareAttribute { len },
+                own: name,
+            },
+        );
     }
-    add_one(into, Unit::AttributeName { len }, name)?;
+    add(
+        into,
+        Part::One {
+            unit: Unit::AttributeName { len },
+            own: name,
+        },
+    )?;
     add(
         into,
         Part::Chars {
@@ -29,7 +41,13 @@ fn add_attribute<'t>(into: &mut Vec<Part<'t>>, name: &'t str, value: &'t str) ->
             text: value,
         },
     )?;
-    add_one(into, Unit::AttributeEnd, "")
+    add(
+        into,
+        Part::One {
+            unit: Unit::AttributeEnd,
+            own: "",
+        },
+    )
 }
 
 /// Adds the attributes in their order.
@@ -55,7 +73,19 @@ pub(crate) fn add_tag<'t>(
     ensures { AddsParts result into.old.items into.new.items (units.tag_name name.now ∷ (attribute_units (attributes_shown attrs.entry) ++ units.tag_close closes ∷ [])) }
 {
     let len = len_of(name);
-    add_one(into, Unit::TagName { len }, name)?;
+    add(
+        into,
+        Part::One {
+            unit: Unit::TagName { len },
+            own: name,
+        },
+    )?;
     add_attributes(into, attrs)?;
-    add_one(into, Unit::TagClose { closes }, "")
+    add(
+        into,
+        Part::One {
+            unit: Unit::TagClose { closes },
+            own: "",
+        },
+    )
 }

@@ -9,7 +9,7 @@ ghost use Rattle.hm_parts.specs.Adding.{AddsParts};
 ghost use Rattle.hm_parts.specs.Events.{previous_at, units_at};
 ghost use Rattle.hm_parts.specs.Parts.{AreParts, parts_units};
 
-use crate::adding::{add, add_fixed, add_one, len_of};
+use crate::adding::{add, add_fixed, len_of};
 use crate::attributes::add_tag;
 use crate::left_out::{is_firm, may_close_itself, may_omit_end, may_omit_start};
 use crate::likely::is_like_void;
@@ -81,7 +81,7 @@ fn add_start<'t>(
         firm: is_firm(tree, i, name),
         closes,
     };
-    add_one(into, unit, name)
+    add(into, Part::One { unit, own: name })
 }
 
 /// Whether the HTML element is a void one.
@@ -119,7 +119,7 @@ fn add_end<'t>(
         omits: may_omit_end(tree, rules, i, name, foreign),
         loosens: is_loose_end(name),
     };
-    add_one(into, unit, name)
+    add(into, Part::One { unit, own: name })
 }
 
 /// Gives the parts of event `i` of a tree, in their order and in place of what the buffer held.

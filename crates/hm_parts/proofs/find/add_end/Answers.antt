@@ -10,4 +10,4 @@ returns c =
     let around = outer (path_after [] (take c.args.i c.args.tree.now)) in
     let behind = drop (c.args.i + 1) c.args.tree.now in
     adds_as _ _ _ _ _ (end_there c.args.rules c.args.name.now c.args.foreign (take 1 behind) behind refl around (current around)
-    c.has_no_end_tag.result c.may_omit_end.result c.is_loose_end.result c.has_no_end_tag.ensures c.if-has_no_end_tag.false refl c.may_omit_end.ensures c.is_loose_end.ensures) c.add_one.ensures
+    c.has_no_end_tag.result c.may_omit_end.result c.is_loose_end.result c.has_no_end_tag.ensures c.if-has_no_end_tag.false refl c.may_omit_end.ensures c.is_loose_end.ensures) c.add.ensures

@@ -9,4 +9,4 @@ pub returns : goal.returns
 returns c =
     let none : length (attributes_shown c.args.attrs) ≡ 0 = omega (arith, c.len.ensures.len, c.if-len-gt0.false) in
     let behind = drop (c.args.i + 1) c.args.tree.now in
-    adds_as _ _ _ _ _ (start_alone c.args.rules c.args.name.now c.args.foreign (take 1 behind) behind refl (previous_at c.args.tree.now c.args.i) c.may_close_itself-closes.result c.may_close_itself-closes.ensures (attributes_shown c.args.attrs) c.may_omit_start.result c.is_firm.result none c.may_omit_start.ensures c.is_firm.ensures) c.add_one.ensures
+    adds_as _ _ _ _ _ (start_alone c.args.rules c.args.name.now c.args.foreign (take 1 behind) behind refl (previous_at c.args.tree.now c.args.i) c.may_close_itself-closes.result c.may_close_itself-closes.ensures (attributes_shown c.args.attrs) c.may_omit_start.result c.is_firm.result none c.may_omit_start.ensures c.is_firm.ensures) c.add.ensures

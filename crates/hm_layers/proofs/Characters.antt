@@ -1,5 +1,5 @@
--- The steps of the characters of a text: of the first one, and of those behind it that lead back to its list.
-use Rattle.std.proofs.Common.{◌≡◌, ◌∙◌, ℕ, zero, suc, ◌+◌, ◌<◌, ◌≤◌, ◌^◌, true, List, [], ◌∷◌, ◌++◌, length, take, drop, chars, Option, Some, None, refl, sym, ap, subst, arith, append_assoc, append-nil, length-append}
+-- The steps of the characters of a text: of the first one, and of a run of them of which it is known where they lead.
+use Rattle.std.proofs.Common.{◌≡◌, ◌∙◌, ℕ, suc, ◌+◌, ◌-◌, ◌<◌, ◌≤◌, ◌^◌, true, List, [], ◌∷◌, ◌++◌, length, take, drop, chars, Option, Some, None, refl, sym, ap, subst, arith, append_assoc, append-nil, length-append}
 use Rattle.std.specs.List.{All}
 use Rattle.std.specs.Prelude.{encode_utf8, encode_utf8_all, slice_get}
 use Rattle.std.specs.Str.{IsAscii, IsCharBoundary, IsUtf8}
@@ -10,11 +10,13 @@ use Rattle.std.proofs.lemmas.Str.{IsCharBoundary-from_take, IsUtf8-drop, IsUtf8-
 use Rattle.hm_edges.specs.Units as edges
 use Rattle.hm_edges.specs.Units.{StandsFor, kind_of}
 use Rattle.hm_edges.specs.declared.units.TextKind as code
+use Rattle.hm_edges.specs.declared.units.Unit.{Unit}
 use Rattle.hm_edges.specs.declared.units.Unit.TheVariants.{Character}
 use Rattle.hm_units.specs.Units as units
 use Rattle.hm_units.specs.Units.{TextKind, character_units, next_of}
 use Rattle.hm_layers.specs.Building.{BuildingView, AddsSteps, AddsFront, IsBuilding, building}
-use Rattle.hm_layers.specs.Met.{MetView, Grows, LeadsBack}
+use Rattle.hm_layers.specs.Met.{MetView, Grows, Leads}
+use Rattle.hm_layers.specs.declared.made.Reached.{Reached}
 use Rattle.hm_layers.proofs.Built.{adds_none, adds_on, adds_one, building_more}
 
 -- ---- Texts
@@ -69,77 +71,71 @@ front_all a b kind cs rest none front =
 pub front_then : (a b d : BuildingView) (kind : TextKind) (cs rest : List ℕ) → AddsFront a b kind cs rest → AddsSteps b d (character_units kind rest) → AddsSteps a d (character_units kind cs)
 front_then a b d kind cs rest front adds = subst (AddsSteps a d) front.whole (adds_on a b d front.done (character_units kind rest) front.adds adds)
 
--- ---- Characters that lead back
+-- ---- Characters of which it is known where they lead
 
 grows_self : (m : MetView) → Grows m m
 grows_self m = record { table = refl; rules = refl; lists = λ k within. record { there = within; list = refl }; made = λ n within. (within, refl) }
 
-abbrev next_in : List ℕ → ℕ → ℕ
-next_in [] d = d
-next_in (c ∷ cs) d = c
+-- the step was added so many times, and leads to this list
+pub record RunAdded (m : MetView) (numbers : List ℕ) (last behind : ℕ) (kind : TextKind) (n count : ℕ) (cs rest : List ℕ) : Type 0 where
+  pub is : IsBuilding m (numbers ++ replicate count n) behind
+  pub front : AddsFront (building m numbers last) (building m (numbers ++ replicate count n) behind) kind cs rest
 
-next_is : (front : List ℕ) (d : ℕ) (ds : List ℕ) → next_of (front ++ d ∷ ds) ≡ Some (next_in front d)
-next_is [] d ds = refl
-next_is (c ∷ front) d ds = refl
-
--- the step that leads back was added so many times
-pub record RunAdded (m : MetView) (numbers : List ℕ) (last : ℕ) (kind : TextKind) (n count : ℕ) (cs rest : List ℕ) : Type 0 where
-  pub is : IsBuilding m (numbers ++ replicate count n) last
-  pub front : AddsFront (building m numbers last) (building m (numbers ++ replicate count n) last) kind cs rest
-
-none_added : (m : MetView) (numbers : List ℕ) (last : ℕ) (kind : TextKind) (n : ℕ) (cs : List ℕ) → IsBuilding m numbers last → RunAdded m numbers last kind n 0 cs cs
-none_added m numbers last kind n cs is =
-    let same : numbers ≡ numbers ++ replicate 0 n = sym (append-nil numbers) in
+one_added : (m : MetView) (numbers : List ℕ) (last : ℕ) (kind : code.TextKind) (to : Reached) (c next : ℕ) (rest : List ℕ) → next_of rest ≡ Some next → IsBuilding m numbers last → Leads m last kind true to c → length numbers < 2 ^ 29 - 1
+    → RunAdded m numbers last to.behind (kind_of kind) to.number 1 (c ∷ rest) rest
+one_added m numbers last kind to c next rest is_next is own few =
+    let unit : Unit = Character kind c None true in
+    let u : units.Unit = units.character (kind_of kind) c (next_of rest) in
+    let lone : None ≡ edges.pair_of m.table.entries c (Some next) = rw (own.lone refl next) refl in
+    let stands : StandsFor m.table.entries unit u = subst (λ x. StandsFor m.table.entries unit (units.character (kind_of kind) c x)) (sym is_next) (edges.character kind c None (Some next) true lone refl) in
+    let adds : AddsSteps (building m numbers last) (building m (numbers ++ to.number ∷ []) to.behind) (u ∷ []) =
+    subst (λ b. AddsSteps (building m numbers last) (building m (numbers ++ to.number ∷ []) b) (u ∷ [])) (sym own.behind) (adds_one m m numbers last unit to.number is (grows_self m) own.step u stands) in
     record {
-      is = subst (λ ns. IsBuilding m ns last) same is;
-      front = subst (λ ns. AddsFront (building m numbers last) (building m ns last) kind cs cs) same (front_none (building m numbers last) kind cs);
+      is = subst (IsBuilding m (numbers ++ to.number ∷ [])) (sym own.behind) (building_more m m numbers last unit to.number is (grows_self m) own.step few);
+      front = front_one (building m numbers last) (building m (numbers ++ to.number ∷ []) to.behind) (kind_of kind) c rest adds;
     }
 
-run_added : (m : MetView) (numbers : List ℕ) (last : ℕ) (kind : code.TextKind) (n : ℕ) (front : List ℕ) (d : ℕ) (ds : List ℕ) → IsBuilding m numbers last → All (LeadsBack m last kind n) front → length numbers + length front < 2 ^ 29
-    → RunAdded m numbers last (kind_of kind) n (length front) (front ++ d ∷ ds) (d ∷ ds)
-run_added m numbers last kind n [] d ds is back few = none_added m numbers last (kind_of kind) n (d ∷ ds) is
-run_added m numbers last kind n (c ∷ front) d ds is back few =
-    let own : LeadsBack m last kind n c = back 0 0 (omega arith) in
-    let u : units.Unit = units.character (kind_of kind) c (next_of (front ++ d ∷ ds)) in
-    let next : Some (next_in front d) ≡ next_of (front ++ d ∷ ds) = sym (next_is front d ds) in
-    let lone : None ≡ edges.pair_of m.table.entries c (Some (next_in front d)) = rw (own.lone (next_in front d)) refl in
-    let stands : StandsFor m.table.entries (Character kind c None true) u =
-    subst (λ x. StandsFor m.table.entries (Character kind c None true) (units.character (kind_of kind) c x)) next (edges.character kind c None (Some (next_in front d)) true lone refl) in
-    let one : IsBuilding m (numbers ++ n ∷ []) last =
-    subst (IsBuilding m (numbers ++ n ∷ [])) own.behind (building_more m m numbers last (Character kind c None true) n is (grows_self m) own.step (omega (arith, few))) in
-    let adds : AddsSteps (building m numbers last) (building m (numbers ++ n ∷ []) last) (u ∷ []) =
-    subst (λ b. AddsSteps (building m numbers last) (building m (numbers ++ n ∷ []) b) (u ∷ [])) own.behind (adds_one m m numbers last (Character kind c None true) n is (grows_self m) own.step u stands) in
-    let more = run_added m (numbers ++ n ∷ []) last kind n front d ds one (λ k e within. back (suc k) e (omega (arith, within))) (omega (arith, few, length-append numbers (n ∷ []))) in
-    let same : (numbers ++ n ∷ []) ++ replicate (length front) n ≡ numbers ++ replicate (suc (length front)) n = append_assoc numbers (n ∷ []) (replicate (length front) n) in
+run_added : (m : MetView) (numbers : List ℕ) (last : ℕ) (kind : code.TextKind) (to : Reached) (c : ℕ) (front : List ℕ) (d : ℕ) (ds : List ℕ) → IsBuilding m numbers last → All (Leads m last kind true to) (c ∷ front)
+    → (0 < length front → to.behind ≡ last) → length numbers + suc (length front) < 2 ^ 29 → RunAdded m numbers last to.behind (kind_of kind) to.number (suc (length front)) (c ∷ front ++ d ∷ ds) (d ∷ ds)
+run_added m numbers last kind to c [] d ds is leads back few = one_added m numbers last kind to c d (d ∷ ds) refl is (leads 0 0 (omega arith)) (omega (arith, few))
+run_added m numbers last kind to c (e ∷ front) d ds is leads back few =
+    let n : ℕ = to.number in
+    let same_list : to.behind ≡ last = back (omega arith) in
+    let one : RunAdded m numbers last to.behind (kind_of kind) n 1 (c ∷ e ∷ front ++ d ∷ ds) (e ∷ front ++ d ∷ ds) = one_added m numbers last kind to c e (e ∷ front ++ d ∷ ds) refl is (leads 0 0 (omega arith)) (omega (arith, few)) in
+    let own : IsBuilding m (numbers ++ n ∷ []) last = subst (IsBuilding m (numbers ++ n ∷ [])) same_list one.is in
+    let more : RunAdded m (numbers ++ n ∷ []) last to.behind (kind_of kind) n (suc (length front)) (e ∷ front ++ d ∷ ds) (d ∷ ds) =
+    run_added m (numbers ++ n ∷ []) last kind to e front d ds own (λ k f within. leads (suc k) f (omega (arith, within))) (λ some. same_list) (omega (arith, few, length-append numbers (n ∷ []))) in
+    let first : AddsFront (building m numbers last) (building m (numbers ++ n ∷ []) last) (kind_of kind) (c ∷ e ∷ front ++ d ∷ ds) (e ∷ front ++ d ∷ ds) =
+    subst (λ b. AddsFront (building m numbers last) (building m (numbers ++ n ∷ []) b) (kind_of kind) (c ∷ e ∷ front ++ d ∷ ds) (e ∷ front ++ d ∷ ds)) same_list one.front in
+    let same : (numbers ++ n ∷ []) ++ replicate (suc (length front)) n ≡ numbers ++ replicate (suc (suc (length front))) n = append_assoc numbers (n ∷ []) (replicate (suc (length front)) n) in
     record {
-      is = subst (λ ns. IsBuilding m ns last) same more.is;
-      front = subst (λ ns. AddsFront (building m numbers last) (building m ns last) (kind_of kind) (c ∷ front ++ d ∷ ds) (d ∷ ds)) same
-          (front_on (building m numbers last) (building m (numbers ++ n ∷ []) last) (building m ((numbers ++ n ∷ []) ++ replicate (length front) n) last) (kind_of kind) (c ∷ front ++ d ∷ ds) (front ++ d ∷ ds) (d ∷ ds)
-          (front_one (building m numbers last) (building m (numbers ++ n ∷ []) last) (kind_of kind) c (front ++ d ∷ ds) adds) more.front);
+      is = subst (λ ns. IsBuilding m ns to.behind) same more.is;
+      front = subst (λ ns. AddsFront (building m numbers last) (building m ns to.behind) (kind_of kind) (c ∷ e ∷ front ++ d ∷ ds) (d ∷ ds)) same
+          (front_on (building m numbers last) (building m (numbers ++ n ∷ []) last) (building m ((numbers ++ n ∷ []) ++ replicate (suc (length front)) n) to.behind) (kind_of kind) (c ∷ e ∷ front ++ d ∷ ds) (e ∷ front ++ d ∷ ds) (d ∷ ds) first more.front);
     }
 
-all_ascii : (m : MetView) (last : ℕ) (kind : code.TextKind) (n : ℕ) (front : List ℕ) → All (LeadsBack m last kind n) front → All (λ c. c < 128) front
-all_ascii m last kind n front back = λ k d within. (back k d within).ascii
+all_ascii : (m : MetView) (last : ℕ) (kind : code.TextKind) (to : Reached) (front : List ℕ) → All (Leads m last kind true to) front → All (λ c. c < 128) front
+all_ascii m last kind to front leads = λ k d within. (leads k d within).ascii
 
--- characters that lead back are of ASCII
-pub back_ascii : (m : MetView) (last : ℕ) (kind : code.TextKind) (n : ℕ) (front : List ℕ) → All (LeadsBack m last kind n) front → IsAscii front
-back_ascii m last kind n front back = IsAscii-from_all front (all_ascii m last kind n front back)
+-- characters of which it is known where they lead are of ASCII
+pub lead_ascii : (m : MetView) (last : ℕ) (kind : code.TextKind) (to : Reached) (front : List ℕ) → All (Leads m last kind true to) front → IsAscii front
+lead_ascii m last kind to front leads = IsAscii-from_all front (all_ascii m last kind to front leads)
 
-before_more : (m : MetView) (numbers : List ℕ) (last : ℕ) (kind : code.TextKind) (n : ℕ) (front rest : List ℕ) → 0 < length rest → IsBuilding m numbers last → All (LeadsBack m last kind n) front → length numbers + length front < 2 ^ 29
-    → RunAdded m numbers last (kind_of kind) n (length front) (front ++ rest) rest
-before_more m numbers last kind n front [] some is back few = absurd (omega (arith, some))
-before_more m numbers last kind n front (d ∷ ds) some is back few = run_added m numbers last kind n front d ds is back few
+before_more : (m : MetView) (numbers : List ℕ) (last : ℕ) (kind : code.TextKind) (to : Reached) (front rest : List ℕ) → 0 < length front → 0 < length rest → IsBuilding m numbers last → All (Leads m last kind true to) front
+    → (1 < length front → to.behind ≡ last) → length numbers + length front < 2 ^ 29 → RunAdded m numbers last to.behind (kind_of kind) to.number (length front) (front ++ rest) rest
+before_more m numbers last kind to [] rest some more is leads back few = absurd (omega (arith, some))
+before_more m numbers last kind to (c ∷ front) [] some more is leads back few = absurd (omega (arith, more))
+before_more m numbers last kind to (c ∷ front) (d ∷ ds) some more is leads back few = run_added m numbers last kind to c front d ds is leads (λ others. back (omega (arith, others))) few
 
--- the front of a text, with more behind it where there is one
-pub text_added : (m : MetView) (numbers : List ℕ) (last : ℕ) (kind : code.TextKind) (n : ℕ) (text : List ℕ) (count : ℕ) → IsUtf8 text → count ≤ length text → (0 < count → count < length text) → IsBuilding m numbers last
-    → All (LeadsBack m last kind n) (take count text) → length numbers + count < 2 ^ 29 → RunAdded m numbers last (kind_of kind) n count (chars text) (chars (drop count text))
-text_added m numbers last kind n text zero utf8 inside short is back few = none_added m numbers last (kind_of kind) n (chars text) is
-text_added m numbers last kind n text (suc k) utf8 inside short is back few =
-    let count : ℕ = suc k in
-    let ascii : IsAscii (take count text) = back_ascii m last kind n (take count text) back in
+-- the front of a text, with more behind it
+pub text_added : (m : MetView) (numbers : List ℕ) (last : ℕ) (kind : code.TextKind) (to : Reached) (text : List ℕ) (count : ℕ) → IsUtf8 text → 0 < count → count < length text → (1 < count → to.behind ≡ last) → IsBuilding m numbers last
+    → All (Leads m last kind true to) (take count text) → length numbers + count < 2 ^ 29 → RunAdded m numbers last to.behind (kind_of kind) to.number count (chars text) (chars (drop count text))
+text_added m numbers last kind to text count utf8 some short back is leads few =
+    let ascii : IsAscii (take count text) = lead_ascii m last kind to (take count text) leads in
+    let inside : count ≤ length text = omega (arith, short) in
     let len : length (take count text) ≡ count = length-take-le count text inside in
     let rest : IsUtf8 (drop count text) = IsUtf8-drop text count utf8 (ascii_boundary text count utf8 inside ascii) in
-    let some : 0 < length (chars (drop count text)) = some_chars (drop count text) rest (omega (arith, short (omega arith), ap length (take-append-drop count text), length-append (take count text) (drop count text), len)) in
-    subst (λ cs. RunAdded m numbers last (kind_of kind) n count cs (chars (drop count text))) (sym (text_cut text count ascii))
-    (subst (λ i. RunAdded m numbers last (kind_of kind) n i (take count text ++ chars (drop count text)) (chars (drop count text))) len
-    (before_more m numbers last kind n (take count text) (chars (drop count text)) some is back (omega (arith, few, len))))
+    let more : 0 < length (chars (drop count text)) = some_chars (drop count text) rest (omega (arith, short, ap length (take-append-drop count text), length-append (take count text) (drop count text), len)) in
+    subst (λ cs. RunAdded m numbers last to.behind (kind_of kind) to.number count cs (chars (drop count text))) (sym (text_cut text count ascii))
+    (subst (λ i. RunAdded m numbers last to.behind (kind_of kind) to.number i (take count text ++ chars (drop count text)) (chars (drop count text))) len
+    (before_more m numbers last kind to (take count text) (chars (drop count text)) (omega (arith, some, len)) more is leads (λ others. back (omega (arith, others, len))) (omega (arith, few, len))))

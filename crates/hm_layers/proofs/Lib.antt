@@ -4,7 +4,7 @@ pub mod KeptEdges
 pub mod Placed
 pub mod Layers
 pub mod Lists
-pub mod Marked
+pub mod PlainRows
 pub mod PairNames
 pub mod Built
 pub mod Characters

@@ -1,5 +1,5 @@
 -- Lists and steps that are added behind others.
-use Rattle.std.proofs.Common.{◌≡◌, ◌∙◌, ℕ, zero, suc, ◌<◌, List, [], ◌∷◌, ◌++◌, true, None, length, get_or, map, refl, sym, ap, subst, arith}
+use Rattle.std.proofs.Common.{◌≡◌, ◌∙◌, ℕ, zero, suc, ◌<◌, List, Bool, [], ◌∷◌, ◌++◌, None, length, get_or, map, refl, sym, ap, subst, arith}
 use Rattle.std.proofs.lemmas.List.{get_or-map, get_or_append_left, length-map, length_push}
 use Rattle.std.proofs.Math.Seq.{get_or-append_seam}
 use Rattle.std.proofs.lemmas.List.Elements.{All-append}
@@ -10,11 +10,11 @@ use Rattle.hm_edges.specs.declared.states.State.{State}
 use Rattle.hm_edges.specs.declared.units.Unit.{Unit}
 use Rattle.hm_edges.specs.declared.units.Unit.TheVariants.{Character}
 use Rattle.hm_layers.specs.Layers.{HaveNodes, IsLayer}
-use Rattle.hm_layers.specs.Met.{MetView, none_made, list_at, made_at, BeginsNoPair, IsListOf, IsMet, IsPlainStep, IsSeen, Grows, IsStepOf, LeadsBack, AreMarks}
-use Rattle.hm_layers.specs.declared.made.CharacterStep.{CharacterStep}
+use Rattle.hm_layers.specs.Met.{MetView, none_made, list_at, made_at, BeginsNoPair, IsListOf, IsMet, IsRow, IsSeen, Grows, IsStepOf, Leads, first_states, unknown}
 use Rattle.hm_layers.specs.declared.made.MadeStep.{MadeStep}
 use Rattle.hm_layers.specs.declared.made.KnownStep.{KnownStep}
-use Rattle.hm_layers.specs.declared.marks.ByteMarks.{ByteMarks}
+use Rattle.hm_layers.specs.declared.made.Reached.{Reached}
+use Rattle.hm_layers.specs.declared.plain.PlainRow.{PlainRow}
 use Rattle.hm_edges.specs.declared.units.TextKind.{TextKind}
 
 abbrev pub met : TableView → EdgeRules → List (List State) → List MadeStep → MetView
@@ -60,31 +60,20 @@ seen_kept a b x grows is = record { from = (grows.lists x.list is.from).there; s
 pub all_kept : (a b : MetView) (seen : List KnownStep) → Grows a b → All (IsSeen a) seen → All (IsSeen b) seen
 all_kept a b seen grows are = λ n d within. seen_kept a b (get_or seen n d) grows (are n d within)
 
-plain_kept : (a b : MetView) (x : CharacterStep) → Grows a b → IsPlainStep a x → IsPlainStep b x
-plain_kept a b x grows is =
-    record {
-      from = (grows.lists x.list is.from).there;
-      step = step_kept a b x.list (Character x.kind x.c None true) x.number grows is.from is.step;
-      behind = is.behind ∙ ap (λ y. y.behind) (sym (grows.made x.number is.step.there).1);
-      lone = subst (λ t. BeginsNoPair t.entries x.c) (sym grows.table) is.lone;
-    }
-
-pub all_plain_kept : (a b : MetView) (plain : List CharacterStep) → Grows a b → All (IsPlainStep a) plain → All (IsPlainStep b) plain
-all_plain_kept a b plain grows are = λ n d within. plain_kept a b (get_or plain n d) grows (are n d within)
-
-leads_kept : (a b : MetView) (list : ℕ) (kind : TextKind) (n c : ℕ) → Grows a b → LeadsBack a list kind n c → LeadsBack b list kind n c
-leads_kept a b list kind n c grows is =
+leads_kept : (a b : MetView) (list : ℕ) (kind : TextKind) (more : Bool) (to : Reached) (c : ℕ) → Grows a b → Leads a list kind more to c → Leads b list kind more to c
+leads_kept a b list kind more to c grows is =
     record {
       ascii = is.ascii;
-      step = step_kept a b list (Character kind c None true) n grows (subst (λ k. k < length a.lists) is.behind is.step.behind) is.step;
-      behind = ap (λ y. y.behind) (grows.made n is.step.there).1 ∙ is.behind;
-      lone = subst (λ t. BeginsNoPair t.entries c) (sym grows.table) is.lone;
+      from = (grows.lists list is.from).there;
+      step = step_kept a b list (Character kind c None more) to.number grows is.from is.step;
+      behind = is.behind ∙ ap (λ y. y.behind) (sym (grows.made to.number is.step.there).1);
+      lone = λ more_is. subst (λ t. BeginsNoPair t.entries c) (sym grows.table) (is.lone more_is);
     }
 
-pub all_marks_kept : (a b : MetView) (marks : List ByteMarks) → Grows a b → All (AreMarks a) marks → All (AreMarks b) marks
-all_marks_kept a b marks grows are = λ n d within c is.
-    let x : ByteMarks = get_or marks n d in
-    leads_kept a b x.list x.kind x.number c grows (are n d within c is)
+pub all_rows_kept : (a b : MetView) (more : Bool) (rows : List PlainRow) → Grows a b → All (IsRow a more) rows → All (IsRow b more) rows
+all_rows_kept a b more rows grows are = λ n d within c known.
+    let x : PlainRow = get_or rows n d in
+    leads_kept a b x.list x.kind more (get_or x.steps.items c unknown) c grows (are n d within c known)
 
 pub all_noted : (m : MetView) (seen : List KnownStep) (x : KnownStep) → All (IsSeen m) seen → x.list < length m.lists → IsStepOf m x.list x.unit x.number → All (IsSeen m) (seen ++ x ∷ [])
 all_noted m seen x are from step = All-append (IsSeen m) seen (x ∷ []) are (λ n d within. only n d within)
@@ -92,6 +81,12 @@ all_noted m seen x are from step = All-append (IsSeen m) seen (x ∷ []) are (λ
     only : (n : ℕ) (d : KnownStep) → n < 1 → IsSeen m (get_or (x ∷ []) n d)
     only zero d within = record { from = from; step = step }
     only (suc n) d within = absurd (omega arith)
+
+-- ---- The first list
+
+pub first_nodes : (v : TableView) (k : ℕ) → HaveNodes v (get_or (first_states ∷ []) k [])
+first_nodes v zero = (tt, tt)
+first_nodes v (suc k) = tt
 
 -- ---- One more list
 

@@ -10,10 +10,10 @@ use Rattle.hm_edges.specs.declared.units.TextKind.{TextKind}
 use Rattle.hm_edges.specs.declared.units.Unit.{Unit}
 use Rattle.hm_edges.specs.declared.units.Unit.TheVariants.{Character}
 use Rattle.hm_layers.specs.Layers.{HaveNodes, IsLayer}
-use Rattle.hm_layers.specs.declared.made.CharacterStep.{CharacterStep}
 use Rattle.hm_layers.specs.declared.made.MadeStep.{MadeStep}
 use Rattle.hm_layers.specs.declared.made.KnownStep.{KnownStep}
-use Rattle.hm_layers.specs.declared.marks.ByteMarks.{ByteMarks}
+use Rattle.hm_layers.specs.declared.made.Reached.{Reached}
+use Rattle.hm_layers.specs.declared.plain.PlainRow.{PlainRow}
 use Rattle.hm_layers.specs.declared.rules.EdgeRules.{EdgeRules}
 
 -- lists of states, and what was made from them
@@ -77,23 +77,28 @@ BeginsNoPair t c = (d : ℕ) → has_pair t c d ≡ false
 abbrev pub AreLone : List Entry → List Bool → Type 0
 AreLone t lone = (c : ℕ) → slice_index_or lone c false ≡ true → BeginsNoPair t c
 
--- it leads where the step of its character does that has another one behind it and begins no name's two code points
-pub record IsPlainStep (m : MetView) (x : CharacterStep) : Type 0 where
-  pub from : x.list < length m.lists
-  pub step : IsStepOf m x.list (Character x.kind x.c None true) x.number
-  pub behind : x.behind ≡ (made_at m x.number).behind
-  pub lone : BeginsNoPair m.table.entries x.c
+-- ---- Rows of plain characters
 
--- a character of ASCII that begins no name's two code points, with another one behind it, leads back to its list by this step
-pub record LeadsBack (m : MetView) (list : ℕ) (kind : TextKind) (n c : ℕ) : Type 0 where
+-- it isn't known where a character leads
+abbrev pub unknown : Reached
+unknown = record { number = 4294967295; behind = 0 }
+
+abbrev pub IsKnown : Reached → Type 0
+IsKnown to = to.number < 4294967295
+
+-- the character's place in a row has this
+abbrev pub IsToward : List Reached → Reached → ℕ → Type 0
+IsToward steps to c = slice_index_or steps c unknown ≡ to
+
+-- From its list a character of ASCII leads so, in front of another one or as the last of its text. In front of another one it
+-- begins no name's two code points.
+pub record Leads (m : MetView) (list : ℕ) (kind : TextKind) (more : Bool) (to : Reached) (c : ℕ) : Type 0 where
   pub ascii : c < 128
-  pub step : IsStepOf m list (Character kind c None true) n
-  pub behind : (made_at m n).behind ≡ list
-  pub lone : BeginsNoPair m.table.entries c
+  pub from : list < length m.lists
+  pub step : IsStepOf m list (Character kind c None more) to.number
+  pub behind : to.behind ≡ (made_at m to.number).behind
+  pub lone : more ≡ true → BeginsNoPair m.table.entries c
 
-abbrev pub IsMarked : List Bool → ℕ → Type 0
-IsMarked marked c = slice_index_or marked c false ≡ true
-
--- with each character that is marked it is so
-abbrev pub AreMarks : MetView → ByteMarks → Type 0
-AreMarks m x = (c : ℕ) → IsMarked x.marked.items c → LeadsBack m x.list x.kind x.number c
+-- with each character that is known it is so
+abbrev pub IsRow : MetView → Bool → PlainRow → Type 0
+IsRow m more x = (c : ℕ) → IsKnown (slice_index_or x.steps.items c unknown) → Leads m x.list x.kind more (slice_index_or x.steps.items c unknown) c

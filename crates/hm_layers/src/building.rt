@@ -11,6 +11,7 @@ ghost use Rattle.hm_layers.specs.Building.{AddsSteps, AddsFront, IsBuilt};
 use crate::graph::Graph;
 use crate::met::{LIMIT, Met};
 use crate::numbers::Numbers;
+use crate::plain::Alike;
 use crate::rules::EdgeRules;
 use hm_base::Memory;
 use hm_edges::{TextKind, Unit};
@@ -58,8 +59,8 @@ impl<'t> GraphBuilder<'t> {
     }
 
     /// Adds the step of a unit.
-    fn add(&mut self, unit: Unit) -> Result<(), Memory>
-        ensures { OnOk result ((u : units.Unit) → StandsFor self.old.table.entries unit u → AddsSteps self.old self.new (u ∷ [])) }
+    fn add(&mut self, unit: &Unit) -> Result<(), Memory>
+        ensures { OnOk result ((u : units.Unit) → StandsFor self.old.table.entries unit.now u → AddsSteps self.old self.new (u ∷ [])) }
     {
         if self.numbers.len() >= LIMIT - 1 {
             return Err(Memory);
@@ -88,12 +89,13 @@ impl<'t> GraphBuilder<'t> {
     fn add_last(&mut self, kind: TextKind, c: char) -> Result<(), Memory>
         ensures { OnOk result (AddsSteps self.old self.new (units.character (kind_of kind) c None ∷ [])) }
     {
-        self.add(Unit::Character {
-            kind,
-            c,
-            pair: None,
-            more: false,
-        })
+        if self.numbers.len() >= LIMIT - 1 {
+            return Err(Memory);
+        }
+        let to = self.met.end_step(self.last, kind, c)?;
+        self.numbers.push(to.number)?;
+        self.last = to.behind;
+        Ok(())
     }
 
     /// Adds the step of the first character of a text, where there is one, and gives the rest of the text.
@@ -114,46 +116,47 @@ impl<'t> GraphBuilder<'t> {
         Ok(rest)
     }
 
-    /// Adds the steps of characters that a text begins with, as far as they are the step of this number, each time from the
-    /// same list, and gives the rest of the text.
-    fn add_alike<'s>(
-        &mut self,
-        kind: TextKind,
-        number: u32,
-        text: &'s str,
-    ) -> Result<&'s str, Memory>
+    /// Adds the steps of characters that a text begins with, as far as they are known to lead to one place, and gives the rest
+    /// of the text.
+    fn add_alike<'s>(&mut self, kind: TextKind, text: &'s str) -> Result<&'s str, Memory>
         ensures adds { IfOk result (λ rest. AddsFront self.old self.new (kind_of kind) (chars text.now) (chars rest.now)) }
         ensures within { IfOk result (λ rest. length rest.now ≤ length text.now) }
         ensures utf8 { IfOk result (λ rest. IsUtf8 rest.now) }
     {
-        let count = self.met.back_run(self.last, kind, number, text.as_bytes());
+        let Alike { to, count } = self.met.alike(self.last, kind, text.as_bytes());
+        if count == 0 {
+            return Ok(text);
+        }
         if count >= LIMIT || self.numbers.len() >= LIMIT - count {
             return Err(Memory);
         }
-        self.numbers.push_alike(number, count as u32)?;
+        self.numbers.push_alike(to.number, count as u32)?;
+        self.last = to.behind;
         Ok(&text[count..])
     }
 
-    /// Adds the steps of the characters of a text, the first one by itself.
-    fn add_from_first(&mut self, kind: TextKind, text: &str) -> Result<(), Memory>
-        ensures { OnOk result (AddsSteps self.old self.new (character_units (kind_of kind) (chars text.now))) }
+    /// Adds the steps of some characters that a text begins with, of one at least, and gives the rest of the text.
+    fn add_some<'s>(&mut self, kind: TextKind, text: &'s str) -> Result<&'s str, Memory>
+        ensures adds { IfOk result (λ rest. AddsFront self.old self.new (kind_of kind) (chars text.now) (chars rest.now)) }
+        ensures shorter { IfOk result (λ rest. 0 < length text.now → length rest.now < length text.now) }
+        ensures utf8 { IfOk result (λ rest. IsUtf8 rest.now) }
     {
-        let mut rest = text;
-        while !rest.is_empty() {
-            let behind = self.add_first(kind, rest)?;
-            let number = self.numbers.latest();
-            rest = self.add_alike(kind, number, behind)?;
+        let rest = self.add_alike(kind, text)?;
+        if rest.len() < text.len() {
+            return Ok(rest);
         }
-        Ok(())
+        self.add_first(kind, rest)
     }
 
     /// Adds the steps of the characters of a text.
     fn add_characters(&mut self, kind: TextKind, text: &str) -> Result<(), Memory>
         ensures { OnOk result (AddsSteps self.old self.new (character_units (kind_of kind) (chars text.now))) }
     {
-        let usual = self.met.usual_number(self.last, kind);
-        let rest = self.add_alike(kind, usual, text)?;
-        self.add_from_first(kind, rest)
+        let mut rest = text;
+        while !rest.is_empty() {
+            rest = self.add_some(kind, rest)?;
+        }
+        Ok(())
     }
 
     /// Adds the steps of a part.
@@ -161,12 +164,12 @@ impl<'t> GraphBuilder<'t> {
         requires { IsPart part.now }
         ensures { OnOk result (AddsSteps self.old self.new (part_units part.now)) }
     {
-        match *part {
+        match part {
             Part::One { unit, own: _ } => self.add(unit),
-            Part::Comment { text } => self.add(Unit::Fixed {
+            Part::Comment { text } => self.add(&Unit::Fixed {
                 len: text.len() as u32 + 7,
             }),
-            Part::Chars { kind, text } => self.add_characters(kind, text),
+            Part::Chars { kind, text } => self.add_characters(*kind, *text),
         }
     }
 

@@ -31,18 +31,8 @@ pub(crate) struct KnownStep {
 }
 
 /// The number of a step, and that of the list behind it.
-#[derive(Clone, Copy)]
+#[derive(Clone, Copy, PartialEq, Eq)]
 pub(crate) struct Reached {
-    pub(crate) number: u32,
-    pub(crate) behind: u32,
-}
-
-/// The number of the step of a character from the states of a list, and that of the list behind it.
-#[derive(Clone, Copy)]
-pub(crate) struct CharacterStep {
-    pub(crate) list: u32,
-    pub(crate) kind: TextKind,
-    pub(crate) c: char,
     pub(crate) number: u32,
     pub(crate) behind: u32,
 }
@@ -54,15 +44,11 @@ pub(crate) fn is_kind(one: TextKind, other: TextKind) -> bool
     one == other
 }
 
-impl CharacterStep {
-    /// Whether it is of this character in such a text, from this list.
-    pub(crate) fn is_from(&self, list: u32, kind: TextKind, c: char) -> bool
-        ensures list { IsTrue result → self.now.list ≡ list }
-        ensures kind { IsTrue result → self.now.kind ≡ kind }
-        ensures c { IsTrue result → self.now.c ≡ c }
-    {
-        self.list == list && self.c == c && is_kind(self.kind, kind)
-    }
+/// Whether the two are equal.
+pub(crate) fn is_reached(one: Reached, other: Reached) -> bool
+    ensures { IsTrue result → one ≡ other }
+{
+    one == other
 }
 
 /// Whether the two are equal.
@@ -74,11 +60,11 @@ fn is_unit(one: &Unit, other: &Unit) -> bool
 
 impl KnownStep {
     /// Whether it is of this unit from this list.
-    pub(crate) fn is_from(&self, front: &Front) -> bool
-        ensures list { IsTrue result → self.now.list ≡ front.now.list }
-        ensures unit { IsTrue result → self.now.unit ≡ front.now.unit }
+    pub(crate) fn is_from(&self, list: u32, unit: &Unit) -> bool
+        ensures list { IsTrue result → self.now.list ≡ list }
+        ensures unit { IsTrue result → self.now.unit ≡ unit.now }
     {
-        self.list == front.list && is_unit(&self.unit, &front.unit)
+        self.list == list && is_unit(&self.unit, unit)
     }
 }
 

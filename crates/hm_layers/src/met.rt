@@ -1,15 +1,15 @@
 //! Lists of states and steps that are met while a graph is built.
-ghost use Rattle.std.specs.Prelude.{◌≡◌, ◌<◌, ◌≤◌, ◌∷◌, [], true, None, Some, length, map, take, IfOk, IfSome, IsTrue, OnOk};
+ghost use Rattle.std.specs.Prelude.{◌≡◌, ◌<◌, ◌≤◌, ◌∷◌, [], false, true, None, Some, length, map, take, IfOk, IfSome, IsTrue};
 ghost use Rattle.std.specs.List.{All, HoldsAt};
 ghost use Rattle.hm_edges.specs.Units as units;
 ghost use Rattle.hm_layers.specs.Layers.{HaveNodes};
 ghost use Rattle.hm_edges.specs.declared.units.Unit.TheVariants.{Character};
-ghost use Rattle.hm_layers.specs.Met.{BeginsNoPair, Grows, IsListOf, LeadsBack, IsPlainStep, IsStepOf, list_at, first_states, made_at, only_first};
+ghost use Rattle.hm_layers.specs.Met.{BeginsNoPair, Grows, IsListOf, Leads, IsStepOf, list_at, first_states, made_at, only_first};
 
 use crate::layer::{Layer, find_layer, is_state};
-use crate::made::{CharacterStep, Front, KnownStep, MadeStep, Reached, equal_made};
-use crate::marks::{ByteMarks, mark_at, marked_run, place_of, usual_number};
+use crate::made::{Front, KnownStep, MadeStep, Reached, equal_made};
 use crate::pairs::{lone_characters, pair_of};
+use crate::plain::{Alike, PlainRow, keep, no_rows, none_alike, row_of};
 use crate::rules::EdgeRules;
 use crate::step::Step;
 use hm_base::Memory;
@@ -40,10 +40,10 @@ pub(crate) struct Met<'t> {
     hints: Vec<u32>,
     /// For each ASCII character whether it is known to begin no name's two code points.
     lone: Vec<bool>,
-    /// Steps of such characters with another one behind them, each at the place of its list and character.
-    plain: Vec<CharacterStep>,
-    /// Which of them lead back to their list, for some lists and steps.
-    marks: Vec<ByteMarks>,
+    /// Where such characters lead that have another one behind them.
+    plain: Vec<PlainRow>,
+    /// Where the last characters of texts lead.
+    ends: Vec<PlainRow>,
 }
 
 impl<'t> Model for Met<'t> {
@@ -51,25 +51,25 @@ impl<'t> Model for Met<'t> {
 
     ghost Value = { MetView };
 
-    ghost use Rattle.std.specs.Prelude.{map};
+    ghost use Rattle.std.specs.Prelude.{false, map, true};
     ghost use Rattle.std.specs.List.{All};
-    ghost use Rattle.hm_layers.specs.Met.{AreLone, AreMarks, IsMet, IsPlainStep, IsSeen};
+    ghost use Rattle.hm_layers.specs.Met.{AreLone, IsMet, IsRow, IsSeen};
 
     ghost view = { λ m. record { table = m.table.now; rules = m.rules; lists = map (λ l. l.items) m.lists.items; made = m.made.items } };
 
     ghost invariant = { λ m. IsMet (record { table = m.table.now; rules = m.rules; lists = map (λ l. l.items) m.lists.items; made = m.made.items })
         × All (IsSeen (record { table = m.table.now; rules = m.rules; lists = map (λ l. l.items) m.lists.items; made = m.made.items })) m.seen.items
         × AreLone m.table.now.entries m.lone.items
-        × All (IsPlainStep (record { table = m.table.now; rules = m.rules; lists = map (λ l. l.items) m.lists.items; made = m.made.items })) m.plain.items
-        × All (AreMarks (record { table = m.table.now; rules = m.rules; lists = map (λ l. l.items) m.lists.items; made = m.made.items })) m.marks.items };
+        × All (IsRow (record { table = m.table.now; rules = m.rules; lists = map (λ l. l.items) m.lists.items; made = m.made.items }) true) m.plain.items
+        × All (IsRow (record { table = m.table.now; rules = m.rules; lists = map (λ l. l.items) m.lists.items; made = m.made.items }) false) m.ends.items };
 }
 
 /// How many places there are for hints.
 const HINTS: usize = 4096;
 
 /// The place of the hint for a list and a unit.
-fn hint_place(front: &Front) -> usize {
-    let own = match front.unit {
+fn hint_place(list: u32, unit: &Unit) -> usize {
+    let own = match *unit {
         Unit::Character {
             kind: _,
             c,
@@ -94,7 +94,7 @@ fn hint_place(front: &Front) -> usize {
             loosens: _,
         } => len ^ 3584,
     };
-    (own ^ front.list.wrapping_mul(131)) as usize % HINTS
+    (own ^ list.wrapping_mul(131)) as usize % HINTS
 }
 
 /// Places for hints, with none known.
@@ -112,17 +112,6 @@ fn put_hint(hints: &mut Vec<u32>, at: usize, place: u32) {
         *hint = place;
     }
 }
-
-/// How many places there are for steps of plain characters.
-const PLAIN: usize = 4096;
-
-/// The place of the step of a plain character from a list.
-fn plain_place(list: u32, c: char) -> usize {
-    (list.wrapping_mul(128) ^ c as u32) as usize % PLAIN
-}
-
-/// How many lists and steps have marks.
-const MARKED: usize = 16;
 
 /// Whether the lists are the same.
 fn are_same(one: &[State], other: &[State]) -> bool
@@ -184,8 +173,8 @@ impl<'t> Met<'t> {
             known: HashMap::new(alloc),
             hints: no_hints(alloc)?,
             lone: lone_characters(alloc, table)?,
-            plain: Vec::new(alloc),
-            marks: Vec::new(alloc),
+            plain: no_rows(alloc)?,
+            ends: no_rows(alloc)?,
         })
     }
 
@@ -241,7 +230,7 @@ impl<'t> Met<'t> {
             hints: _,
             lone: _,
             plain: _,
-            marks: _,
+            ends: _,
         } = self;
         let mut steps = Vec::new(alloc);
         for made in made {
@@ -252,11 +241,11 @@ impl<'t> Met<'t> {
     }
 
     /// The number of the step of this list and unit, where they are seen at this place.
-    fn seen_at(&self, place: u32, front: &Front) -> Option<u32>
-        ensures { IfSome result (IsStepOf self.now front.now.list front.now.unit) }
+    fn seen_at(&self, place: u32, list: u32, unit: &Unit) -> Option<u32>
+        ensures { IfSome result (IsStepOf self.now list unit.now) }
     {
         let seen = self.seen.get(place as usize)?;
-        if seen.is_from(front) {
+        if seen.is_from(list, unit) {
             Some(seen.number)
         } else {
             None
@@ -264,11 +253,11 @@ impl<'t> Met<'t> {
     }
 
     /// The number of the step of this list and unit, where they are found by their hint.
-    fn hinted(&self, front: &Front) -> Option<u32>
-        ensures { IfSome result (IsStepOf self.now front.now.list front.now.unit) }
+    fn hinted(&self, list: u32, unit: &Unit) -> Option<u32>
+        ensures { IfSome result (IsStepOf self.now list unit.now) }
     {
-        let place = *self.hints.get(hint_place(front))?;
-        self.seen_at(place, front)
+        let place = *self.hints.get(hint_place(list, unit))?;
+        self.seen_at(place, list, unit)
     }
 
     /// The number of the step of this list and unit, where they are known. The hint then tells of them.
@@ -277,8 +266,8 @@ impl<'t> Met<'t> {
         ensures same { self.new ≡ self.old }
     {
         let place = *self.known.get(front)?;
-        put_hint(&mut self.hints, hint_place(front), place);
-        self.seen_at(place, front)
+        put_hint(&mut self.hints, hint_place(front.list, &front.unit), place);
+        self.seen_at(place, front.list, &front.unit)
     }
 
     /// The number of a list with these states: of an earlier one, or of one that is added.
@@ -357,7 +346,6 @@ impl<'t> Met<'t> {
     }
 
     /// The step of a unit from the states of a list that has no hint: an earlier one, or one that is made.
-    #[inline(never)]
     fn step_without_hint(&mut self, front: Front) -> Result<u32, Memory>
         requires { front.list < length self.old.lists }
         ensures step { IfOk result (IsStepOf self.new front.list front.unit) }
@@ -370,124 +358,55 @@ impl<'t> Met<'t> {
     }
 
     /// The step of a unit from the states of a list: an earlier one, or one that is made.
-    #[inline(always)]
-    pub(crate) fn step(&mut self, list: u32, unit: Unit) -> Result<u32, Memory>
+    pub(crate) fn step(&mut self, list: u32, unit: &Unit) -> Result<u32, Memory>
         requires { list < length self.old.lists }
-        ensures step { IfOk result (IsStepOf self.new list unit) }
+        ensures step { IfOk result (IsStepOf self.new list unit.now) }
         ensures kept { Grows self.old self.new }
     {
-        let front = Front { list, unit };
-        if let Some(number) = self.hinted(&front) {
+        if let Some(number) = self.hinted(list, unit) {
             return Ok(number);
         }
-        self.step_without_hint(front)
+        self.step_without_hint(Front { list, unit: *unit })
     }
 
-    /// Where the step of a character leads that begins no name's two code points and has another one behind it, if it is
-    /// kept.
-    fn plain_step(&self, list: u32, kind: TextKind, c: char) -> Option<Reached>
-        ensures step { IfSome result (λ to. IsStepOf self.now list (Character kind c None true) to.number) }
-        ensures behind { IfSome result (λ to. to.behind ≡ (made_at self.now to.number).behind) }
-        ensures lone { IfSome result (λ to. BeginsNoPair self.now.table.entries c) }
+    /// Where the plain characters at the front of a text lead, as far as they are known to lead to one place, each with
+    /// another one behind it. Only where that is the list itself they are more than one.
+    pub(crate) fn alike(&self, list: u32, kind: TextKind, text: &[u8]) -> Alike
+        ensures within { result.count ≤ length text.now }
+        ensures short { 0 < result.count → result.count < length text.now }
+        ensures back { 1 < result.count → result.to.behind ≡ list }
+        ensures leads { All (Leads self.now list kind true result.to) (take result.count text.now) }
     {
-        let step = self.plain.get(plain_place(list, c))?;
-        if step.is_from(list, kind, c) {
-            Some(Reached {
-                number: step.number,
-                behind: step.behind,
-            })
-        } else {
-            None
+        match row_of(self.plain.as_slice(), list, kind) {
+            Some(row) => row.alike(text),
+            None => none_alike(),
         }
     }
 
-    /// Whether a byte is a plain character that has another one behind it, and leads back to the list by this step.
-    fn leads_back(&self, list: u32, kind: TextKind, byte: u8, number: u32) -> bool
-        ensures { IsTrue result → LeadsBack self.now list kind number byte }
-    {
-        match self.plain.get(plain_place(list, char::from(byte))) {
-            Some(step) => {
-                byte < 128
-                    && step.number == number
-                    && step.behind == list
-                    && step.is_from(list, kind, char::from(byte))
-            }
-            None => false,
-        }
-    }
-
-    /// The same, told character by character.
-    fn slow_back_run(&self, list: u32, kind: TextKind, number: u32, text: &[u8]) -> usize
-        ensures within { result ≤ length text.now }
-        ensures short { 0 < result → result < length text.now }
-        ensures plain { All (LeadsBack self.now list kind number) (take result text.now) }
-    {
-        let mut count = 0;
-        while count + 1 < text.len() && self.leads_back(list, kind, text[count], number) {
-            count += 1;
-        }
-        count
-    }
-
-    /// How many plain characters at the front of a text lead back to the list by this step, each with another one behind it.
-    pub(crate) fn back_run(&self, list: u32, kind: TextKind, number: u32, text: &[u8]) -> usize
-        ensures within { result ≤ length text.now }
-        ensures short { 0 < result → result < length text.now }
-        ensures plain { All (LeadsBack self.now list kind number) (take result text.now) }
-    {
-        match place_of(self.marks.as_slice(), list, kind, number) {
-            Some(place) => marked_run(self.marks[place].marked.as_slice(), text),
-            None => self.slow_back_run(list, kind, number, text),
-        }
-    }
-
-    /// The number of the step by which most characters of such a text lead back to the list, if it is known; any number else.
-    pub(crate) fn usual_number(&self, list: u32, kind: TextKind) -> u32 {
-        usual_number(self.marks.as_slice(), list, kind)
-    }
-
-    /// Marks the character of a step that leads back to its list.
-    fn mark(&mut self, step: &CharacterStep) -> Result<(), Memory>
-        requires { IsPlainStep self.old step.now }
+    /// Keeps where a character leads that begins no name's two code points and has another one behind it.
+    fn keep_plain(&mut self, list: u32, kind: TextKind, c: char, to: Reached) -> Result<(), Memory>
+        requires { c < 128 → Leads self.old list kind true to c }
         ensures { self.new ≡ self.old }
     {
-        if step.behind != step.list || step.c as u32 >= 128 {
+        if c as u32 >= 128 {
             return Ok(());
         }
-        match place_of(self.marks.as_slice(), step.list, step.kind, step.number) {
-            Some(place) => mark_at(&mut self.marks, place, step),
-            None => self.add_marks(step)?,
-        }
-        Ok(())
+        keep(self.alloc, &mut self.plain, list, kind, c, to)
     }
 
-    /// Adds marks of a step that leads back to its list, where there is room.
-    fn add_marks(&mut self, step: &CharacterStep) -> Result<(), Memory>
-        requires { LeadsBack self.old step.now.list step.now.kind step.now.number step.now.c }
+    /// Keeps where the last character of a text leads.
+    fn keep_end(&mut self, list: u32, kind: TextKind, c: char, to: Reached) -> Result<(), Memory>
+        requires { c < 128 → Leads self.old list kind false to c }
         ensures { self.new ≡ self.old }
     {
-        if self.marks.len() < MARKED {
-            self.marks.push(ByteMarks::of(self.alloc, step)?)?;
-        }
-        Ok(())
-    }
-
-    /// Keeps the step of such a character. The first one is kept at all places.
-    fn keep_plain(&mut self, step: CharacterStep) -> Result<(), Memory>
-        requires { IsPlainStep self.old step }
-        ensures { self.new ≡ self.old }
-    {
-        let place = plain_place(step.list, step.c);
-        if place < self.plain.len() {
-            self.plain[place] = step;
+        if c as u32 >= 128 {
             return Ok(());
         }
-        self.plain = vec![in self.alloc; step; PLAIN]?;
-        Ok(())
+        keep(self.alloc, &mut self.ends, list, kind, c, to)
     }
 
-    /// Where the step of a character leads with this one behind it, found as that of any unit. It is kept, where it can be.
-    fn found_step(
+    /// Where the step of a character leads from the states of a list, with this one behind it in the same text.
+    pub(crate) fn character_step(
         &mut self,
         list: u32,
         kind: TextKind,
@@ -506,38 +425,53 @@ impl<'t> Met<'t> {
             pair,
             more: true,
         };
-        let number = self.step(list, unit)?;
+        let number = self.step(list, &unit)?;
         let behind = self.behind(number);
+        let to = Reached { number, behind };
         if self.is_lone(c) {
-            let step = CharacterStep {
-                list,
-                kind,
-                c,
-                number,
-                behind,
-            };
-            self.mark(&step)?;
-            self.keep_plain(step)?;
+            self.keep_plain(list, kind, c, to)?;
         }
-        Ok(Reached { number, behind })
+        Ok(to)
     }
 
-    /// Where the step of a character leads from the states of a list, with this one behind it in the same text.
-    pub(crate) fn character_step(
-        &mut self,
-        list: u32,
-        kind: TextKind,
-        c: char,
-        next: char,
-    ) -> Result<Reached, Memory>
+    /// Where the step of the last character of a text leads from the states of a list, if it is kept.
+    fn kept_end(&self, list: u32, kind: TextKind, c: char) -> Option<Reached>
+        ensures { IfSome result (λ to. Leads self.now list kind false to c) }
+    {
+        let row = row_of(self.ends.as_slice(), list, kind)?;
+        row.step(c)
+    }
+
+    /// The same, found as that of any unit. It is kept, where it can be.
+    fn found_end(&mut self, list: u32, kind: TextKind, c: char) -> Result<Reached, Memory>
         requires { list < length self.old.lists }
-        ensures step { IfOk result (λ to. IsStepOf self.new list (Character kind c (units.pair_of self.old.table.entries c (Some next)) true) to.number) }
+        ensures step { IfOk result (λ to. IsStepOf self.new list (Character kind c None false) to.number) }
         ensures behind { IfOk result (λ to. to.behind ≡ (made_at self.new to.number).behind) }
         ensures kept { Grows self.old self.new }
     {
-        if let Some(to) = self.plain_step(list, kind, c) {
+        let unit = Unit::Character {
+            kind,
+            c,
+            pair: None,
+            more: false,
+        };
+        let number = self.step(list, &unit)?;
+        let behind = self.behind(number);
+        let to = Reached { number, behind };
+        self.keep_end(list, kind, c, to)?;
+        Ok(to)
+    }
+
+    /// Where the step of the last character of a text leads from the states of a list.
+    pub(crate) fn end_step(&mut self, list: u32, kind: TextKind, c: char) -> Result<Reached, Memory>
+        requires { list < length self.old.lists }
+        ensures step { IfOk result (λ to. IsStepOf self.new list (Character kind c None false) to.number) }
+        ensures behind { IfOk result (λ to. to.behind ≡ (made_at self.new to.number).behind) }
+        ensures kept { Grows self.old self.new }
+    {
+        if let Some(to) = self.kept_end(list, kind, c) {
             return Ok(to);
         }
-        self.found_step(list, kind, c, next)
+        self.found_end(list, kind, c)
     }
 }

@@ -36,7 +36,6 @@ impl Model for Numbers {
 }
 
 /// Adds a run behind, where it isn't empty.
-#[inline(never)]
 fn push_run(runs: &mut Vec<Run>, run: Run) -> Result<(), Memory>
     requires { AreRuns runs.old.items }
     ensures runs { AreRuns runs.new.items }
@@ -47,6 +46,21 @@ fn push_run(runs: &mut Vec<Run>, run: Run) -> Result<(), Memory>
         return Ok(());
     }
     runs.push(run)?;
+    Ok(())
+}
+
+/// Makes the last run one of this number.
+fn begin_run(runs: &mut Vec<Run>, latest: &mut Run, number: u32) -> Result<(), Memory>
+    requires { AreRuns runs.old.items }
+    ensures runs { AreRuns runs.new.items }
+    ensures number { OnOk result (latest.new.number ≡ number) }
+    ensures same { unroll runs.new.items ++ replicate latest.new.count latest.new.number ≡ unroll runs.old.items ++ replicate latest.old.count latest.old.number }
+{
+    if latest.number == number {
+        return Ok(());
+    }
+    push_run(runs, *latest)?;
+    *latest = Run { number, count: 0 };
     Ok(())
 }
 
@@ -73,7 +87,6 @@ impl Numbers {
     }
 
     /// Adds a number behind.
-    #[inline(always)]
     pub(crate) fn push(&mut self, number: u32) -> Result<(), Memory>
         requires { length self.old < 2 ^ 29 - 1 }
         ensures ok { OnOk result (self.new ≡ self.old ++ number ∷ []) }
@@ -82,24 +95,14 @@ impl Numbers {
         self.push_alike(number, 1)
     }
 
-    /// The last number; 0 where there is none.
-    pub(crate) fn latest(&self) -> u32 {
-        self.latest.number
-    }
-
     /// Adds a number so many times behind.
     pub(crate) fn push_alike(&mut self, number: u32, count: u32) -> Result<(), Memory>
         requires { length self.old + count < 2 ^ 29 }
         ensures ok { OnOk result (self.new ≡ self.old ++ replicate count number) }
         ensures err { OnErr result (self.new ≡ self.old) }
     {
-        if self.latest.number == number {
-            self.latest.count += count;
-            self.len += count as usize;
-            return Ok(());
-        }
-        push_run(&mut self.runs, self.latest)?;
-        self.latest = Run { number, count };
+        begin_run(&mut self.runs, &mut self.latest, number)?;
+        self.latest.count += count;
         self.len += count as usize;
         Ok(())
     }

@@ -15,7 +15,7 @@ pub invariant_of-self-2 : goal.invariant_of-self-2
 invariant_of-self-2 c =
     subst (λ ns. IsBuilding c.step.new.self ns c.behind-last.result) (sym c.in_ok-push.ensures.ok)
     (subst (λ k. IsBuilding c.step.new.self (c.self.inside.numbers ++ c.in_ok-number.number ∷ []) k) (sym c.behind-last.ensures)
-    (building_more c.self.inside.met c.step.new.self c.self.inside.numbers c.self.inside.last c.args.unit c.in_ok-number.number c.self.invariant c.step.ensures.kept c.in_ok-number.ensures.step
+    (building_more c.self.inside.met c.step.new.self c.self.inside.numbers c.self.inside.last c.args.unit.now c.in_ok-number.number c.self.invariant c.step.ensures.kept c.in_ok-number.ensures.step
     (omega (arith, c.len.ensures, c.if-len.false))))
 
 pub returns : goal.returns
@@ -23,4 +23,4 @@ returns c = λ u stands.
     subst (λ old. AddsSteps old (building c.step.new.self c.push.new.self c.behind-last.result) (u ∷ [])) c.self.view_is
     (subst (λ ns. AddsSteps (building c.self.inside.met c.self.inside.numbers c.self.inside.last) (building c.step.new.self ns c.behind-last.result) (u ∷ [])) (sym c.in_ok-push.ensures.ok)
     (subst (λ k. AddsSteps (building c.self.inside.met c.self.inside.numbers c.self.inside.last) (building c.step.new.self (c.self.inside.numbers ++ c.in_ok-number.number ∷ []) k) (u ∷ [])) (sym c.behind-last.ensures)
-    (adds_one c.self.inside.met c.step.new.self c.self.inside.numbers c.self.inside.last c.args.unit c.in_ok-number.number c.self.invariant c.step.ensures.kept c.in_ok-number.ensures.step u (subst (λ b. StandsFor b.table.entries c.args.unit u) (sym c.self.view_is) stands))))
+    (adds_one c.self.inside.met c.step.new.self c.self.inside.numbers c.self.inside.last c.args.unit.now c.in_ok-number.number c.self.invariant c.step.ensures.kept c.in_ok-number.ensures.step u (subst (λ b. StandsFor b.table.entries c.args.unit.now u) (sym c.self.view_is) stands))))

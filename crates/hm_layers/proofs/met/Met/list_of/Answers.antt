@@ -1,9 +1,9 @@
-use Rattle.std.proofs.Common.{◌≡◌, ◌∙◌, ◌∷◌, ◌++◌, [], map, sym, ap, subst}
+use Rattle.std.proofs.Common.{◌≡◌, ◌∙◌, ◌∷◌, ◌++◌, [], map, sym, ap, subst, true, false}
 use Rattle.std.proofs.lemmas.List.{map-append}
 use Rattle.hm_layers.specs.Layers.{HaveNodes}
 use Rattle.std.specs.List.{All}
-use Rattle.hm_layers.specs.Met.{AreLone, AreMarks, IsListOf, IsMet, IsPlainStep, IsSeen, MetView}
-use Rattle.hm_layers.proofs.Lists.{all_kept, all_marks_kept, all_plain_kept, list_grows, met, met_list, seen_there}
+use Rattle.hm_layers.specs.Met.{AreLone, IsListOf, IsMet, IsRow, IsSeen, MetView}
+use Rattle.hm_layers.proofs.Lists.{all_kept, all_rows_kept, list_grows, met, met_list, seen_there}
 use Rattle.hm_layers.proofs.met.Met.list_of.Goals as goal
 
 pub returns-in-Some-clause-list : goal.returns-in-Some-clause-list
@@ -18,13 +18,13 @@ invariant_of-self-2 c =
     ap (map (λ l. l.items)) c.in_ok-push.ensures.items ∙ map-append (λ l. l.items) c.self.inside.lists.items (c.args.states ∷ []) in
     let own : HaveNodes c.self.inside.table.now c.args.states.items = subst (λ m. HaveNodes m.table c.args.states.items) (sym c.self.view_is) c.requires in
     let before : MetView = met c.self.inside.table.now c.self.inside.rules (map (λ l. l.items) c.self.inside.lists.items) c.self.inside.made.items in
-    subst (λ ls. IsMet (met c.self.inside.table.now c.self.inside.rules ls c.self.inside.made.items) × All (IsSeen (met c.self.inside.table.now c.self.inside.rules ls c.self.inside.made.items)) c.self.inside.seen.items × AreLone c.self.inside.table.now.entries c.self.inside.lone.items × All (IsPlainStep (met c.self.inside.table.now c.self.inside.rules ls c.self.inside.made.items)) c.self.inside.plain.items × All (AreMarks (met c.self.inside.table.now c.self.inside.rules ls c.self.inside.made.items)) c.self.inside.marks.items) (sym lists) (
+    subst (λ ls. IsMet (met c.self.inside.table.now c.self.inside.rules ls c.self.inside.made.items) × All (IsSeen (met c.self.inside.table.now c.self.inside.rules ls c.self.inside.made.items)) c.self.inside.seen.items × AreLone c.self.inside.table.now.entries c.self.inside.lone.items × All (IsRow (met c.self.inside.table.now c.self.inside.rules ls c.self.inside.made.items) true) c.self.inside.plain.items × All (IsRow (met c.self.inside.table.now c.self.inside.rules ls c.self.inside.made.items) false) c.self.inside.ends.items) (sym lists) (
       met_list c.self.inside.table.now c.self.inside.rules (map (λ l. l.items) c.self.inside.lists.items) c.self.inside.made.items c.args.states.items c.self.invariant.0 own,
       all_kept before (met c.self.inside.table.now c.self.inside.rules (map (λ l. l.items) c.self.inside.lists.items ++ c.args.states.items ∷ []) c.self.inside.made.items) c.self.inside.seen.items
           (list_grows c.self.inside.table.now c.self.inside.rules (map (λ l. l.items) c.self.inside.lists.items) c.self.inside.made.items c.args.states.items) c.self.invariant.1,
       c.self.invariant.2,
-      all_plain_kept before (met c.self.inside.table.now c.self.inside.rules (map (λ l. l.items) c.self.inside.lists.items ++ c.args.states.items ∷ []) c.self.inside.made.items) c.self.inside.plain.items
+      all_rows_kept before (met c.self.inside.table.now c.self.inside.rules (map (λ l. l.items) c.self.inside.lists.items ++ c.args.states.items ∷ []) c.self.inside.made.items) true c.self.inside.plain.items
           (list_grows c.self.inside.table.now c.self.inside.rules (map (λ l. l.items) c.self.inside.lists.items) c.self.inside.made.items c.args.states.items) c.self.invariant.3,
-      all_marks_kept before (met c.self.inside.table.now c.self.inside.rules (map (λ l. l.items) c.self.inside.lists.items ++ c.args.states.items ∷ []) c.self.inside.made.items) c.self.inside.marks.items
+      all_rows_kept before (met c.self.inside.table.now c.self.inside.rules (map (λ l. l.items) c.self.inside.lists.items ++ c.args.states.items ∷ []) c.self.inside.made.items) false c.self.inside.ends.items
           (list_grows c.self.inside.table.now c.self.inside.rules (map (λ l. l.items) c.self.inside.lists.items) c.self.inside.made.items c.args.states.items) c.self.invariant.4,
     )

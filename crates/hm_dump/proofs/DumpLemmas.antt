@@ -22,17 +22,9 @@ pub lines_from-append : (path : List Element) (w v : List Event) → lines_from 
 lines_from-append path [] v = refl
 lines_from-append path (e ∷ w) v = ap (λ l. line_of (length path) e ++ l) (lines_from-append (path_behind path e) w v) ∙ sym (append_assoc (line_of (length path) e) (lines_from (path_behind path e) w) (lines_from (path_after (path_behind path e) w) v))
 
-path_after-append : (path : List Element) (w v : List Event) → path_after path (w ++ v) ≡ path_after (path_after path w) v
-path_after-append path [] v = refl
-path_after-append path (e ∷ w) v = path_after-append (path_behind path e) w v
-
 module _ (w : List Event) (i : ℕ) (e : Event) (at : slice_get w i ≡ Some e) where
   taken : take (i + 1) w ≡ take i w ++ e ∷ []
   taken = rw (take_more w i e (slice_get_within w i e at), get_or_from_slice_get w i e e at) refl
-
-  -- the path behind event i
-  pub path_after-take : path_after [] (take (i + 1) w) ≡ path_behind (path_after [] (take i w)) e
-  path_after-take = rw taken (path_after-append [] (take i w) (e ∷ []))
 
   -- the lines up to event i, with its own
   pub lines_from-take : lines_from [] (take i w) ++ line_of (length (path_after [] (take i w))) e ≡ lines_from [] (take (i + 1) w)

@@ -1,9 +1,10 @@
 use Rattle.std.proofs.Common.{◌++◌, [], length, take, drop, ap, sym, subst, ◌∙◌, arith}
 use Rattle.hm_base.specs.Walks.{path_after}
+use Rattle.hm_tree.proofs.WalkLemmas.{path_after-take}
 use Rattle.hm_tree.specs.Views.{event_of}
 use Rattle.hm_dump.specs.Dump.{line_of, lines_from}
 use Rattle.hm_dump.specs.Given.{Gives}
-use Rattle.hm_dump.proofs.DumpLemmas.{lines_from-rest, lines_from-take, path_after-take}
+use Rattle.hm_dump.proofs.DumpLemmas.{lines_from-rest, lines_from-take}
 use Rattle.hm_dump.proofs.GivenLemmas.{Gives-failed, Gives-then}
 use Rattle.hm_dump.proofs.lines.give_lines.Goals as goal
 

@@ -35,12 +35,12 @@ fn put_line<O: Sink>(out: &mut O, line: &[u8], status: Status) -> Status
     }
 }
 
-/// Puts what a run says: its status, or that the sink has failed.
-fn put_said<O: Sink>(out: &mut O, said: Said, status: Status) -> Status
-    ensures { spec.Puts (O.faults out.old) (O.faults out.new) (O.contents out.old) (O.contents out.new) (bytes_said said) status result }
+/// Puts what a run says: its answer, or that the sink has failed.
+fn put_said<O: Sink>(out: &mut O, said: Said, answer: Status) -> Status
+    ensures { spec.Puts (O.faults out.old) (O.faults out.new) (O.contents out.old) (O.contents out.new) (bytes_said said) answer result }
 {
     match said.put(out) {
-        Ok(()) => status,
+        Ok(()) => answer,
         Err(Failed) => Status::SinkFault,
     }
 }

@@ -5,4 +5,5 @@ pub mod Stops
 pub mod Endings
 pub mod Laws
 pub mod Runs
+pub mod Sayings
 pub mod Examples

@@ -13,7 +13,7 @@ use Rattle.hm_gen.specs.Pages.{page as made_page}
 use Rattle.hm_construction.specs.Trees.{built, page_tree}
 use Rattle.hm_shortest.specs.Shortest.{IsShortest, layer_count}
 use Rattle.hm_spellings.specs.Spellings.{Shortest}
-use Rattle.hm_tree.specs.Dump.{dump_of}
+use Rattle.hm_dump.specs.Dump.{dump_of}
 use Rattle.hm_input.specs.Inputs.{bad_table, bad_page, tree as tree_input, input_of}
 use Rattle.hm_words.specs.Words.{Command, check}
 use Rattle.hm_words.specs.declared.writing.Writing.{Writing}

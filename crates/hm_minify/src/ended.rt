@@ -1,10 +1,15 @@
 //! What a run is to end with, made in memory.
-ghost use Rattle.std.specs.Prelude.{◌≡◌, string_bytes};
+ghost use Rattle.std.specs.Prelude.{◌≡◌, OnOk, OnErr, string_bytes};
+ghost use Rattle.std.specs.Io.KnownBytes.{append_known};
+ghost use Rattle.hm_store.specs.Causes.{HasCause};
+ghost use Rattle.hm_store.specs.Files.{AppendsFront};
 ghost use Rattle.hm_minify.specs.Endings as spec;
+ghost use Rattle.hm_minify.specs.Sayings.{bytes_said};
 
 use crate::Status;
 use hm_base::Memory;
-use hm_store::LoadFault;
+use hm_dump::Shown;
+use hm_store::{Failed, LoadFault, Sink};
 use std::alloc::{AllocError, AllocFailed, Global};
 use std::marker::Model;
 
@@ -26,23 +31,44 @@ impl<'w> Model for Output<'w> {
     } };
 }
 
+/// What is put to the sink: a line, or the lines of a tree, which never stand in memory together.
+#[derive(Drop)]
+pub enum Said {
+    Line { line: String },
+    Tree { shown: Shown },
+}
+
+impl Said {
+    /// Puts it.
+    pub fn put<O: Sink>(self, out: &mut O) -> Result<(), Failed>
+        ensures ok { OnOk result (O.contents out.new ≡ append_known (O.contents out.old) (bytes_said self)) }
+        ensures err { OnErr result (AppendsFront (O.contents out.old) (O.contents out.new) (bytes_said self)) }
+        ensures cause { HasCause (O.faults out.old) (O.faults out.new) result }
+    {
+        match self {
+            Said::Line { line } => out.put(line.as_bytes()),
+            Said::Tree { shown } => shown.put(out),
+        }
+    }
+}
+
 /// How a run ends: its status, the line that says so, and the files that are to be written before, in their order.
 #[derive(Drop)]
 pub struct Ended<'w> {
     pub status: Status,
-    pub line: String,
+    pub said: Said,
     pub outputs: Vec<Output<'w>>,
 }
 
 impl<'w> Model for Ended<'w> {
-    ghost use Rattle.std.specs.Prelude.{string_bytes};
     ghost use Rattle.hm_minify.specs.Endings.{Ending};
+    ghost use Rattle.hm_minify.specs.Sayings.{bytes_said};
 
     ghost Value = { Ending };
 
     ghost view = { λ e. record {
       status = e.status;
-      line = string_bytes e.line;
+      line = bytes_said e.said;
       writes = e.outputs.items;
     } };
 }
@@ -53,7 +79,18 @@ pub fn says<'w>(alloc: Global, status: Status, line: String) -> Ended<'w>
 {
     Ended {
         status,
-        line,
+        said: Said::Line { line },
+        outputs: Vec::new(alloc),
+    }
+}
+
+/// The lines of a tree are put, and nothing is written.
+pub fn shows<'w>(alloc: Global, status: Status, shown: Shown) -> Ended<'w>
+    ensures { result ≡ spec.says status shown }
+{
+    Ended {
+        status,
+        said: Said::Tree { shown },
         outputs: Vec::new(alloc),
     }
 }

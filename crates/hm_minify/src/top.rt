@@ -12,10 +12,11 @@ ghost use Rattle.hm_minify.specs.Endings as endings;
 ghost use Rattle.hm_minify.specs.Endings.{ending, is_fault};
 ghost use Rattle.hm_minify.specs.Lines.{usage_line, store_line};
 ghost use Rattle.hm_minify.specs.Runs as spec;
+ghost use Rattle.hm_minify.specs.Sayings.{bytes_said};
 ghost use Rattle.hm_minify.specs.Writes.{after_writes, IsLeft};
 
 use crate::Status;
-use crate::ended::{Ended, Stop};
+use crate::ended::{Ended, Said, Stop};
 use crate::lines::{STORE_FAULT, USAGE};
 use crate::saved::save;
 use crate::work::work;
@@ -34,12 +35,22 @@ fn put_line<O: Sink>(out: &mut O, line: &[u8], status: Status) -> Status
     }
 }
 
-/// Writes the files, and then puts the line.
-fn finish<S: Store, O: Sink>(store: &mut S, out: &mut O, ended: &Ended<'_>) -> Status
-    ensures { spec.Finishes ended.now (S.files store.old) (S.files store.new) (S.faults store.old) (S.faults store.new) (O.contents out.old) (O.contents out.new) (O.faults out.old) (O.faults out.new) result }
+/// Puts what a run says: its answer, or that the sink has failed.
+fn put_said<O: Sink>(out: &mut O, said: Said, answer: Status) -> Status
+    ensures { spec.Puts (O.faults out.old) (O.faults out.new) (O.contents out.old) (O.contents out.new) (bytes_said said) answer result }
+{
+    match said.put(out) {
+        Ok(()) => answer,
+        Err(Failed) => Status::SinkFault,
+    }
+}
+
+/// Writes the files, and then puts what is said.
+fn finish<S: Store, O: Sink>(store: &mut S, out: &mut O, ended: Ended<'_>) -> Status
+    ensures { spec.Finishes ended.entry (S.files store.old) (S.files store.new) (S.faults store.old) (S.faults store.new) (O.contents out.old) (O.contents out.new) (O.faults out.old) (O.faults out.new) result }
 {
     match save(store, ended.outputs.as_slice()) {
-        Ok(()) => put_line(out, ended.line.as_bytes(), ended.status),
+        Ok(()) => put_said(out, ended.said, ended.status),
         Err(Failed) => put_line(out, STORE_FAULT, Status::StoreFault),
     }
 }
@@ -54,7 +65,7 @@ fn perform<S: Store, O: Sink>(alloc: Global, words: &[Word], store: &mut S, out:
         Err(WordsFault::Usage) => put_line(out, USAGE, Status::Usage),
         Err(WordsFault::Memory) => Status::Memory,
         Ok(asked) => match work(alloc, &asked, store) {
-            Ok(ended) => finish(store, out, &ended),
+            Ok(ended) => finish(store, out, ended),
             Err(Stop::Store) => put_line(out, STORE_FAULT, Status::StoreFault),
             Err(Stop::Memory) => Status::Memory,
         },

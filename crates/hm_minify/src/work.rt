@@ -4,17 +4,18 @@ ghost use Rattle.hm_base.specs.declared.plain.TreeOptions.{TreeOptions};
 ghost use Rattle.hm_store.specs.Causes.{Rose};
 ghost use Rattle.hm_store.specs.Contents.{Contents, Sees, Tells};
 ghost use Rattle.hm_input.specs.Inputs.{input_of, page_with_table};
-ghost use Rattle.hm_tree.specs.Dump.{dump_of};
+ghost use Rattle.hm_dump.specs.Dump.{dump_of};
 ghost use Rattle.hm_words.specs.Answers.{command_of, request_of};
 ghost use Rattle.hm_words.specs.Words as request;
 ghost use Rattle.hm_minify.specs.Endings as spec;
 
 use crate::Status;
 use crate::checked::check_files;
-use crate::ended::{Ended, Output, Stop, says};
+use crate::ended::{Ended, Output, Said, Stop, says, shows};
 use crate::lines::{length_line, refused_line, table_line};
 use crate::measured::measure;
 use hm_cert::Format;
+use hm_dump::Shown;
 use hm_input::{Input, Unread, load_tree};
 use hm_shortest::minify_tree;
 use hm_store::Store;
@@ -88,35 +89,35 @@ fn minify<'w>(
     })?;
     Ok(Ended {
         status: Status::Done,
-        line,
+        said: Said::Line { line },
         outputs,
     })
 }
 
 /// The lines of a tree.
-fn show<'w>(alloc: Global, tree: &Tree) -> Result<Ended<'w>, Stop>
-    ensures ended { IfOk result (λ ended. ended ≡ spec.says Status.Done (dump_of tree.now)) }
+fn show<'w>(alloc: Global, tree: Tree) -> Result<Ended<'w>, Stop>
+    ensures ended { IfOk result (λ ended. ended ≡ spec.says Status.Done (dump_of tree)) }
     ensures memory { result ≢ Err Stop.Store }
 {
-    Ok(says(alloc, Status::Done, tree.dump(alloc)?))
+    Ok(shows(alloc, Status::Done, Shown::of(alloc, tree)?))
 }
 
-/// What a request makes of the tree of its page. A check reads two further files.
+/// What a request makes of the tree of its page, which is let go but where it is shown. A check reads two further files.
 fn answer<'w, S: Store>(
     alloc: Global,
     asked: &Asked<'w>,
-    input: &Input,
+    input: Input,
     store: &mut S,
 ) -> Result<Ended<'w>, Stop>
     requires page { spec.has_page (command_of asked.now.command) ≡ true }
     requires apart { request.is_apart (command_of asked.now.command) ≡ true }
-    ensures ended { IfOk result (λ ended. Sees (S.files store.old) (λ seen. ended ≡ spec.tree_ending (command_of asked.now.command) asked.now.writing seen input.now.table.entries input.now.tree)) }
+    ensures ended { IfOk result (λ ended. Sees (S.files store.old) (λ seen. ended ≡ spec.tree_ending (command_of asked.now.command) asked.now.writing seen input.table.entries input.tree)) }
     ensures answers { IfOk result (λ ended. spec.is_fault ended.status ≡ false) }
     ensures same { S.files store.new ≡ S.files store.old }
     ensures writing { S.is_writing store.new ≡ S.is_writing store.old }
     ensures later { S.faults store.old ≤ S.faults store.new }
     ensures store { result ≡ Err Stop.Store → Rose (S.faults store.old) (S.faults store.new)
-        ⊎ Tells (S.files store.old) (λ seen. spec.tree_ending (command_of asked.now.command) asked.now.writing seen input.now.table.entries input.now.tree ≡ spec.store_fault) }
+        ⊎ Tells (S.files store.old) (λ seen. spec.tree_ending (command_of asked.now.command) asked.now.writing seen input.table.entries input.tree ≡ spec.store_fault) }
 {
     match asked.command {
         Command::Minify {
@@ -124,14 +125,14 @@ fn answer<'w, S: Store>(
             page: _,
             out,
             cert,
-        } => minify(alloc, input, asked.writing, out, cert),
+        } => minify(alloc, &input, asked.writing, out, cert),
         Command::Check {
             table: _,
             page: _,
             out,
             cert,
-        } => check_files(alloc, store, input, asked.writing.rules, out, cert),
-        Command::Tree { table: _, page: _ } => show(alloc, &input.tree),
+        } => check_files(alloc, store, &input, asked.writing.rules, out, cert),
+        Command::Tree { table: _, page: _ } => show(alloc, input.tree),
         Command::Measure {
             table: _,
             number: _,
@@ -157,7 +158,7 @@ fn work_on_page<'w, S: Store>(
 {
     let (table, page) = inputs_of(&asked.command);
     match load_tree(alloc, store, table, page, &asked.options) {
-        Ok(input) => answer(alloc, asked, &input, store),
+        Ok(input) => answer(alloc, asked, input, store),
         Err(Unread::Table { fault }) => {
             Ok(says(alloc, Status::TableRefused, table_line(alloc, &fault)?))
         }

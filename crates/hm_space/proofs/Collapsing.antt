@@ -9,7 +9,7 @@ use Rattle.hm_space.proofs.Rewriting.{NoLonger, IsCopied, IsCopied-more, HasRoom
 use Rattle.hm_space.proofs.Trims.{spaced_short, both_short}
 use Rattle.hm_tree.specs.Rows.{is_text, ends_in_text}
 use Rattle.hm_tree.specs.Trees.{HasRoom, IsWalk}
-use Rattle.hm_tree.proofs.DumpLemmas.{path_after-take}
+use Rattle.hm_tree.proofs.WalkLemmas.{path_after-take}
 use Rattle.hm_tree.proofs.LastLemmas.{ends_in_text-push}
 use Rattle.hm_tree.proofs.RoomLemmas.{HasRoom-take}
 

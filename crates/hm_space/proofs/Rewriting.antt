@@ -8,9 +8,8 @@ use Rattle.hm_space.specs.Copies.{event_before}
 use Rattle.hm_space.specs.Rewritten.{first_event, rewritten}
 use Rattle.hm_space.proofs.Distinct.{take_push}
 use Rattle.hm_tree.specs.Trees.{HasRoom, IsWalk}
-use Rattle.hm_tree.proofs.DumpLemmas.{path_after-take}
 use Rattle.hm_tree.proofs.RoomLemmas.{HasRoom-take}
-use Rattle.hm_tree.proofs.WalkLemmas.{path_after-push, walk_size-push}
+use Rattle.hm_tree.proofs.WalkLemmas.{path_after-push, path_after-take, walk_size-push}
 
 pub first_event-drop : (w : List Event) (n : ℕ) → first_event (drop n w) ≡ slice_get w n
 first_event-drop [] zero = refl

@@ -1,7 +1,6 @@
 pub mod ApartLemmas
 pub mod AttributeLemmas
 pub mod BucketLemmas
-pub mod DumpLemmas
 pub mod EndLemmas
 pub mod LastLemmas
 pub mod MakingLemmas
@@ -11,7 +10,6 @@ pub mod PairLemmas
 pub mod ParentLemmas
 pub mod PieceLemmas
 pub mod RoomLemmas
-pub mod RunLemmas
 pub mod ShownLemmas
 pub mod StartLemmas
 pub mod TableLemmas

@@ -1,6 +1,8 @@
 -- Walks with one more event at their end.
 use Rattle.std.proofs.Common.{◌≡◌, ℕ, zero, suc, ◌+◌, ◌<◌, Bool, true, false, ◌&&◌, List, [], ◌∷◌, ◌++◌, length, take, slice_get, Some, sym, ap, ◌∙◌, refl, arith}
 use Rattle.std.proofs.lemmas.Bool.{and_parts, and_from}
+use Rattle.std.proofs.lemmas.List.{take_more}
+use Rattle.std.proofs.lemmas.Option.{slice_get_within, get_or_from_slice_get}
 use Rattle.hm_base.specs.Walks.{Event, doctype, start, text, comment, end, Element, is_same_element, path_behind, path_after, ends_match, event_size, walk_size}
 use Rattle.hm_tree.specs.Trees.{is_sound, are_sound, open_behind, open_after}
 use Rattle.hm_tree.specs.Rows.{parents_from}
@@ -8,6 +10,11 @@ use Rattle.hm_tree.specs.Rows.{parents_from}
 pub path_after-push : (path : List Element) (w : List Event) (e : Event) → path_after path (w ++ e ∷ []) ≡ path_behind (path_after path w) e
 path_after-push path [] e = refl
 path_after-push path (x ∷ w) e = path_after-push (path_behind path x) w e
+
+-- the path behind event i
+pub path_after-take : (w : List Event) (i : ℕ) (e : Event) → slice_get w i ≡ Some e → path_after [] (take (i + 1) w) ≡ path_behind (path_after [] (take i w)) e
+path_after-take w i e at =
+    rw (take_more w i e (slice_get_within w i e at), get_or_from_slice_get w i e e at) (path_after-push [] (take i w) e)
 
 pub open_after-push : (ks : List ℕ) (i : ℕ) (w : List Event) (e : Event) (n : ℕ) → n ≡ i + length w → open_after ks i (w ++ e ∷ []) ≡ open_behind (open_after ks i w) n e
 open_after-push ks i [] e n at = ap (λ k. open_behind ks k e) (let here : i ≡ n = omega arith in here)

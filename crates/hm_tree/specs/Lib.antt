@@ -1,12 +1,10 @@
 pub mod Attributes
 pub mod Buckets
-pub mod Dump
 pub mod Lexemes
 pub mod Pairs
 pub mod Parents
 pub mod Pieces
 pub mod Rows
-pub mod Runs
 pub mod Sources
 pub mod Tokens
 pub mod Trees

@@ -4,14 +4,12 @@
 mod appended;
 mod attrs;
 mod attrs_view;
-mod dump;
 mod events;
 mod maker;
 mod names;
 mod parent;
 mod pieces;
 mod rows;
-mod runs;
 mod sources;
 mod tokens;
 mod tree;

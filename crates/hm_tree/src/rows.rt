@@ -87,27 +87,6 @@ impl Rows {
         self.rows.len() as u32
     }
 
-    // About how many bytes the lines of a dump take, and seldom fewer: the bytes of the texts, what each line says beside
-    // them, and some more for what is escaped.
-    pub(crate) fn lines_len(&self) -> usize {
-        let mut len = self.text.len();
-        let mut spaces = 0usize;
-        for row in self.rows.as_slice() {
-            match row.part {
-                RowPart::Start { attrs, .. } => {
-                    let count = attrs.to.wrapping_sub(attrs.from) as usize;
-                    len = len.wrapping_add(
-                        spaces.wrapping_add(9).wrapping_add(count.wrapping_mul(4)),
-                    );
-                    spaces = spaces.wrapping_add(2);
-                }
-                RowPart::End { .. } => spaces = spaces.wrapping_sub(2),
-                _ => len = len.wrapping_add(spaces.wrapping_add(15)),
-            }
-        }
-        len.saturating_add(len / 16)
-    }
-
     // Gives back the room that isn't needed.
     pub(crate) fn shrink(&mut self)
         ensures { self.new ≡ self.old }

@@ -186,9 +186,6 @@ fn a_page(rt: HostRuntime) -> Result<(), Fail> {
         assert_eq!(rt; shown(tree.event(i)), (name, is_end), "at {i}");
         assert_eq!(rt; tree.parent(i), parent, "at {i}");
     }
-    let lines =
-        "doctype\nelement html\n  element head\n  element body\n    element p id=\"x\"\n      text \"a\"\n      element br\n      text \"b\"\n";
-    assert_eq!(rt; tree.dump(rt.alloc())?.as_str(), lines);
     Ok(())
 }
 
@@ -251,22 +248,6 @@ fn first_differences(rt: HostRuntime) -> Result<(), Fail> {
         assert_eq!(rt; found, place);
         assert_eq!(rt; same, place.is_none());
     }
-    Ok(())
-}
-
-#[test]
-fn quoted_texts(rt: HostRuntime) -> Result<(), Fail> {
-    let steps = [
-        MakerCall::Doctype(true),
-        MakerCall::With("a", "title", "\"\\\n\r\té"),
-        MakerCall::Comment("<b>"),
-        MakerCall::Text("\u{1F600}\""),
-        MakerCall::End,
-    ];
-    let tree = made(rt.alloc(), &steps)?;
-    let lines =
-        "doctype legacy\nelement a title=\"\\\"\\\\\\n\\r\\té\"\n  comment \"<b>\"\n  text \"\u{1F600}\\\"\"\n";
-    assert_eq!(rt; tree.dump(rt.alloc())?.as_str(), lines);
     Ok(())
 }
 

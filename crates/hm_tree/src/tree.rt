@@ -61,11 +61,6 @@ impl Tree {
         self.rows.release();
     }
 
-    /// About how many bytes the lines of the tree take, and seldom fewer.
-    pub(crate) fn lines_len(&self) -> usize {
-        self.rows.lines_len()
-    }
-
     /// Event `i`.
     pub fn event(&self, i: u32) -> EventView<'_>
         requires { i < length self.now }

@@ -236,6 +236,44 @@ fn a_full_sink(rt: HostRuntime) -> Result<(), Fail> {
     Ok(())
 }
 
+/// A text of more bytes than wait before they are put.
+fn long_text(alloc: Global) -> Result<String, AllocError> {
+    let mut text = String::new(alloc);
+    for _ in 0..9000 {
+        text.push_str("0123456789")?;
+    }
+    Ok(text)
+}
+
+/// The lines of a tree with a long text are put three times: what stands before the text, the text, and what stands behind it.
+#[test]
+fn a_long_tree_is_put_in_pieces(rt: HostRuntime) -> Result<(), Fail> {
+    let alloc = rt.alloc();
+    let text = long_text(alloc)?;
+    let text = text.as_str();
+    let page = format!(in alloc; "<!doctype html><p>{text}\t</p>")?;
+    let before =
+        "doctype\nelement html\n  element head\n  element body\n    element p\n      text \"";
+    let most = format!(in alloc; "{before}{text}")?;
+    let all = format!(in alloc; "{before}{text}\\t\"\n")?;
+    for (call, status, lines) in [
+        (1, Status::SinkFault, ""),
+        (2, Status::SinkFault, before),
+        (3, Status::SinkFault, most.as_str()),
+        (4, Status::Done, all.as_str()),
+    ] {
+        let mut store = MemStore::new(alloc);
+        store.add("page", page.as_bytes())?;
+        let mut sink = MemSink::new(alloc);
+        sink.fail(call)?;
+        let words = worded(alloc, &["tree", "none", "page"])?;
+        let ended = run(alloc, words.as_slice(), &mut store, &mut sink);
+        assert_eq!(rt; ended, status, "call {call}");
+        assert!(rt; sink.bytes() == lines.as_bytes(), "call {call}");
+    }
+    Ok(())
+}
+
 /// The page that is checked.
 const PAGE: &str = "<!doctype html><p>a</p><p>b</p>";
 

@@ -1,0 +1,3 @@
+pub mod DumpLemmas
+pub mod GivenLemmas
+pub mod RunLemmas

@@ -1,0 +1,9 @@
+//! The lines of a tree, put to a sink in pieces.
+#![tactic(auto)]
+
+mod buffer;
+mod lines;
+mod runs;
+mod shown;
+
+pub use shown::Shown;

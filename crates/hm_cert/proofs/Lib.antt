@@ -11,3 +11,4 @@ pub mod Read
 pub mod BackNumbers
 pub mod LeadingDigits
 pub mod Slots
+pub mod Turned

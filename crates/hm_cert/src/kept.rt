@@ -1,5 +1,5 @@
 //! The rows of prices of a certificate that was read, kept as its lines.
-ghost use Rattle.std.specs.Prelude.{◌≡◌, ◌+◌, ◌-◌, ◌<◌, [], length, map, slice_index_or, slice_range, IfOk};
+ghost use Rattle.std.specs.Prelude.{◌≡◌, ◌+◌, ◌-◌, ◌<◌, [], length, map, slice_index_or, slice_range, OnOk};
 ghost use Rattle.hm_cert.specs.Layout.{told};
 ghost use Rattle.hm_cert.specs.Places.{AreCounted, IsLineStart, IsRowPlace};
 ghost use Rattle.hm_cert.specs.Reading.{RowsAre, rows_in};
@@ -72,47 +72,36 @@ impl<'a> WrittenRows<'a> {
         }
     }
 
-    /// Reads the row in front of a place, of any form, in place of what the list held.
-    fn any_row_before(
-        &self,
-        place: RowPlace<'a>,
-        into: &mut Vec<u64>,
-    ) -> Result<RowPlace<'a>, Memory>
-        requires place { IsRowPlace self.now place }
-        requires some { 0 < place.row }
-        ensures row { IfOk result (λ _. map told into.new.items ≡ slice_index_or self.now (place.entry.row - 1) []) }
-        ensures place { IfOk result (λ before. IsRowPlace self.now before) }
-        ensures before { IfOk result (λ before. before.row + 1 ≡ place.entry.row) }
+    /// Reads the row in front of a place, of any form, in place of what the list held, and goes in front of it.
+    fn any_row_before(&self, place: &mut RowPlace<'a>, into: &mut Vec<u64>) -> Result<(), Memory>
+        requires place { IsRowPlace self.now place.old }
+        requires some { 0 < place.old.row }
+        ensures row { OnOk result (map told into.new.items ≡ slice_index_or self.now (place.old.row - 1) []) }
+        ensures place { OnOk result (IsRowPlace self.now place.new) }
+        ensures before { OnOk result (place.new.row + 1 ≡ place.old.row) }
     {
         let (at, line) = line_before(self.lines, place.at - 1);
         read_row(line, into)?;
-        Ok(RowPlace {
-            row: place.row - 1,
-            at,
-            known: place.known,
-        })
+        place.row -= 1;
+        place.at = at;
+        Ok(())
     }
 
-    /// Reads the row in front of a place into a list, in place of what is there, a closed price as `CLOSED`, and gives the place
-    /// in front of it.
-    pub fn row_before(
-        &self,
-        place: RowPlace<'a>,
-        into: &mut Vec<u64>,
-    ) -> Result<RowPlace<'a>, Memory>
-        requires place { IsRowPlace self.now place }
-        requires some { 0 < place.row }
-        ensures row { IfOk result (λ _. map told into.new.items ≡ slice_index_or self.now (place.entry.row - 1) []) }
-        ensures place { IfOk result (λ before. IsRowPlace self.now before) }
-        ensures before { IfOk result (λ before. before.row + 1 ≡ place.entry.row) }
+    /// Reads the row in front of a place into a list, in place of what is there, a closed price as `CLOSED`, and goes in front
+    /// of it. Where memory is refused, the place stays where it was.
+    pub fn row_before(&self, place: &mut RowPlace<'a>, into: &mut Vec<u64>) -> Result<(), Memory>
+        requires place { IsRowPlace self.now place.old }
+        requires some { 0 < place.old.row }
+        ensures row { OnOk result (map told into.new.items ≡ slice_index_or self.now (place.old.row - 1) []) }
+        ensures place { OnOk result (IsRowPlace self.now place.new) }
+        ensures before { OnOk result (place.new.row + 1 ≡ place.old.row) }
     {
-        let mut known = place.known;
-        match short_row_before(self.lines, place.at - 1, into, &mut known)? {
-            Some(at) => Ok(RowPlace {
-                row: place.row - 1,
-                at,
-                known,
-            }),
+        match short_row_before(self.lines, place.at - 1, into, &mut place.known)? {
+            Some(at) => {
+                place.row -= 1;
+                place.at = at;
+                Ok(())
+            }
             None => self.any_row_before(place, into),
         }
     }

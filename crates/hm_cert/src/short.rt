@@ -1,5 +1,5 @@
 //! Lines of prices of few digits, judged from their front and read from their end.
-ghost use Rattle.std.specs.Prelude.{◌≡◌, ◌<◌, length, map, IfOk, IfSome};
+ghost use Rattle.std.specs.Prelude.{◌≡◌, ◌<◌, length, map, reverse, IfOk, IfSome};
 ghost use Rattle.hm_cert.specs.Layout.{told};
 ghost use Rattle.hm_cert.specs.Short.{AreDigits, IsBackTo, IsLastPrice, IsShortLine, IsShortRow, IsShortWord};
 
@@ -153,6 +153,18 @@ fn back_price_like<'a>(text: &'a [u8], known: &mut LeadingDigits<'a>) -> Option<
     Some((price, at))
 }
 
+/// Turns a row round. Most have at most three prices.
+fn turn(row: &mut Vec<u64>)
+    ensures { row.new.items ≡ reverse row.old.items }
+{
+    let len = row.len();
+    if len > 3 {
+        row.reverse();
+    } else if len > 1 {
+        row.swap(0, len - 1);
+    }
+}
+
 /// Reads the row whose line ends at a place into a list, in place of what is there, a closed price as `CLOSED`, and gives
 /// where the line begins, where each price is closed or has at most 18 digits.
 pub(crate) fn short_row_before<'a>(
@@ -169,7 +181,7 @@ pub(crate) fn short_row_before<'a>(
     while let Some((next, at)) = back_price_like(&text[..front], known) {
         into.push(next)?;
         if at == 0 || text[at - 1] == b'\n' {
-            into.reverse();
+            turn(into);
             return Ok(Some(at));
         }
         if text[at - 1] != b' ' {

@@ -87,13 +87,13 @@ fn read(rt: HostRuntime) -> Result<(), CertificateFault> {
     let read = Certificate::read(rt.alloc(), WIDE.as_bytes())?;
     assert!(rt; read.format == Format::Two && read.rules == RULES);
     let mut row = Vec::new(rt.alloc());
-    let place = read.prices.end();
+    let mut place = read.prices.end();
     assert!(rt; place.row == 3);
-    let place = read.prices.row_before(place, &mut row)?;
+    read.prices.row_before(&mut place, &mut row)?;
     assert!(rt; place.row == 2 && row.as_slice() == [0].as_slice());
-    let place = read.prices.row_before(place, &mut row)?;
+    read.prices.row_before(&mut place, &mut row)?;
     assert!(rt; place.row == 1 && row.as_slice() == [CLOSED, CLOSED].as_slice());
-    let place = read.prices.row_before(place, &mut row)?;
+    read.prices.row_before(&mut place, &mut row)?;
     assert!(rt;
         place.row == 0 && row.as_slice() == [10, CLOSED, 9_223_372_036_854_775_807].as_slice()
     );
@@ -111,17 +111,17 @@ fn read(rt: HostRuntime) -> Result<(), CertificateFault> {
 fn near_rows(rt: HostRuntime) -> Result<(), CertificateFault> {
     let read = Certificate::read(rt.alloc(), NEAR.as_bytes())?;
     let mut row = Vec::new(rt.alloc());
-    let place = read.prices.end();
+    let mut place = read.prices.end();
     assert!(rt; place.row == 5);
-    let place = read.prices.row_before(place, &mut row)?;
+    read.prices.row_before(&mut place, &mut row)?;
     assert!(rt; row.as_slice() == [1_234_567_890, 1_234_567_899, 1_234_567_800, 0].as_slice());
-    let place = read.prices.row_before(place, &mut row)?;
+    read.prices.row_before(&mut place, &mut row)?;
     assert!(rt; row.as_slice() == [99_999, 100_000, CLOSED, 100_001].as_slice());
-    let place = read.prices.row_before(place, &mut row)?;
+    read.prices.row_before(&mut place, &mut row)?;
     assert!(rt; row.as_slice() == [99_123_456, 123_455].as_slice());
-    let place = read.prices.row_before(place, &mut row)?;
+    read.prices.row_before(&mut place, &mut row)?;
     assert!(rt; row.as_slice() == [123_455, 12_345_678].as_slice());
-    let place = read.prices.row_before(place, &mut row)?;
+    read.prices.row_before(&mut place, &mut row)?;
     assert!(rt; place.row == 0 && row.as_slice() == [123_456, 123_499, 123_400].as_slice());
     Ok(())
 }

@@ -157,7 +157,8 @@ impl<'a> Sweep<'a> {
         ensures { IfOk result (IsSwept format graph.now prices.now (length graph.now.steps)) }
     {
         let mut behind = Vec::new(alloc);
-        let at = prices.row_before(prices.end(), &mut behind)?;
+        let mut at = prices.end();
+        prices.row_before(&mut at, &mut behind)?;
         let found = judge_at_end(graph.len() as u64, behind.as_slice(), graph.last());
         Ok(Sweep {
             at,
@@ -209,7 +210,7 @@ impl<'a> Sweep<'a> {
         ensures { OnOk result (IsSwept format graph.now prices.now k self.new) }
     {
         graph.is_small();
-        self.at = prices.row_before(self.at, &mut self.spare)?;
+        prices.row_before(&mut self.at, &mut self.spare)?;
         judge_over(
             &mut self.found,
             k as u64,

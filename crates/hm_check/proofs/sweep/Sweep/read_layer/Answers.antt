@@ -26,11 +26,11 @@ judge_over-requires-clause-low c = subst IsLowStep (sym c.requires.step) (low_st
 pub returns : goal.returns
 returns c =
     let kept : is_left_out c.args.format c.args.k (get_or c.args.graph.now.steps c.args.k []) ≡ false = sym (ap (is_left_out c.args.format c.args.k) c.requires.step) ∙ c.requires.kept in
-    let after : Sweep = record { at = c.in_ok-self.field-0; behind = c.swap.new.x; found = c.judge_over.new.found; spare = c.swap.new.y } in
-    let front : c.args.self.now.at.row - 1 ≡ c.in_ok-self.field-0.row = omega (arith, c.in_ok-self.ensures.before) in
-    let row : map told c.row_before.new.into.items ≡ get_or c.args.prices.now c.in_ok-self.field-0.row [] = c.in_ok-self.ensures.row ∙ ap (λ n. get_or c.args.prices.now n []) front in
-    let read : map told c.as_slice.result.now ≡ get_or c.args.prices.now c.in_ok-self.field-0.row [] = ap (map told) c.as_slice.ensures.value ∙ row in
+    let after : Sweep = record { at = c.row_before.new.place; behind = c.swap.new.x; found = c.judge_over.new.found; spare = c.swap.new.y } in
+    let front : c.args.self.now.at.row - 1 ≡ c.row_before.new.place.row = omega (arith, c.in_ok-row_before.ensures.before) in
+    let row : map told c.row_before.new.into.items ≡ get_or c.args.prices.now c.row_before.new.place.row [] = c.in_ok-row_before.ensures.row ∙ ap (λ n. get_or c.args.prices.now n []) front in
+    let read : map told c.as_slice.result.now ≡ get_or c.args.prices.now c.row_before.new.place.row [] = ap (map told) c.as_slice.ensures.value ∙ row in
     let behind : map told c.as_slice-2.result.now ≡ map told c.args.self.now.behind.items = ap (map told) c.as_slice-2.ensures.value in
-    in_swept c.args.format c.args.graph.now c.args.prices.now c.args.k c.args.self.now after c.requires.place c.requires.layer kept c.requires.swept c.in_ok-self.ensures.place c.in_ok-self.ensures.before
+    in_swept c.args.format c.args.graph.now c.args.prices.now c.args.k c.args.self.now after c.requires.place c.requires.layer kept c.requires.swept c.in_ok-row_before.ensures.place c.in_ok-row_before.ensures.before
     (ap (λ v. map told v.items) c.swap.ensures.x_after ∙ row)
     (c.judge_over.ensures ∙ (λ i. judged c.args.self.now.found c.args.k (read i) (behind i) (c.requires.step i)))

@@ -5,8 +5,7 @@ use Rattle.std.proofs.lemmas.List.{take_more}
 use Rattle.std.proofs.lemmas.List.Elements.{All-push}
 use Rattle.std.specs.List.{All}
 use Rattle.std.specs.Option.{IfSome}
-use Rattle.hm_layers.specs.Met.{IsKnown, IsRow, IsToward, Leads, MetView, unknown}
-use Rattle.hm_layers.specs.declared.made.Reached.{Reached}
+use Rattle.hm_layers.specs.Met.{IsRow, MetView, unknown}
 use Rattle.hm_layers.specs.declared.plain.PlainRow.{PlainRow}
 
 pub none_known : (n c : ℕ) → get_or (replicate n unknown) c unknown ≡ unknown
@@ -18,13 +17,7 @@ none_known (suc n) (suc c) = none_known n c
 pub unknown_row : (m : MetView) (more : Bool) (x : PlainRow) → ((c : ℕ) → get_or x.steps.items c unknown ≡ unknown) → IsRow m more x
 unknown_row m more x none = λ c known. let low : 4294967295 < 4294967295 = subst (λ to. to.number < 4294967295) (none c) known in absurd (omega (arith, low))
 
-pub lead_there : (m : MetView) (more : Bool) (x : PlainRow) (to : Reached) (c : ℕ) → IsRow m more x → IsKnown to → get_or x.steps.items c unknown ≡ to → Leads m x.list x.kind more to c
-lead_there m more x to c row known at = subst (λ t. Leads m x.list x.kind more t c) at (row c (subst (λ t. t.number < 4294967295) (sym at) known))
-
-pub all_lead : (m : MetView) (more : Bool) (x : PlainRow) (to : Reached) (cs : List ℕ) → IsRow m more x → IsKnown to → All (IsToward x.steps.items to) cs → All (Leads m x.list x.kind more to) cs
-all_lead m more x to cs row known toward = λ k d within. lead_there m more x to (get_or cs k d) row known (toward k d within)
-
-pub all_none : (P : ℕ → Type 0) → All P []
+all_none : (P : ℕ → Type 0) → All P []
 all_none P = λ k d within. absurd (omega (arith, within))
 
 pub all_first : (P : ℕ → Type 0) (text : List ℕ) → 0 < length text → P (get_or text 0 0) → All P (take 1 text)

@@ -86,9 +86,9 @@ unknown = record { number = 4294967295; behind = 0 }
 abbrev pub IsKnown : Reached → Type 0
 IsKnown to = to.number < 4294967295
 
--- the character's place in a row has this
+-- the character's place in a row has this step
 abbrev pub IsToward : List Reached → Reached → ℕ → Type 0
-IsToward steps to c = slice_index_or steps c unknown ≡ to
+IsToward steps to c = (slice_index_or steps c unknown).number ≡ to.number
 
 -- From its list a character of ASCII leads so, in front of another one or as the last of its text. In front of another one it
 -- begins no name's two code points.

@@ -31,7 +31,7 @@ pub(crate) struct KnownStep {
 }
 
 /// The number of a step, and that of the list behind it.
-#[derive(Clone, Copy, PartialEq, Eq)]
+#[derive(Clone, Copy)]
 pub(crate) struct Reached {
     pub(crate) number: u32,
     pub(crate) behind: u32,
@@ -39,13 +39,6 @@ pub(crate) struct Reached {
 
 /// Whether the two are equal.
 pub(crate) fn is_kind(one: TextKind, other: TextKind) -> bool
-    ensures { IsTrue result → one ≡ other }
-{
-    one == other
-}
-
-/// Whether the two are equal.
-pub(crate) fn is_reached(one: Reached, other: Reached) -> bool
     ensures { IsTrue result → one ≡ other }
 {
     one == other

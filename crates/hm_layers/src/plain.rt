@@ -3,7 +3,7 @@ ghost use Rattle.std.specs.Prelude.{◌≡◌, ◌<◌, ◌≤◌, ℕ, Bool, le
 ghost use Rattle.std.specs.List.{All};
 ghost use Rattle.hm_layers.specs.Met.{IsKnown, IsRow, IsToward, Leads, MetView, unknown};
 
-use crate::made::{Reached, is_kind, is_reached};
+use crate::made::{Reached, is_kind};
 use hm_base::Memory;
 use hm_edges::TextKind;
 use std::alloc::Global;
@@ -50,11 +50,11 @@ fn step_at(steps: &[Reached], byte: u8) -> Reached
     }
 }
 
-/// Whether a character leads there.
+/// Whether a character leads there. One step leads to one list, so its number alone is looked at.
 fn is_toward(steps: &[Reached], to: Reached, byte: u8) -> bool
     ensures { IsTrue result → IsToward steps.now to byte }
 {
-    is_reached(step_at(steps, byte), to)
+    step_at(steps, byte).number == to.number
 }
 
 /// How many characters at the front of a text lead where the first one does, each with another one behind it.

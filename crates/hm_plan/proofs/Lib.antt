@@ -5,3 +5,4 @@ pub mod FirstWay
 mod Only
 pub mod Alike
 mod Copied
+pub mod Ends

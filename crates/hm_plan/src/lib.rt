@@ -4,6 +4,7 @@
 mod paths;
 mod pieces;
 mod plans;
+mod turned;
 
 pub use paths::write_path;
 pub use plans::{Plan, backward};

@@ -10,6 +10,7 @@ ghost use Rattle.hm_steps.specs.Ways.{choice, step_choices};
 ghost use Rattle.hm_plan.specs.Plans.{IsFound, IsPlan, raised_lines};
 ghost use Rattle.hm_plan.specs.Rows.{AreBelow, IsBelow};
 
+use crate::turned::turn;
 use hm_base::{Memory, SpellRules};
 use hm_cert::{CLOSED, Format, Hundreds, put_head_reversed, put_line_reversed, put_next_line};
 use hm_layers::{Cursor, Graph, Step, are_still, first_len};
@@ -333,7 +334,7 @@ impl Back {
         };
         let mut text = self.text;
         put_head_reversed(&mut text, format, rules)?;
-        text.reverse();
+        turn(&mut text);
         Ok(Plan {
             certificate: text,
             choices: self.choices,

@@ -1,0 +1,54 @@
+//! Bytes in the opposite order.
+ghost use Rattle.std.specs.Prelude.{◌≡◌, ◌+◌, ◌-◌, ◌≤◌, ◌++◌, length, take, drop, reverse};
+
+/// Eight bytes in the opposite order.
+#[inline(always)]
+fn turned(bytes: [u8; 8]) -> [u8; 8]
+    ensures { result ≡ reverse bytes }
+{
+    u64::from_le_bytes(bytes).to_be_bytes()
+}
+
+/// The eight bytes from a place on.
+#[inline(always)]
+fn eight_at(bytes: &[u8], at: usize) -> [u8; 8]
+    requires { at + 8 ≤ length bytes.now }
+    ensures { result ≡ take 8 (drop at bytes.now) }
+{
+    [
+        bytes[at],
+        bytes[at + 1],
+        bytes[at + 2],
+        bytes[at + 3],
+        bytes[at + 4],
+        bytes[at + 5],
+        bytes[at + 6],
+        bytes[at + 7],
+    ]
+}
+
+/// Puts the first eight bytes and the last eight in each other's place, in the opposite order.
+#[inline(always)]
+fn turn_ends(bytes: &mut [u8])
+    requires { 16 ≤ length bytes.old }
+    ensures { bytes.new ≡ reverse (drop (length bytes.old - 8) bytes.old) ++ take (length bytes.old - 16) (drop 8 bytes.old) ++ reverse (take 8 bytes.old) }
+{
+    let last = bytes.len() - 8;
+    let front = turned(eight_at(bytes, 0));
+    let behind = turned(eight_at(bytes, last));
+    bytes[..8].copy_from_slice(&behind);
+    bytes[last..].copy_from_slice(&front);
+}
+
+/// Puts bytes in the opposite order.
+pub(crate) fn turn(bytes: &mut [u8])
+    ensures { bytes.new ≡ reverse bytes.old }
+{
+    let len = bytes.len();
+    let mut done = 0;
+    while len - done - done >= 16 {
+        turn_ends(&mut bytes[done..len - done]);
+        done += 8;
+    }
+    bytes[done..len - done].reverse();
+}

@@ -13,7 +13,7 @@ use crate::bounds::{are_within, best_price, find_high, find_high_at_end, more};
 use crate::layers::is_left_out;
 use hm_base::Memory;
 use hm_cert::{Format, RowPlace, WrittenRows};
-use hm_layers::{Cursor, Graph, Step, are_still, first_len};
+use hm_layers::{Cursor, Graph, Step};
 use std::alloc::Global;
 use std::mem;
 
@@ -314,10 +314,13 @@ impl<'a> Sweep<'a> {
         }
         graph.is_small();
         let step = graph.step(at);
-        let len = first_len(step);
-        if self.behind.len() != step.width() || !are_still(step, len) {
+        if self.behind.len() != step.width() {
             return Ok(at);
         }
+        let len = match step.still() {
+            Some(len) => len,
+            None => return Ok(at),
+        };
         if step.is_left_out(format) {
             let count = (at.layer - front.layer) as u64;
             self.add(count * len)?;

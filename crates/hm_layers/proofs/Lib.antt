@@ -12,3 +12,4 @@ pub mod Parts
 pub mod Events
 pub mod Finished
 pub mod Runs
+mod StillLengths

@@ -19,4 +19,3 @@ mod tests;
 
 pub use graph::{Cursor, Graph};
 pub use step::Step;
-pub use still::{are_still, first_len};

@@ -1,9 +1,11 @@
 //! A step between two layers.
-ghost use Rattle.std.specs.Prelude.{◌≡◌, ◌<◌, [], length, map, slice_index_or, IsTrue};
+ghost use Rattle.std.specs.Prelude.{◌≡◌, ◌<◌, ◌^◌, [], length, map, slice_index_or, IfSome, IsTrue};
 ghost use Rattle.hm_graph.specs.Layers.{is_single};
 ghost use Rattle.hm_steps.specs.Steps as steps;
+ghost use Rattle.hm_steps.specs.Still.{IsStill};
 ghost use Rattle.hm_layers.specs.Graphs as graphs;
 
+use crate::still::still_len;
 use hm_cert::Format;
 use hm_edges::Piece;
 use hm_steps::Hop;
@@ -15,11 +17,14 @@ pub struct Step {
     lists: Vec<Vec<Hop>>,
     forced: bool,
     only: Option<Hop>,
+    /// The length of each hop in bytes, where each state has one hop, to its own place.
+    still: Option<u64>,
 }
 
 impl Model for Step {
-    ghost use Rattle.std.specs.Prelude.{◌≡◌, List, map};
+    ghost use Rattle.std.specs.Prelude.{◌≡◌, List, map, IfSome};
     ghost use Rattle.hm_steps.specs.Steps.{is_forced};
+    ghost use Rattle.hm_steps.specs.Still.{IsStill};
     ghost use Rattle.hm_steps.specs.declared.hops.Hop.{Hop};
     ghost use Rattle.hm_layers.specs.Graphs.{only_hop};
 
@@ -27,7 +32,8 @@ impl Model for Step {
 
     ghost view = { λ s. map (λ hops. hops.items) s.lists.items };
 
-    ghost invariant = { λ s. (s.forced ≡ is_forced (map (λ hops. hops.items) s.lists.items)) × (s.only ≡ only_hop (map (λ hops. hops.items) s.lists.items)) };
+    ghost invariant = { λ s. (s.forced ≡ is_forced (map (λ hops. hops.items) s.lists.items)) × (s.only ≡ only_hop (map (λ hops. hops.items) s.lists.items))
+        × IfSome s.still (λ len. IsStill len (map (λ hops. hops.items) s.lists.items)) };
 }
 
 fn is_one(hops: &[Hop]) -> bool
@@ -77,11 +83,14 @@ impl Step {
     {
         let forced = are_forced(&lists);
         let only = only_of(&lists);
-        Step {
+        let mut step = Step {
             lists,
             forced,
             only,
-        }
+            still: None,
+        };
+        step.still = still_len(&step);
+        step
     }
 
     /// How many states are in front of it.
@@ -104,6 +113,14 @@ impl Step {
         ensures { result ≡ graphs.only_hop self.now }
     {
         self.only
+    }
+
+    /// The length of each hop in bytes, where there are states and each has one hop, to its own place.
+    pub fn still(&self) -> Option<u64>
+        ensures still { IfSome result (λ len. IsStill len self.now) }
+        ensures low { graphs.IsLowStep self.now → IfSome result (λ len. len < 2 ^ 33) }
+    {
+        self.still
     }
 
     /// Whether a certificate of this format leaves out the layer in front of it, where that isn't the first one.

@@ -1,7 +1,6 @@
 //! Steps over which no state changes its place.
-ghost use Rattle.std.specs.Prelude.{◌<◌, ◌^◌, IsTrue};
-ghost use Rattle.hm_layers.specs.Graphs.{AreLowHops, IsLowStep};
-ghost use Rattle.hm_steps.specs.Still.{AreStill, Stays};
+ghost use Rattle.std.specs.Prelude.{IfSome, IsTrue};
+ghost use Rattle.hm_steps.specs.Still.{AreStill, IsStill, Stays};
 
 use crate::Step;
 use hm_steps::Hop;
@@ -17,7 +16,7 @@ fn stays(hops: &[Hop], place: usize, len: u64) -> bool
 }
 
 /// Whether each state has one hop, of this length in bytes, to its own place.
-pub fn are_still(step: &Step, len: u64) -> bool
+fn are_still(step: &Step, len: u64) -> bool
     ensures { IsTrue result → AreStill len step.now }
 {
     for place in 0..step.width() {
@@ -28,24 +27,25 @@ pub fn are_still(step: &Step, len: u64) -> bool
     true
 }
 
-/// The length of the first hop, 0 where there is none.
-fn len_of(hops: &[Hop]) -> u64
-    requires { AreLowHops hops.now }
-    ensures { result < 2 ^ 33 }
-{
+/// The length of the first hop in bytes, 0 where there is none.
+fn len_of(hops: &[Hop]) -> u64 {
     match hops {
         [hop, ..] => hop.len,
         [] => 0,
     }
 }
 
-/// The length of the first hop of the first state in bytes, 0 where there is none.
-pub fn first_len(step: &Step) -> u64
-    requires { IsLowStep step.now }
-    ensures { result < 2 ^ 33 }
+/// The length of each hop in bytes, where there are states and each has one hop, to its own place.
+pub(crate) fn still_len(step: &Step) -> Option<u64>
+    ensures { IfSome result (λ len. IsStill len step.now) }
 {
     if step.width() == 0 {
-        return 0;
+        return None;
     }
-    len_of(step.hops(0))
+    let len = len_of(step.hops(0));
+    if are_still(step, len) {
+        Some(len)
+    } else {
+        None
+    }
 }

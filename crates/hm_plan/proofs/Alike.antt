@@ -1,9 +1,10 @@
 -- Over equal steps over which no state changes its place.
-use Rattle.std.proofs.Common.{◌≡◌, ◌∙◌, ℕ, zero, suc, ◌+◌, ◌-◌, ◌*◌, ◌<◌, ◌≤◌, ◌^◌, Bool, true, false, cond, List, [], ◌∷◌, ◌++◌, length, map, get_or, drop, reverse, sym, ap, subst, arith, append-nil, append_assoc}
+use Rattle.std.proofs.Common.{◌≡◌, ◌∙◌, ℕ, zero, suc, ◌+◌, ◌-◌, ◌*◌, ◌<◌, ◌≤◌, ◌^◌, ◌&&◌, Bool, true, false, cond, List, [], ◌∷◌, ◌++◌, length, map, get_or, drop, reverse, refl, sym, ap, subst, arith, append-nil, append_assoc}
 use Rattle.std.proofs.lemmas.List.{length-map}
 use Rattle.std.proofs.lemmas.Nat.{mul-lt}
 use Rattle.hm_cert.specs.Certificate.{row_line}
 use Rattle.hm_cert.specs.declared.text.Format.{Format}
+use Rattle.hm_graph.specs.Layers.{is_single}
 use Rattle.hm_graph.specs.Prices.{Row}
 use Rattle.hm_graph.specs.Ways.{over}
 use Rattle.hm_layers.specs.Graphs.{GraphView}
@@ -12,7 +13,8 @@ use Rattle.hm_steps.specs.Steps.{Step, is_forced, leaves_out}
 use Rattle.hm_steps.specs.Ways.{step_choices}
 use Rattle.hm_steps.proofs.Still.{each_more, each_none, still_row}
 use Rattle.hm_plan.specs.Plans.{IsBack, raised_lines}
-use Rattle.hm_steps.specs.Still.{AreStill}
+use Rattle.hm_steps.specs.Still.{AreStill, Stays}
+use Rattle.hm_steps.specs.declared.hops.Hop.{Hop}
 use Rattle.hm_plan.proofs.FirstWay.{forced_none, step_next}
 use Rattle.hm_plan.proofs.FromLast.{back_more, step_cut}
 use Rattle.hm_plan.proofs.Only.{left_out_later}
@@ -64,6 +66,23 @@ along_found g format k front n len text more choices chosen row after b still fo
     let all : IsBack g format (k - n) (text ++ cond b [] (raised_lines n len row)) choices (map (over (n * len)) row) =
     back_along g format k n (get_or g.steps k []) len text choices row b still forced left (row_width g format k text choices row inside found) (omega (arith, count)) (omega arith) (λ j l high. are j (omega (arith, l, end)) high) found in
     subst (λ A. A) (λ i. IsBack g format (end i) (sym t i) (sym c i) (sym r i)) all
+
+-- a step over which no state changes its place has nothing to choose
+one_single : (hops : List Hop) (len place : ℕ) → Stays len place hops → is_single hops ≡ true
+one_single [] len place h = absurd h
+one_single (x ∷ []) len place h = refl
+one_single (x ∷ y ∷ hops) len place h = absurd h
+
+forced_from : (k len : ℕ) (step : Step) → ((p : ℕ) → p < length step → Stays len (k + p) (get_or step p [])) → is_forced step ≡ true
+forced_from k len [] still = refl
+forced_from k len (hops ∷ step) still =
+    let next : (p : ℕ) → k + suc p ≡ suc k + p = λ p. omega arith in
+    let front : is_single hops ≡ true = one_single hops len (k + 0) (still 0 (omega arith)) in
+    let more : is_forced step ≡ true = forced_from (suc k) len step (λ p inside. subst (λ n. Stays len n (get_or step p [])) (next p) (still (suc p) (omega (arith, inside)))) in
+    λ i. front i && more i
+
+pub still_forced : (len : ℕ) (step : Step) → AreStill len step → is_forced step ≡ true
+still_forced len step still = let here : (p : ℕ) → p ≡ 0 + p = λ p. omega arith in forced_from 0 len step (λ p inside. subst (λ n. Stays len n (get_or step p [])) (here p) (still p inside))
 
 pub along_low : (n len : ℕ) → n < 2 ^ 29 → len < 2 ^ 33 → n * len < 2 ^ 62
 along_low n len few low = let all : n * len < 2 ^ 29 * 2 ^ 33 = mul-lt n len (2 ^ 29) (2 ^ 33) few low in all

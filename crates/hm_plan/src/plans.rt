@@ -13,7 +13,7 @@ ghost use Rattle.hm_plan.specs.Rows.{AreBelow, IsBelow};
 use crate::turned::turn;
 use hm_base::{Memory, SpellRules};
 use hm_cert::{CLOSED, Format, Hundreds, put_head_reversed, put_line_reversed, put_next_line};
-use hm_layers::{Cursor, Graph, Step, are_still, first_len};
+use hm_layers::{Cursor, Graph, Step};
 use hm_steps::Hop;
 use std::alloc::Global;
 use std::mem;
@@ -359,18 +359,14 @@ fn go_on(back: &mut Back, graph: &Graph, format: Format, at: Cursor) -> Result<C
     if front.layer == at.layer {
         return Ok(at);
     }
-    let step = graph.step(at);
-    if !step.is_forced() {
-        return Ok(at);
-    }
     graph.is_small();
-    let len = first_len(step);
-    if !are_still(step, len) {
-        return Ok(at);
+    let step = graph.step(at);
+    if let Some(len) = step.still() {
+        let count = (at.layer - front.layer) as u64;
+        back.pass_alike(step.is_left_out(format), count, len)?;
+        return Ok(front);
     }
-    let count = (at.layer - front.layer) as u64;
-    back.pass_alike(step.is_left_out(format), count, len)?;
-    Ok(front)
+    Ok(at)
 }
 
 /// Finds the least prices of a graph, and writes them as a certificate in a format, under these rules.

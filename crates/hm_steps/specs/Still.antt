@@ -12,3 +12,7 @@ Stays len place (h ∷ g ∷ hops) = ⊥
 -- each state has one hop, of this length, to its own place
 abbrev pub AreStill : ℕ → Step → Type 0
 AreStill len step = (place : ℕ) → place < length step → Stays len place (slice_index_or step place [])
+
+-- there are states, and each has one hop, of this length, to its own place
+abbrev pub IsStill : ℕ → Step → Type 0
+IsStill len step = (0 < length step) × AreStill len step

@@ -91,33 +91,32 @@ turned_part a b h =
     ∙ ap (λ x. reverse (more_prices (map told b)) ++ x) (reverse-append (32 ∷ []) (row_text (map told a)))
 
 -- one part more
-pub part_put : (row before out after : List ℕ) (start end mark : ℕ) → start < end → end ≤ length row
-    → out ++ mark ∷ [] ≡ before ++ 10 ∷ reverse (more_prices (map told (drop end row)))
+pub part_put : (row before out after : List ℕ) (start end mark first : ℕ) → start < end → end ≤ length row
+    → out ++ mark ∷ [] ≡ before ++ first ∷ reverse (more_prices (map told (drop end row)))
     → after ≡ out ++ mark ∷ reverse (row_text (map told (slice_range row start end)))
-    → after ++ 32 ∷ [] ≡ before ++ 10 ∷ reverse (more_prices (map told (drop start row)))
-part_put row before out after start end mark order inside h is =
+    → after ++ 32 ∷ [] ≡ before ++ first ∷ reverse (more_prices (map told (drop start row)))
+part_put row before out after start end mark first order inside h is =
     let part : List ℕ = take (end - start) (drop start row) in
     let text : List ℕ = reverse (row_text (map told part)) in
     let rest : List ℕ = reverse (more_prices (map told (drop end row))) in
     let sum : start + (end - start) ≡ end = omega (arith, order) in
     let cut : part ++ drop end row ≡ drop start row = ap (λ n. part ++ drop n row) (sym sum) ∙ ap (λ x. part ++ x) (sym (drop-drop (end - start) start row)) ∙ take-append-drop (end - start) (drop start row) in
     let some : 0 < length part = omega (arith, order, inside, length-take (end - start) (drop start row), length-drop start row) in
-    ap (λ x. x ++ 32 ∷ []) (is ∙ sym (append_assoc out (mark ∷ []) text) ∙ ap (λ x. x ++ text) h ∙ append_assoc before (10 ∷ rest) text)
-    ∙ append_assoc before (10 ∷ (rest ++ text)) (32 ∷ [])
-    ∙ ap (λ x. before ++ 10 ∷ x) (append_assoc rest text (32 ∷ []) ∙ sym (turned_part part (drop end row) some) ∙ ap (λ x. reverse (more_prices (map told x))) cut)
+    ap (λ x. x ++ 32 ∷ []) (is ∙ sym (append_assoc out (mark ∷ []) text) ∙ ap (λ x. x ++ text) h ∙ append_assoc before (first ∷ rest) text)
+    ∙ append_assoc before (first ∷ (rest ++ text)) (32 ∷ [])
+    ∙ ap (λ x. before ++ first ∷ x) (append_assoc rest text (32 ∷ []) ∙ sym (turned_part part (drop end row) some) ∙ ap (λ x. reverse (more_prices (map told x))) cut)
 
 -- all parts
-pub parts_put : (row before out : List ℕ) (end mark : ℕ) → 0 < length row → end ≤ 0 → mark ≡ 32
-    → out ++ mark ∷ [] ≡ before ++ 10 ∷ reverse (more_prices (map told (drop end row)))
-    → out ≡ before ++ reverse (row_line (map told row))
-parts_put row before out end mark some last is h =
+pub parts_put : (row before out : List ℕ) (end mark first : ℕ) → 0 < length row → end ≤ 0 → mark ≡ 32
+    → out ++ mark ∷ [] ≡ before ++ first ∷ reverse (more_prices (map told (drop end row)))
+    → out ≡ before ++ first ∷ reverse (row_text (map told row))
+parts_put row before out end mark first some last is h =
     let none : end ≡ 0 = omega (arith, last) in
     let text : List ℕ = reverse (row_text (map told row)) in
-    append_cancel_right out (before ++ reverse (row_line (map told row))) (32 ∷ []) (
+    append_cancel_right out (before ++ first ∷ text) (32 ∷ []) (
     ap (λ m. out ++ m ∷ []) (sym is)
     ∙ h
-    ∙ ap (λ n. before ++ 10 ∷ reverse (more_prices (map told (drop n row)))) none
-    ∙ ap (λ x. before ++ 10 ∷ reverse x) (more_row row some)
-    ∙ ap (λ x. before ++ 10 ∷ x) (reverse-append (32 ∷ []) (row_text (map told row)))
-    ∙ sym (append_assoc before (10 ∷ text) (32 ∷ []))
-    ∙ ap (λ x. (before ++ x) ++ 32 ∷ []) (sym (reverse-append (row_text (map told row)) (10 ∷ []))))
+    ∙ ap (λ n. before ++ first ∷ reverse (more_prices (map told (drop n row)))) none
+    ∙ ap (λ x. before ++ first ∷ reverse x) (more_row row some)
+    ∙ ap (λ x. before ++ first ∷ x) (reverse-append (32 ∷ []) (row_text (map told row)))
+    ∙ sym (append_assoc before (first ∷ text) (32 ∷ [])))

@@ -11,10 +11,9 @@ use std::alloc::Global;
 /// How many prices are written at once.
 pub(crate) const GROUP: usize = 3;
 
-/// The digits of the hundreds of some number below 10^9. Prices that are written one behind another mostly differ in their last
-/// two digits alone.
+/// The digits of the hundreds of some number below 10^9.
 #[derive(Clone, Copy)]
-pub struct Hundreds {
+struct KeptDigits {
     alloc: Global,
     /// The least number of these hundreds.
     base: u64,
@@ -25,10 +24,10 @@ pub struct Hundreds {
     ghost kept: { IsKept base line width },
 }
 
-impl Hundreds {
+impl KeptDigits {
     /// Of some number.
-    pub fn new(alloc: Global) -> Hundreds {
-        Hundreds {
+    fn new(alloc: Global) -> KeptDigits {
+        KeptDigits {
             alloc,
             base: 100,
             line: *b" 001 001 001                    ",
@@ -37,17 +36,17 @@ impl Hundreds {
     }
 
     /// Those of a number.
-    fn of(alloc: Global, number: u64) -> Result<Hundreds, Memory>
+    fn of(alloc: Global, number: u64) -> Result<KeptDigits, Memory>
         requires some { 100 ≤ number }
         requires low { number < 10 ^ 9 }
     {
         let hundreds = number / 100;
-        let mut text = Vec::new(alloc);
+        let mut text = Vec::with_capacity(alloc, 32)?;
         put_slot(&mut text, hundreds)?;
         let width = text.len();
         put_slot(&mut text, hundreds)?;
         put_slot(&mut text, hundreds)?;
-        Ok(Hundreds {
+        Ok(KeptDigits {
             alloc,
             base: hundreds * 100,
             line: line_of(&text),
@@ -55,12 +54,18 @@ impl Hundreds {
         })
     }
 
-    /// Keeps the hundreds of a price in place of these, where it has some and is below 10^9.
-    pub(crate) fn keep(&mut self, price: u64) -> Result<(), Memory> {
-        if price >= 100 && price < 1_000_000_000 && price / 100 != self.base / 100 {
-            *self = Hundreds::of(self.alloc, price)?;
-        }
-        Ok(())
+    /// Whether a price has these hundreds.
+    #[inline(always)]
+    fn has(&self, price: u64) -> bool {
+        price.wrapping_sub(self.base) < 100
+    }
+
+    /// Whether the first and the last of some prices have these hundreds. Those between them are judged when they are put.
+    #[inline(always)]
+    fn has_ends(&self, prices: &[u64]) -> bool
+        requires { 0 < length prices.now }
+    {
+        self.has(prices[0]) && self.has(prices[prices.len() - 1])
     }
 
     /// Appends so many numbers of these hundreds behind spaces, from their end.
@@ -78,12 +83,7 @@ impl Hundreds {
     /// Appends at most three prices with a space between and a byte behind, the last byte first, where all of them have these
     /// hundreds.
     #[inline(always)]
-    pub(crate) fn put_group(
-        &self,
-        out: &mut Vec<u8>,
-        prices: &[u64],
-        mark: u8,
-    ) -> Result<bool, Memory>
+    fn put_group(&self, out: &mut Vec<u8>, prices: &[u64], mark: u8) -> Result<bool, Memory>
         requires some { 0 < length prices.now }
         requires few { length prices.now ≤ 3 }
         ensures { IfOk result (λ put. out.new.items ≡ out.old.items ++ (if put then mark ∷ reverse (row_text (map told prices.now)) else [])) }
@@ -95,6 +95,56 @@ impl Hundreds {
         }
         out.truncate(start);
         Ok(false)
+    }
+}
+
+/// The digits of two hundreds that prices had lately. Prices that are written one behind another mostly differ in their last two
+/// digits alone, and those of a row have seldom more than two hundreds.
+#[derive(Clone, Copy)]
+pub struct Hundreds {
+    latest: KeptDigits,
+    earlier: KeptDigits,
+}
+
+impl Hundreds {
+    /// Of some number.
+    pub fn new(alloc: Global) -> Hundreds {
+        let digits = KeptDigits::new(alloc);
+        Hundreds {
+            latest: digits,
+            earlier: digits,
+        }
+    }
+
+    /// Keeps the hundreds of a price in place of the earlier ones, where it has some and is below 10^9.
+    pub(crate) fn keep(&mut self, price: u64) -> Result<(), Memory> {
+        if price >= 100 && price < 1_000_000_000 {
+            self.earlier = self.latest;
+            self.latest = KeptDigits::of(self.earlier.alloc, price)?;
+        }
+        Ok(())
+    }
+
+    /// Appends at most three prices with a space between and a byte behind, the last byte first, where all of them have the
+    /// same of these hundreds.
+    #[inline(always)]
+    pub(crate) fn put_group(
+        &self,
+        out: &mut Vec<u8>,
+        prices: &[u64],
+        mark: u8,
+    ) -> Result<bool, Memory>
+        requires some { 0 < length prices.now }
+        requires few { length prices.now ≤ 3 }
+        ensures { IfOk result (λ put. out.new.items ≡ out.old.items ++ (if put then mark ∷ reverse (row_text (map told prices.now)) else [])) }
+    {
+        if self.latest.has_ends(prices) {
+            self.latest.put_group(out, prices, mark)
+        } else if self.earlier.has_ends(prices) {
+            self.earlier.put_group(out, prices, mark)
+        } else {
+            Ok(false)
+        }
     }
 }
 

@@ -40,27 +40,31 @@ pub fn put_next_line(out: &mut Vec<u8>, hundreds: &mut Hundreds, row: &[u64]) ->
     if row.len() <= GROUP {
         return put_group(out, hundreds, row, b'\n');
     }
-    put_long_line(out, hundreds, row)
+    put_groups(out, hundreds, row, b'\n')
 }
 
-/// As `put_next_line`, for a row of any length.
-fn put_long_line(out: &mut Vec<u8>, hundreds: &mut Hundreds, row: &[u64]) -> Result<(), Memory>
+/// Appends prices with a space between and a byte behind, the last byte first, group by group.
+fn put_groups(
+    out: &mut Vec<u8>,
+    hundreds: &mut Hundreds,
+    row: &[u64],
+    mark: u8,
+) -> Result<(), Memory>
     requires { 0 < length row.now }
-    ensures { OnOk result (out.new.items ≡ out.old.items ++ reverse (row_line (map told row.now))) }
+    ensures { OnOk result (out.new.items ≡ out.old.items ++ mark ∷ reverse (row_text (map told row.now))) }
 {
-    let mut mark = b'\n';
+    let mut before = mark;
     let mut end = row.len();
     while end > 0 {
         let start = end.saturating_sub(GROUP);
-        put_group(out, hundreds, &row[start..end], mark)?;
-        mark = b' ';
+        put_group(out, hundreds, &row[start..end], before)?;
+        before = b' ';
         end = start;
     }
     Ok(())
 }
 
-/// Appends at most three prices with a space between and a byte behind, the last byte first. The hundreds of the first price
-/// are kept.
+/// Appends at most three prices with a space between and a byte behind, the last byte first.
 fn put_group(
     out: &mut Vec<u8>,
     hundreds: &mut Hundreds,
@@ -74,8 +78,44 @@ fn put_group(
     if hundreds.put_group(out, prices, mark)? {
         return Ok(());
     }
-    put_row(out, prices, mark)?;
-    hundreds.keep(prices[0])
+    put_each(out, hundreds, prices, mark)
+}
+
+/// As `put_group`, price by price.
+fn put_each(
+    out: &mut Vec<u8>,
+    hundreds: &mut Hundreds,
+    prices: &[u64],
+    mark: u8,
+) -> Result<(), Memory>
+    requires { 0 < length prices.now }
+    ensures { OnOk result (out.new.items ≡ out.old.items ++ mark ∷ reverse (row_text (map told prices.now))) }
+{
+    let mut before = mark;
+    let mut end = prices.len();
+    while end > 0 {
+        put_one(out, hundreds, &prices[end - 1..end], before)?;
+        before = b' ';
+        end -= 1;
+    }
+    Ok(())
+}
+
+/// Appends a price with a byte behind, the last byte first. Its hundreds are kept.
+fn put_one(
+    out: &mut Vec<u8>,
+    hundreds: &mut Hundreds,
+    price: &[u64],
+    mark: u8,
+) -> Result<(), Memory>
+    requires { length price.now ≡ 1 }
+    ensures { OnOk result (out.new.items ≡ out.old.items ++ mark ∷ reverse (row_text (map told price.now))) }
+{
+    if hundreds.put_group(out, price, mark)? {
+        return Ok(());
+    }
+    put_row(out, price, mark)?;
+    hundreds.keep(price[0])
 }
 
 /// Appends prices with a space between and a byte behind, the last byte first.

@@ -1,6 +1,6 @@
 use Rattle.std.proofs.Common.{◌+◌, ◌*◌, take, ap, ◌∙◌}
 use Rattle.hm_cert.proofs.Slots.{slots_put}
-use Rattle.hm_cert.proofs.hundreds.Hundreds.put_slots.Goals as goal
+use Rattle.hm_cert.proofs.hundreds.KeptDigits.put_slots.Goals as goal
 
 pub returns : goal.returns
 returns c =

@@ -13,7 +13,7 @@ pub(crate) const GROUP: usize = 3;
 
 /// The digits of the hundreds of some number below 10^9.
 #[derive(Clone, Copy)]
-struct KeptDigits {
+pub(crate) struct KeptDigits {
     alloc: Global,
     /// The least number of these hundreds.
     base: u64,

@@ -10,7 +10,6 @@ use Rattle.hm_tree.specs.Pieces.{HasPieces, IsPiece, bytes_of}
 use Rattle.hm_tree.specs.Rows.{IsRowTable, event_at, events_of}
 use Rattle.hm_tree.specs.declared.pieces.AttributePieces.{AttributePieces}
 use Rattle.hm_tree.specs.declared.pieces.TextRange.{TextRange}
-use Rattle.hm_tree.specs.declared.appended.AttrsRange.{AttrsRange}
 use Rattle.hm_tree.specs.declared.rows.RowPart.{RowPart}
 use Rattle.hm_tree.specs.declared.rows.RowPart.TheVariants as parts
 use Rattle.hm_tree.specs.declared.rows.EventRow.{EventRow}
@@ -36,26 +35,26 @@ module _ (s : List ℕ) (pieces : List AttributePieces) (rows : List EventRow) (
         sym (part_event s pieces rows w view k within table r is part e) ∙ around.start.at in
         cc
 
-    by_part : (part : RowPart) → r.part ≡ part → ((foreign : Bool) (name : TextRange) (attrs : AttrsRange) → r.part ≡ parts.Start foreign name attrs → ⊥) → ⊥
+    by_part : (part : RowPart) → r.part ≡ part → ((foreign : Bool) (count : ℕ) (name : TextRange) (first : ℕ) → r.part ≡ parts.Start foreign count name first → ⊥) → ⊥
     by_part (parts.Doctype legacy) e other = let h = same_event (parts.Doctype legacy) e in cc
-    by_part (parts.Start foreign name attrs) e other = other foreign name attrs e
+    by_part (parts.Start foreign count name first) e other = other foreign count name first e
     by_part (parts.Text p raw) e other = let h = same_event (parts.Text p raw) e in cc
     by_part (parts.Comment p) e other = let h = same_event (parts.Comment p) e in cc
     by_part (parts.End name foreign) e other = let h = same_event (parts.End name foreign) e in cc
 
     -- which is that of a start
-    pub start_row : ((foreign : Bool) (name : TextRange) (attrs : AttrsRange) → r.part ≡ parts.Start foreign name attrs → ⊥) → ⊥
+    pub start_row : ((foreign : Bool) (count : ℕ) (name : TextRange) (first : ℕ) → r.part ≡ parts.Start foreign count name first → ⊥) → ⊥
     start_row other = by_part r.part refl other
 
-    module _ (foreign : Bool) (name : TextRange) (attrs : AttrsRange) (part : r.part ≡ parts.Start foreign name attrs) (utf8 : IsUtf8 s) (room : length w + 1 < 2 ^ 29) where
+    module _ (foreign : Bool) (count : ℕ) (name : TextRange) (first : ℕ) (part : r.part ≡ parts.Start foreign count name first) (utf8 : IsUtf8 s) (room : length w + 1 < 2 ^ 29) where
       names : bytes_of s name ≡ around.element.name
-      names = let h = same_event (parts.Start foreign name attrs) part in cc
+      names = let h = same_event (parts.Start foreign count name first) part in cc
 
       flags : foreign ≡ around.element.foreign
-      flags = let h = same_event (parts.Start foreign name attrs) part in cc
+      flags = let h = same_event (parts.Start foreign count name first) part in cc
 
       inside : IsPiece s name
-      inside = (part_inside s pieces rows w view k within table r is (parts.Start foreign name attrs) part).0
+      inside = (part_inside s pieces rows w view k within table r is (parts.Start foreign count name first) part).0
 
       -- the end of that element can be put behind the table
       pub IsTableOf-end : IsTableOf s pieces (rows ++ record { part = parts.End name foreign; parent = Some k } ∷ []) (w ++ end_of (path_after [] w))

@@ -40,7 +40,7 @@ some_last (e ∷ w) h = omega arith
 
 not_text : (s : List ℕ) (pieces : List AttributePieces) (part : RowPart) → ((p : TextRange) (raw : Bool) → part ≡ parts.Text p raw → ⊥) → is_text (event_at s pieces part) ≡ false
 not_text s pieces (parts.Doctype legacy) other = refl
-not_text s pieces (parts.Start foreign name attrs) other = refl
+not_text s pieces (parts.Start foreign count name first) other = refl
 not_text s pieces (parts.Text p raw) other = absurd (other p raw refl)
 not_text s pieces (parts.Comment p) other = refl
 not_text s pieces (parts.End name foreign) other = refl

@@ -11,7 +11,7 @@ use Rattle.std.specs.Str.{is_utf8}
 use Rattle.hm_base.specs.Walks.{Attribute}
 use Rattle.hm_tree.specs.Attributes.{are_texts}
 use Rattle.hm_tree.specs.Pairs.{HasPair, IsShifted, pieces_of, attributes_of}
-use Rattle.hm_tree.specs.Pieces.{HasPieces, IsAppended, IsPiece, attribute_in, attributes_in, bytes_of, texts_of}
+use Rattle.hm_tree.specs.Pieces.{HasPieces, IsAppended, IsPiece, attribute_in, attributes_in, bytes_of, name_of, texts_of, value_of}
 use Rattle.hm_tree.specs.declared.pieces.AttributePieces.{AttributePieces}
 use Rattle.hm_tree.specs.declared.pieces.Pair.{Pair}
 use Rattle.hm_tree.specs.declared.pieces.TextRange.{TextRange}
@@ -23,9 +23,9 @@ texts_in : (s : List ℕ) (pieces : List AttributePieces) → IsUtf8 s → All (
 texts_in s [] utf8 h = refl
 texts_in s (a ∷ pieces) utf8 h =
     let first : HasPieces s a = All-head (HasPieces s) a pieces h in
-    let name : is_utf8 (bytes_of s a.name) ≡ true = is_utf8-from_IsUtf8 (bytes_of s a.name) (IsUtf8-bytes_of s a.name utf8 first.0) in
-    let value : is_utf8 (bytes_of s a.value) ≡ true = is_utf8-from_IsUtf8 (bytes_of s a.value) (IsUtf8-bytes_of s a.value utf8 first.1) in
-    and_from (is_utf8 (bytes_of s a.name) && is_utf8 (bytes_of s a.value)) (are_texts (attributes_in s pieces)) (and_from (is_utf8 (bytes_of s a.name)) (is_utf8 (bytes_of s a.value)) name value)
+    let name : is_utf8 (bytes_of s (name_of a)) ≡ true = is_utf8-from_IsUtf8 (bytes_of s (name_of a)) (IsUtf8-bytes_of s (name_of a) utf8 first.0) in
+    let value : is_utf8 (bytes_of s (value_of a)) ≡ true = is_utf8-from_IsUtf8 (bytes_of s (value_of a)) (IsUtf8-bytes_of s (value_of a) utf8 first.1) in
+    and_from (is_utf8 (bytes_of s (name_of a)) && is_utf8 (bytes_of s (value_of a))) (are_texts (attributes_in s pieces)) (and_from (is_utf8 (bytes_of s (name_of a))) (is_utf8 (bytes_of s (value_of a))) name value)
     (texts_in s pieces utf8 (All-tail (HasPieces s) a pieces h))
 
 pub texts_held : (s : List ℕ) (pairs : List Pair) → IsUtf8 s → All (HasPair s) pairs → are_texts (attributes_of s pairs) ≡ true
@@ -46,20 +46,20 @@ no_pair = record { from = 0; middle = 0; to = 0 }
 -- one more attribute, whose name and value are put behind the text
 module _ (s : List ℕ) (pairs : List Pair) (inside : All (HasPair s) pairs) (a : Attribute) (name_utf8 : IsUtf8 a.name) (value_utf8 : IsUtf8 a.value) (p : Pair)
     (from : p.from ≡ length s) (middle : p.middle ≡ length (s ++ a.name)) (to : p.to ≡ length ((s ++ a.name) ++ a.value)) where
-  name_to : (pieces_of p).name.to ≡ length s + length a.name
+  name_to : p.middle ≡ length s + length a.name
   name_to = omega (arith, middle, length-append s a.name)
 
-  value_to : (pieces_of p).value.to ≡ length (s ++ a.name) + length a.value
+  value_to : p.to ≡ length (s ++ a.name) + length a.value
   value_to = omega (arith, to, length-append (s ++ a.name) a.value)
 
-  name_piece : IsPiece (s ++ a.name) (pieces_of p).name
-  name_piece = IsPiece-new s a.name (pieces_of p).name name_utf8 from name_to
+  name_piece : IsPiece (s ++ a.name) (name_of (pieces_of p))
+  name_piece = IsPiece-new s a.name (name_of (pieces_of p)) name_utf8 from name_to
 
   has_pieces : HasPieces ((s ++ a.name) ++ a.value) (pieces_of p)
-  has_pieces = (IsPiece-append (s ++ a.name) a.value (pieces_of p).name value_utf8 name_piece, IsPiece-new (s ++ a.name) a.value (pieces_of p).value value_utf8 middle value_to)
+  has_pieces = (IsPiece-append (s ++ a.name) a.value (name_of (pieces_of p)) value_utf8 name_piece, IsPiece-new (s ++ a.name) a.value (value_of (pieces_of p)) value_utf8 middle value_to)
 
   shows : attribute_in ((s ++ a.name) ++ a.value) (pieces_of p) ≡ a
-  shows = rw (bytes_of-append (s ++ a.name) a.value (pieces_of p).name name_piece, bytes_of-new s a.name (pieces_of p).name from name_to, bytes_of-new (s ++ a.name) a.value (pieces_of p).value middle value_to) refl
+  shows = rw (bytes_of-append (s ++ a.name) a.value (name_of (pieces_of p)) name_piece, bytes_of-new s a.name (name_of (pieces_of p)) from name_to, bytes_of-new (s ++ a.name) a.value (value_of (pieces_of p)) middle value_to) refl
 
   before : All (HasPieces s) (map pieces_of pairs)
   before = All-map (HasPieces s) pieces_of pairs inside
@@ -70,8 +70,8 @@ module _ (s : List ℕ) (pairs : List Pair) (inside : All (HasPair s) pairs) (a 
   still : All (HasPair ((s ++ a.name) ++ a.value)) pairs
   still k d within =
       let p = get_or pairs k d in (
-        IsPiece-append (s ++ a.name) a.value (pieces_of p).name value_utf8 (IsPiece-append s a.name (pieces_of p).name name_utf8 (inside k d within).0),
-        IsPiece-append (s ++ a.name) a.value (pieces_of p).value value_utf8 (IsPiece-append s a.name (pieces_of p).value name_utf8 (inside k d within).1),
+        IsPiece-append (s ++ a.name) a.value (name_of (pieces_of p)) value_utf8 (IsPiece-append s a.name (name_of (pieces_of p)) name_utf8 (inside k d within).0),
+        IsPiece-append (s ++ a.name) a.value (value_of (pieces_of p)) value_utf8 (IsPiece-append s a.name (value_of (pieces_of p)) name_utf8 (inside k d within).1),
       )
 
   pub pairs_inside : All (HasPair ((s ++ a.name) ++ a.value)) (pairs ++ p ∷ [])
@@ -121,9 +121,9 @@ pub AreShifted-more : (s u : List ℕ) (pairs : List Pair) (pieces : List Attrib
     → AreShifted s u (pairs ++ p ∷ []) (pieces ++ q ∷ [])
 AreShifted-more s u pairs pieces p q h own at =
     let one : attribute_in (s ++ u) q ≡ attribute_in u (pieces_of p) =
-    rw (bytes_of-behind s u (pieces_of p).name q.name at.name_from at.name_to, bytes_of-behind s u (pieces_of p).value q.value at.value_from at.value_to) refl in
+    rw (bytes_of-behind s u (name_of (pieces_of p)) (name_of q) at.from at.middle, bytes_of-behind s u (value_of (pieces_of p)) (value_of q) at.middle at.to) refl in
     record {
-      inside = All-push (HasPieces (s ++ u)) pieces q h.inside (IsPiece-behind s u (pieces_of p).name q.name at.name_from at.name_to own.0, IsPiece-behind s u (pieces_of p).value q.value at.value_from at.value_to own.1);
+      inside = All-push (HasPieces (s ++ u)) pieces q h.inside (IsPiece-behind s u (name_of (pieces_of p)) (name_of q) at.from at.middle own.0, IsPiece-behind s u (value_of (pieces_of p)) (value_of q) at.middle at.to own.1);
       shown = map-append (attribute_in (s ++ u)) pieces (q ∷ []) ∙ rw (h.shown, one) (sym (ap (attributes_in u) (map-append pieces_of pairs (p ∷ [])) ∙ map-append (attribute_in u) (map pieces_of pairs) (pieces_of p ∷ [])));
     }
 

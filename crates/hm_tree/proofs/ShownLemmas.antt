@@ -9,7 +9,7 @@ use Rattle.std.proofs.lemmas.Str.{IsUtf8-append, IsUtf8-from_is_utf8, IsUtf8-nil
 use Rattle.std.specs.Str.{is_utf8}
 use Rattle.hm_base.specs.Walks.{Attribute, has_name, has_distinct_names, attributes_size}
 use Rattle.hm_tree.specs.Attributes.{are_texts}
-use Rattle.hm_tree.specs.Pieces.{HasPieces, IsAppended, IsPiece, attribute_in, attributes_in, texts_of}
+use Rattle.hm_tree.specs.Pieces.{HasPieces, IsAppended, IsPiece, attribute_in, attributes_in, name_of, texts_of, value_of}
 use Rattle.hm_tree.specs.declared.pieces.AttributePieces.{AttributePieces}
 use Rattle.hm_tree.proofs.PieceLemmas.{IsPiece-append, IsPiece-new, bytes_of-append, bytes_of-new}
 
@@ -26,14 +26,14 @@ All-slice_range P xs from to h = All-take P (to - from) (drop from xs) (All-drop
 -- pieces stay pieces where more is put behind the text
 pub HasPieces-append : (s more : List ℕ) (pieces : List AttributePieces) → IsUtf8 more → All (HasPieces s) pieces → All (HasPieces (s ++ more)) pieces
 HasPieces-append s more pieces utf8 h k d within =
-    (IsPiece-append s more (get_or pieces k d).name utf8 (h k d within).0, IsPiece-append s more (get_or pieces k d).value utf8 (h k d within).1)
+    (IsPiece-append s more (name_of (get_or pieces k d)) utf8 (h k d within).0, IsPiece-append s more (value_of (get_or pieces k d)) utf8 (h k d within).1)
 
 -- and show the same attributes
 pub attributes_in-append : (s more : List ℕ) (pieces : List AttributePieces) → All (HasPieces s) pieces → attributes_in (s ++ more) pieces ≡ attributes_in s pieces
 attributes_in-append s more [] h = refl
 attributes_in-append s more (a ∷ pieces) h =
     let first : HasPieces s a = All-head (HasPieces s) a pieces h in
-    rw (bytes_of-append s more a.name first.0, bytes_of-append s more a.value first.1, attributes_in-append s more pieces (All-tail (HasPieces s) a pieces h)) refl
+    rw (bytes_of-append s more (name_of a) first.0, bytes_of-append s more (value_of a) first.1, attributes_in-append s more pieces (All-tail (HasPieces s) a pieces h)) refl
 
 -- the text of attributes
 pub IsUtf8-texts_of : (attributes : List Attribute) → are_texts attributes ≡ true → IsUtf8 (texts_of attributes)
@@ -80,16 +80,18 @@ few_attributes (a ∷ attributes) h =
 -- one more attribute
 module _ (s : List ℕ) (before : List AttributePieces) (attributes : List Attribute) (t : List ℕ) (pieces : List AttributePieces) (h : IsAppended s before attributes t pieces)
     (a : Attribute) (name_utf8 : IsUtf8 a.name) (value_utf8 : IsUtf8 a.value) (p : AttributePieces)
-    (name_from : p.name.from ≡ length t) (name_to : p.name.to ≡ length t + length a.name)
-    (value_from : p.value.from ≡ length (t ++ a.name)) (value_to : p.value.to ≡ length (t ++ a.name) + length a.value) where
-  name_piece : IsPiece (t ++ a.name) p.name
-  name_piece = IsPiece-new t a.name p.name name_utf8 name_from name_to
+    (from : p.from ≡ length t) (middle : p.middle ≡ length (t ++ a.name)) (to : p.to ≡ length (t ++ a.name) + length a.value) where
+  name_to : p.middle ≡ length t + length a.name
+  name_to = omega (arith, middle, length-append t a.name)
+
+  name_piece : IsPiece (t ++ a.name) (name_of p)
+  name_piece = IsPiece-new t a.name (name_of p) name_utf8 from name_to
 
   has_pieces : HasPieces ((t ++ a.name) ++ a.value) p
-  has_pieces = (IsPiece-append (t ++ a.name) a.value p.name value_utf8 name_piece, IsPiece-new (t ++ a.name) a.value p.value value_utf8 value_from value_to)
+  has_pieces = (IsPiece-append (t ++ a.name) a.value (name_of p) value_utf8 name_piece, IsPiece-new (t ++ a.name) a.value (value_of p) value_utf8 middle to)
 
   shows : attribute_in ((t ++ a.name) ++ a.value) p ≡ a
-  shows = rw (bytes_of-append (t ++ a.name) a.value p.name name_piece, bytes_of-new t a.name p.name name_from name_to, bytes_of-new (t ++ a.name) a.value p.value value_from value_to) refl
+  shows = rw (bytes_of-append (t ++ a.name) a.value (name_of p) name_piece, bytes_of-new t a.name (name_of p) from name_to, bytes_of-new (t ++ a.name) a.value (value_of p) middle to) refl
 
   behind : drop (length before) (pieces ++ p ∷ []) ≡ drop (length before) pieces ++ p ∷ []
   behind = drop-append-le (length before) pieces (p ∷ []) (omega (arith, ap length h.kept, length-append before (drop (length before) pieces)))

@@ -10,10 +10,9 @@ use Rattle.hm_base.specs.Walks.{Event, start, text, has_distinct_names, event_si
 use Rattle.hm_tree.specs.Trees.{IsTold, is_sound, innermost, parent_of}
 use Rattle.hm_tree.specs.Attributes.{are_texts}
 use Rattle.hm_tree.specs.Pieces.{HasPieces, IsPiece, ArePiecesShown, attributes_in, bytes_of}
-use Rattle.hm_tree.specs.Rows.{IsRange, IsInside, AreInside, ReachesEnd, LastReachesEnd, IsRowTable, event_at, events_of, parents_from}
+use Rattle.hm_tree.specs.Rows.{IsInside, AreInside, ReachesEnd, LastReachesEnd, IsRowTable, event_at, events_of, parents_from}
 use Rattle.hm_tree.specs.declared.pieces.AttributePieces.{AttributePieces}
 use Rattle.hm_tree.specs.declared.pieces.TextRange.{TextRange}
-use Rattle.hm_tree.specs.declared.appended.AttrsRange.{AttrsRange}
 use Rattle.hm_tree.specs.declared.rows.RowPart.{RowPart}
 use Rattle.hm_tree.specs.declared.rows.RowPart.TheVariants as parts
 use Rattle.hm_tree.specs.declared.rows.EventRow.{EventRow}
@@ -21,21 +20,18 @@ use Rattle.hm_tree.proofs.PieceLemmas.{IsPiece-append, IsPiece-longer, bytes_of-
 use Rattle.hm_tree.proofs.ShownLemmas.{All-slice_range, HasPieces-append, attributes_in-append, slice_range-append}
 use Rattle.hm_tree.proofs.WalkLemmas.{are_sound-push, are_sound-parts, are_sound-at, parents_from-push, parents_from-at, walk_size-push}
 
-range_stays : (n m : ℕ) (attrs : AttrsRange) → n ≤ m → IsRange n attrs → IsRange m attrs
-range_stays n m attrs le h = (h.0, omega (arith, h.1))
-
 inside_stays : (s more : List ℕ) (n m : ℕ) (part : RowPart) → IsUtf8 more → n ≤ m → IsInside s n part → IsInside (s ++ more) m part
 inside_stays s more n m (parts.Doctype legacy) utf8 le h = tt
-inside_stays s more n m (parts.Start foreign name attrs) utf8 le h = (IsPiece-append s more name utf8 h.0, range_stays n m attrs le h.1)
+inside_stays s more n m (parts.Start foreign count name first) utf8 le h = (IsPiece-append s more name utf8 h.0, omega (arith, h.1))
 inside_stays s more n m (parts.Text p raw) utf8 le h = IsPiece-append s more p utf8 h
 inside_stays s more n m (parts.Comment p) utf8 le h = IsPiece-append s more p utf8 h
 inside_stays s more n m (parts.End name foreign) utf8 le h = IsPiece-append s more name utf8 h
 
 event_stays : (s more : List ℕ) (pieces extra : List AttributePieces) (part : RowPart) → IsInside s (length pieces) part → All (HasPieces s) pieces → event_at (s ++ more) (pieces ++ extra) part ≡ event_at s pieces part
 event_stays s more pieces extra (parts.Doctype legacy) h all = refl
-event_stays s more pieces extra (parts.Start foreign name attrs) h all =
-    let inside = All-slice_range (HasPieces s) pieces attrs.from attrs.to all in
-    rw (bytes_of-append s more name h.0, slice_range-append pieces extra attrs.from attrs.to h.1.0 h.1.1, attributes_in-append s more (slice_range pieces attrs.from attrs.to) inside) refl
+event_stays s more pieces extra (parts.Start foreign count name first) h all =
+    let inside = All-slice_range (HasPieces s) pieces first (first + count) all in
+    rw (bytes_of-append s more name h.0, slice_range-append pieces extra first (first + count) (omega arith) h.1, attributes_in-append s more (slice_range pieces first (first + count)) inside) refl
 event_stays s more pieces extra (parts.Text p raw) h all = rw (bytes_of-append s more p h) refl
 event_stays s more pieces extra (parts.Comment p) h all = rw (bytes_of-append s more p h) refl
 event_stays s more pieces extra (parts.End name foreign) h all = rw (bytes_of-append s more name h) refl
@@ -199,18 +195,18 @@ module _ (s : List ℕ) (pieces : List AttributePieces) (rows : List EventRow) (
         rw (← view) (slice_get-map (λ q. event_at s pieces q.part) rows i ∙ ap (option_map (λ q. event_at s pieces q.part)) at ∙ ap (λ q. Some (event_at s pieces q)) e)
 
     -- a start shows its attributes
-    pub part_shown : (foreign : Bool) (name : TextRange) (attrs : AttrsRange) → r.part ≡ parts.Start foreign name attrs → ArePiecesShown s (slice_range pieces attrs.from attrs.to)
-    part_shown foreign name attrs e =
-        let own = slice_range pieces attrs.from attrs.to in
-        let range : IsRange (length pieces) attrs = (part_inside (parts.Start foreign name attrs) e).1 in
-        let there : slice_get (events_of s pieces rows) i ≡ Some (start (bytes_of s name) foreign (attributes_in s own)) = rw view (part_event (parts.Start foreign name attrs) e) in
+    pub part_shown : (foreign : Bool) (count : ℕ) (name : TextRange) (first : ℕ) → r.part ≡ parts.Start foreign count name first → ArePiecesShown s (slice_range pieces first (first + count))
+    part_shown foreign count name first e =
+        let own = slice_range pieces first (first + count) in
+        let range : first + count ≤ length pieces = (part_inside (parts.Start foreign count name first) e).1 in
+        let there : slice_get (events_of s pieces rows) i ≡ Some (start (bytes_of s name) foreign (attributes_in s own)) = rw view (part_event (parts.Start foreign count name first) e) in
         let sound : is_sound (start (bytes_of s name) foreign (attributes_in s own)) ≡ true = are_sound-at (events_of s pieces rows) i (start (bytes_of s name) foreign (attributes_in s own)) table.told.sound there in
         let both = and_parts (is_utf8 (bytes_of s name) && are_texts (attributes_in s own)) (has_distinct_names (attributes_in s own)) sound in
         record {
-          inside = All-slice_range (HasPieces s) pieces attrs.from attrs.to table.attributes;
+          inside = All-slice_range (HasPieces s) pieces first (first + count) table.attributes;
           texts = (and_parts (is_utf8 (bytes_of s name)) (are_texts (attributes_in s own)) both.0).1;
           distinct = both.1;
-          count = omega (arith, length-take (attrs.to - attrs.from) (drop attrs.from pieces), length-drop attrs.from pieces, range.1, row_count table);
+          count = omega (arith, length-take (first + count - first) (drop first pieces), length-drop first pieces, range, row_count table);
         }
 
     -- and has the parent of event i

@@ -5,9 +5,9 @@ use Rattle.hm_tree.specs.Pieces.{HasPieces, attributes_in, texts_of}
 use Rattle.hm_tree.specs.declared.pieces.AttributePieces.{AttributePieces}
 use Rattle.hm_tree.specs.declared.pieces.Pair.{Pair}
 
--- name and value of a pair
+-- the same places, as a tree has them
 abbrev pub pieces_of : Pair → AttributePieces
-pieces_of p = record { name = record { from = p.from; to = p.middle }; value = record { from = p.middle; to = p.to } }
+pieces_of p = record { from = p.from; middle = p.middle; to = p.to }
 
 abbrev pub attributes_of : List ℕ → List Pair → List Attribute
 attributes_of s pairs = attributes_in s (map pieces_of pairs)
@@ -25,7 +25,6 @@ pub record IsAttributeList (s : List ℕ) (pairs : List Pair) : Type 0 where
 
 -- the pieces of a pair, so many bytes further on
 pub record IsShifted (n : ℕ) (p : Pair) (q : AttributePieces) : Type 0 where
-  pub name_from : q.name.from ≡ n + p.from
-  pub name_to : q.name.to ≡ n + p.middle
-  pub value_from : q.value.from ≡ n + p.middle
-  pub value_to : q.value.to ≡ n + p.to
+  pub from : q.from ≡ n + p.from
+  pub middle : q.middle ≡ n + p.middle
+  pub to : q.to ≡ n + p.to

@@ -15,15 +15,23 @@ pub record IsPiece (s : List ℕ) (p : TextRange) : Type 0 where
   pub from_boundary : IsCharBoundary s p.from
   pub to_boundary : IsCharBoundary s p.to
 
+-- the piece that is the name
+abbrev pub name_of : AttributePieces → TextRange
+name_of a = record { from = a.from; to = a.middle }
+
+-- the piece that is the value
+abbrev pub value_of : AttributePieces → TextRange
+value_of a = record { from = a.middle; to = a.to }
+
 -- the attribute with these pieces
 abbrev pub attribute_in : List ℕ → AttributePieces → Attribute
-attribute_in s a = record { name = bytes_of s a.name; value = bytes_of s a.value }
+attribute_in s a = record { name = bytes_of s (name_of a); value = bytes_of s (value_of a) }
 
 abbrev pub attributes_in : List ℕ → List AttributePieces → List Attribute
 attributes_in s pieces = map (attribute_in s) pieces
 
 abbrev pub HasPieces : List ℕ → AttributePieces → Type 0
-HasPieces s a = IsPiece s a.name × IsPiece s a.value
+HasPieces s a = IsPiece s (name_of a) × IsPiece s (value_of a)
 
 -- these pieces are the attributes of an element
 pub record ArePiecesShown (s : List ℕ) (pieces : List AttributePieces) : Type 0 where

@@ -4,7 +4,6 @@ use Rattle.hm_base.specs.Walks.{Event, doctype, start, text, comment, end, walk_
 use Rattle.hm_tree.specs.Trees.{IsTold, open_behind}
 use Rattle.hm_tree.specs.Pieces.{HasPieces, IsPiece, attributes_in, bytes_of}
 use Rattle.hm_tree.specs.declared.pieces.AttributePieces.{AttributePieces}
-use Rattle.hm_tree.specs.declared.appended.AttrsRange.{AttrsRange}
 use Rattle.hm_tree.specs.declared.rows.RowPart.{RowPart}
 use Rattle.hm_tree.specs.declared.rows.RowPart.TheVariants as parts
 use Rattle.hm_tree.specs.declared.rows.EventRow.{EventRow}
@@ -12,7 +11,7 @@ use Rattle.hm_tree.specs.declared.rows.EventRow.{EventRow}
 -- the event that a row stands for
 abbrev pub event_at : List ℕ → List AttributePieces → RowPart → Event
 event_at s pieces (parts.Doctype legacy) = doctype legacy
-event_at s pieces (parts.Start foreign name attrs) = start (bytes_of s name) foreign (attributes_in s (slice_range pieces attrs.from attrs.to))
+event_at s pieces (parts.Start foreign count name first) = start (bytes_of s name) foreign (attributes_in s (slice_range pieces first (first + count)))
 event_at s pieces (parts.Text p raw) = text (bytes_of s p) raw
 event_at s pieces (parts.Comment p) = comment (bytes_of s p)
 event_at s pieces (parts.End name foreign) = end (bytes_of s name) foreign
@@ -25,13 +24,10 @@ abbrev pub parents_from : List ℕ → ℕ → List Event → List (Option ℕ)
 parents_from open_starts i [] = []
 parents_from open_starts i (e ∷ w) = slice_get open_starts 0 ∷ parents_from (open_behind open_starts i e) (i + 1) w
 
--- the indices of some of n attributes
-abbrev pub IsRange : ℕ → AttrsRange → Type 0
-IsRange n attrs = (attrs.from ≤ attrs.to) × (attrs.to ≤ n)
-
+-- the row's pieces can be cut out of the text, and its attributes are some of n
 abbrev pub IsInside : List ℕ → ℕ → RowPart → Type 0
 IsInside s n (parts.Doctype legacy) = Unit {0}
-IsInside s n (parts.Start foreign name attrs) = IsPiece s name × IsRange n attrs
+IsInside s n (parts.Start foreign count name first) = IsPiece s name × (first + count ≤ n)
 IsInside s n (parts.Text p raw) = IsPiece s p
 IsInside s n (parts.Comment p) = IsPiece s p
 IsInside s n (parts.End name foreign) = IsPiece s name
@@ -43,7 +39,7 @@ AreInside s n (r ∷ rows) = IsInside s n r.part × AreInside s n rows
 -- a text reaches to the end of the bytes
 abbrev pub ReachesEnd : List ℕ → RowPart → Type 0
 ReachesEnd s (parts.Doctype legacy) = Unit {0}
-ReachesEnd s (parts.Start foreign name attrs) = Unit {0}
+ReachesEnd s (parts.Start foreign count name first) = Unit {0}
 ReachesEnd s (parts.Text p raw) = p.to ≡ length s
 ReachesEnd s (parts.Comment p) = Unit {0}
 ReachesEnd s (parts.End name foreign) = Unit {0}

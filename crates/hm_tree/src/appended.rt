@@ -10,13 +10,6 @@ use crate::pieces::{AttributePieces, Pair, TextRange};
 use crate::sources::AttributeSource;
 use crate::{Attrs, AttrsView};
 
-// Some of the attributes of a table, from one index up to another.
-#[derive(Clone, Copy, Debug)]
-pub(crate) struct AttrsRange {
-    pub(crate) from: u32,
-    pub(crate) to: u32,
-}
-
 // The bytes of names and values.
 pub(crate) fn text_len(attrs: &AttributeSource<'_>) -> usize
     requires { attributes_size (listed attrs.now) < 2 ^ 32 }
@@ -40,19 +33,18 @@ fn shown_len(attrs: &AttrsView<'_>) -> usize
     len
 }
 
-// Appends attributes for which there is room, and says where.
+// Appends attributes for which there is room, and answers the index of the first.
 pub(crate) fn append_attributes(
     text: &mut String,
     attributes: &mut Vec<AttributePieces>,
     attrs: &AttributeSource<'_>,
-) -> AttrsRange
+) -> u32
     requires room { string_len text.old + attributes_size (listed attrs.now) ≤ string_capacity text.old }
     requires places { length (string_bytes text.old) + attributes_size (listed attrs.now) < 2 ^ 32 }
     requires rows { vec_len attributes.old + length (listed attrs.now) ≤ vec_capacity attributes.old }
     requires indices { length attributes.old.items + length (listed attrs.now) < 2 ^ 32 }
     ensures appended { IsAppended (string_bytes text.old) attributes.old.items (listed attrs.now) (string_bytes text.new) attributes.new.items }
-    ensures from { result.from ≡ length attributes.old.items }
-    ensures to { result.to ≡ length attributes.new.items }
+    ensures first { result ≡ length attributes.old.items }
 {
     match attrs {
         AttributeSource::Tag { attrs } => append_tag(text, attributes, attrs),
@@ -61,22 +53,20 @@ pub(crate) fn append_attributes(
 }
 
 // Appends the attributes of a tag, whose text is copied whole.
-fn append_tag(text: &mut String, attributes: &mut Vec<AttributePieces>, attrs: &Attrs) -> AttrsRange
+fn append_tag(text: &mut String, attributes: &mut Vec<AttributePieces>, attrs: &Attrs) -> u32
     requires room { string_len text.old + attributes_size attrs.now ≤ string_capacity text.old }
     requires places { length (string_bytes text.old) + attributes_size attrs.now < 2 ^ 32 }
     requires rows { vec_len attributes.old + length attrs.now ≤ vec_capacity attributes.old }
     requires indices { length attributes.old.items + length attrs.now < 2 ^ 32 }
     ensures appended { IsAppended (string_bytes text.old) attributes.old.items attrs.now (string_bytes text.new) attributes.new.items }
-    ensures from { result.from ≡ length attributes.old.items }
-    ensures to { result.to ≡ length attributes.new.items }
+    ensures first { result ≡ length attributes.old.items }
 {
-    let from = attributes.len() as u32;
+    let first = attributes.len() as u32;
     let start = append(text, attrs.text()).from;
     for pair in attrs.pairs() {
         attributes.push(shifted(pair, start)).unwrap();
     }
-    let to = attributes.len() as u32;
-    AttrsRange { from, to }
+    first
 }
 
 // The pieces of an attribute, so many bytes further on.
@@ -85,16 +75,10 @@ fn shifted(pair: &Pair, start: u32) -> AttributePieces
     requires places { start + pair.now.to < 2 ^ 32 }
     ensures { IsShifted start pair.now result }
 {
-    let middle = start + pair.middle as u32;
     AttributePieces {
-        name: TextRange {
-            from: start + pair.from as u32,
-            to: middle,
-        },
-        value: TextRange {
-            from: middle,
-            to: start + pair.to as u32,
-        },
+        from: start + pair.from as u32,
+        middle: start + pair.middle as u32,
+        to: start + pair.to as u32,
     }
 }
 
@@ -103,24 +87,27 @@ fn append_shown(
     text: &mut String,
     attributes: &mut Vec<AttributePieces>,
     attrs: &AttrsView<'_>,
-) -> AttrsRange
+) -> u32
     requires room { string_len text.old + attributes_size (attributes_shown attrs.now) ≤ string_capacity text.old }
     requires places { length (string_bytes text.old) + attributes_size (attributes_shown attrs.now) < 2 ^ 32 }
     requires rows { vec_len attributes.old + length (attributes_shown attrs.now) ≤ vec_capacity attributes.old }
     requires indices { length attributes.old.items + length (attributes_shown attrs.now) < 2 ^ 32 }
     ensures appended { IsAppended (string_bytes text.old) attributes.old.items (attributes_shown attrs.now) (string_bytes text.new) attributes.new.items }
-    ensures from { result.from ≡ length attributes.old.items }
-    ensures to { result.to ≡ length attributes.new.items }
+    ensures first { result ≡ length attributes.old.items }
 {
-    let from = attributes.len() as u32;
+    let first = attributes.len() as u32;
     for i in 0..attrs.len() {
         let (name, value) = attrs.at(i);
-        let name = append(text, name);
+        let from = append(text, name).from;
         let value = append(text, value);
-        attributes.push(AttributePieces { name, value }).unwrap();
+        let pieces = AttributePieces {
+            from,
+            middle: value.from,
+            to: value.to,
+        };
+        attributes.push(pieces).unwrap();
     }
-    let to = attributes.len() as u32;
-    AttrsRange { from, to }
+    first
 }
 
 // Appends a text for which there is room.

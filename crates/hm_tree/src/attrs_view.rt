@@ -43,8 +43,8 @@ impl<'t> AttrsView<'t> {
     {
         let attribute = self.pieces[i as usize];
         (
-            cut(self.text, attribute.name),
-            cut(self.text, attribute.value),
+            cut(self.text, attribute.name()),
+            cut(self.text, attribute.value()),
         )
     }
 

@@ -65,7 +65,7 @@ impl Maker {
         Ok(())
     }
 
-    /// Appends the start of an element, which is then open.
+    /// Appends the start of an element, which is then open. One with more than 65,535 attributes is refused as memory is.
     pub fn start(&mut self, name: &str, foreign: bool, attrs: Attrs) -> Result<(), Memory>
         requires { HasRoom (self.old ++ start name.now foreign attrs ∷ []) }
         ensures ok { OnOk result (self.new ≡ self.old ++ start name.now foreign attrs ∷ []) }

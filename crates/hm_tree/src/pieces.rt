@@ -1,7 +1,7 @@
 //! Pieces of the text of a table, and attributes as such pieces.
 ghost use Rattle.std.specs.Prelude.{◌≡◌};
 ghost use Rattle.hm_tree.specs.Pairs.{HasPair, pieces_of};
-ghost use Rattle.hm_tree.specs.Pieces.{IsPiece, bytes_of};
+ghost use Rattle.hm_tree.specs.Pieces.{IsPiece, bytes_of, name_of, value_of};
 
 // The bytes of a text from one place up to another.
 #[derive(Clone, Copy, Debug)]
@@ -10,14 +10,36 @@ pub(crate) struct TextRange {
     pub(crate) to: u32,
 }
 
-// An attribute, with pieces of the table's text.
+// Where an attribute stands in the table's text: its name from one place up to the second, and its value from there up to
+// the third.
 #[derive(Clone, Copy, Debug)]
 pub(crate) struct AttributePieces {
-    pub(crate) name: TextRange,
-    pub(crate) value: TextRange,
+    pub(crate) from: u32,
+    pub(crate) middle: u32,
+    pub(crate) to: u32,
 }
 
-// Where an attribute stands in a text: its name from one place up to the second, and its value from there up to the third.
+impl AttributePieces {
+    pub(crate) fn name(self) -> TextRange
+        ensures { result ≡ name_of self }
+    {
+        TextRange {
+            from: self.from,
+            to: self.middle,
+        }
+    }
+
+    pub(crate) fn value(self) -> TextRange
+        ensures { result ≡ value_of self }
+    {
+        TextRange {
+            from: self.middle,
+            to: self.to,
+        }
+    }
+}
+
+// Where an attribute of a tag stands in the text of its attributes, in the same way.
 #[derive(Clone, Copy, Debug)]
 pub(crate) struct Pair {
     pub(crate) from: usize,
@@ -36,7 +58,7 @@ pub(crate) fn cut(text: &str, piece: TextRange) -> &str
 // The name of an attribute.
 pub(crate) fn name_in(text: &str, pair: Pair) -> &str
     requires { HasPair text.now pair }
-    ensures { result.now ≡ bytes_of text.now (pieces_of pair).name }
+    ensures { result.now ≡ bytes_of text.now (name_of (pieces_of pair)) }
 {
     &text[pair.from..pair.middle]
 }
@@ -44,7 +66,7 @@ pub(crate) fn name_in(text: &str, pair: Pair) -> &str
 // The value of an attribute.
 pub(crate) fn value_in(text: &str, pair: Pair) -> &str
     requires { HasPair text.now pair }
-    ensures { result.now ≡ bytes_of text.now (pieces_of pair).value }
+    ensures { result.now ≡ bytes_of text.now (value_of (pieces_of pair)) }
 {
     &text[pair.middle..pair.to]
 }

@@ -2,12 +2,12 @@
 ghost use Rattle.std.specs.Prelude.{◌≡◌, ◌+◌, ◌^◌, ◌<◌, ◌≤◌, [], ◌∷◌, ◌++◌, length, slice_get, slice_range, true, Some, OnOk, OnErr};
 ghost use Rattle.hm_base.specs.Walks as walks;
 ghost use Rattle.hm_base.specs.Walks.{start, doctype, comment, event_size, path_after, walk_size, with_text};
-ghost use Rattle.hm_tree.specs.Rows.{IsRange, ends_in_text, extended};
+ghost use Rattle.hm_tree.specs.Rows.{ends_in_text, extended};
 ghost use Rattle.hm_tree.specs.Sources.{listed};
 ghost use Rattle.hm_tree.specs.Trees.{IsTold, end_of, innermost, last_agrees, parent_of};
 ghost use Rattle.hm_tree.specs.Views.{event_of};
 
-use crate::appended::{AttrsRange, append, append_attributes, text_len};
+use crate::appended::{append, append_attributes, text_len};
 use crate::parent::Parent;
 use crate::pieces::{AttributePieces, TextRange, cut};
 use crate::sources::{AttributeSource, count};
@@ -16,17 +16,18 @@ use hm_base::Memory;
 use std::alloc::Global;
 use std::marker::Model;
 
-// An event, with pieces of the table's text, and for a start the indices of its attributes.
+// An event, with pieces of the table's text, and for a start the index of its first attribute and how many there are.
 #[derive(Clone, Copy, Debug)]
 enum RowPart {
     Doctype {
         legacy: bool,
     },
-    // The flag stands first, beside the variant's mark, where it makes no row longer.
+    // Flag and count stand first, beside the variant's mark, where they make no row longer.
     Start {
         foreign: bool,
+        count: u16,
         name: TextRange,
-        attrs: AttrsRange,
+        first: u32,
     },
     Text {
         text: TextRange,
@@ -47,6 +48,11 @@ struct EventRow {
     part: RowPart,
     parent: Parent,
 }
+
+// A page has many events and attributes, so their sizes are kept in sight.
+const _: () = prove!(size_of::<EventRow>() == 20);
+
+const _: () = prove!(size_of::<AttributePieces>() == 12);
 
 // A list of events.
 #[derive(Debug, Drop)]
@@ -119,15 +125,16 @@ impl Rows {
         match row.part {
             RowPart::Doctype { legacy } => EventView::Doctype { legacy },
             RowPart::Start {
-                name,
                 foreign,
-                attrs,
+                count,
+                name,
+                first,
             } => EventView::Start {
                 name: cut(self.text.as_str(), name),
                 foreign,
                 attrs: AttrsView::of(
                     self.text.as_str(),
-                    part_of(self.attributes.as_slice(), attrs),
+                    part_of(self.attributes.as_slice(), first, count),
                 ),
             },
             RowPart::Text { text, raw } => EventView::Text {
@@ -163,6 +170,8 @@ impl Rows {
         Ok(())
     }
 
+    // A start with more than 65,535 attributes is refused as memory is, since its row has two bytes for their number. A tag
+    // that is read has at most 256.
     pub(crate) fn push_start(
         &mut self,
         name: &str,
@@ -176,15 +185,19 @@ impl Rows {
         ensures ok { OnOk result (self.new ≡ self.old ++ start name.now foreign (listed attrs.now) ∷ []) }
         ensures err { OnErr result (self.new ≡ self.old) }
     {
+        let Ok(count) = u16::try_from(count(attrs)) else {
+            return Err(Memory);
+        };
         self.rows.reserve(1)?;
-        self.attributes.reserve(count(attrs) as usize)?;
+        self.attributes.reserve(usize::from(count))?;
         self.text.reserve(name.len() + text_len(attrs))?;
         let name = append(&mut self.text, name);
-        let attrs = append_attributes(&mut self.text, &mut self.attributes, attrs);
+        let first = append_attributes(&mut self.text, &mut self.attributes, attrs);
         let part = RowPart::Start {
-            name,
             foreign,
-            attrs,
+            count,
+            name,
+            first,
         };
         let parent = Parent::of(parent);
         self.rows.push(EventRow { part, parent }).unwrap();
@@ -306,10 +319,11 @@ impl Rows {
     }
 }
 
-// Some of the attributes.
-fn part_of(attributes: &[AttributePieces], attrs: AttrsRange) -> &[AttributePieces]
-    requires { IsRange (length attributes.now) attrs }
-    ensures { result.now ≡ slice_range attributes.now attrs.from attrs.to }
+// So many of the attributes, from an index on.
+fn part_of(attributes: &[AttributePieces], first: u32, count: u16) -> &[AttributePieces]
+    requires { first + count ≤ length attributes.now }
+    ensures { result.now ≡ slice_range attributes.now first (first + count) }
 {
-    &attributes[attrs.from as usize..attrs.to as usize]
+    let from = first as usize;
+    &attributes[from..from + usize::from(count)]
 }

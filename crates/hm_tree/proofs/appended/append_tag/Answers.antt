@@ -31,9 +31,6 @@ loop-pair-preserved c =
           c.pairs-pair-items.ensures.pieces (rw (← c.append-start.ensures.from) c.shifted.ensures)),
     )
 
-pub overflow_cast-to : goal.overflow_cast-to
-overflow_cast-to c = omega (arith, c.loop-pair.invariant.1, c.len-to.ensures, c.loop-pair.attributes.ok.0)
-
 pub returns-clause-appended : goal.returns-clause-appended
 returns-clause-appended c =
     AreAppended-all (string_bytes c.args.text.now) (texts_of c.args.attrs.now) (string_bytes c.append-start.new.text) c.args.attributes.now.items c.loop-pair.attributes.items c.pairs-pair-items.result.now c.loop-pair.pair-index c.args.attrs.now

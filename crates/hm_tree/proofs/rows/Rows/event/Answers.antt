@@ -6,17 +6,17 @@ use Rattle.hm_tree.proofs.rows.Rows.event.Goals as goal
 pub cut-requires : goal.cut-requires
 cut-requires c =
     rw c.as_str.ensures.value (part_inside (string_bytes c.self.inside.text) c.self.inside.attributes.items c.self.inside.rows.items c.args.self.now c.self.view_is c.args.i c.requires c.self.invariant c.index-row.result.now c.index-row.ensures
-    (Start c.in-Start.foreign c.in-Start.name c.in-Start.attrs) c.in-Start.is).0
+    (Start c.in-Start.foreign c.in-Start.count c.in-Start.name c.in-Start.first) c.in-Start.is).0
 
 pub part_of-requires : goal.part_of-requires
 part_of-requires c =
     rw c.as_slice.ensures.value (part_inside (string_bytes c.self.inside.text) c.self.inside.attributes.items c.self.inside.rows.items c.args.self.now c.self.view_is c.args.i c.requires c.self.invariant c.index-row.result.now c.index-row.ensures
-    (Start c.in-Start.foreign c.in-Start.name c.in-Start.attrs) c.in-Start.is).1
+    (Start c.in-Start.foreign c.in-Start.count c.in-Start.name c.in-Start.first) c.in-Start.is).1
 
 pub of-requires : goal.of-requires
 of-requires c =
     rw (c.as_str-in-Start.ensures.value, c.part_of.ensures, c.as_slice.ensures.value) (part_shown (string_bytes c.self.inside.text) c.self.inside.attributes.items c.self.inside.rows.items c.args.self.now c.self.view_is c.args.i c.requires c.self.invariant c.index-row.result.now c.index-row.ensures
-    c.in-Start.foreign c.in-Start.name c.in-Start.attrs c.in-Start.is)
+    c.in-Start.foreign c.in-Start.count c.in-Start.name c.in-Start.first c.in-Start.is)
 
 pub cut-requires-in-Text : goal.cut-requires-in-Text
 cut-requires-in-Text c =
@@ -41,7 +41,7 @@ returns-in-Doctype c =
 pub returns-in-Start : goal.returns-in-Start
 returns-in-Start c =
     rw (c.cut.ensures, c.as_str.ensures.value, c.of.ensures, c.as_str-in-Start.ensures.value, c.part_of.ensures, c.as_slice.ensures.value) (part_event (string_bytes c.self.inside.text) c.self.inside.attributes.items c.self.inside.rows.items c.args.self.now c.self.view_is c.args.i c.requires c.self.invariant c.index-row.result.now c.index-row.ensures
-    (Start c.in-Start.foreign c.in-Start.name c.in-Start.attrs) c.in-Start.is)
+    (Start c.in-Start.foreign c.in-Start.count c.in-Start.name c.in-Start.first) c.in-Start.is)
 
 pub returns-in-Text : goal.returns-in-Text
 returns-in-Text c =

@@ -22,7 +22,7 @@ pushed : (c : goal.In_ok-push)
     (c.self.inside.rows.items ++ record { part = End c.in-Start.name c.in-Start.foreign; parent = Some c.args.start } ∷ []) (c.args.self.now ++ end_of (path_after [] c.args.self.now))
 pushed c =
     IsTableOf-end (string_bytes c.self.inside.text) c.self.inside.attributes.items c.self.inside.rows.items c.args.self.now c.self.view_is c.args.start c.requires.parent c.self.invariant c.index-row.result.now c.index-row.ensures
-    c.in-Start.foreign c.in-Start.name c.in-Start.attrs c.in-Start.is (IsUtf8-string_bytes c.self.inside.text) c.requires.room
+    c.in-Start.foreign c.in-Start.count c.in-Start.name c.in-Start.first c.in-Start.is (IsUtf8-string_bytes c.self.inside.text) c.requires.room
 
 pub invariant_of-self-2 : goal.invariant_of-self-2
 invariant_of-self-2 c = rw (c.in_ok-push.ensures.items, c.of-parent.ensures) (pushed c).0

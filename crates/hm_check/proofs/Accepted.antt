@@ -8,7 +8,7 @@ use Rattle.hm_graph.specs.Layers.{LayerTest, states_behind, first_layer, written
 use Rattle.hm_graph.specs.Prices.{Row, first_price, least_prices, written_rows, full}
 use Rattle.hm_graph.specs.Ways.{Edges, least}
 use Rattle.hm_graph.proofs.LeastPrices.{least_feasible}
-use Rattle.hm_graph.proofs.WrittenRows.{full_is_least}
+use Rattle.hm_graph.proofs.WrittenRows.{full_is_least, some_written}
 use Rattle.hm_check.specs.Rows.{other_width, high_price}
 use Rattle.hm_check.specs.Verdicts.{by_first, by_high, by_full, by_width, by_rows}
 use Rattle.hm_check.specs.declared.verdicts.Verdict.TheVariants.{Yes, No}
@@ -34,26 +34,12 @@ least_count edges follows k (unit ∷ units) states = by_test (not (k == 0) && f
     by_test true e = e
     by_test false e = ap (λ n. suc n) e
 
--- some row is written
-some_row : (edges : Edges) (follows : LayerTest) (k : ℕ) (units : List Unit) (states : List State)
-    → (row : Row) × (rows : List Row) × (written_rows edges follows k units states (least_prices edges units states) ≡ row ∷ rows)
-some_row edges follows k [] states = (map (least edges []) states, [], refl)
-some_row edges follows k (unit ∷ units) states = by_test (not (k == 0) && follows unit states) (some_row edges follows (suc k) units (states_behind edges unit states))
-  where
-    behind : List Row
-    behind = written_rows edges follows (suc k) units (states_behind edges unit states) (least_prices edges units (states_behind edges unit states))
-
-    by_test : (b : Bool) → (row : Row) × (rows : List Row) × (behind ≡ row ∷ rows)
-        → (row : Row) × (rows : List Row) × (cond b behind (map (least edges (unit ∷ units)) states ∷ behind) ≡ row ∷ rows)
-    by_test true w = w
-    by_test false w = (map (least edges (unit ∷ units)) states, behind, refl)
-
 -- and each is as wide as its layer
 least_width : (edges : Edges) (follows : LayerTest) (k : ℕ) (units : List Unit) (states : List State)
     → other_width edges follows k units states (written_rows edges follows k units states (least_prices edges units states)) ≡ None
 least_width edges follows k [] states = rw (eq-eqb (length (map (least edges []) states)) (length states) (length-map states (least edges []))) refl
 least_width edges follows k (unit ∷ units) states =
-    by_test (not (k == 0) && follows unit states) refl (least_width edges follows (suc k) units (states_behind edges unit states)) (some_row edges follows (suc k) units (states_behind edges unit states))
+    by_test (not (k == 0) && follows unit states) refl (least_width edges follows (suc k) units (states_behind edges unit states)) (some_written edges follows (suc k) units (states_behind edges unit states))
   where
     next : List State
     next = states_behind edges unit states

@@ -26,7 +26,7 @@ use Rattle.hm_construction.proofs.Fronts.{text_leads, front_stands, text_mode}
 use Rattle.hm_construction.proofs.Tags.{starts_lead, ends_lead, comments_lead, doctypes_lead}
 use Rattle.hm_construction.proofs.Overs.{SettlesAll, over_settles}
 use Rattle.hm_construction.proofs.Modes.{is_mode, markup_no_text, references_no_raw, raw_mode, in_text, raw_piece}
-use Rattle.hm_construction.proofs.Rests.{EndsNext, first_ends, rest_reached}
+use Rattle.hm_construction.proofs.Rests.{rest_is}
 use Rattle.hm_construction.proofs.RawTexts.{IsTag, tag_is_read, TagHere, tag_behind}
 
 -- ---- Outcomes
@@ -158,31 +158,6 @@ raw_begins t place names (c ∷ s) zero at st w r plain here h = tag_begins t pl
 
 -- ---- Along the text
 
-shorter : (t : List Entry) (st : Construction) (s : List ℕ) (n : ℕ) (token : Seen) (rest : List ℕ) → SoundNames t → first t (mode_of st.path) s ≡ behind_bytes n (taken token rest) → length rest < length s
-shorter t st s n token rest names h =
-    let k = tokens_are_small t (mode_of st.path) s n token rest names (is_mode st.path) h in
-    let some : 1 ≤ least_size token = least token in
-    omega (arith, k.whole, k.least)
-  where
-    least : (x : Seen) → 1 ≤ least_size x
-    least (tokens.doctype legacy) = omega arith
-    least (tokens.start_tag name attributes slash) = omega arith
-    least (tokens.end_tag name) = omega arith
-    least (tokens.slice x) = omega arith
-    least (tokens.points ps) = omega arith
-    least (tokens.comment x) = omega arith
-
-one_skipped : (c : ℕ) (s rest : List ℕ) (m : ℕ) → 1 ≤ m → drop m (c ∷ s) ≡ rest → drop (pred m) s ≡ rest
-one_skipped c s rest zero some h = absurd (omega arith)
-one_skipped c s rest (suc m) some h = h
-
--- the rest behind a token is where the text is read on
-rest_is : (t : List Entry) (st : Construction) (c : ℕ) (s : List ℕ) (n : ℕ) (token : Seen) (rest : List ℕ) → SoundNames t → first t (mode_of st.path) (c ∷ s) ≡ behind_bytes n (taken token rest) → drop (pred (length (c ∷ s) - length rest)) s ≡ rest
-rest_is t st c s n token rest names h =
-    let less = shorter t st (c ∷ s) n token rest names h in
-    let e : EndsNext (c ∷ s) (behind_bytes n (taken token rest)) = subst (EndsNext (c ∷ s)) h (first_ends t (mode_of st.path) (c ∷ s)) in
-    one_skipped c s rest (length (c ∷ s) - length rest) (omega arith) (rest_reached (c ∷ s) rest e)
-
 -- what is built of the rest of a text from each place on
 abbrev pub Settles : List Entry → (ℕ → ℕ) → List ℕ → Type 0
 Settles t place s = (skip at : ℕ) (st : Construction) (w : List Event) → Good st → IsPlain (drop skip s) → tree_from t place skip at st s ≡ built w → SettledAt st.insertion_mode st.path w
@@ -191,7 +166,7 @@ raw_token : (t : List Entry) (place : ℕ → ℕ) (at : ℕ) (st : Construction
     → first t (mode_of st.path) (c ∷ s) ≡ behind_bytes n (taken (tokens.slice x) rest) → stepped place (at + n) (step_bytes x st) (reads_on t place at s (pred (length (c ∷ s) - length rest))) ≡ built w → SettledAt st.insertion_mode st.path w
 raw_token t place at st c s n x rest w names more g r a plain e h =
     let skip : ℕ = pred (length (c ∷ s) - length rest) in
-    let reached : rest ≡ drop skip s = sym (rest_is t st c s n (tokens.slice x) rest names e) in
+    let reached : rest ≡ drop skip s = sym (rest_is t (mode_of st.path) c s n (tokens.slice x) rest names (is_mode st.path) e) in
     let plain' : IsPlain (drop skip s) = subst IsPlain reached plain in
     let here : TagHere t (mode_of st.path) (drop skip s) = subst (TagHere t (mode_of st.path)) reached (tag_behind t (current st.path) (mode_of st.path) (c ∷ s) n x rest (raw_mode st.path r) e) in
     raw_settles place (at + n) st x (reads_on t place at s skip) w g (raw_piece st.path x r a)
@@ -202,7 +177,7 @@ other_token : (t : List Entry) (place : ℕ → ℕ) (at : ℕ) (st : Constructi
     → first t (mode_of st.path) (c ∷ s) ≡ behind_bytes n (taken token rest) → stepped place (at + n) (step st token) (reads_on t place at s (pred (length (c ∷ s) - length rest))) ≡ built w → SettledAt st.insertion_mode st.path w
 other_token t place at st c s n token rest w names more g a no_raw plain e h =
     let skip : ℕ = pred (length (c ∷ s) - length rest) in
-    let plain' : IsPlain (drop skip s) = subst IsPlain (sym (rest_is t st c s n token rest names e)) plain in
+    let plain' : IsPlain (drop skip s) = subst IsPlain (sym (rest_is t (mode_of st.path) c s n token rest names (is_mode st.path) e)) plain in
     step_settles place (at + n) st.insertion_mode st.path (step st token) (reads_on t place at s skip) w (token_leads st token g a no_raw) (λ next v g' k. more skip (at + 1) next v g' plain' k) h
 
 one_token : (t : List Entry) (place : ℕ → ℕ) (at : ℕ) (st : Construction) (c : ℕ) (s : List ℕ) (n : ℕ) (token : Seen) (rest : List ℕ) (w : List Event) → SoundNames t → Settles t place s → Good st → SoundToken (mode_of st.path) token → IsPlain rest

@@ -1,5 +1,5 @@
 -- What is behind a token is the end of the text.
-use Rattle.std.proofs.Common.{◌≡◌, ℕ, zero, suc, ◌-◌, ◌+◌, Bool, true, false, cond, ◌&&◌, ◌==◌, List, [], ◌∷◌, ◌++◌, length, take, drop, Option, Some, None, refl, sym, ◌∙◌, ap, subst, codes, append_assoc, arith, length-append}
+use Rattle.std.proofs.Common.{◌≡◌, ℕ, zero, suc, pred, ◌-◌, ◌+◌, ◌<◌, ◌≤◌, Bool, true, false, cond, ◌&&◌, ◌==◌, List, [], ◌∷◌, ◌++◌, length, take, drop, Option, Some, None, refl, sym, ◌∙◌, ap, subst, codes, append_assoc, arith, length-append}
 use Rattle.std.specs.Option.{option_or}
 use Rattle.std.proofs.lemmas.List.{take-append-drop}
 use Rattle.hm_base.specs.Bytes.{Cut, behind, strip, head_is, is_space, is_null, cut_at, or_go_on}
@@ -8,6 +8,7 @@ use Rattle.hm_base.specs.Walks.{Attribute}
 use Rattle.hm_refs.specs.Names.{Entry}
 use Rattle.hm_refs.specs.References.{Reference}
 use Rattle.hm_tree.specs.Tokens.{Seen, start_tag, end_tag, Scanned, taken, refused}
+use Rattle.hm_tree.specs.Tokens as tokens
 use Rattle.hm_tree.specs.declared.tokens.ScanFault.{ScanFault}
 use Rattle.hm_tag_scan.specs.Tags.{CutTag, tag_from, cut_tag, is_name_byte, is_tag_end, attribute_at, with_attribute, with_slash, attribute_then, Written}
 use Rattle.hm_tag_scan.specs.Reading.{read_tag, read_by, read_start, read_end, start_of, end_of, tag_name, tag_fault, unless_fault, begins_tag, read_attributes}
@@ -17,6 +18,8 @@ use Rattle.hm_mark_scan.specs.Comments.{read_comment, comment_at, cut_comment, c
 use Rattle.hm_mark_scan.specs.Doctypes.{read_doctype, begins_doctype, as_doctype, by_form, doctype_form}
 use Rattle.hm_mark_scan.specs.Pieces.{as_comment, as_slice}
 use Rattle.hm_tokens.specs.First.{Mode, ordinary, in_svg, rcdata, raw, script, Next, at_end, behind_bytes, read_markup, read_here, three_more, behind_none, behind_empty_tags, next_here, before_rest, read_inside, read_references, read_nothing, unless_end, first}
+use Rattle.hm_tokens.specs.Laws.{SoundNames, IsMode, least_size}
+use Rattle.hm_tokens.proofs.Firsts.{tokens_are_small}
 
 -- rest is the end of s
 abbrev pub Ends : List ℕ → List ℕ → Type 0
@@ -282,3 +285,31 @@ rest_reached s rest e =
     dropped : (xs ys : List ℕ) → drop (length xs) (xs ++ ys) ≡ ys
     dropped [] ys = refl
     dropped (x ∷ xs) ys = dropped xs ys
+
+-- ---- Where a text is read on
+
+-- a token takes some bytes
+pub shorter : (t : List Entry) (mode : Mode) (s : List ℕ) (n : ℕ) (token : Seen) (rest : List ℕ) → SoundNames t → IsMode mode → first t mode s ≡ behind_bytes n (taken token rest) → length rest < length s
+shorter t mode s n token rest names m h =
+    let k = tokens_are_small t mode s n token rest names m h in
+    let some : 1 ≤ least_size token = least token in
+    omega (arith, k.whole, k.least)
+  where
+    least : (x : Seen) → 1 ≤ least_size x
+    least (tokens.doctype legacy) = omega arith
+    least (tokens.start_tag name attributes slash) = omega arith
+    least (tokens.end_tag name) = omega arith
+    least (tokens.slice x) = omega arith
+    least (tokens.points ps) = omega arith
+    least (tokens.comment x) = omega arith
+
+one_skipped : (c : ℕ) (s rest : List ℕ) (m : ℕ) → 1 ≤ m → drop m (c ∷ s) ≡ rest → drop (pred m) s ≡ rest
+one_skipped c s rest zero some h = absurd (omega arith)
+one_skipped c s rest (suc m) some h = h
+
+-- the rest behind a token is where the text is read on
+pub rest_is : (t : List Entry) (mode : Mode) (c : ℕ) (s : List ℕ) (n : ℕ) (token : Seen) (rest : List ℕ) → SoundNames t → IsMode mode → first t mode (c ∷ s) ≡ behind_bytes n (taken token rest) → drop (pred (length (c ∷ s) - length rest)) s ≡ rest
+rest_is t mode c s n token rest names m h =
+    let less = shorter t mode (c ∷ s) n token rest names m h in
+    let e : EndsNext (c ∷ s) (behind_bytes n (taken token rest)) = subst (EndsNext (c ∷ s)) h (first_ends t mode (c ∷ s)) in
+    one_skipped c s rest (length (c ∷ s) - length rest) (omega arith) (rest_reached (c ∷ s) rest e)

@@ -4,6 +4,7 @@ use Rattle.std.specs.Option.{option_map}
 use Rattle.std.proofs.lemmas.Slice.Eq.{bytes_eq-Decides}
 use Rattle.hm_refs.specs.Names.{Entry, is_name, is_front, child_of}
 use Rattle.hm_refs.specs.Tables.{TableView, IsNode, front_at}
+use Rattle.hm_refs.proofs.LoneLaws.{no_front, child_front}
 use Rattle.hm_units.specs.States.{Pending, nothing}
 use Rattle.hm_units.specs.Steps.{is_root, onto}
 use Rattle.hm_units.proofs.Runs.{no_name}
@@ -18,31 +19,15 @@ child_there t q c front r h = by_front (is_front t (q ++ c ∷ [])) r h
     by_front false None k = refl
     by_front false (Some n) k = absurd (cc)
 
-pub childless : (t : List Entry) (q : List ℕ) (c : ℕ) → None ≡ child_of t q c → is_front t (q ++ c ∷ []) ≡ false
-unfolding child_of
-childless t q c h = by_front (is_front t (q ++ c ∷ [])) h
-  where
-    by_front : (f : Bool) → None ≡ cond f (Some (q ++ c ∷ [])) None → f ≡ false
-    by_front true k = absurd (cc)
-    by_front false k = refl
-
-pub child_is : (t : List Entry) (q r : List ℕ) (c : ℕ) → Some r ≡ child_of t q c → r ≡ q ++ c ∷ []
-unfolding child_of
-child_is t q r c h = by_front (is_front t (q ++ c ∷ [])) h
-  where
-    by_front : (f : Bool) → Some r ≡ cond f (Some (q ++ c ∷ [])) None → r ≡ q ++ c ∷ []
-    by_front true k = cc
-    by_front false k = absurd (cc)
-
 pub childless_name : (t : List Entry) (q : List ℕ) (c : ℕ) → None ≡ child_of t q c → false ≡ is_name t (q ++ c ∷ [])
-childless_name t q c h = sym (no_name t (q ++ c ∷ []) (childless t q c h))
+childless_name t q c h = sym (no_name t (q ++ c ∷ []) (no_front t q c h))
 
 pub child_name : (t : List Entry) (q r : List ℕ) (c : ℕ) (b : Bool) → Some r ≡ child_of t q c → b ≡ is_name t r → b ≡ is_name t (q ++ c ∷ [])
-child_name t q r c b h n = subst (λ w. b ≡ is_name t w) (child_is t q r c h) n
+child_name t q r c b h n = subst (λ w. b ≡ is_name t w) (child_front t q r c h) n
 
 pub onto_nothing : (kind : List ℕ → Pending) (t : List Entry) (q : List ℕ) (c : ℕ) → None ≡ child_of t q c → Some nothing ≡ onto kind t q c
 unfolding onto
-onto_nothing kind t q c h = rw (childless t q c h) refl
+onto_nothing kind t q c h = rw (no_front t q c h) refl
 
 pub onto_child : (kind : List ℕ → Pending) (t : List Entry) (q r : List ℕ) (c : ℕ) → Some r ≡ child_of t q c → Some (kind r) ≡ onto kind t q c
 unfolding onto child_of

@@ -27,7 +27,7 @@ use Rattle.hm_read_back.proofs.Runs.{ran, run_of, run_bytes, Holds, Keeps, Reads
 use Rattle.hm_read_back.proofs.Ahead.{text_alone}
 use Rattle.hm_read_back.proofs.Frame.{here}
 use Rattle.hm_read_back.proofs.Texts.{run_kept, any_byte, all_any, body_byte, text_byte}
-use Rattle.hm_read_back.proofs.TextElements.{On}
+use Rattle.hm_read_back.proofs.TextElements.{On, text_kept}
 use Rattle.hm_read_back.proofs.BodyTexts.{Plain, plain_reads}
 use Rattle.hm_gen_settled.proofs.Pieces.{Ends, over, tag, InPieces, texts_in_pieces}
 
@@ -147,20 +147,6 @@ figures_are_read t k name s d rest h e =
     let there : IsReadAs t (rcdata name) (written_so (literals s) ++ d ∷ rest) (d ∷ rest) (meant (literals s)) =
     element_texts_are_read t name (literals s) (d ∷ rest) k (literals_good t s h) (rw written_is found) in
     rw (written_is, literals_meant s) at there
-
-text_kept : (path : List Element) → is_in_text path ≡ true → Keeps (On path)
-unfolding step_byte
-text_kept path t c st on = by (st.drops_line_feed && c == 10)
-  where
-    inside : is_in_text st.path ≡ true
-    inside = ap is_in_text on ∙ t
-
-    kept : Holds (On path) (run_of (kept_byte c (no_drop st)))
-    kept = rw inside on
-
-    by : (b : Bool) → Holds (On path) (run_of (cond b (went [] (no_drop st)) (kept_byte c (no_drop st))))
-    by true = on
-    by false = kept
 
 kept_in_title : (mode : InsertionMode) (path : List Element) (s : List ℕ) → is_in_text path ≡ true → run_bytes s (here mode path false) ≡ ran (texts (is_in_raw path) s) (here mode path false)
 kept_in_title mode path s t = run_kept (here mode path false) (is_in_raw path) any_byte (λ c h. ap run_of (text_byte mode path c t)) s (all_any s)

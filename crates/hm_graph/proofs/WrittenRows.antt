@@ -35,7 +35,7 @@ followed edges unit units states = by_first (least_first edges units (states_beh
     by_first (rows, e) = rw (e, least_follows edges unit units states) refl
 
 -- some row is written: that of the last layer at least
-some_written : (edges : Edges) (follows : LayerTest) (k : ℕ) (units : List Unit) (states : List State)
+pub some_written : (edges : Edges) (follows : LayerTest) (k : ℕ) (units : List Unit) (states : List State)
     → (row : Row) × (rows : List Row) × (written_rows edges follows k units states (least_prices edges units states) ≡ row ∷ rows)
 some_written edges follows k [] states = (map (least edges []) states, [], refl)
 some_written edges follows k (unit ∷ units) states = by_test (not (k == 0) && follows unit states) (some_written edges follows (suc k) units (states_behind edges unit states))

@@ -10,7 +10,7 @@ use Rattle.hm_tokens.proofs.Firsts.{tokens_are_small}
 use Rattle.hm_construction.specs.Steps.{Construction, Stepped, went, stops, step, step_over}
 use Rattle.hm_construction.specs.Trees.{Outcome, built, refused_by, after_events, mode_of, stepped, next_step, tree_from}
 use Rattle.hm_construction.proofs.Standing.{pushes_append}
-use Rattle.hm_construction.proofs.Rests.{EndsNext, first_ends, rest_reached}
+use Rattle.hm_construction.proofs.Rests.{shorter, rest_is}
 
 -- ---- Outcomes
 
@@ -39,30 +39,6 @@ passed_over t place zero at st [] = refl
 passed_over t place (suc skip) at st [] = refl
 passed_over t place (suc skip) at st (c ∷ s) = passed_over t place skip (at + 1) st s
 passed_over t place zero at st (c ∷ s) = refl
-
-shorter : (t : List Entry) (mode : Mode) (s : List ℕ) (n : ℕ) (token : Seen) (rest : List ℕ) → SoundNames t → IsMode mode → first t mode s ≡ behind_bytes n (taken token rest) → length rest < length s
-shorter t mode s n token rest names m h =
-    let k = tokens_are_small t mode s n token rest names m h in
-    let some : 1 ≤ least_size token = least token in
-    omega (arith, k.whole, k.least)
-  where
-    least : (x : Seen) → 1 ≤ least_size x
-    least (tokens.doctype legacy) = omega arith
-    least (tokens.start_tag name attributes slash) = omega arith
-    least (tokens.end_tag name) = omega arith
-    least (tokens.slice x) = omega arith
-    least (tokens.points ps) = omega arith
-    least (tokens.comment x) = omega arith
-
-one_skipped : (c : ℕ) (s rest : List ℕ) (m : ℕ) → 1 ≤ m → drop m (c ∷ s) ≡ rest → drop (pred m) s ≡ rest
-one_skipped c s rest zero some h = absurd (omega arith)
-one_skipped c s rest (suc m) some h = h
-
-rest_is : (t : List Entry) (mode : Mode) (c : ℕ) (s : List ℕ) (n : ℕ) (token : Seen) (rest : List ℕ) → SoundNames t → IsMode mode → first t mode (c ∷ s) ≡ behind_bytes n (taken token rest) → drop (pred (length (c ∷ s) - length rest)) s ≡ rest
-rest_is t mode c s n token rest names m h =
-    let less = shorter t mode (c ∷ s) n token rest names m h in
-    let e : EndsNext (c ∷ s) (behind_bytes n (taken token rest)) = subst (EndsNext (c ∷ s)) h (first_ends t mode (c ∷ s)) in
-    one_skipped c s rest (length (c ∷ s) - length rest) (omega arith) (rest_reached (c ∷ s) rest e)
 
 -- a state that reads in the mode steps the token, and reads on behind it
 abbrev pub StepsToken : List Entry → (ℕ → ℕ) → ℕ → Mode → List ℕ → ℕ → Seen → List ℕ → ℕ → Type 0

@@ -94,7 +94,8 @@ text_ends g next root after (end m foreign ∷ w) d path before b t named settle
 abbrev pub On : List Element → Construction → Type 0
 On path st = st.path ≡ path
 
-text_kept : (path : List Element) → is_in_text path ≡ true → Keeps (On path)
+-- bytes of such a text leave the path as it is
+pub text_kept : (path : List Element) → is_in_text path ≡ true → Keeps (On path)
 unfolding step_byte
 text_kept path t c st on = by (st.drops_line_feed && c == 10)
   where

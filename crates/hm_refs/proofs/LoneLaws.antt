@@ -30,14 +30,19 @@ lone_none t e c p = rw (c, p) refl
 pub lone_some : (t : List Entry) (e : Entry) (p q : Points) (b : Bool) → is_closed e.name ≡ false → points_of t (e.name ++ 59 ∷ []) ≡ Some (points_list p) → points_list q ≡ e.points → b ≡ not (eqb p.first q.first && option_eq eqb p.second q.second) → b ≡ is_lone t e
 lone_some t e p q b c h i f = f ∙ rw (c, h, sym i, points_same p q) refl
 
-pub no_child : (t : List Entry) (q : List ℕ) (c : ℕ) → None ≡ child_of t q c → points_of t (q ++ c ∷ []) ≡ None
+-- no name goes on where a node has no child
+pub no_front : (t : List Entry) (q : List ℕ) (c : ℕ) → None ≡ child_of t q c → is_front t (q ++ c ∷ []) ≡ false
 unfolding child_of
-no_child t q c h = points_front t (q ++ c ∷ []) (by_test (is_front t (q ++ c ∷ [])) h)
+no_front t q c h = by_test (is_front t (q ++ c ∷ [])) h
   where
     by_test : (b : Bool) → None ≡ cond b (Some (q ++ c ∷ [])) None → b ≡ false
     by_test true k = absurd (cc)
     by_test false k = refl
 
+pub no_child : (t : List Entry) (q : List ℕ) (c : ℕ) → None ≡ child_of t q c → points_of t (q ++ c ∷ []) ≡ None
+no_child t q c h = points_front t (q ++ c ∷ []) (no_front t q c h)
+
+-- a child's bytes are one more
 pub child_front : (t : List Entry) (q f : List ℕ) (c : ℕ) → Some f ≡ child_of t q c → f ≡ q ++ c ∷ []
 unfolding child_of
 child_front t q f c h = by_test (is_front t (q ++ c ∷ [])) h

@@ -10,5 +10,6 @@ pub mod ShortLines
 pub mod Read
 pub mod BackNumbers
 pub mod LeadingDigits
-pub mod Slots
+pub mod KeptDigits
 pub mod Turned
+pub mod Below

@@ -1,21 +1,29 @@
 -- The digits of hundreds that are kept.
-use Rattle.std.specs.Prelude.{ℕ, zero, suc, ◌≡◌, ◌+◌, ◌*◌, ◌/◌, ◌^◌, ◌<◌, ◌≤◌, List, [], ◌∷◌, ◌++◌, length, take, reverse}
+use Rattle.std.specs.Prelude.{ℕ, ◌≡◌, ◌+◌, ◌*◌, ◌/◌, ◌^◌, ◌<◌, ◌≤◌, List, [], ◌∷◌, ◌++◌, length, take, reverse}
 use Rattle.std.specs.Fmt.{decimal}
+use Rattle.hm_cert.specs.Certificate.{Row, price_text}
+use Rattle.hm_cert.specs.Layout.{told}
 
--- a number that ends in two zeros, and has other digits in front
-pub record IsBase (base : ℕ) : Type 0 where
+-- a number has the hundreds of a base
+pub record HasHundreds (base number : ℕ) : Type 0 where
+  pub low : base ≤ number
+  pub high : number < base + 100
+
+-- a text begins with a space and a number from its end, which ends in two zeros and has other digits in front; these are so many bytes
+pub record IsKept (base : ℕ) (text : List ℕ) (len : ℕ) : Type 0 where
   pub some : 100 ≤ base
   pub small : base < 10 ^ 9
   pub even : base ≡ base / 100 * 100
+  pub few : len ≤ 16
+  pub written : take len text ≡ 32 ∷ 48 ∷ 48 ∷ reverse (decimal (base / 100))
 
--- so many numbers from their end, each behind a space, with these first digits, and two zeros behind them
-abbrev pub slots : ℕ → List ℕ → List ℕ
-slots zero digits = []
-slots (suc count) digits = 32 ∷ 48 ∷ 48 ∷ (digits ++ slots count digits)
+-- a line begins with a space and a price from its end, and these are so many bytes
+pub record IsPut (line : List ℕ) (price len : ℕ) : Type 0 where
+  pub few : len ≤ 16
+  pub within : len ≤ length line
+  pub written : take len line ≡ 32 ∷ reverse (price_text (told price))
 
--- a line begins with three numbers of the hundreds of a base, of so many bytes each
-pub record IsKept (base : ℕ) (line : List ℕ) (width : ℕ) : Type 0 where
-  pub number : IsBase base
-  pub wide : width ≡ 3 + length (decimal (base / 100))
-  pub few : width ≤ 10
-  pub written : take (3 * width) line ≡ slots 3 (reverse (decimal (base / 100)))
+-- prices, each with a space behind
+abbrev pub ahead : Row → List ℕ
+ahead [] = []
+ahead (price ∷ row) = price_text price ++ 32 ∷ ahead row

@@ -7,5 +7,6 @@ pub mod Places
 pub mod Short
 pub mod Leading
 pub mod Hundreds
+pub mod Rows
 pub mod Laws
 pub mod Examples

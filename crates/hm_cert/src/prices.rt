@@ -1,6 +1,7 @@
 //! The prices of the layers that a certificate writes.
-ghost use Rattle.std.specs.Prelude.{◌≡◌, ℕ, ◌<◌, ◌≤◌, [], ◌∷◌, ◌++◌, length, map, slice_index, slice_index_or, slice_range, OnOk, OnErr};
+ghost use Rattle.std.specs.Prelude.{◌≡◌, ℕ, ◌+◌, ◌^◌, option_map, ◌<◌, ◌≤◌, [], ◌∷◌, ◌++◌, length, map, slice_index, slice_index_or, slice_range, OnOk, OnErr};
 ghost use Rattle.hm_cert.specs.Layout.{told};
+ghost use Rattle.hm_cert.specs.Rows.{AreBelow, IsBelow};
 
 use hm_base::Memory;
 use std::alloc::Global;
@@ -14,6 +15,26 @@ pub fn price_of(number: u64) -> Option<u64>
     ensures { result ≡ told number }
 {
     if number == CLOSED { None } else { Some(number) }
+}
+
+/// The price with so many bytes more.
+pub fn more(price: u64, len: u64) -> u64
+    requires below { IsBelow (2 ^ 63 + 2 ^ 62) (told price) }
+    requires low { len < 2 ^ 62 }
+    ensures { told result ≡ option_map (λ q. len + q) (told price) }
+{
+    len.saturating_add(price)
+}
+
+/// Adds so many bytes to each price.
+pub fn add_each(row: &mut [u64], len: u64)
+    requires below { AreBelow (2 ^ 63 + 2 ^ 62) (map told row.old) }
+    requires low { len < 2 ^ 62 }
+    ensures { map told row.new ≡ map (option_map (λ q. len + q)) (map told row.old) }
+{
+    for i in 0..row.len() {
+        row[i] = more(row[i], len);
+    }
 }
 
 /// The prices of each layer that is written, in bytes. Contracts see the list of rows, each the list of its prices, in

@@ -1,9 +1,9 @@
 //! The text of a certificate, from its end, for a writer that has the prices of the last layer first.
-ghost use Rattle.std.specs.Prelude.{◌≡◌, ◌∷◌, ◌++◌, ◌<◌, ◌≤◌, length, map, reverse, OnOk};
+ghost use Rattle.std.specs.Prelude.{◌≡◌, ◌∷◌, ◌++◌, ◌+◌, ◌*◌, ◌<◌, ◌≤◌, length, map, reverse, take, IfSome, OnOk};
 ghost use Rattle.hm_cert.specs.Certificate.{flag_text, head_lines, more_prices, price_text, row_line, row_text};
 ghost use Rattle.hm_cert.specs.Layout.{told};
 
-use crate::hundreds::{GROUP, Hundreds, put_number};
+use crate::hundreds::{Hundreds, put_number};
 use crate::prices::CLOSED;
 use crate::text::Format;
 use hm_base::{Memory, SpellRules};
@@ -37,85 +37,47 @@ pub fn put_next_line(out: &mut Vec<u8>, hundreds: &mut Hundreds, row: &[u64]) ->
     if row.is_empty() {
         return put_line_reversed(out, row);
     }
-    if row.len() <= GROUP {
-        return put_group(out, hundreds, row, b'\n');
+    let start = out.len();
+    make_room(out, row.len())?;
+    match put_prices(&mut out[start..], hundreds, row) {
+        Some(len) => {
+            out.truncate(start + len);
+            Ok(())
+        }
+        None => {
+            out.truncate(start);
+            put_line_reversed(out, row)
+        }
     }
-    put_groups(out, hundreds, row, b'\n')
 }
 
-/// Appends prices with a space between and a byte behind, the last byte first, group by group.
-fn put_groups(
-    out: &mut Vec<u8>,
-    hundreds: &mut Hundreds,
-    row: &[u64],
-    mark: u8,
-) -> Result<(), Memory>
-    requires { 0 < length row.now }
-    ensures { OnOk result (out.new.items ≡ out.old.items ++ mark ∷ reverse (row_text (map told row.now))) }
+/// Appends at least 16 bytes for each of so many prices.
+#[inline(always)]
+fn make_room(out: &mut Vec<u8>, count: usize) -> Result<(), Memory>
+    ensures front { OnOk result (take (length out.old.items) out.new.items ≡ out.old.items) }
+    ensures room { OnOk result (length out.old.items + 16 * count ≤ length out.new.items) }
 {
-    let mut before = mark;
-    let mut end = row.len();
-    while end > 0 {
-        let start = end.saturating_sub(GROUP);
-        put_group(out, hundreds, &row[start..end], before)?;
-        before = b' ';
-        end = start;
+    for _i in 0..count / 4 + 1 {
+        out.extend_from_slice(&[b' '; 64])?;
     }
     Ok(())
 }
 
-/// Appends at most three prices with a space between and a byte behind, the last byte first.
-fn put_group(
-    out: &mut Vec<u8>,
-    hundreds: &mut Hundreds,
-    prices: &[u64],
-    mark: u8,
-) -> Result<(), Memory>
-    requires some { 0 < length prices.now }
-    requires few { length prices.now ≤ 3 }
-    ensures { OnOk result (out.new.items ≡ out.old.items ++ mark ∷ reverse (row_text (map told prices.now))) }
+/// Puts the line of a row, the last byte first, into the front of a line, and answers how many bytes it has, where each price is
+/// at least 100 and below 10^9.
+#[inline(always)]
+fn put_prices(line: &mut [u8], hundreds: &mut Hundreds, row: &[u64]) -> Option<usize>
+    requires some { 0 < length row.now }
+    requires room { 16 * length row.now ≤ length line.old }
+    ensures within { IfSome result (λ len. len ≤ length line.new) }
+    ensures line { IfSome result (λ len. take len line.new ≡ 10 ∷ reverse (row_text (map told row.now))) }
 {
-    if hundreds.put_group(out, prices, mark)? {
-        return Ok(());
+    let mut at = 0;
+    for k in (0..row.len()).rev() {
+        at += hundreds.put(&mut line[at..], row[k])?;
     }
-    put_each(out, hundreds, prices, mark)
-}
-
-/// As `put_group`, price by price.
-fn put_each(
-    out: &mut Vec<u8>,
-    hundreds: &mut Hundreds,
-    prices: &[u64],
-    mark: u8,
-) -> Result<(), Memory>
-    requires { 0 < length prices.now }
-    ensures { OnOk result (out.new.items ≡ out.old.items ++ mark ∷ reverse (row_text (map told prices.now))) }
-{
-    let mut before = mark;
-    let mut end = prices.len();
-    while end > 0 {
-        put_one(out, hundreds, &prices[end - 1..end], before)?;
-        before = b' ';
-        end -= 1;
-    }
-    Ok(())
-}
-
-/// Appends a price with a byte behind, the last byte first. Its hundreds are kept.
-fn put_one(
-    out: &mut Vec<u8>,
-    hundreds: &mut Hundreds,
-    price: &[u64],
-    mark: u8,
-) -> Result<(), Memory>
-    requires { length price.now ≡ 1 }
-    ensures { OnOk result (out.new.items ≡ out.old.items ++ mark ∷ reverse (row_text (map told price.now))) }
-{
-    if hundreds.put_group(out, price, mark)? {
-        return Ok(());
-    }
-    put_row(out, price, mark)?;
-    hundreds.keep(price[0])
+    line[0] = b'\n';
+    Some(at)
 }
 
 /// Appends prices with a space between and a byte behind, the last byte first.

@@ -25,6 +25,10 @@ const WIDE: &str = "html-cert 2\nrules omit unquote\n10 - 9223372036854775807\n-
 const NEAR: &str =
     "html-cert 2\nrules omit unquote\n123456 123499 123400\n123455 12345678\n99123456 123455\n99999 100000 - 100001\n1234567890 1234567899 1234567800 0\n";
 
+/// Prices that are raised over hundreds and get more digits, a closed one, and more prices than four.
+const RAISED: &str =
+    "html-cert 2\nrules omit unquote\n1000000000 999999999\n1000100 1000099 1000000\n1000099 - 999999\n200 199 100 101 200 199 999\n100 9 0\n99 98\n";
+
 /// The text of a certificate, written from its end and turned round.
 fn reversed(
     alloc: Global,
@@ -33,7 +37,7 @@ fn reversed(
     prices: &Prices,
 ) -> Result<Vec<u8>, Memory> {
     let mut out = Vec::new(alloc);
-    let mut hundreds = Hundreds::new(alloc);
+    let mut hundreds = Hundreds::new();
     for k in (0..prices.rows()).rev() {
         put_next_line(&mut out, &mut hundreds, prices.row(k))?;
     }
@@ -79,6 +83,23 @@ fn wide_rows(rt: HostRuntime) -> Result<(), Memory> {
     assert!(rt; text.as_slice() == WIDE.as_bytes());
     let text = reversed(rt.alloc(), Format::Two, RULES, &prices)?;
     assert!(rt; text.as_slice() == WIDE.as_bytes());
+    Ok(())
+}
+
+#[test]
+fn raised_rows(rt: HostRuntime) -> Result<(), Memory> {
+    let mut prices = Prices::new(rt.alloc());
+    prices.push_row(&[1_000_000_000, 999_999_999])?;
+    prices.push_row(&[1_000_100, 1_000_099, 1_000_000])?;
+    prices.push_row(&[1_000_099, CLOSED, 999_999])?;
+    prices.push_row(&[200, 199, 100, 101, 200, 199, 999])?;
+    prices.push_row(&[100, 9, 0])?;
+    prices.push_row(&[99, 98])?;
+    let text = reversed(rt.alloc(), Format::Two, RULES, &prices)?;
+    assert!(rt; text.as_slice() == RAISED.as_bytes());
+    let mut row = Vec::from_array(rt.alloc(), [99, 9_999, CLOSED])?;
+    add_each(&mut row, 1);
+    assert!(rt; row.as_slice() == [100, 10_000, CLOSED].as_slice());
     Ok(())
 }
 

@@ -1,22 +1,31 @@
-use Rattle.std.proofs.Common.{◌/◌, reverse, ◌∙◌, arith}
+use Rattle.std.proofs.Common.{◌∷◌, ◌+◌, ◌/◌, ◌%◌, reverse, arith}
 use Rattle.std.specs.Fmt.{decimal}
-use Rattle.hm_cert.proofs.Slots.{few_digits, length_three, of_number, one_wide, three_slots}
+use Rattle.std.proofs.lemmas.List.{length-set}
+use Rattle.hm_cert.proofs.KeptDigits.{digit_fits, digit_more, kept_of}
 use Rattle.hm_cert.proofs.hundreds.KeptDigits.of.Goals as goal
 
-pub line_of-requires : goal.line_of-requires
-line_of-requires c =
-    let n = c.args.number in
-    let digits = reverse (decimal (n / 100)) in
-    let none = c.in_ok-text.ensures.items in
-    let text = c.deref.ensures.value ∙ three_slots _ _ _ _ digits none c.in_ok-put_slot.ensures c.in_ok-put_slot-2.ensures c.in_ok-put_slot-3.ensures in
-    let wide = one_wide (n / 100) c.len-width.result _ _ none c.in_ok-put_slot.ensures (c.len-width.ensures ∙ c.put_slot.new.text.ok.0) in
-    omega (arith, length_three n _ c.len-width.result text wide, wide, few_digits n c.requires.low)
+pub bounds-text-len : goal.bounds-text-len
+bounds-text-len c = let l = c.loop-rest in omega (arith, digit_fits c.args.number l.len l.rest l.text c.requires.low (omega (arith, l.auto.rest-fits)) l.invariant.size l.invariant.put)
+
+pub overflow_add-len : goal.overflow_add-len
+overflow_add-len c = let l = c.loop-rest in omega (arith, digit_fits c.args.number l.len l.rest l.text c.requires.low (omega (arith, l.auto.rest-fits)) l.invariant.size l.invariant.put)
+
+pub loop-rest-preserved : goal.loop-rest-preserved
+loop-rest-preserved c =
+    let l = c.loop-rest in
+    let fits = digit_fits c.args.number l.len l.rest l.text c.requires.low (omega (arith, l.auto.rest-fits)) l.invariant.size l.invariant.put in
+    record {
+      put = digit_more l.text (32 ∷ 48 ∷ 48 ∷ reverse (decimal (c.args.number / 100))) l.len l.rest c.loop-rest-test.true (omega (arith, l.auto.rest-fits)) (omega (arith, fits, l.invariant.size)) l.invariant.put;
+      size = omega (arith, length-set l.text l.len (48 + l.rest % 10), l.invariant.size);
+    }
+
+pub bounds-text-len-2 : goal.bounds-text-len-2
+bounds-text-len-2 c = let l = c.loop-rest in omega (arith, digit_fits c.args.number l.len l.rest l.text c.requires.low (omega (arith, l.auto.rest-fits)) l.invariant.size l.invariant.put)
+
+pub overflow_add-result : goal.overflow_add-result
+overflow_add-result c = let l = c.loop-rest in omega (arith, digit_fits c.args.number l.len l.rest l.text c.requires.low (omega (arith, l.auto.rest-fits)) l.invariant.size l.invariant.put)
 
 pub invariant_of-result : goal.invariant_of-result
 invariant_of-result c =
-    let n = c.args.number in
-    let digits = reverse (decimal (n / 100)) in
-    let none = c.in_ok-text.ensures.items in
-    let text = c.deref.ensures.value ∙ three_slots _ _ _ _ digits none c.in_ok-put_slot.ensures c.in_ok-put_slot-2.ensures c.in_ok-put_slot-3.ensures in
-    let wide = one_wide (n / 100) c.len-width.result _ _ none c.in_ok-put_slot.ensures (c.len-width.ensures ∙ c.put_slot.new.text.ok.0) in
-    record { kept = of_number n _ c.line_of.result c.len-width.result c.requires.some c.requires.low text c.line_of.ensures wide }
+    let l = c.loop-rest in
+    record { kept = kept_of c.args.number l.len l.rest l.text c.requires.some c.requires.low (omega (arith, c.loop-rest-test.false)) l.invariant.size l.invariant.put }

@@ -1,4 +1,3 @@
-pub mod Hexadecimal
 pub mod Prices
 pub mod FromLast
 pub mod FirstWay

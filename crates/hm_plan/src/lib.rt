@@ -2,7 +2,6 @@
 #![tactic(auto)]
 
 mod paths;
-mod pieces;
 mod plans;
 mod turned;
 

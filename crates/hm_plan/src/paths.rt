@@ -4,18 +4,18 @@ ghost use Rattle.hm_edges.specs.Pieces.{HasName, own_bytes, piece_bytes, piece_t
 ghost use Rattle.hm_graph.specs.Prices.{Row};
 ghost use Rattle.hm_layers.specs.Graphs.{AreNamed, IsNamedStep, IsPlace};
 ghost use Rattle.hm_parts.specs.Parts.{AreParts, IsPart, part_units, parts_units};
+ghost use Rattle.hm_pieces.specs.Own.{own_text};
 ghost use Rattle.hm_refs.specs.Names.{Entry};
 ghost use Rattle.hm_steps.specs.Ways.{along, choices_of, hop_taken, step_choices, way_from};
 ghost use Rattle.hm_units.specs.Units as units;
 ghost use Rattle.hm_units.specs.Units.{character_units, units_of};
-ghost use Rattle.hm_plan.specs.Own.{own_text};
 ghost use Rattle.hm_plan.specs.Paths.{Copies, Goes, GoesOver, HasChoices, IsCopied, Passes, onward, row_behind};
 
-use crate::pieces::{Own, put_piece};
 use hm_base::{Memory, SpellRules};
 use hm_edges::Piece;
 use hm_layers::{Cursor, Graph, Step};
 use hm_parts::{Part, find_parts};
+use hm_pieces::{Own, put_piece};
 use hm_refs::Table;
 use hm_steps::Hop;
 use hm_tree::Tree;

@@ -41,7 +41,7 @@ found_agrees bytes behind row f price (e ∷ edges) (x ∷ hops) tells h =
     by_test false more = more
 
 -- the hops at the place of a state are its edges
-hops_at : (bytes : Piece → List ℕ) (behind : List State) (edges : State → List Edge) (states : List State) (step : Step) (s : State) (n : ℕ)
+pub hops_at : (bytes : Piece → List ℕ) (behind : List State) (edges : State → List Edge) (states : List State) (step : Step) (s : State) (n : ℕ)
     → StepFits bytes edges behind states step → place_of states s ≡ Some n → HopsFit bytes behind (edges s) (slice_index_or step n [])
 hops_at bytes behind edges [] step s n h e = absurd (cc)
 hops_at bytes behind edges (t ∷ states) [] s n h e = absurd h

@@ -3,7 +3,7 @@ use Rattle.std.specs.Prelude.{◌≡◌, ℕ, List, Some}
 use Rattle.hm_cert.specs.declared.text.Format.{Format}
 use Rattle.hm_graph.specs.Prices as graph
 use Rattle.hm_graph.specs.Prices.{Row, least_prices, FeasibleFrom, full_from}
-use Rattle.hm_graph.specs.Ways.{Edges, first_way}
+use Rattle.hm_graph.specs.Ways.{Edges, Way, first_way}
 use Rattle.hm_units.specs.States.{State}
 use Rattle.hm_units.specs.Units.{Unit}
 use Rattle.hm_edges.specs.declared.pieces.Piece.{Piece}
@@ -11,7 +11,7 @@ use Rattle.hm_steps.specs.Fits.{StepsFit, place_of}
 use Rattle.hm_outdone.specs.Formats.{follows_by}
 use Rattle.hm_steps.specs.Prices.{rows_of, written_rows, full_rows, KeepsRows}
 use Rattle.hm_steps.specs.Steps.{Step}
-use Rattle.hm_steps.specs.Ways.{way_from}
+use Rattle.hm_steps.specs.Ways.{WayOver, way_from}
 
 -- the prices over steps are the least ones
 abbrev pub RowsAreLeast : Type 0
@@ -22,6 +22,11 @@ RowsAreLeast = (edges : Edges) (bytes : Unit → Piece → List ℕ) (units : Li
 abbrev pub WayIsFirst : Type 0
 WayIsFirst = (edges : Edges) (bytes : Unit → Piece → List ℕ) (units : List Unit) (states : List State) (steps : List Step) (last : ℕ) (s : State) (place : ℕ)
     → StepsFit edges bytes units states steps last → place_of states s ≡ Some place → way_from bytes last units steps place ≡ first_way edges units s
+
+-- each way over steps is a way of the graph, with the same bytes
+abbrev pub WaysAreWays : Type 0
+WaysAreWays = (edges : Edges) (bytes : Unit → Piece → List ℕ) (units : List Unit) (states : List State) (steps : List Step) (last : ℕ) (s : State) (place : ℕ) (b : List ℕ)
+    → StepsFit edges bytes units states steps last → place_of states s ≡ Some place → WayOver bytes units steps place b → Way edges units s b
 
 -- the rows that are written are the same
 abbrev pub WrittenRowsAgree : Type 0

@@ -1,12 +1,23 @@
--- The first way over steps: at each state the first hop over which the least price comes.
-use Rattle.std.specs.Prelude.{ℕ, suc, List, [], ◌∷◌, ◌++◌, map, Option, Some, None, if◌then◌else◌, slice_get, slice_index_or}
+-- Ways over steps, and the first one: at each state the first hop over which the least price comes.
+use Rattle.std.specs.Prelude.{◌≡◌, ℕ, suc, List, [], ◌∷◌, ◌++◌, map, Option, Some, None, if◌then◌else◌, slice_get, slice_index_or}
 use Rattle.hm_graph.specs.Prices.{Row}
 use Rattle.hm_graph.specs.Ways.{same_price}
+use Rattle.hm_refs.specs.Tables.{IsIn}
 use Rattle.hm_units.specs.Units.{Unit}
 use Rattle.hm_edges.specs.declared.pieces.Piece.{Piece}
 use Rattle.hm_steps.specs.Prices.{price_over, best_price, first_row, rows_of}
 use Rattle.hm_steps.specs.Steps.{Step, is_forced}
 use Rattle.hm_steps.specs.declared.hops.Hop.{Hop}
+
+-- a way over these steps from a place to the end, with the bytes that it writes, by what a piece writes of a unit
+abbrev pub WayOver : (Unit → Piece → List ℕ) → List Unit → List Step → ℕ → List ℕ → Type 0
+WayOver bytes [] [] place b = b ≡ []
+WayOver bytes [] (step ∷ steps) place b = ⊥
+WayOver bytes (unit ∷ units) [] place b = ⊥
+WayOver bytes (unit ∷ units) (step ∷ steps) place b =
+    (h : Hop) × IsIn h (slice_index_or step place []) × ((rest : List ℕ) × (b ≡ bytes unit h.piece ++ rest) × WayOver bytes units steps h.to rest)
+
+-- ---- The first way
 
 -- the place of the first hop over which a price comes; behind the last where there is none
 abbrev pub place_over : Row → Option ℕ → List Hop → ℕ

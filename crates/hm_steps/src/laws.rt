@@ -1,5 +1,5 @@
 //! Laws of steps. The functions do nothing.
-ghost use Rattle.hm_steps.specs.Laws.{FullRowsAgree, KeepingAgrees, RowsAreLeast, WayIsFirst, WrittenRowsAgree};
+ghost use Rattle.hm_steps.specs.Laws.{FullRowsAgree, KeepingAgrees, RowsAreLeast, WayIsFirst, WaysAreWays, WrittenRowsAgree};
 
 /// The prices over steps are the least ones of their graph.
 pub fn rows_are_least()
@@ -9,6 +9,11 @@ pub fn rows_are_least()
 /// The way over steps is the first one of their graph.
 pub fn way_is_first()
     ensures { WayIsFirst }
+{}
+
+/// Each way over steps is one of their graph.
+pub fn ways_are_ways()
+    ensures { WaysAreWays }
 {}
 
 /// The rows that are written are those of the graph.

@@ -2,7 +2,7 @@ use Rattle.std.proofs.Common.{◌∙◌, drop, option_and_then, sym, ap, subst}
 use Rattle.hm_graph.specs.Prices.{Row}
 use Rattle.hm_layers.specs.Graphs.{IsNamedStep}
 use Rattle.hm_steps.specs.Ways.{choices_of, hop_taken, step_choices}
-use Rattle.hm_plan.specs.Own.{own_text}
+use Rattle.hm_pieces.specs.Own.{own_text}
 use Rattle.hm_plan.specs.Paths.{row_behind}
 use Rattle.hm_plan.proofs.FirstWay.{named_step, goes_one}
 use Rattle.hm_plan.proofs.paths.take.Goals as goal

@@ -3,7 +3,7 @@ ghost use Rattle.std.specs.Prelude.{◌≡◌, ◌<◌, ◌++◌, ◌∷◌, [],
 ghost use Rattle.std.specs.Fmt.{decimal, digit_glyph, digits};
 ghost use Rattle.hm_edges.specs.Pieces.{HasName, closed_by, piece_text, with_gap, with_opening};
 ghost use Rattle.hm_parts.specs.Parts.{comment_bytes};
-ghost use Rattle.hm_plan.specs.Own.{own_text};
+ghost use Rattle.hm_pieces.specs.Own.{own_text};
 
 use hm_base::Memory;
 use hm_edges::{Form, Piece};

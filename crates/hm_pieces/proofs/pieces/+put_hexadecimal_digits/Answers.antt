@@ -2,8 +2,8 @@ use Rattle.std.proofs.Common.{◌++◌, ◌/◌, ◌%◌, ◌∷◌, [], false, 
 use Rattle.std.proofs.lemmas.Fmt.{hex_one_digit}
 use Rattle.std.proofs.lemmas.Result.{on_ok_weaker}
 use Rattle.std.specs.Fmt.{digits, digit_glyph}
-use Rattle.hm_plan.proofs.Hexadecimal.{hexadecimal_more}
-use Rattle.hm_plan.proofs.pieces.+put_hexadecimal_digits.Goals as goal
+use Rattle.hm_pieces.proofs.Hexadecimal.{hexadecimal_more}
+use Rattle.hm_pieces.proofs.pieces.+put_hexadecimal_digits.Goals as goal
 
 pub returns-then-number-lt16 : goal.returns-then-number-lt16
 returns-then-number-lt16 t c =

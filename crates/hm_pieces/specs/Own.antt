@@ -1,8 +1,8 @@
 -- What a unit has of its own, as bytes.
 use Rattle.std.specs.Prelude.{ℕ, List, encode_utf8}
 use Rattle.hm_parts.specs.Parts.{comment_bytes}
-use Rattle.hm_plan.specs.declared.pieces.Own.{Own}
-use Rattle.hm_plan.specs.declared.pieces.Own.TheVariants as own
+use Rattle.hm_pieces.specs.declared.pieces.Own.{Own}
+use Rattle.hm_pieces.specs.declared.pieces.Own.TheVariants as own
 
 abbrev pub own_text : Own → List ℕ
 own_text (own.Bytes text) = text.now

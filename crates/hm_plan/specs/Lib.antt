@@ -1,4 +1,3 @@
 pub mod Own
 pub mod Paths
 pub mod Plans
-pub mod Rows

@@ -2,7 +2,10 @@
 use Rattle.std.proofs.Common.{◌≡◌, ◌∙◌, ℕ, zero, suc, ◌+◌, ◌-◌, ◌*◌, ◌<◌, ◌≤◌, ◌^◌, ◌&&◌, Bool, true, false, cond, List, [], ◌∷◌, ◌++◌, length, map, get_or, drop, reverse, refl, sym, ap, subst, arith, append-nil, append_assoc}
 use Rattle.std.proofs.lemmas.List.{length-map}
 use Rattle.std.proofs.lemmas.Nat.{mul-lt}
+use Rattle.std.proofs.Math.Nat.{mul-le-mul_right}
 use Rattle.hm_cert.specs.Certificate.{row_line}
+use Rattle.hm_cert.specs.Rows.{AreBelow, IsBelow}
+use Rattle.std.specs.Prelude.{Option, Some, None}
 use Rattle.hm_cert.specs.declared.text.Format.{Format}
 use Rattle.hm_graph.specs.Layers.{is_single}
 use Rattle.hm_graph.specs.Prices.{Row}
@@ -86,3 +89,23 @@ still_forced len step still = let here : (p : ℕ) → p ≡ 0 + p = λ p. omega
 
 pub along_low : (n len : ℕ) → n < 2 ^ 29 → len < 2 ^ 33 → n * len < 2 ^ 62
 along_low n len few low = let all : n * len < 2 ^ 29 * 2 ^ 33 = mul-lt n len (2 ^ 29) (2 ^ 33) few low in all
+
+-- ---- Rows with more
+
+over_at_most : (bound most n : ℕ) (price : Option ℕ) → bound + n ≤ most → IsBelow bound price → IsBelow most (over n price)
+over_at_most bound most n None l h = tt
+over_at_most bound most n (Some q) l h = omega arith
+
+pub raised_below : (bound most n : ℕ) (row : Row) → bound + n ≤ most → AreBelow bound row → AreBelow most (map (over n) row)
+raised_below bound most n [] l h = tt
+raised_below bound most n (price ∷ row) l h = (over_at_most bound most n price l h.0, raised_below bound most n row l h.1)
+
+-- over one layer more
+pub one_alike : (n len : ℕ) (start text more : List ℕ) (row behind front : Row) → text ≡ start ++ raised_lines n len row → behind ≡ map (over (n * len)) row → front ≡ map (over len) behind → more ≡ text ++ reverse (row_line front)
+    → (more ≡ start ++ raised_lines (suc n) len row) × (front ≡ map (over (suc n * len)) row)
+one_alike n len start text more row behind front t b f m =
+    let is : front ≡ map (over (suc n * len)) row = f ∙ ap (map (over len)) b ∙ sym (each_more n len row) in
+    (m ∙ (λ i. t i ++ reverse (row_line (is i))) ∙ append_assoc start (raised_lines n len row) (reverse (row_line (map (over (suc n * len)) row))), is)
+
+pub few_more : (n count len : ℕ) → n < count → count * len < 2 ^ 62 → n * len < 2 ^ 62
+few_more n count len h low = let least : n * len ≤ count * len = mul-le-mul_right {m = n} {n = count} len (omega (arith, h)) in omega (arith, least, low)

@@ -8,6 +8,7 @@ use Rattle.std.specs.Result.{IfOk}
 use Rattle.hm_base.specs.declared.plain.SpellRules.{SpellRules}
 use Rattle.hm_cert.specs.Certificate.{head_lines, row_line, row_lines}
 use Rattle.hm_cert.specs.Layout.{told}
+use Rattle.hm_cert.proofs.Below.{below_in}
 use Rattle.hm_cert.specs.declared.text.Format.{Format}
 use Rattle.hm_graph.specs.Prices.{Row, first_price}
 use Rattle.hm_graph.specs.Ways.{lesser, over}
@@ -17,7 +18,7 @@ use Rattle.hm_steps.specs.Steps.{Step}
 use Rattle.hm_steps.specs.Ways.{choices_of, step_choices}
 use Rattle.hm_steps.specs.declared.hops.Hop.{Hop}
 use Rattle.hm_plan.specs.Plans.{IsBack, IsPlan}
-use Rattle.hm_plan.specs.Rows.{IsBelow, AreBelow}
+use Rattle.hm_cert.specs.Rows.{IsBelow, AreBelow}
 use Rattle.hm_plan.specs.declared.plans.Plan.{Plan}
 use Rattle.hm_plan.proofs.Prices.{cut_before}
 
@@ -27,14 +28,9 @@ is_below : (bound more : ℕ) (price : Option ℕ) → bound ≤ more → IsBelo
 is_below bound more None h b = tt
 is_below bound more (Some n) h b = omega arith
 
-are_below : (bound more : ℕ) (row : Row) → bound ≤ more → AreBelow bound row → AreBelow more row
+pub are_below : (bound more : ℕ) (row : Row) → bound ≤ more → AreBelow bound row → AreBelow more row
 are_below bound more [] h b = tt
 are_below bound more (price ∷ row) h b = (is_below bound more price h b.0, are_below bound more row h b.1)
-
-pub below_in : (row : Row) (bound k : ℕ) → AreBelow bound row → IsBelow bound (get_or row k None)
-below_in [] bound k h = tt
-below_in (price ∷ row) bound zero h = h.0
-below_in (price ∷ row) bound (suc k) h = below_in row bound k h.1
 
 over_below : (bound len : ℕ) (price : Option ℕ) → len < 2 ^ 33 → IsBelow bound price → IsBelow (bound + 2 ^ 33) (over len price)
 over_below bound len None l h = tt

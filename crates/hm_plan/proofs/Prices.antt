@@ -1,18 +1,17 @@
 -- Prices as numbers, and the best of hops.
-use Rattle.std.proofs.Common.{◌≡◌, ◌∙◌, ℕ, zero, suc, ◌+◌, ◌<◌, ◌≤◌, ◌^◌, ◌==◌, true, false, cond, min, ◌-◌, drop-cons, List, [], ◌∷◌, length, map, get_or, drop, Option, Some, None, refl, sym, ap, subst, arith, ◌⊎◌, inl, inr, ⊎_elim, nat_eq}
+use Rattle.std.proofs.Common.{◌≡◌, ◌∙◌, ℕ, zero, suc, ◌+◌, ◌<◌, ◌≤◌, ◌^◌, ◌==◌, true, false, cond, ◌-◌, drop-cons, List, [], ◌∷◌, length, map, get_or, drop, Option, Some, None, refl, sym, ap, subst, arith, ◌⊎◌, inl, inr, ⊎_elim, nat_eq}
 use Rattle.std.proofs.lemmas.Bool.{cases_lt, false_from_ne_true}
 use Rattle.std.proofs.lemmas.Bool.Decides.{Decides-eqb}
 use Rattle.std.proofs.Math.Seq.{drop-length}
 use Rattle.std.proofs.lemmas.List.{get_or-map}
 use Rattle.hm_cert.specs.Layout.{told}
 use Rattle.hm_graph.specs.Prices.{Row}
-use Rattle.hm_graph.specs.Ways.{lesser, over, same_price}
+use Rattle.hm_graph.specs.Ways.{lesser, same_price}
 use Rattle.hm_layers.specs.Graphs.{AreLowHops, IsLowStep}
 use Rattle.hm_steps.specs.Prices.{price_over, best_price}
 use Rattle.hm_steps.specs.Steps.{Step}
 use Rattle.hm_steps.specs.Ways.{place_over, choice}
 use Rattle.hm_steps.specs.declared.hops.Hop.{Hop}
-use Rattle.hm_plan.specs.Rows.{IsBelow}
 
 -- a number is the greatest, which stands for a closed price, or the price itself
 pub record IsClosed (n : ℕ) : Type 0 where
@@ -69,21 +68,6 @@ differ a b small low h = by_cases (told_cases a small) (told_cases b low)
     by_cases (inr x) (inr y) = rw (x.some, y.some) (nat_eq_less a b h)
 
 -- ---- The price over a hop
-
-below_some : (bound n : ℕ) (price : Option ℕ) → IsBelow bound price → price ≡ Some n → n < bound
-below_some bound n None h e = absurd (cc)
-below_some bound n (Some q) h e = let is : q ≡ n = cc in subst (λ m. m < bound) is h
-
--- the sum of a length and a number tells the price with so many bytes more
-pub more_is : (price sum len : ℕ) → IsBelow (2 ^ 62) (told price) → price < 2 ^ 64 → len < 2 ^ 62 → sum ≡ min (len + price) 18446744073709551615 → told sum ≡ over len (told price)
-more_is price sum len below fits low e = by_cases (told_cases price fits)
-  where
-    by_cases : IsClosed price ⊎ IsOpen price → told sum ≡ over len (told price)
-    by_cases (inl x) = let all : sum ≡ 18446744073709551615 = omega (arith, e, x.greatest) in rw (x.none, all) refl
-    by_cases (inr x) =
-        let few : price < 2 ^ 62 = below_some (2 ^ 62) price (told price) below x.some in
-        let all : sum ≡ len + price = omega (arith, e, few, low) in
-        rw (x.some, all) (told_open (len + price) (omega arith))
 
 -- the price that a number of a list tells
 pub told_at : (row : List ℕ) (k price : ℕ) → k < length row → price ≡ get_or row k price → get_or (map told row) k None ≡ told price

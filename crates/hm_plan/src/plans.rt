@@ -1,5 +1,5 @@
 //! Least prices, from the last layer on: the certificate that tells them, and what the first way chooses.
-ghost use Rattle.std.specs.Prelude.{◌≡◌, ◌++◌, ◌∷◌, [], ◌*◌, ◌<◌, ◌≤◌, ◌^◌, length, map, reverse, if◌then◌else◌, Some, None, IfOk, IsTrue, OnOk, slice_index_or};
+ghost use Rattle.std.specs.Prelude.{◌≡◌, ◌++◌, ◌∷◌, [], ◌+◌, ◌*◌, ◌<◌, ◌≤◌, ◌^◌, length, map, reverse, if◌then◌else◌, Some, None, IfOk, IsTrue, OnOk, slice_index_or};
 ghost use Rattle.hm_cert.specs.Certificate.{head_lines, row_line};
 ghost use Rattle.hm_cert.specs.Layout.{told};
 ghost use Rattle.hm_graph.specs.Ways.{over};
@@ -7,12 +7,14 @@ ghost use Rattle.hm_layers.specs.Graphs.{AreLowHops, IsLowStep, IsPlace};
 ghost use Rattle.hm_steps.specs.Prices.{best_price, row_over, zeros};
 ghost use Rattle.hm_steps.specs.Prices as prices;
 ghost use Rattle.hm_steps.specs.Ways.{choice, step_choices};
+ghost use Rattle.hm_cert.specs.Rows.{AreBelow};
 ghost use Rattle.hm_plan.specs.Plans.{IsFound, IsPlan, raised_lines};
-ghost use Rattle.hm_plan.specs.Rows.{AreBelow, IsBelow};
 
 use crate::turned::turn;
 use hm_base::{Memory, SpellRules};
-use hm_cert::{CLOSED, Format, Hundreds, put_head_reversed, put_line_reversed, put_next_line};
+use hm_cert::{
+    CLOSED, Format, Hundreds, add_each, more, put_head_reversed, put_line_reversed, put_next_line,
+};
 use hm_layers::{Cursor, Graph, Step};
 use hm_steps::Hop;
 use std::alloc::Global;
@@ -35,18 +37,9 @@ struct Best {
     place: usize,
 }
 
-/// The price with so many bytes more.
-fn more(price: u64, len: u64) -> u64
-    requires below { IsBelow (2 ^ 62) (told price) }
-    requires low { len < 2 ^ 62 }
-    ensures { told result ≡ over len (told price) }
-{
-    len.saturating_add(price)
-}
-
 /// The price over a hop, by the prices of the layer behind.
 fn price_over(hop: Hop, behind: &[u64]) -> u64
-    requires below { AreBelow (2 ^ 62) (map told behind.now) }
+    requires below { AreBelow (2 ^ 63 + 2 ^ 62) (map told behind.now) }
     requires low { hop.len < 2 ^ 62 }
     ensures { told result ≡ prices.price_over (map told behind.now) hop }
 {
@@ -58,7 +51,7 @@ fn price_over(hop: Hop, behind: &[u64]) -> u64
 
 /// The least price over these hops, by the prices of the layer behind.
 fn find_best(hops: &[Hop], behind: &[u64]) -> Best
-    requires below { AreBelow (2 ^ 62) (map told behind.now) }
+    requires below { AreBelow (2 ^ 63 + 2 ^ 62) (map told behind.now) }
     requires low { AreLowHops hops.now }
     ensures price { told result.price ≡ best_price (map told behind.now) hops.now }
     ensures place { result.place ≡ choice (map told behind.now) hops.now }
@@ -102,7 +95,7 @@ fn find_row(
     row: &mut Vec<u64>,
     choices: &mut Vec<u8>,
 ) -> Result<(), Memory>
-    requires below { AreBelow (2 ^ 62) (map told behind.now) }
+    requires below { AreBelow (2 ^ 63 + 2 ^ 62) (map told behind.now) }
     requires low { IsLowStep step.now }
     ensures row { OnOk result (map told row.new.items ≡ row_over (map told behind.now) step.now) }
     ensures choices { OnOk result (choices.new.items ≡ choices.old.items ++ step_choices (map told behind.now) step.now) }
@@ -113,19 +106,6 @@ fn find_row(
         let best = find_best(step.hops(place), behind);
         row.push(best.price)?;
         put_choice(choices, forced, best.place)?;
-    }
-    Ok(())
-}
-
-/// Puts these prices with so many bytes more in place of what the row held.
-fn add_each(prices: &[u64], len: u64, row: &mut Vec<u64>) -> Result<(), Memory>
-    requires below { AreBelow (2 ^ 62) (map told prices.now) }
-    requires low { len < 2 ^ 62 }
-    ensures { OnOk result (map told row.new.items ≡ map (over len) (map told prices.now)) }
-{
-    row.clear();
-    for i in 0..prices.len() {
-        row.push(more(prices[i], len))?;
     }
     Ok(())
 }
@@ -164,27 +144,6 @@ fn put_line(
     }
 }
 
-/// Appends the lines of so many rows, the last byte first: the first has so many bytes more for each price than this one, and
-/// each next one has as many more again.
-fn put_raised(
-    out: &mut Vec<u8>,
-    hundreds: &mut Hundreds,
-    row: &[u64],
-    count: u64,
-    len: u64,
-    spare: &mut Vec<u64>,
-) -> Result<(), Memory>
-    requires below { AreBelow (2 ^ 62) (map told row.now) }
-    requires low { count * len < 2 ^ 62 }
-    ensures { OnOk result (out.new.items ≡ out.old.items ++ raised_lines count len (map told row.now)) }
-{
-    for i in 0..count {
-        add_each(row, (i + 1) * len, spare)?;
-        put_next_line(out, hundreds, spare)?;
-    }
-    Ok(())
-}
-
 /// What was found from a layer on: the lines of the certificate, from their end, the choices and the prices of the layer.
 #[derive(Drop)]
 struct Back {
@@ -207,7 +166,7 @@ impl Back {
         put_line_reversed(&mut text, &row)?;
         Ok(Back {
             text,
-            hundreds: Hundreds::new(alloc),
+            hundreds: Hundreds::new(),
             choices: Vec::new(alloc),
             row,
             spare: Vec::new(alloc),
@@ -216,7 +175,7 @@ impl Back {
 
     /// Goes over the only hop of a step of one state.
     fn follow(&mut self, hop: Hop) -> Result<(), Memory>
-        requires below { AreBelow (2 ^ 62) (map told self.old.row.items) }
+        requires below { AreBelow (2 ^ 63 + 2 ^ 62) (map told self.old.row.items) }
         requires low { hop.len < 2 ^ 62 }
         ensures text { self.new.text ≡ self.old.text }
         ensures choices { self.new.choices ≡ self.old.choices }
@@ -230,7 +189,7 @@ impl Back {
 
     /// Finds the prices in front of a step, in place of those behind it.
     fn find(&mut self, step: &Step) -> Result<(), Memory>
-        requires below { AreBelow (2 ^ 62) (map told self.old.row.items) }
+        requires below { AreBelow (2 ^ 63 + 2 ^ 62) (map told self.old.row.items) }
         requires low { IsLowStep step.now }
         ensures text { self.new.text ≡ self.old.text }
         ensures choices { OnOk result (self.new.choices.items ≡ self.old.choices.items ++ step_choices (map told self.old.row.items) step.now) }
@@ -244,7 +203,7 @@ impl Back {
     /// Goes over the best hop of a step of one state.
     fn choose(&mut self, step: &Step) -> Result<(), Memory>
         requires one { length step.now ≡ 1 }
-        requires below { AreBelow (2 ^ 62) (map told self.old.row.items) }
+        requires below { AreBelow (2 ^ 63 + 2 ^ 62) (map told self.old.row.items) }
         requires low { IsLowStep step.now }
         ensures text { self.new.text ≡ self.old.text }
         ensures choices { OnOk result (self.new.choices.items ≡ self.old.choices.items ++ step_choices (map told self.old.row.items) step.now) }
@@ -258,7 +217,7 @@ impl Back {
 
     /// Goes to the layer in front of this step, without its line.
     fn pass(&mut self, step: &Step) -> Result<(), Memory>
-        requires below { AreBelow (2 ^ 62) (map told self.old.row.items) }
+        requires below { AreBelow (2 ^ 63 + 2 ^ 62) (map told self.old.row.items) }
         requires low { IsLowStep step.now }
         ensures text { self.new.text ≡ self.old.text }
         ensures choices { OnOk result (self.new.choices.items ≡ self.old.choices.items ++ step_choices (map told self.old.row.items) step.now) }
@@ -275,7 +234,7 @@ impl Back {
 
     /// Goes to layer `k`, the one in front of this step.
     fn go_over(&mut self, format: Format, k: usize, step: &Step) -> Result<(), Memory>
-        requires below { AreBelow (2 ^ 62) (map told self.old.row.items) }
+        requires below { AreBelow (2 ^ 63 + 2 ^ 62) (map told self.old.row.items) }
         requires low { IsLowStep step.now }
         ensures text { OnOk result (self.new.text.items ≡ self.old.text.items
             ++ (if prices.is_left_out format k step.now then [] else reverse (row_line (row_over (map told self.old.row.items) step.now)))) }
@@ -287,16 +246,19 @@ impl Back {
         put_line(&mut self.text, &mut self.hundreds, left_out, &self.row)
     }
 
-    /// Adds so many bytes to each price.
-    fn add(&mut self, len: u64) -> Result<(), Memory>
+    /// Goes over so many layers, each of which has so many bytes more for each price than the one behind it, and writes their
+    /// lines.
+    fn write_alike(&mut self, count: u64, len: u64) -> Result<(), Memory>
         requires below { AreBelow (2 ^ 62) (map told self.old.row.items) }
-        requires low { len < 2 ^ 62 }
-        ensures text { self.new.text ≡ self.old.text }
+        requires low { count * len < 2 ^ 62 }
+        ensures text { OnOk result (self.new.text.items ≡ self.old.text.items ++ raised_lines count len (map told self.old.row.items)) }
         ensures choices { self.new.choices ≡ self.old.choices }
-        ensures row { OnOk result (map told self.new.row.items ≡ map (over len) (map told self.old.row.items)) }
+        ensures row { OnOk result (map told self.new.row.items ≡ map (over (count * len)) (map told self.old.row.items)) }
     {
-        add_each(&self.row, len, &mut self.spare)?;
-        mem::swap(&mut self.row, &mut self.spare);
+        for _layer in 0..count {
+            add_each(&mut self.row, len);
+            put_next_line(&mut self.text, &mut self.hundreds, &self.row)?;
+        }
         Ok(())
     }
 
@@ -309,17 +271,11 @@ impl Back {
         ensures choices { self.new.choices ≡ self.old.choices }
         ensures row { OnOk result (map told self.new.row.items ≡ map (over (count * len)) (map told self.old.row.items)) }
     {
-        if !left_out {
-            put_raised(
-                &mut self.text,
-                &mut self.hundreds,
-                &self.row,
-                count,
-                len,
-                &mut self.spare,
-            )?;
+        if left_out {
+            add_each(&mut self.row, count * len);
+            return Ok(());
         }
-        self.add(count * len)
+        self.write_alike(count, len)
     }
 
     /// The plan, when the first layer is reached.

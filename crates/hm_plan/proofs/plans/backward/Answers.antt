@@ -1,11 +1,11 @@
-use Rattle.std.proofs.Common.{◌≡◌, ◌∙◌, ◌-◌, ◌^◌, ◌++◌, [], cond, get_or, reverse, map, sym, ap, subst, arith}
+use Rattle.std.proofs.Common.{◌≡◌, ◌∙◌, ◌+◌, ◌-◌, ◌^◌, ◌++◌, [], cond, get_or, reverse, map, sym, ap, subst, arith}
 use Rattle.hm_cert.specs.Certificate.{row_line}
 use Rattle.hm_cert.specs.Layout.{told}
 use Rattle.hm_layers.specs.Graphs.{IsLowStep}
 use Rattle.hm_steps.specs.Prices.{is_left_out, row_over, zeros}
 use Rattle.hm_plan.specs.Plans.{IsFound}
-use Rattle.hm_plan.specs.Rows.{AreBelow}
-use Rattle.hm_plan.proofs.FromLast.{last_back, step_cut, back_more, prices_below, low_step, plan_is, if_three}
+use Rattle.hm_cert.specs.Rows.{AreBelow}
+use Rattle.hm_plan.proofs.FromLast.{last_back, step_cut, back_more, are_below, prices_below, low_step, plan_is, if_three}
 use Rattle.hm_plan.proofs.plans.backward.Goals as goal
 
 pub loop-layer-init : goal.loop-layer-init
@@ -20,7 +20,9 @@ loop-layer-init c =
 
 pub go_over-requires-clause-below : goal.go_over-requires-clause-below
 go_over-requires-clause-below c =
-    subst (AreBelow (2 ^ 62)) (sym c.loop-layer.invariant.found.prices) (prices_below c.args.graph.now.last c.args.graph.now.steps c.loop-layer.layer.layer c.is_small.ensures.low c.is_small.ensures.few)
+    let below : AreBelow (2 ^ 62) (map told c.loop-layer.back.row.items) =
+    subst (AreBelow (2 ^ 62)) (sym c.loop-layer.invariant.found.prices) (prices_below c.args.graph.now.last c.args.graph.now.steps c.loop-layer.layer.layer c.is_small.ensures.low c.is_small.ensures.few) in
+    are_below (2 ^ 62) (2 ^ 63 + 2 ^ 62) (map told c.loop-layer.back.row.items) (omega arith) below
 
 pub go_over-requires-clause-low : goal.go_over-requires-clause-low
 go_over-requires-clause-low c = subst IsLowStep (sym c.step.ensures) (low_step c.args.graph.now.steps c.back-layer.result.layer c.is_small.ensures.low)

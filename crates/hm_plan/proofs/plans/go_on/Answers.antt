@@ -2,7 +2,7 @@ use Rattle.std.proofs.Common.{◌≡◌, ◌∙◌, ◌-◌, ◌^◌, [], get_or
 use Rattle.hm_cert.specs.Layout.{told}
 use Rattle.hm_layers.specs.Graphs.{IsLowStep}
 use Rattle.hm_steps.specs.Steps.{leaves_out}
-use Rattle.hm_plan.specs.Rows.{AreBelow}
+use Rattle.hm_cert.specs.Rows.{AreBelow}
 use Rattle.hm_steps.specs.Still.{AreStill}
 use Rattle.hm_plan.proofs.Alike.{along_found, along_low, still_forced}
 use Rattle.hm_plan.proofs.FromLast.{low_step, prices_below}

@@ -86,7 +86,7 @@ pub rules_other : (t : List Entry) (r : SpellRules) (w : List Event) (out : List
 unfolding verdict
 rules_other t r w out c e = rw e refl
 
-rules_are : (t : List Entry) (r : SpellRules) (w : List Event) (out : List ℕ) (c : Certificate) → same_rules c.rules r ≡ true → verdict t r w out c ≡ by_outcome t r w (length out) c (out_outcome t out)
+pub rules_are : (t : List Entry) (r : SpellRules) (w : List Event) (out : List ℕ) (c : Certificate) → same_rules c.rules r ≡ true → verdict t r w out c ≡ by_outcome t r w (length out) c (out_outcome t out)
 unfolding verdict
 rules_are t r w out c e = rw e refl
 

@@ -9,3 +9,5 @@ pub mod Shown
 pub mod Checking
 pub mod Alike
 pub mod Within
+pub mod Following
+pub mod Spelled

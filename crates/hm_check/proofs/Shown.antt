@@ -125,7 +125,7 @@ spelled_outcome t k r w s out spells short =
     rw within (spellings_are_read_back everywhere t r w out k s spells)
 
 -- so its rows decide
-spelled_verdict : (t : List Entry) → IsTable t → (r : SpellRules) (w : List Event) → Settled w → (out : List ℕ) (c : Certificate) → Spells t r w out → length out ≤ OUTPUT_LIMIT
+pub spelled_verdict : (t : List Entry) → IsTable t → (r : SpellRules) (w : List Event) → Settled w → (out : List ℕ) (c : Certificate) → Spells t r w out → length out ≤ OUTPUT_LIMIT
     → by_outcome t r w (length out) c (out_outcome t out) ≡ by_rows (tree_edges t r c.format) (follows_by c.format (tree_edges t r c.format)) (length out) (units_of r w) c.prices
 spelled_verdict t k r w s out c spells short = ap (by_outcome t r w (length out) c) (spelled_outcome t k r w s out spells short) ∙ ap (by_difference t r w (length out) c) (no_difference w)
 

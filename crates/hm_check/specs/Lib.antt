@@ -4,4 +4,5 @@ pub mod Verdicts
 pub mod Steps
 pub mod Sweeps
 pub mod Trees
+pub mod Following
 pub mod Laws

@@ -1,19 +1,22 @@
 //! The check of a text and a certificate.
 ghost use Rattle.std.specs.Prelude.{◌≡◌, IfOk};
 ghost use Rattle.hm_cert.specs.Certificate.{AreRows};
-ghost use Rattle.hm_layers.specs.Graphs.{tree_edges};
+ghost use Rattle.hm_elements.specs.Settled.{Settled};
+ghost use Rattle.hm_layers.specs.Graphs.{IsGraphOf, tree_edges};
 ghost use Rattle.hm_outdone.specs.Formats.{follows_by};
 ghost use Rattle.hm_units.specs.Units.{units_of};
 ghost use Rattle.hm_check.specs.Verdicts as verdicts;
 ghost use Rattle.hm_check.specs.Verdicts.{verdict};
 
+use crate::followed::follows;
 use crate::rows::by_rows;
 use crate::trees::find_difference;
 use crate::{Verdict, Why};
-use hm_base::{Memory, SpellRules};
+use hm_base::{Memory, OUTPUT_LIMIT, SpellRules};
 use hm_cert::Certificate;
 use hm_layers::Graph;
 use hm_refs::Table;
+use hm_refs::laws::every_table;
 use hm_tree::Tree;
 use std::alloc::Global;
 
@@ -26,6 +29,19 @@ fn same_rules(left: SpellRules, right: SpellRules) -> bool
         && left.tight == right.tight
         && left.ascii == right.ascii
         && left.frame == right.frame
+}
+
+/// The graph of a tree in the format of a certificate.
+fn graph_of(
+    alloc: Global,
+    table: &Table,
+    wanted: &Tree,
+    certificate: &Certificate,
+    rules: SpellRules,
+) -> Result<Graph, Memory>
+    ensures { IfOk result (IsGraphOf table.now.entries rules certificate.now.format wanted.now) }
+{
+    Graph::of(alloc, wanted, table, rules, certificate.format)
 }
 
 /// What is found of the rows of a certificate, for a text of so many bytes.
@@ -41,7 +57,7 @@ fn by_certificate(
     ensures { IfOk result (λ found. found ≡ verdicts.by_rows (tree_edges table.now.entries rules certificate.now.format)
         (follows_by certificate.now.format (tree_edges table.now.entries rules certificate.now.format)) length (units_of rules wanted.now) certificate.now.prices) }
 {
-    let graph = Graph::of(alloc, wanted, table, rules, certificate.format)?;
+    let graph = graph_of(alloc, table, wanted, certificate, rules)?;
     by_rows(
         alloc,
         &graph,
@@ -76,4 +92,33 @@ pub fn check(
         Ok(Some(why)) => Ok(Verdict::No { why }),
         Err(Memory) => Err(Memory),
     }
+}
+
+/// As `check`, of a settled tree. A text that follows the tree's graph isn't read: what it follows spells the tree.
+pub fn check_settled(
+    alloc: Global,
+    table: &Table,
+    wanted: &Tree,
+    out: &[u8],
+    certificate: &Certificate,
+    rules: SpellRules,
+) -> Result<Verdict, Memory>
+    requires rows { AreRows certificate.now.prices }
+    requires settled { Settled wanted.now }
+    ensures { IfOk result (λ found. found ≡ verdict table.now.entries rules wanted.now out.now certificate.now) }
+{
+    every_table(table);
+    if same_rules(certificate.rules, rules) && out.len() <= OUTPUT_LIMIT as usize {
+        let graph = graph_of(alloc, table, wanted, certificate, rules)?;
+        if follows(alloc, wanted, table, rules, &graph, out)? {
+            return by_rows(
+                alloc,
+                &graph,
+                &certificate.prices,
+                certificate.format,
+                out.len() as u64,
+            );
+        }
+    }
+    check(alloc, table, wanted, out, certificate, rules)
 }

@@ -3,6 +3,7 @@
 
 mod bounds;
 mod checks;
+mod followed;
 pub mod laws;
 mod layers;
 mod rows;
@@ -10,7 +11,7 @@ mod sweep;
 mod trees;
 mod verdicts;
 
-pub use checks::check;
+pub use checks::{check, check_settled};
 pub use verdicts::{Verdict, Why};
 
 #[cfg(test)]

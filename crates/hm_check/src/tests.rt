@@ -30,7 +30,7 @@ fn found(alloc: Global, out: &str, certificate: &str) -> Option<Verdict> {
     let text = SourceText::read(alloc, PAGE.as_bytes(), PAGE_LIMIT).ok()?;
     let wanted = parse(alloc, &text, &table).ok()?;
     let certificate = Certificate::read(alloc, certificate.as_bytes()).ok()?;
-    check(alloc, &table, &wanted, out.as_bytes(), &certificate, RULES).ok()
+    check_settled(alloc, &table, &wanted, out.as_bytes(), &certificate, RULES).ok()
 }
 
 #[test]

@@ -37,6 +37,11 @@ some_of text (c ∷ cs) is utf8 some = omega arith
 pub some_chars : (text : List ℕ) → IsUtf8 text → 0 < length text → 0 < length (chars text)
 some_chars text utf8 some = some_of text (chars text) refl utf8 some
 
+-- there is a unit for each character
+pub length_characters : (kind : TextKind) (cs : List ℕ) → length (character_units kind cs) ≡ length cs
+length_characters kind [] = refl
+length_characters kind (c ∷ cs) = omega (arith, length_characters kind cs)
+
 -- ---- Fronts
 
 pub front_none : (a : BuildingView) (kind : TextKind) (cs : List ℕ) → AddsFront a a kind cs cs

@@ -12,4 +12,5 @@ pub mod Parts
 pub mod Events
 pub mod Finished
 pub mod Runs
+pub mod Named
 mod StillLengths

@@ -11,7 +11,7 @@ use crate::ended::{Ended, Stop, says};
 use crate::lines::{bad_line_line, too_long_line, why_line, yes_line};
 use hm_base::{CERTIFICATE_LIMIT, OUTPUT_LIMIT, SpellRules};
 use hm_cert::{Certificate, CertificateFault};
-use hm_check::{Verdict, check};
+use hm_check::{Verdict, check_settled};
 use hm_input::{Input, load_bytes};
 use hm_store::Store;
 use std::alloc::Global;
@@ -28,7 +28,7 @@ fn find<'w>(
     ensures ended { IfOk result (λ ended. ended ≡ spec.verdict_ending (verdict input.now.table.entries rules input.now.tree out.now certificate.now)) }
     ensures memory { result ≢ Err Stop.Store }
 {
-    match check(alloc, &input.table, &input.tree, out, certificate, rules)? {
+    match check_settled(alloc, &input.table, &input.tree, out, certificate, rules)? {
         Verdict::Yes { length } => Ok(says(alloc, Status::Done, yes_line(alloc, length)?)),
         Verdict::No { why } => Ok(says(alloc, Status::No, why_line(alloc, why)?)),
     }

@@ -9,7 +9,8 @@ use Rattle.hm_edges.specs.declared.pieces.Piece.{Piece}
 use Rattle.hm_edges.specs.Pieces.{HasName, own_bytes, piece_bytes, piece_text}
 use Rattle.hm_graph.specs.Prices.{Row}
 use Rattle.hm_graph.specs.Ways.{lesser, same_price}
-use Rattle.hm_layers.specs.Graphs.{GraphView, AreNamed, AreNamedHops, IsNamedStep, IsPlace}
+use Rattle.hm_layers.proofs.Named.{named_hops}
+use Rattle.hm_layers.specs.Graphs.{GraphView, AreNamedHops, IsNamedStep, IsPlace}
 use Rattle.hm_refs.specs.Names.{Entry}
 use Rattle.hm_steps.specs.Prices.{price_over}
 use Rattle.hm_steps.specs.Steps.{Step, is_forced}
@@ -53,11 +54,6 @@ pub taken_is : (behind : Row) (step : Step) (choices : List ℕ) (place : ℕ) �
     → slice_get (get_or step place []) (get_or choices place 0) ≡ hop_taken behind step place
 taken_is behind step choices place inside is = ap (slice_get (get_or step place [])) (choice_is behind step choices place inside is)
 
-named_hops : (t : List Entry) (step : Step) (place : ℕ) → IsNamedStep t step → AreNamedHops t (get_or step place [])
-named_hops t [] place h = tt
-named_hops t (hops ∷ step) zero h = h.0
-named_hops t (hops ∷ step) (suc place) h = named_hops t step place h.1
-
 named_hop : (t : List Entry) (hops : List Hop) (k : ℕ) → AreNamedHops t hops → IfSome (slice_get hops k) (λ hop. HasName t hop.piece)
 named_hop t [] k h = tt
 named_hop t (x ∷ hops) zero h = h.0
@@ -65,11 +61,6 @@ named_hop t (x ∷ hops) (suc k) h = named_hop t hops k h.1
 
 pub taken_named : (t : List Entry) (step : Step) (place k : ℕ) → IsNamedStep t step → IfSome (slice_get (get_or step place []) k) (λ hop. HasName t hop.piece)
 taken_named t step place k h = named_hop t (get_or step place []) k (named_hops t step place h)
-
-pub named_step : (t : List Entry) (steps : List Step) (k : ℕ) → AreNamed t steps → IsNamedStep t (get_or steps k [])
-named_step t [] k h = tt
-named_step t (step ∷ steps) zero h = h.0
-named_step t (step ∷ steps) (suc k) h = named_step t steps k h.1
 
 -- ---- One step
 
@@ -118,10 +109,6 @@ all_chars t g cs rest old new none over = record { taken = omega (arith, over.co
 
 pub chars_go : (t : List Entry) (g : GraphView) (cs rest : List ℕ) (old new : WrittenWay) → rest ≡ [] → GoesOver t g cs rest old new → (kind : TextKind) → Goes t g (character_units kind cs) old new
 chars_go t g cs rest old new none over kind units = ap (λ x. new.out.items ++ way_on t g (character_units kind x ++ units) new.at.layer new.place) (sym none) ∙ over.goes kind units
-
-pub length_characters : (kind : TextKind) (cs : List ℕ) → length (character_units kind cs) ≡ length cs
-length_characters kind [] = refl
-length_characters kind (c ∷ cs) = omega (arith, length_characters kind cs)
 
 -- ---- The parts of an event
 

@@ -23,13 +23,6 @@ use Rattle.hm_units.specs.Units.{Unit, units_of}
 use Rattle.hm_shortest.specs.Shortest.{certificate_of, shortest_text}
 use Rattle.hm_outdone.proofs.Formats.{same_text}
 
--- there is a step for each unit
-pub steps_count : (edges : Edges) (bytes : Unit → Piece → List ℕ) (units : List Unit) (states : List State) (steps : List Step) (last : ℕ) → StepsFit edges bytes units states steps last → length units ≡ length steps
-steps_count edges bytes [] states [] last h = refl
-steps_count edges bytes [] states (step ∷ steps) last h = absurd h
-steps_count edges bytes (unit ∷ units) states [] last h = absurd h
-steps_count edges bytes (unit ∷ units) states (step ∷ steps) last h = ap (λ n. suc n) (steps_count edges bytes units (states_behind edges unit states) steps last h.1)
-
 -- the way from the first state
 pub text_is_shortest : (t : List Entry) → IsTable t → (r : SpellRules) (format : Format) (w : List Event) (g : GraphView) → IsGraphOf t r format w g → way_from (piece_bytes t) g.last (units_of r w) g.steps 0 ≡ shortest_text t r w
 unfolding shortest_text same_state

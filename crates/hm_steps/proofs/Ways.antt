@@ -1,14 +1,24 @@
--- Ways over steps are ways of the graph.
-use Rattle.std.proofs.Common.{◌∙◌, ℕ, List, [], ◌∷◌, ◌++◌, ap, slice_index_or}
+-- Steps of a graph: there is one for each unit, and ways over them are ways of the graph.
+use Rattle.std.proofs.Common.{◌≡◌, ◌∙◌, ℕ, suc, List, [], ◌∷◌, ◌++◌, length, refl, ap, slice_index_or}
 use Rattle.hm_edges.specs.declared.pieces.Piece.{Piece}
 use Rattle.hm_graph.specs.Layers.{states_behind}
+use Rattle.hm_graph.specs.Ways.{Edges}
 use Rattle.hm_refs.specs.Tables.{IsIn, first, later}
 use Rattle.hm_units.specs.Edges.{Edge}
 use Rattle.hm_units.specs.States.{State}
-use Rattle.hm_steps.specs.Fits.{HopFits, HopsFit}
+use Rattle.hm_units.specs.Units.{Unit}
+use Rattle.hm_steps.specs.Fits.{HopFits, HopsFit, StepsFit}
 use Rattle.hm_steps.specs.Laws.{WaysAreWays}
+use Rattle.hm_steps.specs.Steps.{Step}
 use Rattle.hm_steps.specs.declared.hops.Hop.{Hop}
 use Rattle.hm_steps.proofs.FirstWays.{hops_at}
+
+-- there is a step for each unit
+pub steps_count : (edges : Edges) (bytes : Unit → Piece → List ℕ) (units : List Unit) (states : List State) (steps : List Step) (last : ℕ) → StepsFit edges bytes units states steps last → length units ≡ length steps
+steps_count edges bytes [] states [] last h = refl
+steps_count edges bytes [] states (step ∷ steps) last h = absurd h
+steps_count edges bytes (unit ∷ units) states [] last h = absurd h
+steps_count edges bytes (unit ∷ units) states (step ∷ steps) last h = ap (λ n. suc n) (steps_count edges bytes units (states_behind edges unit states) steps last h.1)
 
 -- the edge that a hop is
 record IsEdge (bytes : Piece → List ℕ) (behind : List State) (edges : List Edge) (h : Hop) : Type 0 where

@@ -4,7 +4,8 @@ use Rattle.hm_layers.specs.Graphs.{IsNamedStep}
 use Rattle.hm_steps.specs.Ways.{choices_of, hop_taken, step_choices}
 use Rattle.hm_pieces.specs.Own.{own_text}
 use Rattle.hm_plan.specs.Paths.{row_behind}
-use Rattle.hm_plan.proofs.FirstWay.{named_step, goes_one}
+use Rattle.hm_layers.proofs.Named.{named_step}
+use Rattle.hm_plan.proofs.FirstWay.{goes_one}
 use Rattle.hm_plan.proofs.paths.take.Goals as goal
 
 pub put_hop-requires : goal.put_hop-requires

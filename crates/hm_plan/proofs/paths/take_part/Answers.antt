@@ -4,8 +4,8 @@ use Rattle.hm_edges.specs.Units.{kind_of}
 use Rattle.hm_units.specs.Units.{fixed}
 use Rattle.hm_parts.specs.Parts.{IsPart, comment_bytes, part_units, unit_with}
 use Rattle.hm_parts.proofs.OwnBytes.{own_bytes_kept}
+use Rattle.hm_layers.proofs.Characters.{length_characters}
 use Rattle.hm_plan.specs.Paths.{Goes, Passes}
-use Rattle.hm_plan.proofs.FirstWay.{length_characters}
 use Rattle.hm_plan.proofs.paths.take_part.Goals as goal
 
 pub take_chars-requires-clause-inside : goal.take_chars-requires-clause-inside

@@ -3,7 +3,8 @@ use Rattle.hm_edges.specs.Pieces.{piece_bytes}
 use Rattle.hm_graph.specs.Layers.{first_layer}
 use Rattle.hm_layers.specs.Graphs.{tree_edges}
 use Rattle.hm_units.specs.Units.{units_of}
-use Rattle.hm_shortest.proofs.Graphs.{steps_count, text_is_shortest, certificate_is}
+use Rattle.hm_steps.proofs.Ways.{steps_count}
+use Rattle.hm_shortest.proofs.Graphs.{text_is_shortest, certificate_is}
 use Rattle.hm_shortest.proofs.Written.{certified_readable}
 use Rattle.hm_shortest.proofs.minify.minify_tree.Goals as goal
 

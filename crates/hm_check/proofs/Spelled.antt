@@ -1,0 +1,72 @@
+-- A text that follows a tree's graph has the wanted tree, so that its rows decide.
+use Rattle.std.proofs.Common.{◌≡◌, ◌∙◌, ◌≤◌, ℕ, Bool, true, false, cond, ◌||◌, List, [], ◌∷◌, length, refl, sym}
+use Rattle.std.specs.List.{list_any}
+use Rattle.hm_base.specs.Walks.{Event}
+use Rattle.hm_base.specs.declared.limits.TheConstants.{OUTPUT_LIMIT}
+use Rattle.hm_base.specs.declared.plain.SpellRules.{SpellRules}
+use Rattle.hm_cert.specs.declared.certificate.Certificate.{Certificate}
+use Rattle.hm_cert.specs.declared.text.Format.{Format}
+use Rattle.hm_cert.specs.declared.text.Format.TheVariants.{One, Two, Three}
+use Rattle.hm_edges.specs.Pieces.{piece_bytes}
+use Rattle.hm_elements.specs.Settled.{Settled}
+use Rattle.hm_graph.specs.Layers.{first_layer}
+use Rattle.hm_graph.specs.UnitEdges.{edges_of}
+use Rattle.hm_graph.specs.Ways.{Edges, Way}
+use Rattle.hm_layers.specs.Graphs.{GraphView, IsGraphOf, tree_edges}
+use Rattle.hm_outdone.specs.Formats.{edges_by, kept_by}
+use Rattle.hm_outdone.specs.Outdone.{kept_behind, outdoes_behind, outdoes_in_front}
+use Rattle.hm_refs.specs.Names.{Entry}
+use Rattle.hm_refs.specs.Tables.{IsIn, IsTable, first, later}
+use Rattle.hm_spellings.specs.Spellings.{Spells, other}
+use Rattle.hm_steps.proofs.Ways.{ways_are_ways}
+use Rattle.hm_steps.specs.Ways.{WayOver}
+use Rattle.hm_units.specs.Edges.{Edge}
+use Rattle.hm_units.specs.States.{State, first_state, same_state}
+use Rattle.hm_units.specs.Units.{Unit, units_of}
+use Rattle.hm_ways.proofs.Best.{ways_spell_trees}
+use Rattle.hm_ways.proofs.Wider.{wider}
+use Rattle.hm_ways.specs.Laws.{sparing_plain}
+use Rattle.hm_check.specs.Steps.{by_rows_over}
+use Rattle.hm_check.specs.Verdicts.{same_rules, verdict}
+use Rattle.hm_check.specs.declared.verdicts.Verdict.{Verdict}
+use Rattle.hm_check.proofs.Checking.{certificate_found, rules_are}
+use Rattle.hm_check.proofs.Shown.{spelled_verdict}
+
+-- ---- Edges that are kept are edges
+
+in_either : (e x : Edge) (ys es : List Edge) → IsIn e (x ∷ ys) → (IsIn e ys → IsIn e es) → IsIn e (x ∷ es)
+in_either e x ys es (first zs) more = first es
+in_either e x ys es (later y zs i) more = later x es (more i)
+
+kept_in : (e : Edge) (before es : List Edge) → IsIn e (kept_behind before es) → IsIn e es
+kept_in e before [] i = i
+kept_in e before (x ∷ es) i = by_test (list_any (outdoes_in_front x) before || list_any (outdoes_behind x) es) i (kept_in e (x ∷ before) es)
+  where
+    by_test : (b : Bool) → IsIn e (cond b (kept_behind (x ∷ before) es) (x ∷ kept_behind (x ∷ before) es)) → (IsIn e (kept_behind (x ∷ before) es) → IsIn e es) → IsIn e (x ∷ es)
+    by_test true j more = later x es (more j)
+    by_test false j more = in_either e x (kept_behind (x ∷ before) es) es j more
+
+edge_in : (format : Format) (e : Edge) (es : List Edge) → IsIn e (kept_by format es) → IsIn e es
+edge_in One e es i = i
+edge_in Two e es i = i
+edge_in Three e es i = kept_in e [] es i
+
+-- a way of a format's graph is a way of the whole one
+way_in : (format : Format) (edges : Edges) (units : List Unit) (s : State) (b : List ℕ) → Way (edges_by format edges) units s b → Way edges units s b
+way_in format edges [] s b way = way
+way_in format edges (unit ∷ units) s b (e, among, (rest, is, more)) = (e, edge_in format e (edges unit s) among, (rest, is, way_in format edges units e.to rest more))
+
+-- ---- A way is a spelling
+
+way_spells : (t : List Entry) → IsTable t → (r : SpellRules) (format : Format) (w : List Event) → Settled w → (g : GraphView) → IsGraphOf t r format w g → (b : List ℕ) → WayOver (piece_bytes t) (units_of r w) g.steps 0 b → Spells t r w b
+unfolding same_state
+way_spells t k r format w s g h b over =
+    let way : Way (tree_edges t r format) (units_of r w) first_state b =
+    ways_are_ways (tree_edges t r format) (piece_bytes t) (units_of r w) first_layer g.steps g.last first_state 0 b h.fits refl over in
+    wider (sparing_plain t r) w other [] b (ways_spell_trees (sparing_plain t r) k w s b (way_in format (edges_of (sparing_plain t r)) (units_of r w) first_state b way))
+
+pub followed_verdict : (t : List Entry) → IsTable t → (r : SpellRules) (w : List Event) → Settled w → (out : List ℕ) (c : Certificate) (g : GraphView) → IsGraphOf t r c.format w g → same_rules c.rules r ≡ true → length out ≤ OUTPUT_LIMIT
+    → WayOver (piece_bytes t) (units_of r w) g.steps 0 out → (found : Verdict) → found ≡ by_rows_over c.format g.last g.steps (length out) c.prices → found ≡ verdict t r w out c
+followed_verdict t k r w s out c g h same short over found is =
+    certificate_found (tree_edges t r c.format) (piece_bytes t) (units_of r w) g c.format (length out) c.prices found h.fits is
+    ∙ sym (rules_are t r w out c same ∙ spelled_verdict t k r w s out c (way_spells t k r c.format w s g h out over) short)

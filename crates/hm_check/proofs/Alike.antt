@@ -15,7 +15,8 @@ use Rattle.hm_steps.specs.Still.{AreStill}
 use Rattle.hm_steps.proofs.Still.{each_more, each_none, still_row}
 use Rattle.hm_check.specs.Rows.{OtherWidth}
 use Rattle.hm_check.specs.Steps.{count_over, other_width_over, high_price_over}
-use Rattle.hm_check.specs.Sweeps.{high_why, AreBelow, AreKnown, IsSwept}
+use Rattle.hm_cert.specs.Rows.{AreBelow}
+use Rattle.hm_check.specs.Sweeps.{high_why, AreKnown, IsSwept}
 use Rattle.hm_check.specs.declared.sweep.Sweep.{Sweep}
 use Rattle.hm_check.specs.declared.verdicts.Why.{Why}
 use Rattle.hm_check.proofs.Counting.{counted_out, out_later, wide_out}

@@ -12,7 +12,8 @@ use Rattle.hm_steps.specs.Prices.{price_over, best_price, row_over}
 use Rattle.hm_steps.specs.Steps.{Step}
 use Rattle.hm_steps.specs.declared.hops.Hop.{Hop}
 use Rattle.hm_check.specs.Rows.{is_above, high_in, high_at_end}
-use Rattle.hm_check.specs.Sweeps.{IsBelow, AreBelow}
+use Rattle.hm_cert.specs.Rows.{AreBelow, IsBelow}
+use Rattle.hm_cert.proofs.Below.{below_in}
 
 -- ---- What a number tells
 
@@ -95,14 +96,9 @@ below_more n m (price ∷ row) h b = (one price b.0, below_more n m row h b.1)
     one None k = tt
     one (Some q) k = omega (arith, k, h)
 
-pub below_at : (n : ℕ) (row : Row) (i : ℕ) → AreBelow n row → IsBelow n (get_or row i None)
-below_at n [] i b = tt
-below_at n (price ∷ row) zero b = b.0
-below_at n (price ∷ row) (suc i) b = below_at n row i b.1
-
 -- a number in a row below n is below it
 pub number_below : (behind : List ℕ) (i p n : ℕ) → slice_get behind i ≡ Some p → p ≢ 18446744073709551615 → AreBelow n (map told behind) → p < n
-number_below behind i p n there open_price below = subst (IsBelow n) (told_at behind i p there ∙ number_told p open_price) (below_at n (map told behind) i below)
+number_below behind i p n there open_price below = subst (IsBelow n) (told_at behind i p there ∙ number_told p open_price) (below_in (map told behind) n i below)
 
 lesser_below : (n : ℕ) (a b : Option ℕ) → IsBelow n a → IsBelow n b → IsBelow n (lesser a b)
 lesser_below n None b ha hb = hb
@@ -116,7 +112,7 @@ over_below n m len (Some p) h b = omega (arith, h, b)
 best_below : (n : ℕ) (behind : Row) (hops : List Hop) → AreBelow n behind → AreLowHops hops → IsBelow (n + 2 ^ 33) (best_price behind hops)
 best_below n behind [] b low = tt
 best_below n behind (h ∷ hops) b low =
-    lesser_below (n + 2 ^ 33) (price_over behind h) (best_price behind hops) (over_below n (2 ^ 33) h.len (get_or behind h.to None) low.0 (below_at n behind h.to b)) (best_below n behind hops b low.1)
+    lesser_below (n + 2 ^ 33) (price_over behind h) (best_price behind hops) (over_below n (2 ^ 33) h.len (get_or behind h.to None) low.0 (below_in behind n h.to b)) (best_below n behind hops b low.1)
 
 -- the prices in front of a step
 pub row_below : (n : ℕ) (behind : Row) (step : Step) → AreBelow n behind → IsLowStep step → AreBelow (n + 2 ^ 33) (row_over behind step)

@@ -14,7 +14,8 @@ use Rattle.hm_steps.specs.Steps.{Step}
 use Rattle.hm_check.specs.Rows.{OtherWidth, HighPrice, high_in, high_at_end, or_else}
 use Rattle.hm_check.specs.Steps.{count_over, other_width_over, high_price_over, by_full_over, by_width_over}
 use Rattle.hm_check.specs.Verdicts.{by_first, by_high}
-use Rattle.hm_check.specs.Sweeps.{width_why, high_why, AreBelow, AreInPlace, ArePriced, AreKnown, IsSwept, judged, judged_at_end}
+use Rattle.hm_cert.specs.Rows.{AreBelow}
+use Rattle.hm_check.specs.Sweeps.{width_why, high_why, AreInPlace, ArePriced, AreKnown, IsSwept, judged, judged_at_end}
 use Rattle.hm_check.specs.declared.sweep.SweepFound.{SweepFound}
 use Rattle.hm_check.specs.declared.sweep.Sweep.{Sweep}
 use Rattle.hm_check.specs.declared.verdicts.Why.{Why}

@@ -1,10 +1,11 @@
 -- What is known of the rows of a certificate from a layer of a graph on.
-use Rattle.std.specs.Prelude.{◌≡◌, ◌==◌, ◌<◌, ◌+◌, ◌*◌, ◌^◌, ℕ, true, false, List, [], ◌∷◌, length, map, drop, Option, Some, None, option_map, if◌then◌else◌}
+use Rattle.std.specs.Prelude.{◌≡◌, ◌==◌, ◌<◌, ◌+◌, ◌*◌, ◌^◌, ℕ, true, false, List, ◌∷◌, length, map, drop, Option, Some, None, option_map, if◌then◌else◌}
 use Rattle.std.specs.Option.{option_or}
 use Rattle.hm_cert.specs.declared.text.Format.{Format}
 use Rattle.hm_cert.specs.Certificate.{AreRows}
 use Rattle.hm_cert.specs.Layout.{told}
 use Rattle.hm_cert.specs.Places.{IsRowPlace}
+use Rattle.hm_cert.specs.Rows.{AreBelow}
 use Rattle.hm_graph.specs.Prices.{Row}
 use Rattle.hm_layers.specs.Graphs.{GraphView}
 use Rattle.hm_steps.specs.Prices.{row_over, full_rows}
@@ -22,16 +23,6 @@ width_why w = WrongWidth w.layer w.got w.want
 
 abbrev pub high_why : HighPrice → Why
 high_why h = TooHigh h.layer h.state h.price h.bound
-
--- ---- Prices to which the length of a hop can be added
-
-abbrev pub IsBelow : ℕ → Option ℕ → Type 0
-IsBelow n None = Prim.Unit {0}
-IsBelow n (Some price) = price < n
-
-abbrev pub AreBelow : ℕ → Row → Type 0
-AreBelow n [] = Prim.Unit {0}
-AreBelow n (price ∷ row) = IsBelow n price × AreBelow n row
 
 -- ---- Rows
 

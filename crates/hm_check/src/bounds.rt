@@ -5,10 +5,11 @@ ghost use Rattle.hm_graph.specs.Ways.{over};
 ghost use Rattle.hm_layers.specs.Graphs.{AreLowHops, IsLowStep};
 ghost use Rattle.hm_steps.specs.Prices as steps;
 ghost use Rattle.hm_check.specs.Rows as rows;
-ghost use Rattle.hm_check.specs.Sweeps.{AreBelow, IsBelow, high_why};
+ghost use Rattle.hm_cert.specs.Rows.{AreBelow};
+ghost use Rattle.hm_check.specs.Sweeps.{high_why};
 
 use crate::Why;
-use hm_cert::{CLOSED, price_of};
+use hm_cert::{CLOSED, more, price_of};
 use hm_layers::Step;
 use hm_steps::Hop;
 
@@ -47,15 +48,6 @@ pub(crate) fn best_price(behind: &[u64], hops: &[Hop]) -> u64
         [hop] => price_over(behind, *hop),
         _ => least_price(behind, hops),
     }
-}
-
-/// The price with so many bytes more.
-pub(crate) fn more(price: u64, len: u64) -> u64
-    requires below { IsBelow (2 ^ 63 + 2 ^ 62) (told price) }
-    requires low { len < 2 ^ 62 }
-    ensures { told result ≡ over len (told price) }
-{
-    len.saturating_add(price)
 }
 
 /// Whether a price is above its bound. A closed one is the greatest.

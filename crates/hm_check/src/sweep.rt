@@ -6,13 +6,14 @@ ghost use Rattle.hm_layers.specs.Graphs.{IsLowStep, IsPlace};
 ghost use Rattle.hm_steps.specs.Prices.{row_over};
 ghost use Rattle.hm_steps.specs.Prices as steps;
 ghost use Rattle.hm_steps.specs.Steps.{leaves_out};
-ghost use Rattle.hm_check.specs.Sweeps.{AreBelow, AreInPlace, IsStillOver, IsSwept, judged, judged_at_end};
+ghost use Rattle.hm_cert.specs.Rows.{AreBelow};
+ghost use Rattle.hm_check.specs.Sweeps.{AreInPlace, IsStillOver, IsSwept, judged, judged_at_end};
 
 use crate::Why;
-use crate::bounds::{are_within, best_price, find_high, find_high_at_end, more};
+use crate::bounds::{are_within, best_price, find_high, find_high_at_end};
 use crate::layers::is_left_out;
 use hm_base::Memory;
-use hm_cert::{Format, RowPlace, WrittenRows};
+use hm_cert::{Format, RowPlace, WrittenRows, add_each};
 use hm_layers::{Cursor, Graph, Step};
 use std::alloc::Global;
 use std::mem;
@@ -132,19 +133,6 @@ fn follow(behind: &mut Vec<u64>, spare: &mut Vec<u64>, step: &Step) -> Result<()
     Ok(())
 }
 
-/// Puts these prices with so many bytes more in place of what the row held.
-fn add_each(prices: &[u64], len: u64, row: &mut Vec<u64>) -> Result<(), Memory>
-    requires below { AreBelow (2 ^ 63 + 2 ^ 62) (map told prices.now) }
-    requires low { len < 2 ^ 62 }
-    ensures { OnOk result (map told row.new.items ≡ map (over len) (map told prices.now)) }
-{
-    row.clear();
-    for i in 0..prices.len() {
-        row.push(more(prices[i], len))?;
-    }
-    Ok(())
-}
-
 impl<'a> Sweep<'a> {
     /// What is known at the last layer.
     pub(crate) fn at_end(
@@ -246,16 +234,14 @@ impl<'a> Sweep<'a> {
     }
 
     /// Adds so many bytes to each price.
-    fn add(&mut self, len: u64) -> Result<(), Memory>
+    fn add(&mut self, len: u64)
         requires below { AreBelow (2 ^ 63 + 2 ^ 62) (map told self.old.behind.items) }
         requires low { len < 2 ^ 62 }
         ensures at { self.new.at ≡ self.old.at }
         ensures found { self.new.found ≡ self.old.found }
-        ensures behind { OnOk result (map told self.new.behind.items ≡ map (over len) (map told self.old.behind.items)) }
+        ensures behind { map told self.new.behind.items ≡ map (over len) (map told self.old.behind.items) }
     {
-        add_each(&self.behind, len, &mut self.spare)?;
-        mem::swap(&mut self.behind, &mut self.spare);
-        Ok(())
+        add_each(&mut self.behind, len);
     }
 
     /// Goes on over layers that are written, from the one in front of a layer down to another, which isn't the first. They have
@@ -323,7 +309,7 @@ impl<'a> Sweep<'a> {
         };
         if step.is_left_out(format) {
             let count = (at.layer - front.layer) as u64;
-            self.add(count * len)?;
+            self.add(count * len);
             return Ok(front);
         }
         self.read_on(graph, prices, format, at.layer, front.layer, step, len)?;

@@ -2,14 +2,14 @@ use Rattle.std.proofs.Common.{◌+◌, ◌^◌, ◌∙◌, None, ap, get_or, map
 use Rattle.std.proofs.lemmas.List.{get_or-map}
 use Rattle.hm_cert.specs.Layout.{told}
 use Rattle.hm_check.specs.Rows.{is_above}
-use Rattle.hm_check.specs.Sweeps.{IsBelow}
-use Rattle.hm_check.proofs.Sums.{below_at}
+use Rattle.hm_cert.specs.Rows.{IsBelow}
+use Rattle.hm_cert.proofs.Below.{below_in}
 use Rattle.hm_check.proofs.Within.{within_end, within_more}
 use Rattle.hm_check.proofs.bounds.are_within.Goals as goal
 
 pub more-requires-clause-below : goal.more-requires-clause-below
 more-requires-clause-below c =
-    subst (IsBelow (2 ^ 63 + 2 ^ 62)) (get_or-map told c.args.behind.now c.loop-i.i 0 None (omega (arith, c.loop-i-test.true, c.requires.width))) (below_at (2 ^ 63 + 2 ^ 62) (map told c.args.behind.now) c.loop-i.i c.requires.below)
+    subst (IsBelow (2 ^ 63 + 2 ^ 62)) (get_or-map told c.args.behind.now c.loop-i.i 0 None (omega (arith, c.loop-i-test.true, c.requires.width))) (below_in (map told c.args.behind.now) (2 ^ 63 + 2 ^ 62) c.loop-i.i c.requires.below)
 
 pub loop-i-preserved : goal.loop-i-preserved
 loop-i-preserved c = λ k.

@@ -36,4 +36,4 @@ returns-then-is_left_out-clause-swept c =
     let same : length (map told c.args.self.now.behind.items) ≡ length (get_or c.args.graph.now.steps c.args.at.layer []) =
     omega (arith, length-map c.args.self.now.behind.items told, c.len.ensures, c.width.ensures, c.if-len-width.false, ap length c.step-step.ensures) in
     along_swept c.args.format c.args.graph.now c.args.prices.now c.args.at.layer c.back_alike-front.result.layer (c.args.at.layer - c.back_alike-front.result.layer) c.in-Some.len c.args.self.now c.add.new.self c.is_small.ensures.low still left same
-    c.requires.inside c.back_alike-front.ensures.layer.0 (omega (arith, c.if-at-eq0.false, c.back_alike-front.ensures.layer.1)) refl c.back_alike-front.ensures.alike c.if-not-self.false c.requires.swept c.in_ok-add.ensures.at c.in_ok-add.ensures.found c.in_ok-add.ensures.behind
+    c.requires.inside c.back_alike-front.ensures.layer.0 (omega (arith, c.if-at-eq0.false, c.back_alike-front.ensures.layer.1)) refl c.back_alike-front.ensures.alike c.if-not-self.false c.requires.swept c.add.ensures.at c.add.ensures.found c.add.ensures.behind

@@ -2,7 +2,8 @@ use Rattle.std.proofs.Common.{◌≡◌, ◌+◌, ◌-◌, ◌^◌, ◌≤◌, �
 use Rattle.hm_cert.specs.Layout.{told}
 use Rattle.hm_layers.specs.Graphs.{IsLowStep}
 use Rattle.hm_steps.specs.Prices.{is_left_out}
-use Rattle.hm_check.specs.Sweeps.{AreBelow, judged}
+use Rattle.hm_cert.specs.Rows.{AreBelow}
+use Rattle.hm_check.specs.Sweeps.{judged}
 use Rattle.hm_check.specs.declared.sweep.Sweep.{Sweep}
 use Rattle.hm_check.proofs.Sums.{low_step}
 use Rattle.hm_check.proofs.Sweeping.{has_front, swept_below, in_swept}

@@ -13,7 +13,7 @@ use Rattle.hm_graph.specs.Prices.{Row, first_price, least_prices}
 use Rattle.hm_graph.specs.Ways.{lesser, over}
 use Rattle.hm_layers.specs.Graphs.{AreLow, GraphView, IsGraphOf, tree_edges}
 use Rattle.hm_plan.proofs.FromLast.{prices_below}
-use Rattle.hm_plan.specs.Rows.{AreBelow}
+use Rattle.hm_cert.specs.Rows.{AreBelow}
 use Rattle.hm_refs.specs.Names.{Entry}
 use Rattle.hm_refs.specs.Tables.{IsTable}
 use Rattle.hm_steps.proofs.Rows.{rows_least}

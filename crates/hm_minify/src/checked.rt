@@ -2,6 +2,7 @@
 ghost use Rattle.std.specs.Prelude.{◌≡◌, ◌≢◌, ◌⊎◌, ◌≤◌, IfOk, Err, false, bytes_eq, string_bytes};
 ghost use Rattle.hm_cert.specs.Certificate.{AreRows};
 ghost use Rattle.hm_check.specs.Verdicts.{verdict};
+ghost use Rattle.hm_elements.specs.Settled.{Settled};
 ghost use Rattle.hm_store.specs.Causes.{Rose};
 ghost use Rattle.hm_store.specs.Contents.{Sees, Tells};
 ghost use Rattle.hm_minify.specs.Endings as spec;
@@ -25,6 +26,7 @@ fn find<'w>(
     certificate: &Certificate,
 ) -> Result<Ended<'w>, Stop>
     requires rows { AreRows certificate.now.prices }
+    requires settled { Settled input.now.tree }
     ensures ended { IfOk result (λ ended. ended ≡ spec.verdict_ending (verdict input.now.table.entries rules input.now.tree out.now certificate.now)) }
     ensures memory { result ≢ Err Stop.Store }
 {
@@ -42,6 +44,7 @@ fn check_bytes<'w>(
     out: &[u8],
     cert: &[u8],
 ) -> Result<Ended<'w>, Stop>
+    requires settled { Settled input.now.tree }
     ensures ended { IfOk result (λ ended. ended ≡ spec.checked_ending rules input.now.table.entries input.now.tree out.now cert.now) }
     ensures memory { result ≢ Err Stop.Store }
 {
@@ -65,6 +68,7 @@ pub fn check_files<'w, S: Store>(
     cert: &str,
 ) -> Result<Ended<'w>, Stop>
     requires apart { bytes_eq out.now cert.now ≡ false }
+    requires settled { Settled input.now.tree }
     ensures ended { IfOk result (λ ended. Sees (S.files store.old) (λ seen. ended ≡ spec.check_ending rules input.now.table.entries input.now.tree (seen out.now) (seen cert.now))) }
     ensures answers { IfOk result (λ ended. spec.is_fault ended.status ≡ false) }
     ensures same { S.files store.new ≡ S.files store.old }

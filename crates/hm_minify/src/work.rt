@@ -1,6 +1,7 @@
 //! What a request ends with, made in memory.
 ghost use Rattle.std.specs.Prelude.{◌≡◌, ◌≢◌, ◌⊎◌, ◌≤◌, IfOk, Err, true, false};
 ghost use Rattle.hm_base.specs.declared.plain.TreeOptions.{TreeOptions};
+ghost use Rattle.hm_elements.specs.Settled.{Settled};
 ghost use Rattle.hm_store.specs.Causes.{Rose};
 ghost use Rattle.hm_store.specs.Contents.{Contents, Sees, Tells};
 ghost use Rattle.hm_input.specs.Inputs.{input_of, page_with_table};
@@ -109,6 +110,7 @@ fn answer<'w, S: Store>(
     input: Input,
     store: &mut S,
 ) -> Result<Ended<'w>, Stop>
+    requires settled { Settled input.tree }
     requires page { spec.has_page (command_of asked.now.command) ≡ true }
     requires apart { request.is_apart (command_of asked.now.command) ≡ true }
     ensures ended { IfOk result (λ ended. Sees (S.files store.old) (λ seen. ended ≡ spec.tree_ending (command_of asked.now.command) asked.now.writing seen input.table.entries input.tree)) }

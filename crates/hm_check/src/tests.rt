@@ -24,13 +24,27 @@ const EVERY: &str = "html-cert 1\nrules omit unquote\n23\n8\n8\n8\n8\n8\n5\n4\n4
 /// Those of the layers that have something to choose, of the first and of the last.
 const CHOICES: &str = "html-cert 2\nrules omit unquote\n23\n8\n8\n8\n8\n4\n0\n0\n0\n0\n";
 
-/// The check of a text and a certificate for the page. None where something of it can't be read.
-fn found(alloc: Global, out: &str, certificate: &str) -> Option<Verdict> {
+/// The check of a text and a certificate for a page. None where something of it can't be read.
+fn found_of(
+    alloc: Global,
+    page: &str,
+    rules: SpellRules,
+    out: &str,
+    certificate: &str,
+) -> Option<Verdict> {
     let table = Table::empty(alloc).ok()?;
-    let text = SourceText::read(alloc, PAGE.as_bytes(), PAGE_LIMIT).ok()?;
-    let wanted = parse(alloc, &text, &table).ok()?;
+    let text = SourceText::read(alloc, page.as_bytes(), PAGE_LIMIT).ok()?;
+    let wanted = match parse(alloc, &text, &table) {
+        Ok(wanted) => wanted,
+        Err(_) => return None,
+    };
     let certificate = Certificate::read(alloc, certificate.as_bytes()).ok()?;
-    check_settled(alloc, &table, &wanted, out.as_bytes(), &certificate, RULES).ok()
+    check_settled(alloc, &table, &wanted, out.as_bytes(), &certificate, rules).ok()
+}
+
+/// The same for the page.
+fn found(alloc: Global, out: &str, certificate: &str) -> Option<Verdict> {
+    found_of(alloc, PAGE, RULES, out, certificate)
 }
 
 #[test]
@@ -140,6 +154,40 @@ fn refused(rt: HostRuntime) {
         assert!(rt;
             found(rt.alloc(), out, certificate) == Some(Verdict::No { why }),
             "{certificate}"
+        );
+    }
+}
+
+#[test]
+fn spelled_otherwise(rt: HostRuntime) {
+    let page = "<!doctype html><p>\u{3e8}1</p>";
+    let rules = SpellRules {
+        ascii: true,
+        ..RULES
+    };
+    let certificate = "html-cert 3\nrules omit unquote ascii\n26\n8\n- 1\n0\n";
+    let cases: [(&str, Verdict); 4] = [
+        ("<!doctype html><p>&#1000;1", Verdict::Yes { length: 26 }),
+        // as long, but not in the graph of this format
+        ("<!doctype html><p>&#x3e8;1", Verdict::Yes { length: 26 }),
+        // the graph ends before the text does, and the text before the graph
+        (
+            "<!doctype html><p>&#1000;1\n",
+            Verdict::No {
+                why: Why::TreesDiffer { event: 6 },
+            },
+        ),
+        (
+            "<!doctype html><p>&#1000;",
+            Verdict::No {
+                why: Why::TreesDiffer { event: 6 },
+            },
+        ),
+    ];
+    for (out, verdict) in cases {
+        assert!(rt;
+            found_of(rt.alloc(), page, rules, out, certificate) == Some(verdict),
+            "{out}"
         );
     }
 }

@@ -1,6 +1,8 @@
 -- Following a text, step by step.
-use Rattle.std.proofs.Common.{◌≡◌, ◌∙◌, ℕ, zero, suc, ◌+◌, ◌<◌, ◌≤◌, List, [], ◌∷◌, ◌++◌, length, get_or, take, drop, chars, Option, Some, None, refl, sym, ap, subst, arith, append_assoc, append-nil, ◌⊎◌, inl, inr}
+use Rattle.std.proofs.Common.{◌≡◌, ◌∙◌, ℕ, zero, suc, ◌+◌, ◌<◌, ◌≤◌, List, [], ◌∷◌, ◌++◌, length, get_or, take, drop, chars, Option, Some, None, Result, refl, sym, ap, subst, arith, append_assoc, append-nil, ◌⊎◌, inl, inr}
 use Rattle.std.specs.Option.{IfSome}
+use Rattle.std.specs.Result.{IfOk}
+use Rattle.std.proofs.lemmas.Result.{IfOk-weaker}
 use Rattle.std.specs.Prelude.{encode_utf8}
 use Rattle.std.specs.Str.{IsAscii}
 use Rattle.std.proofs.lemmas.List.{drop_all, drop_more, length-append, length-take-le}
@@ -43,6 +45,13 @@ pub hop_over : (bytes : Piece → List ℕ) (hops : List Hop) (k : ℕ) (none : 
     → IfSome found (LeadsTo bytes (get_or hops k none) text) → IfSome found (IsOver bytes hops text)
 hop_over bytes hops k none text None inside h = tt
 hop_over bytes hops k none text (Some taken) inside h = record { hop = get_or hops k none; among = in_at hops k none inside; leads = h }
+
+-- the only one
+pub only_over : {E : Type 0} (bytes : Piece → List ℕ) (hops : List Hop) (hop none : Hop) (text : List ℕ) (result : Result (Option Taken) E) → 0 < length hops → hop ≡ get_or hops 0 none
+    → IfOk result (λ found. IfSome found (LeadsTo bytes hop text)) → IfOk result (λ found. IfSome found (IsOver bytes hops text))
+only_over bytes hops hop none text result inside is h =
+    IfOk-weaker result (λ found. IfSome found (LeadsTo bytes hop text)) (λ found. IfSome found (IsOver bytes hops text))
+    (λ found leads. hop_over bytes hops 0 none text found inside (subst (λ h. IfSome found (LeadsTo bytes h text)) is leads)) h
 
 -- one of two
 pub either_over : (bytes : Piece → List ℕ) (hops : List Hop) (text : List ℕ) (found one other : Option Taken) → (found ≡ one) ⊎ (found ≡ other)

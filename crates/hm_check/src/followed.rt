@@ -281,7 +281,8 @@ fn further<'o>(one: Option<Taken<'o>>, other: Option<Taken<'o>>) -> Option<Taken
 }
 
 /// Where the hops lead with whose bytes the text begins: of several, that with the most bytes.
-fn over_hops<'o>(
+#[inline(never)]
+fn over_several<'o>(
     text: &'o [u8],
     spare: &mut Vec<u8>,
     table: &Table,
@@ -296,6 +297,24 @@ fn over_hops<'o>(
         found = further(found, over_hop(text, spare, table, *hop, own)?);
     }
     Ok(found)
+}
+
+/// As `over_several`. Most states have one hop.
+#[inline(always)]
+fn over_hops<'o>(
+    text: &'o [u8],
+    spare: &mut Vec<u8>,
+    table: &Table,
+    hops: &[Hop],
+    own: Own,
+) -> Result<Option<Taken<'o>>, Memory>
+    requires { AreNamedHops table.now.entries hops.now }
+    ensures { IfOk result (λ found. IfSome found (IsOver (piece_text table.now.entries (own_text own.entry)) hops.now text.now)) }
+{
+    match hops {
+        [hop] => over_hop(text, spare, table, *hop, own),
+        _ => over_several(text, spare, table, hops, own),
+    }
 }
 
 /// Where the text leads from a place over a step.

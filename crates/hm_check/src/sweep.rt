@@ -122,12 +122,27 @@ fn find_followed(behind: &[u64], row: &mut Vec<u64>, step: &Step) -> Result<(), 
     Ok(())
 }
 
-/// Puts the prices of a layer that is left out in place of those behind it.
+/// Adds so many bytes to each price.
+fn add_to(behind: &mut Vec<u64>, len: u64)
+    requires below { AreBelow (2 ^ 63 + 2 ^ 62) (map told behind.old.items) }
+    requires low { len < 2 ^ 62 }
+    ensures { map told behind.new.items ≡ map (over len) (map told behind.old.items) }
+{
+    add_each(behind, len);
+}
+
+/// Puts the prices of a layer that is left out in place of those behind it. Over most steps no state changes its place.
 fn follow(behind: &mut Vec<u64>, spare: &mut Vec<u64>, step: &Step) -> Result<(), Memory>
     requires below { AreBelow (2 ^ 63 + 2 ^ 62) (map told behind.old.items) }
     requires low { IsLowStep step.now }
     ensures { OnOk result (map told behind.new.items ≡ row_over (map told behind.old.items) step.now) }
 {
+    if let Some(len) = step.still() {
+        if behind.len() == step.width() {
+            add_to(behind, len);
+            return Ok(());
+        }
+    }
     find_followed(behind, spare, step)?;
     mem::swap(behind, spare);
     Ok(())
@@ -233,7 +248,7 @@ impl<'a> Sweep<'a> {
         }
     }
 
-    /// Adds so many bytes to each price.
+    /// As `add_to`, to each price of the layer.
     fn add(&mut self, len: u64)
         requires below { AreBelow (2 ^ 63 + 2 ^ 62) (map told self.old.behind.items) }
         requires low { len < 2 ^ 62 }
@@ -241,7 +256,7 @@ impl<'a> Sweep<'a> {
         ensures found { self.new.found ≡ self.old.found }
         ensures behind { map told self.new.behind.items ≡ map (over len) (map told self.old.behind.items) }
     {
-        add_each(&mut self.behind, len);
+        add_to(&mut self.behind, len);
     }
 
     /// Goes on over layers that are written, from the one in front of a layer down to another, which isn't the first. They have

@@ -1,5 +1,6 @@
 -- Over equal steps over which no state changes its place.
-use Rattle.std.proofs.Common.{◌≡◌, ◌∙◌, ℕ, zero, suc, ◌+◌, ◌-◌, ◌*◌, ◌<◌, ◌≤◌, ◌^◌, ◌&&◌, Bool, true, false, cond, List, [], ◌∷◌, ◌++◌, length, map, get_or, drop, reverse, refl, sym, ap, subst, arith, append-nil, append_assoc}
+use Rattle.std.proofs.Common.{◌≡◌, ◌∙◌, ℕ, zero, suc, ◌+◌, ◌-◌, ◌*◌, ◌<◌, ◌≤◌, ◌^◌, ◌&&◌, Bool, true, false, cond, List, [], ◌∷◌, ◌++◌, length, map, get_or, drop, reverse, refl, sym, ap, subst, arith, append-nil, append_assoc, ⊎_elim}
+use Rattle.std.proofs.lemmas.Bool.{cases_lt}
 use Rattle.std.proofs.lemmas.List.{length-map}
 use Rattle.std.proofs.lemmas.Nat.{mul-lt}
 use Rattle.std.proofs.Math.Nat.{mul-le-mul_right}
@@ -11,14 +12,14 @@ use Rattle.hm_graph.specs.Layers.{is_single}
 use Rattle.hm_graph.specs.Prices.{Row}
 use Rattle.hm_graph.specs.Ways.{over}
 use Rattle.hm_layers.specs.Graphs.{GraphView}
-use Rattle.hm_steps.specs.Prices.{best_price, first_row, is_left_out, row_over, rows_of}
+use Rattle.hm_steps.specs.Prices.{is_left_out, row_over}
 use Rattle.hm_steps.specs.Steps.{Step, is_forced, leaves_out}
 use Rattle.hm_steps.specs.Ways.{step_choices}
 use Rattle.hm_steps.proofs.Still.{each_more, each_none, still_row}
 use Rattle.hm_plan.specs.Plans.{IsBack, raised_lines}
 use Rattle.hm_steps.specs.Still.{AreStill, Stays}
 use Rattle.hm_steps.specs.declared.hops.Hop.{Hop}
-use Rattle.hm_plan.proofs.FirstWay.{forced_none, step_next}
+use Rattle.hm_plan.proofs.FirstWay.{forced_none}
 use Rattle.hm_plan.proofs.FromLast.{back_more, step_cut}
 use Rattle.hm_plan.proofs.Only.{left_out_later}
 
@@ -57,17 +58,16 @@ back_along g format k (suc n) step len text choices row b still forced left same
     subst (λ j. IsBack g format j more choices (map (over (suc n * len)) row)) next
     (back_more g format (k - n) step written more choices choices behind (map (over (suc n * len)) row) (omega arith) cut before lines chosen front)
 
-row_width : (g : GraphView) (format : Format) (k : ℕ) (text choices : List ℕ) (row : Row) → k < length g.steps → IsBack g format k text choices row → length row ≡ length (get_or g.steps k [])
-row_width g format k text choices row inside found =
-    ap length (found.prices ∙ ap (λ steps. first_row (rows_of g.last steps)) (step_next g.steps k inside)) ∙ length-map (get_or g.steps k []) (best_price (first_row (rows_of g.last (drop (k + 1) g.steps))))
-
+-- over the step behind layer k and those in front that are equal
 pub along_found : (g : GraphView) (format : Format) (k front n len : ℕ) (text more choices chosen : List ℕ) (row after : Row) (b : Bool) → AreStill len (get_or g.steps k []) → is_forced (get_or g.steps k []) ≡ true → leaves_out format (get_or g.steps k []) ≡ b
-    → k < length g.steps → front ≤ k → 0 < front → n ≡ k - front → ((j : ℕ) → front ≤ j → j < k → get_or g.steps j [] ≡ get_or g.steps k []) → IsBack g format k text choices row
+    → length row ≡ length (get_or g.steps k []) → k < length g.steps → front ≤ k → 0 < front → n ≡ k - front + 1 → ((j : ℕ) → front ≤ j → j < k → get_or g.steps j [] ≡ get_or g.steps k []) → IsBack g format (k + 1) text choices row
     → more ≡ text ++ cond b [] (raised_lines n len row) → chosen ≡ choices → after ≡ map (over (n * len)) row → IsBack g format front more chosen after
-along_found g format k front n len text more choices chosen row after b still forced left inside low some count are found t c r =
-    let end : k - n ≡ front = omega (arith, count) in
-    let all : IsBack g format (k - n) (text ++ cond b [] (raised_lines n len row)) choices (map (over (n * len)) row) =
-    back_along g format k n (get_or g.steps k []) len text choices row b still forced left (row_width g format k text choices row inside found) (omega (arith, count)) (omega arith) (λ j l high. are j (omega (arith, l, end)) high) found in
+along_found g format k front n len text more choices chosen row after b still forced left same inside low some count are found t c r =
+    let step : Step = get_or g.steps k [] in
+    let end : k + 1 - n ≡ front = omega (arith, count) in
+    let each : (j : ℕ) → k + 1 - n ≤ j → j < k + 1 → get_or g.steps j [] ≡ step = λ j l high. ⊎_elim (λ before. are j (omega (arith, l, end)) before) (λ last. let here : j ≡ k = omega arith in ap (λ i. get_or g.steps i []) here) (cases_lt j k) in
+    let all : IsBack g format (k + 1 - n) (text ++ cond b [] (raised_lines n len row)) choices (map (over (n * len)) row) =
+    back_along g format (k + 1) n step len text choices row b still forced left same (omega (arith, count)) (omega arith) each found in
     subst (λ A. A) (λ i. IsBack g format (end i) (sym t i) (sym c i) (sym r i)) all
 
 -- a step over which no state changes its place has nothing to choose

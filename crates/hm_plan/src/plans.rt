@@ -1,11 +1,12 @@
 //! Least prices, from the last layer on: the certificate that tells them, and what the first way chooses.
-ghost use Rattle.std.specs.Prelude.{◌≡◌, ◌++◌, ◌∷◌, [], ◌+◌, ◌*◌, ◌<◌, ◌≤◌, ◌^◌, length, map, reverse, if◌then◌else◌, Some, None, IfOk, IsTrue, OnOk, slice_index_or};
+ghost use Rattle.std.specs.Prelude.{◌≡◌, true, ◌++◌, ◌∷◌, [], ◌+◌, ◌*◌, ◌<◌, ◌≤◌, ◌^◌, length, map, reverse, if◌then◌else◌, Some, None, IfOk, IsTrue, OnOk, slice_index_or};
 ghost use Rattle.hm_cert.specs.Certificate.{head_lines, row_line};
 ghost use Rattle.hm_cert.specs.Layout.{told};
 ghost use Rattle.hm_graph.specs.Ways.{over};
 ghost use Rattle.hm_layers.specs.Graphs.{AreLowHops, IsLowStep, IsPlace};
 ghost use Rattle.hm_steps.specs.Prices.{best_price, row_over, zeros};
 ghost use Rattle.hm_steps.specs.Prices as prices;
+ghost use Rattle.hm_steps.specs.Steps as steps;
 ghost use Rattle.hm_steps.specs.Ways.{choice, step_choices};
 ghost use Rattle.hm_cert.specs.Rows.{AreBelow};
 ghost use Rattle.hm_plan.specs.Plans.{IsFound, IsPlan, raised_lines};
@@ -86,6 +87,19 @@ fn put_choice(choices: &mut Vec<u8>, forced: bool, place: usize) -> Result<(), M
         }
     }
     Ok(())
+}
+
+/// Finds the prices in front of a step with one hop for each state, by those behind it.
+fn follow_each(step: &Step, behind: &[u64], row: &mut [u64])
+    requires forced { steps.is_forced step.now ≡ true }
+    requires width { length row.old ≡ length step.now }
+    requires below { AreBelow (2 ^ 63 + 2 ^ 62) (map told behind.now) }
+    requires low { IsLowStep step.now }
+    ensures { map told row.new ≡ row_over (map told behind.now) step.now }
+{
+    for place in 0..row.len() {
+        row[place] = price_over(step.hops(place)[0], behind);
+    }
 }
 
 /// Finds the prices in front of a step by those behind it, in place of what the row held, and appends the choices.
@@ -195,7 +209,12 @@ impl Back {
         ensures choices { OnOk result (self.new.choices.items ≡ self.old.choices.items ++ step_choices (map told self.old.row.items) step.now) }
         ensures row { OnOk result (map told self.new.row.items ≡ row_over (map told self.old.row.items) step.now) }
     {
-        find_row(step, &self.row, &mut self.spare, &mut self.choices)?;
+        if step.is_forced() {
+            self.spare.resize(step.width(), 0)?;
+            follow_each(step, &self.row, &mut self.spare);
+        } else {
+            find_row(step, &self.row, &mut self.spare, &mut self.choices)?;
+        }
         mem::swap(&mut self.row, &mut self.spare);
         Ok(())
     }
@@ -299,29 +318,27 @@ impl Back {
     }
 }
 
-/// Goes on over layers in front of one that have the same step, where no state changes its place, but not to the first layer.
-fn go_on(back: &mut Back, graph: &Graph, format: Format, at: Cursor) -> Result<Cursor, Memory>
+/// Goes over the step behind a layer, and over those in front that are equal, where no state changes its place, but then not to
+/// the first layer.
+fn go_back(back: &mut Back, graph: &Graph, format: Format, at: Cursor) -> Result<Cursor, Memory>
     requires place { IsPlace graph.now at }
     requires inside { at.layer < length graph.now.steps }
-    requires found { IsFound graph.now format at.layer back.old }
+    requires found { IsFound graph.now format (at.layer + 1) back.old }
     ensures place { IfOk result (λ front. IsPlace graph.now front) }
     ensures layer { IfOk result (λ front. front.layer ≤ at.layer) }
     ensures found { IfOk result (λ front. IsFound graph.now format front.layer back.new) }
 {
-    if at.layer == 0 {
-        return Ok(at);
-    }
-    let front = graph.back_alike(at, at.layer - 1);
-    if front.layer == at.layer {
-        return Ok(at);
-    }
     graph.is_small();
     let step = graph.step(at);
     if let Some(len) = step.still() {
-        let count = (at.layer - front.layer) as u64;
-        back.pass_alike(step.is_left_out(format), count, len)?;
-        return Ok(front);
+        if at.layer > 0 && back.row.len() == step.width() {
+            let front = graph.back_alike(at, at.layer - 1);
+            let count = (at.layer - front.layer + 1) as u64;
+            back.pass_alike(step.is_left_out(format), count, len)?;
+            return Ok(front);
+        }
     }
+    back.go_over(format, at.layer, step)?;
     Ok(at)
 }
 
@@ -338,9 +355,7 @@ pub fn backward(
     let mut back = Back::new(alloc, graph.last())?;
     let mut layer = graph.last_layer();
     while layer.layer > 0 {
-        layer = graph.back(layer);
-        back.go_over(format, layer.layer, graph.step(layer))?;
-        layer = go_on(&mut back, graph, format, layer)?;
+        layer = go_back(&mut back, graph, format, graph.back(layer))?;
     }
     back.finish(format, rules)
 }

@@ -15,16 +15,9 @@ fn eight_at(bytes: &[u8], at: usize) -> [u8; 8]
     requires { at + 8 ≤ length bytes.now }
     ensures { result ≡ take 8 (drop at bytes.now) }
 {
-    [
-        bytes[at],
-        bytes[at + 1],
-        bytes[at + 2],
-        bytes[at + 3],
-        bytes[at + 4],
-        bytes[at + 5],
-        bytes[at + 6],
-        bytes[at + 7],
-    ]
+    let mut eight = [0; 8];
+    eight.copy_from_slice(&bytes[at..at + 8]);
+    eight
 }
 
 /// Puts the first eight bytes and the last eight in each other's place, in the opposite order.

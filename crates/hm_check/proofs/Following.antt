@@ -1,5 +1,5 @@
 -- Following a text, step by step.
-use Rattle.std.proofs.Common.{◌≡◌, ◌∙◌, ℕ, zero, suc, ◌+◌, ◌<◌, ◌≤◌, List, [], ◌∷◌, ◌++◌, length, get_or, take, drop, chars, Option, Some, None, Result, refl, sym, ap, subst, arith, append_assoc, append-nil, ◌⊎◌, inl, inr}
+use Rattle.std.proofs.Common.{◌≡◌, ◌∙◌, ℕ, zero, suc, ◌+◌, ◌<◌, ◌≤◌, List, [], ◌∷◌, ◌++◌, length, get_or, take, drop, chars, Option, Some, None, Result, refl, sym, ap, subst, arith, append_assoc, ◌⊎◌, inl, inr}
 use Rattle.std.specs.Option.{IfSome}
 use Rattle.std.specs.Result.{IfOk}
 use Rattle.std.proofs.lemmas.Result.{IfOk-weaker}
@@ -20,7 +20,6 @@ use Rattle.hm_parts.specs.Parts.{AreParts, IsPart, part_units, parts_units}
 use Rattle.hm_parts.specs.declared.parts.Part.{Part}
 use Rattle.hm_refs.specs.Names.{Entry}
 use Rattle.hm_refs.specs.Tables.{IsIn, first, later}
-use Rattle.hm_steps.specs.Steps.{Step}
 use Rattle.hm_steps.specs.Ways.{WayOver}
 use Rattle.hm_steps.specs.declared.hops.Hop.{Hop}
 use Rattle.hm_units.specs.Units.{TextKind, Unit, in_text, character, character_units, next_of, units_of}
@@ -81,26 +80,6 @@ follows_front t g us more old new one = record {
 
 pub follows_inside : (t : List Entry) (g : GraphView) (from left : List Unit) (n : ℕ) (old new : Followed) → Follows t g from left old new → old.at.layer + length from ≤ n → new.at.layer + length left ≤ n
 follows_inside t g from left n old new follows inside = omega (arith, follows.count, inside)
-
--- ---- One step
-
-pub follows_one : (t : List Entry) (g : GraphView) (u : Unit) (own : List ℕ) (taken : Taken) (old new : Followed) → old.at.layer < length g.steps → own_bytes u ≡ own
-    → IsOver (piece_text t own) (get_or (get_or g.steps old.at.layer []) old.place []) old.rest.now taken
-    → new.at.layer ≡ old.at.layer + 1 → IsPlace g new.at → new.place ≡ taken.to → new.rest.now ≡ taken.rest.now → Follows t g (u ∷ []) [] old new
-follows_one t g u own taken old new inside is over next stands place rest = record {
-  count = omega (arith, next);
-  stands = stands;
-  goes = λ units on.
-      subst (λ steps. WayOver (piece_bytes t) (u ∷ units) steps old.place old.rest.now) (sym (drop_more g.steps old.at.layer [] inside)) (
-        over.hop,
-        over.among,
-        (
-          taken.rest.now,
-          over.leads.1 ∙ ap (λ own. piece_text t own over.hop.piece ++ taken.rest.now) (sym is),
-          subst (λ A. A) (λ i. WayOver (piece_bytes t) units (drop (next i) g.steps) ((place ∙ over.leads.0) i) (rest i)) on,
-        ),
-      );
-}
 
 -- ---- Characters
 

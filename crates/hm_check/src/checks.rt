@@ -13,7 +13,7 @@ use crate::rows::by_rows;
 use crate::trees::find_difference;
 use crate::{Verdict, Why};
 use hm_base::{Memory, OUTPUT_LIMIT, SpellRules};
-use hm_cert::Certificate;
+use hm_cert::{Certificate, Format};
 use hm_layers::Graph;
 use hm_refs::Table;
 use hm_refs::laws::every_table;
@@ -94,7 +94,12 @@ pub fn check(
     }
 }
 
-/// As `check`, of a settled tree. A text that follows the tree's graph isn't read: what it follows spells the tree.
+/// How many bytes of a text without tags are read in the time in which the bytes of an event are followed, as measured.
+const BYTES_AN_EVENT: usize = 64;
+
+/// As `check`, of a settled tree. A text that follows the tree's graph isn't read: what it follows spells the tree. It is followed
+/// where that is cheaper than reading: along the graph of a sparse certificate, where most states have one edge, and where the
+/// tree has many events for the bytes of the text.
 pub fn check_settled(
     alloc: Global,
     table: &Table,
@@ -108,7 +113,13 @@ pub fn check_settled(
     ensures { IfOk result (λ found. found ≡ verdict table.now.entries rules wanted.now out.now certificate.now) }
 {
     every_table(table);
-    if same_rules(certificate.rules, rules) && out.len() <= OUTPUT_LIMIT as usize {
+    let is_sparse = certificate.format == Format::Three;
+    let has_many_events = out.len() / BYTES_AN_EVENT <= wanted.len() as usize;
+    if is_sparse
+        && has_many_events
+        && same_rules(certificate.rules, rules)
+        && out.len() <= OUTPUT_LIMIT as usize
+    {
         let graph = graph_of(alloc, table, wanted, certificate, rules)?;
         if follows(alloc, wanted, table, rules, &graph, out)? {
             return by_rows(

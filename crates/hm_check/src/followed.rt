@@ -30,7 +30,9 @@ enum Stop {
 }
 
 impl From<Memory> for Stop {
-    fn from(_error: Memory) -> Self {
+    fn from(_error: Memory) -> Self
+        ensures { result ≡ Stop.Memory }
+    {
         Stop::Memory
     }
 }

@@ -142,17 +142,15 @@ line_put row line at k some last is =
     let text : take at line ≡ 32 ∷ reverse (row_text (map told row)) = is ∙ ap (λ n. reverse (ahead (map told (drop n row)))) none ∙ turned_ahead (map told row) (omega (arith, some, many)) in
     take-set-lt at line 0 10 (omega (arith, ap length text, length-take at line)) ∙ ap (λ l. set l 0 10) text
 
--- a line behind others
-pub line_behind : (row old mid whole line more rest new : List ℕ) (start len all : ℕ) → start ≡ length old → whole ≡ mid → take (length old) mid ≡ old → len ≤ length line → start + len ≤ all → take len line ≡ 10 ∷ reverse (row_text (map told row))
-    → new ≡ take (start + len) (take all ((take start whole ++ (line ++ more)) ++ rest)) → new ≡ old ++ reverse (row_line (map told row))
-line_behind row old mid whole line more rest new start len all here same front within fits is e =
+-- a line in the room behind others
+pub line_added : (row old mid whole line more rest : List ℕ) (start len all : ℕ) → whole ≡ mid → take start mid ≡ old → start ≤ length mid → len ≤ length line → start + len ≤ all → take len line ≡ 10 ∷ reverse (row_text (map told row))
+    → take (start + len) (take all ((take start whole ++ (line ++ more)) ++ rest)) ≡ old ++ reverse (row_line (map told row))
+line_added row old mid whole line more rest start len all same front inside within fits is =
     let put : List ℕ = take start whole ++ (line ++ more) in
     let size : length put ≡ length (take start whole) + length (line ++ more) = length-append (take start whole) (line ++ more) in
-    let inside : start ≤ length whole = omega (arith, here, ap length same, ap length front, length-take (length old) mid) in
-    e
-    ∙ take-take (start + len) all (put ++ rest) fits
-    ∙ take-append-le (start + len) put rest (omega (arith, size, length-take start whole, inside, length-append line more, within))
-    ∙ (λ i. take (here i + len) (take (here i) (same i) ++ (line ++ more)))
-    ∙ ap (λ x. take (length old + len) (x ++ (line ++ more))) front
-    ∙ take-append-add old (line ++ more) len
-    ∙ ap (λ x. old ++ x) (take-append-le len line more within ∙ is ∙ sym (reverse-append (row_text (map told row)) (10 ∷ [])))
+    let many : start ≡ length (take start whole) = omega (arith, length-take start whole, ap length same, inside) in
+    take-take (start + len) all (put ++ rest) fits
+    ∙ take-append-le (start + len) put rest (omega (arith, size, many, length-append line more, within))
+    ∙ ap (λ n. take (n + len) put) many
+    ∙ take-append-add (take start whole) (line ++ more) len
+    ∙ (λ i. (ap (take start) same ∙ front) i ++ (take-append-le len line more within ∙ is ∙ sym (reverse-append (row_text (map told row)) (10 ∷ []))) i)

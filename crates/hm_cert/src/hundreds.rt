@@ -67,10 +67,11 @@ impl KeptDigits {
         requires has { HasHundreds self.now.base price }
         ensures { IsPut line.new price result }
     {
-        line[..16].copy_from_slice(&self.text);
-        let last = (price - self.base) as u8;
-        line[1] = b'0' + last % 10;
-        line[2] = b'0' + last / 10;
+        let text = self.text;
+        line[..16].copy_from_slice(&text);
+        let digits = two_digits((price - self.base) as u8);
+        line[1] = digits[0];
+        line[2] = digits[1];
         self.len
     }
 }
@@ -78,14 +79,14 @@ impl KeptDigits {
 /// The digits of two hundreds that prices had lately. Prices that are written one behind another mostly differ in their last two
 /// digits alone, and those of a row have seldom more than two hundreds.
 #[derive(Clone, Copy)]
-pub struct Hundreds {
+pub(crate) struct Hundreds {
     latest: KeptDigits,
     earlier: KeptDigits,
 }
 
 impl Hundreds {
     /// Of some number.
-    pub fn new() -> Hundreds {
+    pub(crate) fn new() -> Hundreds {
         let digits = KeptDigits::new();
         Hundreds {
             latest: digits,
@@ -140,14 +141,23 @@ pub(crate) fn put_number(out: &mut Vec<u8>, number: u64) -> Result<(), Memory>
     Ok(())
 }
 
+/// The two digits of a number below 100, the last first.
+#[inline(always)]
+fn two_digits(number: u8) -> [u8; 2]
+    requires { number < 100 }
+    ensures { result ≡ (48 + number % 10) ∷ (48 + number / 10) ∷ [] }
+{
+    // The tens are taken off the last digit and added to the byte behind: 256 - 10.
+    let tens = (number / 10) as u16;
+    (0x3030 + number as u16 + 246 * tens).to_le_bytes()
+}
+
 /// Appends the two digits of a number below 100, the last first.
 #[inline(always)]
 fn put_pair(out: &mut Vec<u8>, pair: u8) -> Result<(), Memory>
     requires { pair < 100 }
     ensures { OnOk result (out.new.items ≡ out.old.items ++ (48 + pair % 10) ∷ (48 + pair / 10) ∷ []) }
 {
-    out.reserve(2)?;
-    out.push_reserved(b'0' + pair % 10);
-    out.push_reserved(b'0' + pair / 10);
+    out.extend_from_slice(&two_digits(pair))?;
     Ok(())
 }

@@ -13,11 +13,10 @@ mod short;
 mod text;
 
 pub use certificate::Certificate;
-pub use hundreds::Hundreds;
 pub use kept::{RowPlace, WrittenRows};
 pub use lines::{CertificateFault, Head, Lines, read_head};
 pub use prices::{CLOSED, Prices, add_each, more, price_of};
-pub use reversed::{put_head_reversed, put_line_reversed, put_next_line};
+pub use reversed::ReversedText;
 pub use text::{Format, write_certificate};
 
 #[cfg(test)]

@@ -1,5 +1,5 @@
 //! The text of a certificate, from its end, for a writer that has the prices of the last layer first.
-ghost use Rattle.std.specs.Prelude.{◌≡◌, ◌∷◌, ◌++◌, ◌+◌, ◌*◌, ◌<◌, ◌≤◌, length, map, reverse, take, IfSome, OnOk};
+ghost use Rattle.std.specs.Prelude.{◌≡◌, ◌∷◌, [], ◌++◌, ◌+◌, ◌*◌, ◌<◌, ◌≤◌, length, map, reverse, take, IfSome, OnOk};
 ghost use Rattle.hm_cert.specs.Certificate.{flag_text, head_lines, more_prices, price_text, row_line, row_text};
 ghost use Rattle.hm_cert.specs.Layout.{told};
 
@@ -7,9 +7,132 @@ use crate::hundreds::{Hundreds, put_number};
 use crate::prices::CLOSED;
 use crate::text::Format;
 use hm_base::{Memory, SpellRules};
+use std::alloc::Global;
+use std::marker::Model;
+
+/// How many bytes of room are made at once.
+const ROOM: usize = 4096;
+
+/// The most prices of a row that are put into the room.
+const PRICES: usize = 256;
+
+/// The text of a certificate from its end. Contracts see its bytes, the last byte of the text first.
+#[derive(Drop)]
+pub struct ReversedText {
+    /// The bytes, and room behind them.
+    bytes: Vec<u8>,
+    /// How many bytes there are in front of the room.
+    len: usize,
+    hundreds: Hundreds,
+    /// Lines that are not put into the room at once.
+    spare: Vec<u8>,
+}
+
+impl Model for ReversedText {
+    ghost use Rattle.std.specs.Prelude.{ℕ, List, ◌≤◌, length, take};
+
+    ghost Value = { List ℕ };
+
+    ghost view = { λ t. take t.len t.bytes.items };
+
+    ghost invariant = { λ t. t.len ≤ length t.bytes.items };
+}
+
+impl ReversedText {
+    /// No text.
+    pub fn new(alloc: Global) -> ReversedText
+        ensures { result ≡ [] }
+    {
+        ReversedText {
+            bytes: Vec::new(alloc),
+            len: 0,
+            hundreds: Hundreds::new(),
+            spare: Vec::new(alloc),
+        }
+    }
+
+    /// Adds the first two lines.
+    pub fn put_head(&mut self, format: Format, rules: SpellRules) -> Result<(), Memory>
+        ensures { OnOk result (self.new ≡ self.old ++ reverse (head_lines format rules)) }
+    {
+        self.spare.clear();
+        put_head_reversed(&mut self.spare, format, rules)?;
+        add(&mut self.bytes, &mut self.len, &self.spare)
+    }
+
+    /// Adds the line of a row.
+    #[inline(always)]
+    pub fn put_line(&mut self, row: &[u64]) -> Result<(), Memory>
+        ensures { OnOk result (self.new ≡ self.old ++ reverse (row_line (map told row.now))) }
+    {
+        if row.is_empty() || row.len() > PRICES {
+            return self.put_other(row);
+        }
+        make_room(&mut self.bytes, self.len, row.len())?;
+        match put_prices(&mut self.bytes[self.len..], &mut self.hundreds, row) {
+            Some(len) => {
+                self.len += len;
+                Ok(())
+            }
+            None => self.put_other(row),
+        }
+    }
+
+    /// As `put_line`, for a row of any form.
+    #[inline(never)]
+    fn put_other(&mut self, row: &[u64]) -> Result<(), Memory>
+        ensures { OnOk result (self.new ≡ self.old ++ reverse (row_line (map told row.now))) }
+    {
+        self.spare.clear();
+        put_line_reversed(&mut self.spare, row)?;
+        add(&mut self.bytes, &mut self.len, &self.spare)
+    }
+
+    /// The bytes, the last byte of the text first.
+    pub fn into_bytes(self) -> Vec<u8>
+        ensures { result.items ≡ self }
+    {
+        let mut bytes = self.bytes;
+        bytes.truncate(self.len);
+        bytes
+    }
+}
+
+/// Sees to it that there is room for so many prices behind so many bytes.
+#[inline(always)]
+fn make_room(bytes: &mut Vec<u8>, len: usize, count: usize) -> Result<(), Memory>
+    requires within { len ≤ length bytes.old.items }
+    requires few { count ≤ 256 }
+    ensures front { take len bytes.new.items ≡ take len bytes.old.items }
+    ensures within { len ≤ length bytes.new.items }
+    ensures room { OnOk result (len + 16 * count ≤ length bytes.new.items) }
+{
+    if bytes.len() - len < 16 * count {
+        bytes.resize(bytes.len() + ROOM, b' ')?;
+    }
+    Ok(())
+}
+
+/// Adds these bytes behind so many, into the room or in its place.
+fn add(bytes: &mut Vec<u8>, len: &mut usize, more: &[u8]) -> Result<(), Memory>
+    requires { len.old ≤ length bytes.old.items }
+    ensures within { len.new ≤ length bytes.new.items }
+    ensures added { OnOk result (take len.new bytes.new.items ≡ take len.old bytes.old.items ++ more.now) }
+{
+    if bytes.len() - *len >= more.len() {
+        let end = *len + more.len();
+        bytes[*len..end].copy_from_slice(more);
+        *len = end;
+        return Ok(());
+    }
+    bytes.truncate(*len);
+    bytes.extend_from_slice(more)?;
+    *len = bytes.len();
+    Ok(())
+}
 
 /// Appends the first two lines, the last byte first. Where memory is refused, a part may have been appended.
-pub fn put_head_reversed(out: &mut Vec<u8>, format: Format, rules: SpellRules) -> Result<(), Memory>
+fn put_head_reversed(out: &mut Vec<u8>, format: Format, rules: SpellRules) -> Result<(), Memory>
     ensures { OnOk result (out.new.items ≡ out.old.items ++ reverse (head_lines format rules)) }
 {
     out.push(b'\n')?;
@@ -23,44 +146,10 @@ pub fn put_head_reversed(out: &mut Vec<u8>, format: Format, rules: SpellRules) -
 }
 
 /// Appends the line of a row, the last byte first. Where memory is refused, a part may have been appended.
-pub fn put_line_reversed(out: &mut Vec<u8>, row: &[u64]) -> Result<(), Memory>
+fn put_line_reversed(out: &mut Vec<u8>, row: &[u64]) -> Result<(), Memory>
     ensures { OnOk result (out.new.items ≡ out.old.items ++ reverse (row_line (map told row.now))) }
 {
     put_row(out, row, b'\n')
-}
-
-/// Appends the line of a row, the last byte first, with the hundreds that were kept from the line before. Where memory is
-/// refused, a part may have been appended.
-pub fn put_next_line(out: &mut Vec<u8>, hundreds: &mut Hundreds, row: &[u64]) -> Result<(), Memory>
-    ensures { OnOk result (out.new.items ≡ out.old.items ++ reverse (row_line (map told row.now))) }
-{
-    if row.is_empty() {
-        return put_line_reversed(out, row);
-    }
-    let start = out.len();
-    make_room(out, row.len())?;
-    match put_prices(&mut out[start..], hundreds, row) {
-        Some(len) => {
-            out.truncate(start + len);
-            Ok(())
-        }
-        None => {
-            out.truncate(start);
-            put_line_reversed(out, row)
-        }
-    }
-}
-
-/// Appends at least 16 bytes for each of so many prices.
-#[inline(always)]
-fn make_room(out: &mut Vec<u8>, count: usize) -> Result<(), Memory>
-    ensures front { OnOk result (take (length out.old.items) out.new.items ≡ out.old.items) }
-    ensures room { OnOk result (length out.old.items + 16 * count ≤ length out.new.items) }
-{
-    for _i in 0..count / 4 + 1 {
-        out.extend_from_slice(&[b' '; 64])?;
-    }
-    Ok(())
 }
 
 /// Puts the line of a row, the last byte first, into the front of a line, and answers how many bytes it has, where each price is

@@ -36,14 +36,14 @@ fn reversed(
     rules: SpellRules,
     prices: &Prices,
 ) -> Result<Vec<u8>, Memory> {
-    let mut out = Vec::new(alloc);
-    let mut hundreds = Hundreds::new();
+    let mut text = ReversedText::new(alloc);
     for k in (0..prices.rows()).rev() {
-        put_next_line(&mut out, &mut hundreds, prices.row(k))?;
+        text.put_line(prices.row(k))?;
     }
-    put_head_reversed(&mut out, format, rules)?;
-    out.reverse();
-    Ok(out)
+    text.put_head(format, rules)?;
+    let mut bytes = text.into_bytes();
+    bytes.reverse();
+    Ok(bytes)
 }
 
 #[test]

@@ -26,7 +26,7 @@ pub record IsBack (g : GraphView) (format : Format) (k : ℕ) (text choices : Li
 
 -- what was found from layer k on
 abbrev pub IsFound : GraphView → Format → ℕ → Back → Type 0
-IsFound g format k back = IsBack g format k back.text.items back.choices.items (map told back.row.items)
+IsFound g format k back = IsBack g format k back.text back.choices.items (map told back.row.items)
 
 -- the lines of so many rows, from their end: the first has so many bytes more than this one, and each next one as many again
 abbrev pub raised_lines : ℕ → ℕ → Row → List ℕ

@@ -13,9 +13,7 @@ ghost use Rattle.hm_plan.specs.Plans.{IsFound, IsPlan, raised_lines};
 
 use crate::turned::turn;
 use hm_base::{Memory, SpellRules};
-use hm_cert::{
-    CLOSED, Format, Hundreds, add_each, more, put_head_reversed, put_line_reversed, put_next_line,
-};
+use hm_cert::{CLOSED, Format, ReversedText, add_each, more};
 use hm_layers::{Cursor, Graph, Step};
 use hm_steps::Hop;
 use std::alloc::Global;
@@ -89,17 +87,18 @@ fn put_choice(choices: &mut Vec<u8>, forced: bool, place: usize) -> Result<(), M
     Ok(())
 }
 
-/// Finds the prices in front of a step with one hop for each state, by those behind it.
-fn follow_each(step: &Step, behind: &[u64], row: &mut [u64])
+/// Finds the prices in front of a step with one hop for each state, by those behind it, in place of what the row held.
+fn follow_each(step: &Step, behind: &[u64], row: &mut Vec<u64>) -> Result<(), Memory>
     requires forced { steps.is_forced step.now ≡ true }
-    requires width { length row.old ≡ length step.now }
     requires below { AreBelow (2 ^ 63 + 2 ^ 62) (map told behind.now) }
     requires low { IsLowStep step.now }
-    ensures { map told row.new ≡ row_over (map told behind.now) step.now }
+    ensures { OnOk result (map told row.new.items ≡ row_over (map told behind.now) step.now) }
 {
-    for place in 0..row.len() {
-        row[place] = price_over(step.hops(place)[0], behind);
+    row.clear();
+    for place in 0..step.width() {
+        row.push(price_over(step.hops(place)[0], behind))?;
     }
+    Ok(())
 }
 
 /// Finds the prices in front of a step by those behind it, in place of what the row held, and appends the choices.
@@ -142,27 +141,28 @@ fn is_left_out(format: Format, k: usize, step: &Step) -> bool
     k != 0 && step.is_left_out(format)
 }
 
-/// Appends the line of a row, the last byte first, where it isn't left out.
-fn put_line(
-    out: &mut Vec<u8>,
-    hundreds: &mut Hundreds,
-    left_out: bool,
-    row: &[u64],
-) -> Result<(), Memory>
-    ensures { OnOk result (out.new.items ≡ out.old.items ++ (if left_out then [] else reverse (row_line (map told row.now)))) }
+/// Adds the line of a row, where it isn't left out.
+#[inline(always)]
+fn put_line(text: &mut ReversedText, left_out: bool, row: &[u64]) -> Result<(), Memory>
+    ensures { OnOk result (text.new ≡ text.old ++ (if left_out then [] else reverse (row_line (map told row.now)))) }
 {
-    if left_out {
-        Ok(())
-    } else {
-        put_next_line(out, hundreds, row)
+    if left_out { Ok(()) } else { text.put_line(row) }
+}
+
+/// The first price of a row.
+fn first_of(row: &[u64]) -> u64
+    ensures { told result ≡ slice_index_or (map told row.now) 0 None }
+{
+    match row {
+        [first, ..] => *first,
+        [] => CLOSED,
     }
 }
 
 /// What was found from a layer on: the lines of the certificate, from their end, the choices and the prices of the layer.
 #[derive(Drop)]
 struct Back {
-    text: Vec<u8>,
-    hundreds: Hundreds,
+    text: ReversedText,
     choices: Vec<u8>,
     row: Vec<u64>,
     spare: Vec<u64>,
@@ -171,16 +171,15 @@ struct Back {
 impl Back {
     /// From the last layer on.
     fn new(alloc: Global, last: usize) -> Result<Back, Memory>
-        ensures text { IfOk result (λ back. back.text.items ≡ reverse (row_line (zeros last))) }
+        ensures text { IfOk result (λ back. back.text ≡ reverse (row_line (zeros last))) }
         ensures choices { IfOk result (λ back. back.choices.items ≡ []) }
         ensures row { IfOk result (λ back. map told back.row.items ≡ zeros last) }
     {
-        let mut text = Vec::new(alloc);
+        let mut text = ReversedText::new(alloc);
         let row = zero_row(alloc, last)?;
-        put_line_reversed(&mut text, &row)?;
+        text.put_line(&row)?;
         Ok(Back {
             text,
-            hundreds: Hundreds::new(),
             choices: Vec::new(alloc),
             row,
             spare: Vec::new(alloc),
@@ -210,8 +209,7 @@ impl Back {
         ensures row { OnOk result (map told self.new.row.items ≡ row_over (map told self.old.row.items) step.now) }
     {
         if step.is_forced() {
-            self.spare.resize(step.width(), 0)?;
-            follow_each(step, &self.row, &mut self.spare);
+            follow_each(step, &self.row, &mut self.spare)?;
         } else {
             find_row(step, &self.row, &mut self.spare, &mut self.choices)?;
         }
@@ -255,14 +253,14 @@ impl Back {
     fn go_over(&mut self, format: Format, k: usize, step: &Step) -> Result<(), Memory>
         requires below { AreBelow (2 ^ 63 + 2 ^ 62) (map told self.old.row.items) }
         requires low { IsLowStep step.now }
-        ensures text { OnOk result (self.new.text.items ≡ self.old.text.items
+        ensures text { OnOk result (self.new.text ≡ self.old.text
             ++ (if prices.is_left_out format k step.now then [] else reverse (row_line (row_over (map told self.old.row.items) step.now)))) }
         ensures choices { OnOk result (self.new.choices.items ≡ self.old.choices.items ++ step_choices (map told self.old.row.items) step.now) }
         ensures row { OnOk result (map told self.new.row.items ≡ row_over (map told self.old.row.items) step.now) }
     {
         self.pass(step)?;
         let left_out = is_left_out(format, k, step);
-        put_line(&mut self.text, &mut self.hundreds, left_out, &self.row)
+        put_line(&mut self.text, left_out, &self.row)
     }
 
     /// Goes over so many layers, each of which has so many bytes more for each price than the one behind it, and writes their
@@ -270,13 +268,13 @@ impl Back {
     fn write_alike(&mut self, count: u64, len: u64) -> Result<(), Memory>
         requires below { AreBelow (2 ^ 62) (map told self.old.row.items) }
         requires low { count * len < 2 ^ 62 }
-        ensures text { OnOk result (self.new.text.items ≡ self.old.text.items ++ raised_lines count len (map told self.old.row.items)) }
+        ensures text { OnOk result (self.new.text ≡ self.old.text ++ raised_lines count len (map told self.old.row.items)) }
         ensures choices { self.new.choices ≡ self.old.choices }
         ensures row { OnOk result (map told self.new.row.items ≡ map (over (count * len)) (map told self.old.row.items)) }
     {
         for _layer in 0..count {
             add_each(&mut self.row, len);
-            put_next_line(&mut self.text, &mut self.hundreds, &self.row)?;
+            self.text.put_line(&self.row)?;
         }
         Ok(())
     }
@@ -286,7 +284,7 @@ impl Back {
     fn pass_alike(&mut self, left_out: bool, count: u64, len: u64) -> Result<(), Memory>
         requires below { AreBelow (2 ^ 62) (map told self.old.row.items) }
         requires low { count * len < 2 ^ 62 }
-        ensures text { OnOk result (self.new.text.items ≡ self.old.text.items ++ (if left_out then [] else raised_lines count len (map told self.old.row.items))) }
+        ensures text { OnOk result (self.new.text ≡ self.old.text ++ (if left_out then [] else raised_lines count len (map told self.old.row.items))) }
         ensures choices { self.new.choices ≡ self.old.choices }
         ensures row { OnOk result (map told self.new.row.items ≡ map (over (count * len)) (map told self.old.row.items)) }
     {
@@ -299,19 +297,17 @@ impl Back {
 
     /// The plan, when the first layer is reached.
     fn finish(self, format: Format, rules: SpellRules) -> Result<Plan, Memory>
-        ensures certificate { IfOk result (λ plan. plan.certificate.items ≡ reverse (self.text.items ++ reverse (head_lines format rules))) }
+        ensures certificate { IfOk result (λ plan. plan.certificate.items ≡ reverse (self.text ++ reverse (head_lines format rules))) }
         ensures choices { IfOk result (λ plan. plan.choices ≡ self.choices) }
         ensures first { IfOk result (λ plan. told plan.first ≡ slice_index_or (map told self.row.items) 0 None) }
     {
-        let first = match self.row.first() {
-            Some(price) => *price,
-            None => CLOSED,
-        };
+        let first = first_of(&self.row);
         let mut text = self.text;
-        put_head_reversed(&mut text, format, rules)?;
-        turn(&mut text);
+        text.put_head(format, rules)?;
+        let mut certificate = text.into_bytes();
+        turn(&mut certificate);
         Ok(Plan {
-            certificate: text,
+            certificate,
             choices: self.choices,
             first,
         })

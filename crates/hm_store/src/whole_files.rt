@@ -28,10 +28,17 @@ impl From<AllocError> for LoadFault {
 }
 
 /// The most bytes that one pull takes.
-const PIECE: usize = 4096;
+const PIECE: usize = 65_536;
 
-/// Puts the next bytes of the file that is being read behind `bytes`: whether there were any.
-fn pull_more<S: Store>(store: &mut S, bytes: &mut Vec<u8>, limit: usize) -> Result<bool, LoadFault>
+/// Puts the next bytes of the file that is being read behind `bytes`: whether there were any. They are pulled into a piece that is
+/// used again.
+fn pull_more<S: Store>(
+    store: &mut S,
+    piece: &mut [u8],
+    bytes: &mut Vec<u8>,
+    limit: usize,
+) -> Result<bool, LoadFault>
+    requires piece { 0 < length piece.old }
     requires reading { S.is_reading store.old ≡ true }
     requires limit { limit < 2 ^ 32 }
     requires room { length bytes.old.items ≤ limit }
@@ -45,8 +52,7 @@ fn pull_more<S: Store>(store: &mut S, bytes: &mut Vec<u8>, limit: usize) -> Resu
     ensures later { S.faults store.old ≤ S.faults store.new }
     ensures failed { result ≡ Err LoadFault.Store → Rose (S.faults store.old) (S.faults store.new) }
 {
-    let mut piece = [0u8; PIECE];
-    let most = (limit + 1 - bytes.len()).min(PIECE);
+    let most = (limit + 1 - bytes.len()).min(piece.len());
     match store.pull(&mut piece[..most]) {
         Ok(count) => {
             bytes.extend_from_slice(&piece[..count])?;
@@ -68,9 +74,10 @@ fn pull_all<S: Store>(alloc: Global, store: &mut S, limit: usize) -> Result<Vec<
     ensures later { S.faults store.old ≤ S.faults store.new }
     ensures failed { result ≡ Err LoadFault.Store → Rose (S.faults store.old) (S.faults store.new) }
 {
+    let mut piece = [0u8; PIECE];
     let mut bytes = Vec::new(alloc);
     while bytes.len() <= limit {
-        if !pull_more(store, &mut bytes, limit)? {
+        if !pull_more(store, &mut piece, &mut bytes, limit)? {
             break;
         }
     }

@@ -8,7 +8,7 @@ use Rattle.hm_plan.proofs.plans.backward.Goals as goal
 
 pub loop-layer-init : goal.loop-layer-init
 loop-layer-init c =
-    let last = last_back c.args.graph.now c.args.format c.in_ok-back.back.text.items c.in_ok-back.back.choices.items (map told c.in_ok-back.back.row.items)
+    let last = last_back c.args.graph.now c.args.format c.in_ok-back.back.text c.in_ok-back.back.choices.items (map told c.in_ok-back.back.row.items)
     (c.in_ok-back.ensures.text ∙ ap (λ n. reverse (row_line (zeros n))) c.last.ensures) c.in_ok-back.ensures.choices (c.in_ok-back.ensures.row ∙ ap zeros c.last.ensures) in
     record {
       found = subst (λ k. IsFound c.args.graph.now c.args.format k c.in_ok-back.back) (sym c.last_layer-layer.ensures.layer) last;
@@ -24,5 +24,5 @@ go_back-requires-clause-found c =
 pub returns : goal.returns
 returns c =
     if_three c.finish.result
-    (λ plan t d f. plan_is c.args.graph.now c.args.format c.args.rules c.loop-layer.layer.layer c.loop-layer.back.text.items c.loop-layer.back.choices.items (map told c.loop-layer.back.row.items) plan (omega (arith, c.loop-layer-test.false)) c.loop-layer.invariant.found t (ap (λ v. v.items) d) f)
+    (λ plan t d f. plan_is c.args.graph.now c.args.format c.args.rules c.loop-layer.layer.layer c.loop-layer.back.text c.loop-layer.back.choices.items (map told c.loop-layer.back.row.items) plan (omega (arith, c.loop-layer-test.false)) c.loop-layer.invariant.found t (ap (λ v. v.items) d) f)
     c.finish.ensures.certificate c.finish.ensures.choices c.finish.ensures.first

@@ -4,4 +4,4 @@ use Rattle.hm_steps.specs.Prices.{row_over}
 use Rattle.hm_plan.proofs.plans.follow_each.Given as goal
 
 abbrev pub invariant-loop-place : goal.invariant-loop-place
-invariant-loop-place l = map told (take l.place l.row) ≡ row_over (map told l.behind) (take l.place l.step)
+invariant-loop-place l = map told l.row.items ≡ row_over (map told l.behind) (take l.place l.step)

@@ -37,9 +37,9 @@ returns-clause-found c =
     let at : c.args.at.layer ≡ k - 1 = omega arith in
     let cut = step_cut c.args.graph.now.steps k step (omega arith) (omega (arith, c.requires.inside)) (c.step-step.ensures ∙ ap (λ n. get_or c.args.graph.now.steps n []) at) in
     subst (λ n. IsFound c.args.graph.now c.args.format n c.go_over.new.self) (sym at)
-    (back_more c.args.graph.now c.args.format k step c.args.back.now.text.items c.go_over.new.self.text.items c.args.back.now.choices.items c.go_over.new.self.choices.items
+    (back_more c.args.graph.now c.args.format k step c.args.back.now.text c.go_over.new.self.text c.args.back.now.choices.items c.go_over.new.self.choices.items
     row (map told c.go_over.new.self.row.items) (omega arith) cut c.requires.found
-    (c.in_ok-go_over.ensures.text ∙ ap (λ n. c.args.back.now.text.items ++ cond (is_left_out c.args.format n step) [] (reverse (row_line (row_over row step)))) at)
+    (c.in_ok-go_over.ensures.text ∙ ap (λ n. c.args.back.now.text ++ cond (is_left_out c.args.format n step) [] (reverse (row_line (row_over row step)))) at)
     c.in_ok-go_over.ensures.choices c.in_ok-go_over.ensures.row)
 
 pub returns-then-len-width-clause-found : goal.returns-then-len-width-clause-found
@@ -50,6 +50,6 @@ returns-then-len-width-clause-found c =
     let left : leaves_out c.args.format step ≡ c.is_left_out.result = ap (leaves_out c.args.format) (sym c.step-step.ensures) ∙ sym c.is_left_out.ensures in
     let prices : length c.args.back.now.row.items ≡ length c.step-step.result.now = omega (arith, c.if-len-width.true, c.len.ensures, c.width.ensures, c.args.back.now.row.ok.0) in
     let same : length row ≡ length step = length-map c.args.back.now.row.items told ∙ prices ∙ ap length c.step-step.ensures in
-    along_found c.args.graph.now c.args.format c.args.at.layer c.back_alike-front.result.layer (c.args.at.layer - c.back_alike-front.result.layer + 1) c.in-Some.len c.args.back.now.text.items c.pass_alike.new.self.text.items c.args.back.now.choices.items
+    along_found c.args.graph.now c.args.format c.args.at.layer c.back_alike-front.result.layer (c.args.at.layer - c.back_alike-front.result.layer + 1) c.in-Some.len c.args.back.now.text c.pass_alike.new.self.text c.args.back.now.choices.items
     c.pass_alike.new.self.choices.items row (map told c.pass_alike.new.self.row.items) c.is_left_out.result still (still_forced c.in-Some.len step still) left same c.requires.inside c.back_alike-front.ensures.layer.0 (omega (arith, c.if-at-gt0.true, c.back_alike-front.ensures.layer.1)) refl
     c.back_alike-front.ensures.alike c.requires.found c.in_ok-pass_alike.ensures.text (ap (λ v. v.items) c.in_ok-pass_alike.ensures.choices) c.in_ok-pass_alike.ensures.row

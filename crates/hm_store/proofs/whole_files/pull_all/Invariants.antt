@@ -2,8 +2,8 @@ use Rattle.std.proofs.Common.{◌≡◌, ◌-◌, ◌+◌, ◌≤◌, length, tr
 use Rattle.std.specs.Io.KnownBytes.{prepend_known}
 use Rattle.hm_store.proofs.whole_files.pull_all.Given as goal
 
-abbrev pub invariant-loop-store : goal.invariant-loop-store
-invariant-loop-store g l = record {
+abbrev pub invariant-loop-piece : goal.invariant-loop-piece
+invariant-loop-piece g l = record {
   same : g.S.Store.files l.store ≡ g.S.Store.files l.initial.store;
   reading : g.S.Store.is_reading l.store ≡ true;
   writing : g.S.Store.is_writing l.store ≡ g.S.Store.is_writing l.initial.store;
@@ -11,7 +11,8 @@ invariant-loop-store g l = record {
   whole : prepend_known l.bytes.items (g.S.Store.rest l.store) ≡ g.S.Store.rest l.initial.store;
   within : length l.bytes.items ≤ l.limit + 1;
   later : g.S.Store.faults l.initial.store ≤ g.S.Store.faults l.store;
+  piece : length l.piece ≡ 65536;
 }
 
-abbrev pub decreases-loop-store : goal.decreases-loop-store
-decreases-loop-store g l = l.limit + 1 - length l.bytes.items
+abbrev pub decreases-loop-piece : goal.decreases-loop-piece
+decreases-loop-piece g l = l.limit + 1 - length l.bytes.items

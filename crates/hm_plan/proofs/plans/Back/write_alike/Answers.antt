@@ -14,7 +14,7 @@ loop-layer-init c =
     let row = map told c.args.self.now.row.items in
     let none : 0 ≡ 0 * c.args.len = omega arith in
     record {
-      text = sym (append-nil c.args.self.now.text.items);
+      text = sym (append-nil c.args.self.now.text);
       choices = refl;
       row = each_none row ∙ ap (λ m. map (over m) row) none;
     }
@@ -34,10 +34,10 @@ loop-layer-preserved c =
     let size : length row ≡ l.self.row.len = omega (arith, c.add_each.auto.row, c.deref_mut.ensures.len) in
     let whole : take l.self.row.len (row ++ rest) ≡ row = take_at row rest l.self.row.len size in
     let next : suc l._layer ≡ l._layer + 1 = omega arith in
-    let one = one_alike l._layer c.args.len c.args.self.now.text.items l.self.text.items c.put_next_line.new.out.items (map told c.args.self.now.row.items) (map told l.self.row.items) (map told (take l.self.row.len (row ++ rest))) l.invariant.text l.invariant.row
-    (ap (map told) whole ∙ c.add_each.ensures ∙ ap (λ r. map (over c.args.len) (map told r)) c.deref_mut.ensures.value) (c.in_ok-put_next_line.ensures ∙ ap (λ r. l.self.text.items ++ reverse (row_line (map told r))) c.deref.ensures.value) in
+    let one = one_alike l._layer c.args.len c.args.self.now.text l.self.text c.put_line.new.self (map told c.args.self.now.row.items) (map told l.self.row.items) (map told (take l.self.row.len (row ++ rest))) l.invariant.text l.invariant.row
+    (ap (map told) whole ∙ c.add_each.ensures ∙ ap (λ r. map (over c.args.len) (map told r)) c.deref_mut.ensures.value) (c.in_ok-put_line.ensures ∙ ap (λ r. l.self.text ++ reverse (row_line (map told r))) c.deref.ensures.value) in
     record {
-      text = one.0 ∙ ap (λ n. c.args.self.now.text.items ++ raised_lines n c.args.len (map told c.args.self.now.row.items)) next;
+      text = one.0 ∙ ap (λ n. c.args.self.now.text ++ raised_lines n c.args.len (map told c.args.self.now.row.items)) next;
       choices = l.invariant.choices;
       row = one.1 ∙ ap (λ n. map (over (n * c.args.len)) (map told c.args.self.now.row.items)) next;
     }

@@ -6,7 +6,7 @@ use Rattle.hm_plan.proofs.plans.Back.write_alike.Given as goal
 
 abbrev pub invariant-loop-layer : goal.invariant-loop-layer
 invariant-loop-layer l = record {
-  text : l.self.text.items ≡ l.initial.self.text.items ++ raised_lines l._layer l.len (map told l.initial.self.row.items);
+  text : l.self.text ≡ l.initial.self.text ++ raised_lines l._layer l.len (map told l.initial.self.row.items);
   choices : l.self.choices ≡ l.initial.self.choices;
   row : map told l.self.row.items ≡ map (over (l._layer * l.len)) (map told l.initial.self.row.items);
 }

@@ -19,6 +19,3 @@ pub use lines::{CertificateFault, Head, Lines, read_head};
 pub use prices::{CLOSED, Prices, add_each, more, price_of};
 pub use reversed::{put_head_reversed, put_line_reversed, put_next_line};
 pub use text::{Format, write_certificate};
-
-#[cfg(test)]
-mod tests;

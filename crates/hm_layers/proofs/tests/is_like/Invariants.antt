@@ -1,9 +1,0 @@
-use Rattle.std.proofs.Common.{◌≡◌}
-use Rattle.hm_layers.specs.Graphs.{IsPlace}
-use Rattle.hm_layers.proofs.tests.is_like.Given as goal
-
-abbrev pub invariant-loop-k : goal.invariant-loop-k
-invariant-loop-k l = record {
-  place : IsPlace l.graph l.at;
-  layer : l.at.layer ≡ l.k;
-}

@@ -18,6 +18,3 @@ pub use lines::{CertificateFault, Head, Lines, read_head};
 pub use prices::{CLOSED, Prices, add_each, more, price_of};
 pub use reversed::ReversedText;
 pub use text::{Format, write_certificate};
-
-#[cfg(test)]
-mod tests;

@@ -13,6 +13,3 @@ mod verdicts;
 
 pub use checks::{check, check_settled};
 pub use verdicts::{Verdict, Why};
-
-#[cfg(test)]
-mod tests;

@@ -9,8 +9,6 @@ mod pieces;
 mod sections;
 mod states;
 mod steps;
-#[cfg(test)]
-mod tests;
 mod units;
 
 pub use edges::find_edges;

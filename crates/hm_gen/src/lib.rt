@@ -4,7 +4,5 @@
 mod block;
 pub mod laws;
 mod pages;
-#[cfg(test)]
-mod tests;
 
 pub use pages::page_of;

@@ -14,8 +14,6 @@ mod plain;
 mod rules;
 mod step;
 mod still;
-#[cfg(test)]
-mod tests;
 
 pub use graph::{Cursor, Graph};
 pub use step::Step;

@@ -10,8 +10,6 @@ mod likely;
 mod neighbours;
 mod omission;
 mod parts;
-#[cfg(test)]
-mod tests;
 mod texts;
 
 pub use find::find_parts;

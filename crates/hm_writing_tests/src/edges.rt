@@ -1,24 +1,11 @@
-use crate::{Edge, Pending, Piece, State, TextKind, Unit, Where, find_edges, piece_len};
-use hm_base::SpellRules;
+use crate::made::{NONE, TIGHT_RULES as RULES, TWO};
+use hm_edges::{Edge, Pending, Piece, State, TextKind, Unit, Where, find_edges, piece_len};
 use hm_refs::Table;
 use std::process::Abort;
 use std::test::Fail;
 
-const NONE: &str = "{}";
-
 const SEVEN: &str =
     "{\"&amp\":{\"codepoints\":[38]},\"&amp;\":{\"codepoints\":[38]},\"&lt\":{\"codepoints\":[60]},\"&lt;\":{\"codepoints\":[60]},\"&not\":{\"codepoints\":[172]},\"&not;\":{\"codepoints\":[172]},\"&notin;\":{\"codepoints\":[8713]}}";
-
-/// A name for two code points.
-const TWO: &str = "{\"&ab;\":{\"codepoints\":[120,824]}}";
-
-const RULES: SpellRules = SpellRules {
-    omit: true,
-    unquote: true,
-    tight: true,
-    ascii: false,
-    frame: false,
-};
 
 fn at(at: Where, pending: Pending) -> State {
     State { at, pending }

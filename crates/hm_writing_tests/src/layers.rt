@@ -1,28 +1,13 @@
 #![tactic(auto, using(hm_tree::proofs::RoomLemmas::room))]
 
-ghost use Rattle.std.specs.Prelude.{◌+◌, ◌≤◌, length, IfOk};
-ghost use Rattle.hm_base.specs.Walks.{attributes_size};
-
-use crate::Graph;
-use hm_base::{Memory, SpellRules};
+use crate::made::{NONE, TIGHT_RULES as RULES, TWO, attributes};
+use hm_base::Memory;
 use hm_cert::Format;
+use hm_layers::Graph;
 use hm_refs::Table;
-use hm_tree::{Attrs, Tree};
+use hm_tree::Tree;
 use std::alloc::Global;
 use std::test::Fail;
-
-const NONE: &str = "{}";
-
-/// A name for two code points.
-const TWO: &str = "{\"&ab;\":{\"codepoints\":[120,824]}}";
-
-const RULES: SpellRules = SpellRules {
-    omit: true,
-    unquote: true,
-    tight: true,
-    ascii: false,
-    frame: false,
-};
 
 /// A text outside of elements.
 fn text_alone(alloc: Global, text: &str) -> Result<Tree, Memory> {
@@ -35,16 +20,6 @@ fn text_alone(alloc: Global, text: &str) -> Result<Tree, Memory> {
         return Err(Memory);
     }
     Ok(maker.finish())
-}
-
-fn attributes(alloc: Global, name: &str, value: &str) -> Result<Attrs, Memory>
-    ensures { IfOk result (λ attrs. attributes_size attrs ≤ length name.now + length value.now) }
-{
-    let mut attrs = Attrs::new(alloc);
-    let name = String::from_str(alloc, name)?;
-    let value = String::from_str(alloc, value)?;
-    attrs.add(name, value)?;
-    Ok(attrs)
 }
 
 /// An empty element with an attribute.

@@ -1,14 +1,10 @@
-use super::*;
+use crate::made::LOOSE_RULES as RULES;
 use hm_base::{Memory, SpellRules};
-use std::alloc::Global;
-
-const RULES: SpellRules = SpellRules {
-    omit: true,
-    unquote: true,
-    tight: false,
-    ascii: false,
-    frame: false,
+use hm_cert::{
+    CLOSED, Certificate, CertificateFault, Format, Hundreds, Prices, add_each, put_head_reversed,
+    put_next_line, write_certificate,
 };
+use std::alloc::Global;
 
 /// The certificate of `<!doctype html><p>a</p><p>b</p>`, with every layer and with those that have a choice.
 const EVERY_LAYER: &str =

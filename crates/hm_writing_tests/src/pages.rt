@@ -1,5 +1,5 @@
-use super::*;
 use hm_base::Memory;
+use hm_gen::page_of;
 
 #[test]
 fn one_block(rt: HostRuntime) -> Result<(), Memory> {

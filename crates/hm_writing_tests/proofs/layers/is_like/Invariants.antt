@@ -1,6 +1,6 @@
 use Rattle.std.proofs.Common.{◌≡◌}
 use Rattle.hm_layers.specs.Graphs.{IsPlace}
-use Rattle.hm_layers.proofs.tests.is_like.Given as goal
+use Rattle.hm_writing_tests.proofs.layers.is_like.Given as goal
 
 abbrev pub invariant-loop-k : goal.invariant-loop-k
 invariant-loop-k l = record {

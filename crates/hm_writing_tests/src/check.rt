@@ -1,17 +1,10 @@
-use super::*;
+use crate::made::LOOSE_RULES as RULES;
 use hm_base::{PAGE_LIMIT, Rule, SourceText, SpellRules};
 use hm_build::parse;
 use hm_cert::Certificate;
+use hm_check::{Verdict, Why, check_settled};
 use hm_refs::Table;
 use std::alloc::Global;
-
-const RULES: SpellRules = SpellRules {
-    omit: true,
-    unquote: true,
-    tight: false,
-    ascii: false,
-    frame: false,
-};
 
 const PAGE: &str = "<!doctype html><p>a</p><p>b</p>";
 

@@ -1,23 +1,16 @@
 #![tactic(auto, using(hm_tree::proofs::RoomLemmas::room))]
 
-ghost use Rattle.std.specs.Prelude.{◌≡◌, ◌+◌, ◌^◌, ◌<◌, ◌≤◌, length, [], false, true, IfOk, OnOk};
+ghost use Rattle.std.specs.Prelude.{◌≡◌, ◌+◌, ◌^◌, ◌<◌, ◌≤◌, length, [], false, true, OnOk};
 ghost use Rattle.hm_base.specs.Walks.{attributes_size, path_after, walk_size};
 ghost use Rattle.hm_tree.specs.Trees.{last_agrees};
 
-use crate::{Part, find_parts};
-use hm_base::{Memory, SpellRules};
+use crate::made::{TIGHT_RULES as RULES, attributes};
+use hm_base::Memory;
 use hm_edges::{TextKind, Unit};
+use hm_parts::{Part, find_parts};
 use hm_tree::{Attrs, Maker, Tree};
 use std::alloc::Global;
 use std::test::Fail;
-
-const RULES: SpellRules = SpellRules {
-    omit: true,
-    unquote: true,
-    tight: true,
-    ascii: false,
-    frame: false,
-};
 
 /// A call of a maker: the start of an element, of one of SVG, of one with an attribute; a text; an end.
 #[derive(Clone, Copy)]
@@ -27,16 +20,6 @@ enum EventCall {
     With(&'static str, &'static str, &'static str),
     Text(&'static str),
     End,
-}
-
-fn attributes(alloc: Global, name: &str, value: &str) -> Result<Attrs, Memory>
-    ensures { IfOk result (λ attrs. attributes_size attrs ≤ length name.now + length value.now) }
-{
-    let mut attrs = Attrs::new(alloc);
-    let name = String::from_str(alloc, name)?;
-    let value = String::from_str(alloc, value)?;
-    attrs.add(name, value)?;
-    Ok(attrs)
 }
 
 fn start(maker: &mut Maker, name: &str, foreign: bool, attrs: Attrs) -> Result<(), Memory>

@@ -1,0 +1,17 @@
+//! The tests of the crates that write the shortest text and check it.
+#![tactic(auto)]
+
+#[cfg(test)]
+mod cert;
+#[cfg(test)]
+mod check;
+#[cfg(test)]
+mod edges;
+#[cfg(test)]
+mod layers;
+#[cfg(test)]
+mod made;
+#[cfg(test)]
+mod pages;
+#[cfg(test)]
+mod parts;

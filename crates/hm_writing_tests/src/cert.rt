@@ -1,8 +1,8 @@
 use crate::made::LOOSE_RULES as RULES;
 use hm_base::{Memory, SpellRules};
 use hm_cert::{
-    CLOSED, Certificate, CertificateFault, Format, Hundreds, Prices, add_each, put_head_reversed,
-    put_next_line, write_certificate,
+    CLOSED, Certificate, CertificateFault, Format, Prices, ReversedText, add_each,
+    write_certificate,
 };
 use std::alloc::Global;
 
@@ -96,6 +96,18 @@ fn raised_rows(rt: HostRuntime) -> Result<(), Memory> {
     let mut row = Vec::from_array(rt.alloc(), [99, 9_999, CLOSED])?;
     add_each(&mut row, 1);
     assert!(rt; row.as_slice() == [100, 10_000, CLOSED].as_slice());
+    Ok(())
+}
+
+#[test]
+fn long_rows(rt: HostRuntime) -> Result<(), Memory> {
+    let mut prices = Prices::new(rt.alloc());
+    prices.push_row(&[123_456; 300])?;
+    prices.push_row(&[123_455; 256])?;
+    prices.push_row(&[99; 2])?;
+    let text = reversed(rt.alloc(), Format::Two, RULES, &prices)?;
+    let want = write_certificate(rt.alloc(), Format::Two, RULES, &prices)?;
+    assert!(rt; text.len() > 3_900 && text.as_slice() == want.as_slice());
     Ok(())
 }
 

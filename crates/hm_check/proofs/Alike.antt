@@ -1,6 +1,7 @@
 -- Over equal steps over which no state changes its place.
-use Rattle.std.proofs.Common.{◌≡◌, ◌∙◌, ℕ, zero, suc, ◌+◌, ◌-◌, ◌*◌, ◌<◌, ◌≤◌, ◌^◌, true, List, [], ◌∷◌, length, map, get_or, drop, Some, None, Option, refl, sym, ap, subst, arith}
+use Rattle.std.proofs.Common.{◌≡◌, ◌∙◌, ℕ, zero, suc, ◌+◌, ◌-◌, ◌*◌, ◌<◌, ◌≤◌, ◌^◌, true, List, [], ◌∷◌, length, map, get_or, drop, Some, None, Option, refl, sym, ap, subst, arith, ⊎_elim}
 use Rattle.std.specs.Option.{option_map}
+use Rattle.std.proofs.lemmas.Bool.{cases_lt}
 use Rattle.std.proofs.lemmas.List.{drop_more, length-map}
 use Rattle.std.proofs.lemmas.Nat.{mul-lt}
 use Rattle.hm_cert.specs.declared.text.Format.{Format}
@@ -107,13 +108,16 @@ along_right format g rows k (suc n) at why row step len low still left same some
     let prices : row_over behind (get_or g.steps front []) ≡ map (over (suc n * len)) row = ap (row_over behind) here ∙ still_row behind len step (length-map row (over (n * len)) ∙ same) still ∙ sym (each_more n len row) in
     subst (λ A. A) (λ i. AreRight format g rows (end i) at why (prices i)) (out_right format g rows front at why behind (omega (arith, some, inside)) low out before)
 
+-- over the step behind layer k and those in front that are equal
 pub along_swept : (format : Format) (g : GraphView) (rows : List Row) (k front n len : ℕ) (s t : Sweep) → AreLow g.steps → AreStill len (get_or g.steps k []) → leaves_out format (get_or g.steps k []) ≡ true → length (map told s.behind.items) ≡ length (get_or g.steps k [])
-    → k < length g.steps → front ≤ k → 0 < front → n ≡ k - front → ((j : ℕ) → front ≤ j → j < k → get_or g.steps j [] ≡ get_or g.steps k []) → s.found.right ≡ true → IsSwept format g rows k s → t.at ≡ s.at → t.found ≡ s.found
+    → k < length g.steps → front ≤ k → 0 < front → n ≡ k - front + 1 → ((j : ℕ) → front ≤ j → j < k → get_or g.steps j [] ≡ get_or g.steps k []) → s.found.right ≡ true → IsSwept format g rows (k + 1) s → t.at ≡ s.at → t.found ≡ s.found
     → map told t.behind.items ≡ map (over (n * len)) (map told s.behind.items) → IsSwept format g rows front t
 along_swept format g rows k front n len s t low still left same inside within some count are right h at found row =
-    let end : k - n ≡ front = omega (arith, count, within) in
-    let all : AreRight format g rows (k - n) s.at.row s.found.why (map (over (n * len)) (map told s.behind.items)) =
-    along_right format g rows k n s.at.row s.found.why (map told s.behind.items) (get_or g.steps k []) len low still left same (omega (arith, count, within, some)) (omega (arith, inside)) (λ j l high. are j (omega (arith, l, end)) high) (are_right format g rows k s h right) in
+    let step : Step = get_or g.steps k [] in
+    let end : k + 1 - n ≡ front = omega (arith, count, within) in
+    let each : (j : ℕ) → k + 1 - n ≤ j → j < k + 1 → get_or g.steps j [] ≡ step = λ j l high. ⊎_elim (λ before. are j (omega (arith, l, end)) before) (λ last. let here : j ≡ k = omega arith in ap (λ i. get_or g.steps i []) here) (cases_lt j k) in
+    let all : AreRight format g rows (k + 1 - n) s.at.row s.found.why (map (over (n * len)) (map told s.behind.items)) =
+    along_right format g rows (k + 1) n s.at.row s.found.why (map told s.behind.items) step len low still left same (omega (arith, count, within, some)) (omega (arith, inside)) each (are_right format g rows (k + 1) s h right) in
     is_swept format g rows front t (subst (IsRowPlace rows) (sym at) h.place) (ap (λ x. x.right) found ∙ right)
     (subst (λ A. A) (λ i. AreRight format g rows (end i) (sym at i).row (sym found i).why (sym row i)) all)
 

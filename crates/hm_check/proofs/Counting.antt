@@ -84,6 +84,10 @@ pub record AreCounted (format : Format) (steps : List Step) (k count : ℕ) : Ty
   pub few : count ≤ k
   pub all : count + count_over format k (drop k steps) ≡ count_over format 0 steps
 
+pub none_counted : (format : Format) (steps : List Step) → AreCounted format steps 0 0
+none_counted format [] = record { few = omega arith; all = omega arith }
+none_counted format (step ∷ steps) = record { few = omega arith; all = omega arith }
+
 pub one_kept : (format : Format) (steps : List Step) (k next count more : ℕ) → k < length steps → is_left_out format k (get_or steps k []) ≡ false → next ≡ k + 1 → more ≡ count + 1 → AreCounted format steps k count → AreCounted format steps next more
 one_kept format steps k next count more inside kept is one h =
     subst (λ j. AreCounted format steps j more) (sym is) (record {

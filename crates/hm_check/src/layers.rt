@@ -26,18 +26,16 @@ pub(crate) fn count_layers(graph: &Graph, format: Format) -> usize
     ensures { result ≡ count_over format 0 graph.now.steps }
 {
     graph.is_small();
-    let mut count = 0;
-    let mut layer = graph.first_layer();
+    if graph.len() == 0 {
+        return 1;
+    }
+    // The first layer is written.
+    let mut count = 1;
+    let mut layer = graph.next(graph.first_layer());
     while layer.layer < graph.len() {
-        if !is_left_out(format, layer.layer, graph.step(layer)) {
-            count += 1;
-        }
-        layer = graph.next(layer);
-        if layer.layer < graph.len() {
-            let end = graph.next_alike(layer, graph.len() - layer.layer);
-            count += count_alike(format, graph.step(layer), end.layer - layer.layer);
-            layer = end;
-        }
+        let end = graph.next_alike(layer, graph.len() - layer.layer);
+        count += count_alike(format, graph.step(layer), end.layer - layer.layer);
+        layer = end;
     }
     count + 1
 }

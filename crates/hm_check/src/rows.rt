@@ -28,9 +28,14 @@ fn sweep<'a>(
     let mut sweep = Sweep::at_end(alloc, graph, prices, format)?;
     let mut layer = graph.last_layer();
     while layer.layer > 0 {
-        layer = graph.back(layer);
-        sweep.take_layer(graph, prices, format, layer.layer, graph.step(layer))?;
-        layer = sweep.go_on(graph, prices, format, layer)?;
+        let front = graph.back(layer);
+        layer = match sweep.pass_alike(graph, prices, format, front) {
+            Some(reached) => reached,
+            None => {
+                sweep.take_layer(graph, prices, format, front.layer, graph.step(front))?;
+                sweep.go_on(graph, prices, format, front)?
+            }
+        };
     }
     Ok(sweep)
 }

@@ -1,5 +1,5 @@
 //! The prices of all layers, from the last layer on.
-ghost use Rattle.std.specs.Prelude.{◌≡◌, ℕ, ◌<◌, ◌≤◌, ◌+◌, ◌^◌, true, false, [], length, map, slice_index_or, IfOk, IfSome, OnOk};
+ghost use Rattle.std.specs.Prelude.{◌≡◌, ℕ, ◌<◌, ◌≤◌, ◌+◌, ◌^◌, true, false, [], length, map, slice_index_or, IfOk, IfSome, None, OnOk};
 ghost use Rattle.hm_cert.specs.Layout.{told};
 ghost use Rattle.hm_graph.specs.Ways.{over};
 ghost use Rattle.hm_layers.specs.Graphs.{IsLowStep, IsPlace};
@@ -289,8 +289,45 @@ impl<'a> Sweep<'a> {
         Ok(())
     }
 
-    /// Goes on over layers in front of one that have the same step, where no state changes its place over it, but not to the
-    /// first layer. Where none is written all are passed at once.
+    /// Goes on from a layer over the step in front of it and those in front of that which are equal, but not to the first layer, where no
+    /// state changes its place over them and none of their layers is written. Else nothing changes.
+    pub(crate) fn pass_alike(
+        &mut self,
+        graph: &Graph,
+        prices: &WrittenRows<'a>,
+        format: Format,
+        at: Cursor,
+    ) -> Option<Cursor>
+        requires place { IsPlace graph.now at }
+        requires inside { at.layer < length graph.now.steps }
+        requires swept { IsSwept format graph.now prices.now (at.layer + 1) self.old }
+        ensures place { IfSome result (λ front. IsPlace graph.now front) }
+        ensures layer { IfSome result (λ front. front.layer ≤ at.layer) }
+        ensures swept { IfSome result (λ front. IsSwept format graph.now prices.now front.layer self.new) }
+        ensures none { result ≡ None → self.new ≡ self.old }
+    {
+        let _rows = prices.len();
+        graph.is_small();
+        let step = graph.step(at);
+        if at.layer == 0
+            || !self.found.right
+            || self.behind.len() != step.width()
+            || !step.is_left_out(format)
+        {
+            return None;
+        }
+        let len = match step.still() {
+            Some(len) => len,
+            None => return None,
+        };
+        let front = graph.back_alike(at, at.layer - 1);
+        let count = (at.layer - front.layer + 1) as u64;
+        self.add(count * len);
+        Some(front)
+    }
+
+    /// Goes on over layers in front of one that have the same step, where they are written and no state changes its place over
+    /// it, but not to the first layer.
     pub(crate) fn go_on(
         &mut self,
         graph: &Graph,
@@ -315,18 +352,13 @@ impl<'a> Sweep<'a> {
         }
         graph.is_small();
         let step = graph.step(at);
-        if self.behind.len() != step.width() {
+        if self.behind.len() != step.width() || step.is_left_out(format) {
             return Ok(at);
         }
         let len = match step.still() {
             Some(len) => len,
             None => return Ok(at),
         };
-        if step.is_left_out(format) {
-            let count = (at.layer - front.layer) as u64;
-            self.add(count * len);
-            return Ok(front);
-        }
         self.read_on(graph, prices, format, at.layer, front.layer, step, len)?;
         Ok(front)
     }

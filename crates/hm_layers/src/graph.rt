@@ -172,12 +172,13 @@ impl Graph {
         }
     }
 
-    /// Goes on over at most so many layers that have the same step behind them as this one.
+    /// Goes on over at most so many layers that have the same step behind them as this one, over one at least where one may be passed.
     pub fn next_alike(&self, at: Cursor, limit: usize) -> Cursor
         requires place { IsPlace self.now at }
         requires inside { at.layer < length self.now.steps }
         ensures place { IsPlace self.now result }
         ensures layer { (at.layer ≤ result.layer) × (result.layer ≤ at.layer + limit) }
+        ensures some { 0 < limit → at.layer < result.layer }
         ensures alike { (k : ℕ) → at.layer ≤ k → k < result.layer → slice_index_or self.now.steps k [] ≡ slice_index_or self.now.steps at.layer [] }
     {
         let left = self.runs[at.run].count as usize - at.used;

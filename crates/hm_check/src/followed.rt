@@ -1,23 +1,21 @@
 //! Whether a text follows the graph of a tree.
-ghost use Rattle.std.specs.Prelude.{◌≡◌, ◌<◌, ◌≤◌, ◌+◌, ◌++◌, ◌∷◌, ◌⊎◌, [], List, chars, codes, encode_utf8, if◌then◌else◌, length, slice_index_or, IfOk, IfSome, IsTrue, IsUtf8, OnOk};
-ghost use Rattle.hm_edges.specs.Pieces.{HasName, own_bytes, piece_bytes, piece_text, with_gap, with_opening};
-ghost use Rattle.hm_layers.specs.Graphs.{AreNamed, AreNamedHops, IsNamedStep, IsPlace};
-ghost use Rattle.hm_parts.specs.Parts.{AreParts, IsPart, comment_bytes, part_units, parts_units};
+ghost use Rattle.std.specs.Prelude.{◌≡◌, ◌++◌, ◌∷◌, ◌⊎◌, [], Some, codes, encode_utf8, if◌then◌else◌, length, slice_index_or, IfOk, IfSome, IsTrue};
+ghost use Rattle.hm_edges.specs.Pieces.{HasName, piece_bytes, piece_text, with_gap, with_opening};
+ghost use Rattle.hm_layers.specs.Graphs.{AreNamed, AreNamedHops, IsNamedStep};
+ghost use Rattle.hm_parts.specs.Parts.{comment_bytes};
 ghost use Rattle.hm_pieces.specs.Own.{own_text};
-ghost use Rattle.hm_refs.specs.Names.{Entry};
 ghost use Rattle.hm_steps.specs.Ways.{WayOver};
-ghost use Rattle.hm_units.specs.Units as units;
-ghost use Rattle.hm_units.specs.Units.{character_units, units_of};
-ghost use Rattle.hm_check.specs.Following.{Copies, Follows, FollowsText, IsOver, LeadsTo};
+ghost use Rattle.hm_units.specs.Units.{units_of};
+ghost use Rattle.hm_check.specs.Following.{IsOver, IsWayOn, LeadsTo};
 
 use hm_base::{Memory, SpellRules};
 use hm_edges::{Form, Piece};
 use hm_layers::{Cursor, Graph, Step};
-use hm_parts::{Part, find_parts};
 use hm_pieces::{Own, put_piece};
 use hm_refs::Table;
 use hm_steps::Hop;
 use hm_tree::Tree;
+use hm_walk::{Walker, walk_over};
 use std::alloc::Global;
 
 /// Why a text isn't followed to its end.
@@ -42,8 +40,6 @@ impl From<Memory> for Stop {
 struct Followed<'o> {
     /// What is left of the text.
     rest: &'o [u8],
-    /// The layer that was reached.
-    at: Cursor,
     /// The place of the state among those of its layer.
     place: usize,
     /// The bytes of a piece, to compare.
@@ -338,163 +334,48 @@ fn over_step<'o>(
     over_hops(text, spare, table, step.hops(place), own)
 }
 
-/// Takes the next step, which is that of a unit with these bytes of its own.
-fn take(way: &mut Followed, graph: &Graph, table: &Table, own: Own) -> Result<(), Stop>
-    requires inside { way.old.at.layer < length graph.now.steps }
-    requires place { IsPlace graph.now way.old.at }
-    requires named { AreNamed table.now.entries graph.now.steps }
-    ensures { OnOk result ((u : units.Unit) → own_bytes u ≡ own_text own.entry → Follows table.now.entries graph.now (u ∷ []) [] way.old way.new) }
-{
-    graph.is_small();
-    let at = way.at;
-    match over_step(
-        way.rest,
-        &mut way.spare,
-        table,
-        graph.step(at),
-        way.place,
-        own,
-    )? {
-        Some(taken) => {
-            way.rest = taken.rest;
-            way.place = taken.to;
-            way.at = graph.next(at);
-            Ok(())
+impl<'o> Walker for Followed<'o> {
+    type Stop = Stop;
+
+    ghost stands = { λ _ _ _. Unit {0} };
+
+    ghost place = { λ way. Some way.place };
+
+    ghost comes = { λ t g units k way _. IsWayOn t g units k way };
+
+    #[inline(always)]
+    fn place(&self) -> Option<usize> {
+        Some(self.place)
+    }
+
+    fn take(&mut self, graph: &Graph, at: Cursor, table: &Table, own: Own) -> Result<(), Stop> {
+        match over_step(
+            self.rest,
+            &mut self.spare,
+            table,
+            graph.step(at),
+            self.place,
+            own,
+        )? {
+            Some(taken) => {
+                self.rest = taken.rest;
+                self.place = taken.to;
+                Ok(())
+            }
+            None => Err(Stop::Leaves),
         }
-        None => Err(Stop::Leaves),
     }
-}
 
-/// Whether there is one hop, which copies one byte and leads to this place.
-fn copies(hops: &[Hop], place: usize) -> bool
-    ensures { IsTrue result → Copies place hops.now }
-{
-    match hops {
-        [hop] => hop.len == 1 && hop.to == place && matches!(hop.piece, Piece::Itself),
-        _ => false,
-    }
-}
-
-/// Whether there is one hop from a place, which copies one byte and leads to the same place.
-fn is_copied(step: &Step, place: usize) -> bool
-    ensures { IsTrue result → Copies place (slice_index_or step.now place []) }
-{
-    place < step.width() && copies(step.hops(place), place)
-}
-
-/// Takes the steps of the characters that a text begins with, as long as the same step copies one byte, and gives the rest
-/// of the text.
-fn copy_alike<'t>(way: &mut Followed, graph: &Graph, text: &'t str) -> Result<&'t str, Stop>
-    requires inside { way.old.at.layer + length (chars text.now) ≤ length graph.now.steps }
-    requires some { 0 < length text.now }
-    requires place { IsPlace graph.now way.old.at }
-    ensures goes { IfOk result (λ rest. (t : List Entry) → FollowsText t graph.now (chars text.now) (chars rest.now) way.old way.new) }
-    ensures within { IfOk result (λ rest. length rest.now ≤ length text.now) }
-    ensures utf8 { IfOk result (λ rest. IsUtf8 rest.now) }
-{
-    if !is_copied(graph.step(way.at), way.place) {
-        return Ok(text);
-    }
-    let at = graph.next_alike(way.at, text.len());
-    let count = at.layer - way.at.layer;
-    let front = &text.as_bytes()[..count];
-    if !front.is_ascii() {
-        return Ok(text);
-    }
-    match behind(way.rest, front) {
-        Some(rest) => {
-            way.rest = rest;
-            way.at = at;
-            Ok(&text[count..])
+    #[inline(always)]
+    fn copy(&mut self, _graph: &Graph, _at: Cursor, bytes: &[u8]) -> Result<(), Stop> {
+        match behind(self.rest, bytes) {
+            Some(rest) => {
+                self.rest = rest;
+                Ok(())
+            }
+            None => Err(Stop::Leaves),
         }
-        None => Err(Stop::Leaves),
     }
-}
-
-/// Takes the step of the first character of a text, and gives the rest of the text.
-fn take_char<'t>(
-    way: &mut Followed,
-    graph: &Graph,
-    table: &Table,
-    text: &'t str,
-) -> Result<&'t str, Stop>
-    requires inside { way.old.at.layer + length (chars text.now) ≤ length graph.now.steps }
-    requires place { IsPlace graph.now way.old.at }
-    requires named { AreNamed table.now.entries graph.now.steps }
-    ensures goes { IfOk result (λ rest. FollowsText table.now.entries graph.now (chars text.now) (chars rest.now) way.old way.new) }
-    ensures shorter { IfOk result (λ rest. 0 < length text.now → length rest.now < length text.now) }
-    ensures utf8 { IfOk result (λ rest. IsUtf8 rest.now) }
-{
-    let mut rest = text.chars();
-    if let Some(c) = rest.next() {
-        take(way, graph, table, Own::Character { c })?;
-    }
-    Ok(rest.as_str())
-}
-
-/// Takes the steps of some characters that a text begins with, and gives the rest of the text.
-fn take_some<'t>(
-    way: &mut Followed,
-    graph: &Graph,
-    table: &Table,
-    text: &'t str,
-) -> Result<&'t str, Stop>
-    requires inside { way.old.at.layer + length (chars text.now) ≤ length graph.now.steps }
-    requires some { 0 < length text.now }
-    requires place { IsPlace graph.now way.old.at }
-    requires named { AreNamed table.now.entries graph.now.steps }
-    ensures goes { IfOk result (λ rest. FollowsText table.now.entries graph.now (chars text.now) (chars rest.now) way.old way.new) }
-    ensures shorter { IfOk result (λ rest. length rest.now < length text.now) }
-    ensures utf8 { IfOk result (λ rest. IsUtf8 rest.now) }
-{
-    let rest = copy_alike(way, graph, text)?;
-    if rest.len() < text.len() {
-        return Ok(rest);
-    }
-    take_char(way, graph, table, rest)
-}
-
-/// Takes the steps of the characters of a text.
-fn take_chars(way: &mut Followed, graph: &Graph, table: &Table, text: &str) -> Result<(), Stop>
-    requires inside { way.old.at.layer + length (chars text.now) ≤ length graph.now.steps }
-    requires place { IsPlace graph.now way.old.at }
-    requires named { AreNamed table.now.entries graph.now.steps }
-    ensures { OnOk result (FollowsText table.now.entries graph.now (chars text.now) [] way.old way.new) }
-{
-    let mut rest = text;
-    while !rest.is_empty() {
-        rest = take_some(way, graph, table, rest)?;
-    }
-    Ok(())
-}
-
-/// Takes the steps of a part.
-fn take_part(way: &mut Followed, graph: &Graph, table: &Table, part: Part) -> Result<(), Stop>
-    requires inside { way.old.at.layer + length (part_units part) ≤ length graph.now.steps }
-    requires place { IsPlace graph.now way.old.at }
-    requires named { AreNamed table.now.entries graph.now.steps }
-    requires part { IsPart part }
-    ensures { OnOk result (Follows table.now.entries graph.now (part_units part.entry) [] way.old way.new) }
-{
-    match part {
-        Part::One { unit: _, own } => take(way, graph, table, Own::Bytes { text: own }),
-        Part::Comment { text } => take(way, graph, table, Own::Comment { text }),
-        Part::Chars { kind: _, text } => take_chars(way, graph, table, text),
-    }
-}
-
-/// Takes the steps of the parts of an event.
-fn take_parts(way: &mut Followed, graph: &Graph, table: &Table, parts: &[Part]) -> Result<(), Stop>
-    requires inside { way.old.at.layer + length (parts_units parts.now) ≤ length graph.now.steps }
-    requires place { IsPlace graph.now way.old.at }
-    requires named { AreNamed table.now.entries graph.now.steps }
-    requires parts { AreParts parts.now }
-    ensures { OnOk result (Follows table.now.entries graph.now (parts_units parts.now) [] way.old way.new) }
-{
-    for part in parts {
-        take_part(way, graph, table, *part)?;
-    }
-    Ok(())
 }
 
 /// Takes the steps of all units of a tree, and gives what is left of the text.
@@ -510,17 +391,12 @@ fn follow<'o>(
     requires named { AreNamed table.now.entries graph.now.steps }
     ensures { IfOk result (λ rest. rest.now ≡ [] → WayOver (piece_bytes table.now.entries) (units_of rules tree.now) graph.now.steps 0 out.now) }
 {
-    let mut parts = Vec::new(alloc);
-    let mut way = Followed {
+    let start = Followed {
         rest: out,
-        at: graph.first_layer(),
         place: 0,
         spare: Vec::new(alloc),
     };
-    for i in 0..tree.len() {
-        find_parts(tree, rules, i, &mut parts)?;
-        take_parts(&mut way, graph, table, &parts)?;
-    }
+    let way = walk_over(alloc, tree, table, rules, graph, start)?;
     Ok(way.rest)
 }
 

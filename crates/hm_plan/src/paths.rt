@@ -1,32 +1,27 @@
 //! The text of the first way.
-ghost use Rattle.std.specs.Prelude.{◌≡◌, ◌<◌, ◌≤◌, ◌+◌, ◌++◌, ◌∷◌, [], ℕ, List, length, drop, chars, option_and_then, slice_get, slice_index, slice_index_or, IfOk, IfSome, IsTrue, IsUtf8, OnOk};
-ghost use Rattle.hm_edges.specs.Pieces.{HasName, own_bytes, piece_bytes, piece_text};
+ghost use Rattle.std.specs.Prelude.{◌≡◌, ◌<◌, ◌+◌, ◌++◌, [], ℕ, List, length, drop, option_and_then, slice_get, slice_index, slice_index_or, IfOk, IfSome};
+ghost use Rattle.hm_edges.specs.Pieces.{HasName, piece_bytes, piece_text};
 ghost use Rattle.hm_graph.specs.Prices.{Row};
 ghost use Rattle.hm_layers.specs.Graphs.{AreNamed, IsNamedStep, IsPlace};
-ghost use Rattle.hm_parts.specs.Parts.{AreParts, IsPart, part_units, parts_units};
 ghost use Rattle.hm_pieces.specs.Own.{own_text};
 ghost use Rattle.hm_refs.specs.Names.{Entry};
 ghost use Rattle.hm_steps.specs.Ways.{along, choices_of, hop_taken, step_choices, way_from};
-ghost use Rattle.hm_units.specs.Units as units;
-ghost use Rattle.hm_units.specs.Units.{character_units, units_of};
-ghost use Rattle.hm_plan.specs.Paths.{Copies, Goes, GoesOver, HasChoices, IsCopied, Passes, onward, row_behind};
+ghost use Rattle.hm_units.specs.Units.{units_of};
+ghost use Rattle.hm_plan.specs.Paths.{ComesTo, HasChoices, onward, row_behind};
 
 use hm_base::{Memory, SpellRules};
-use hm_edges::Piece;
 use hm_layers::{Cursor, Graph, Step};
-use hm_parts::{Part, find_parts};
 use hm_pieces::{Own, put_piece};
 use hm_refs::Table;
 use hm_steps::Hop;
 use hm_tree::Tree;
+use hm_walk::{Walker, walk_over};
 use std::alloc::Global;
 
 /// How far the way is written.
 #[derive(Drop)]
 struct WrittenWay<'c> {
     out: Vec<u8>,
-    /// The layer that was reached.
-    at: Cursor,
     /// The place of the state among those of its layer, None where the way has ended.
     place: Option<usize>,
     /// The choices in front of the steps that are left, those of the next one last.
@@ -118,161 +113,33 @@ fn put_hop(
     }
 }
 
-/// Takes the next step, which is that of a unit with these bytes of its own.
-fn take(way: &mut WrittenWay, graph: &Graph, table: &Table, own: Own) -> Result<(), Memory>
-    requires inside { way.old.at.layer < length graph.now.steps }
-    requires choices { HasChoices graph.now way.old }
-    requires named { AreNamed table.now.entries graph.now.steps }
-    ensures passes { OnOk result (Passes graph.now 1 way.old way.new) }
-    ensures goes { OnOk result ((u : units.Unit) → own_bytes u ≡ own_text own.entry → Goes table.now.entries graph.now (u ∷ []) way.old way.new) }
-{
-    graph.is_small();
-    let at = way.at;
-    let (behind, front) = cut_choices(way.choices, graph, at);
-    let hop = next_hop(graph.step(at), front, way.place);
-    way.choices = behind;
-    way.at = graph.next(at);
-    way.place = put_hop(&mut way.out, table, hop, own)?;
-    Ok(())
-}
+impl<'c> Walker for WrittenWay<'c> {
+    type Stop = Memory;
 
-/// Whether there is one hop, which copies one byte and leads to this place.
-#[inline(always)]
-fn copies(hops: &[Hop], place: usize) -> bool
-    ensures { IsTrue result → Copies place hops.now }
-{
-    match hops {
-        [hop] => hop.len == 1 && hop.to == place && matches!(hop.piece, Piece::Itself),
-        _ => false,
-    }
-}
+    ghost stands = { λ g k way. HasChoices g k way };
 
-/// Whether a step has nothing to choose, and the way goes over a hop that copies one byte and leads to the same place.
-fn is_copied(step: &Step, place: Option<usize>) -> bool
-    ensures { IsTrue result → IsCopied step.now place }
-{
-    match place {
-        Some(place) => place < step.width() && step.is_forced() && copies(step.hops(place), place),
-        None => false,
-    }
-}
+    ghost place = { λ way. way.place };
 
-/// Takes the steps of the characters that a text begins with, as long as the same step copies one byte, and gives the rest
-/// of the text.
-fn copy_alike<'t>(way: &mut WrittenWay, graph: &Graph, text: &'t str) -> Result<&'t str, Memory>
-    requires inside { way.old.at.layer + length (chars text.now) ≤ length graph.now.steps }
-    requires some { 0 < length text.now }
-    requires choices { HasChoices graph.now way.old }
-    ensures goes { IfOk result (λ rest. (t : List Entry) → GoesOver t graph.now (chars text.now) (chars rest.now) way.old way.new) }
-    ensures within { IfOk result (λ rest. length rest.now ≤ length text.now) }
-    ensures utf8 { IfOk result (λ rest. IsUtf8 rest.now) }
-{
-    if !is_copied(graph.step(way.at), way.place) {
-        return Ok(text);
-    }
-    let at = graph.next_alike(way.at, text.len());
-    let count = at.layer - way.at.layer;
-    let front = &text.as_bytes()[..count];
-    if !front.is_ascii() {
-        return Ok(text);
-    }
-    way.out.extend_from_slice(front)?;
-    way.at = at;
-    Ok(&text[count..])
-}
+    ghost comes = { λ t g units k way text. ComesTo t g units k way text };
 
-/// Takes the step of the first character of a text, and gives the rest of the text.
-fn take_char<'t>(
-    way: &mut WrittenWay,
-    graph: &Graph,
-    table: &Table,
-    text: &'t str,
-) -> Result<&'t str, Memory>
-    requires inside { way.old.at.layer + length (chars text.now) ≤ length graph.now.steps }
-    requires choices { HasChoices graph.now way.old }
-    requires named { AreNamed table.now.entries graph.now.steps }
-    ensures goes { IfOk result (λ rest. GoesOver table.now.entries graph.now (chars text.now) (chars rest.now) way.old way.new) }
-    ensures shorter { IfOk result (λ rest. 0 < length text.now → length rest.now < length text.now) }
-    ensures utf8 { IfOk result (λ rest. IsUtf8 rest.now) }
-{
-    let mut rest = text.chars();
-    if let Some(c) = rest.next() {
-        take(way, graph, table, Own::Character { c })?;
+    #[inline(always)]
+    fn place(&self) -> Option<usize> {
+        self.place
     }
-    Ok(rest.as_str())
-}
 
-/// Takes the steps of some characters that a text begins with, and gives the rest of the text.
-fn take_some<'t>(
-    way: &mut WrittenWay,
-    graph: &Graph,
-    table: &Table,
-    text: &'t str,
-) -> Result<&'t str, Memory>
-    requires inside { way.old.at.layer + length (chars text.now) ≤ length graph.now.steps }
-    requires some { 0 < length text.now }
-    requires choices { HasChoices graph.now way.old }
-    requires named { AreNamed table.now.entries graph.now.steps }
-    ensures goes { IfOk result (λ rest. GoesOver table.now.entries graph.now (chars text.now) (chars rest.now) way.old way.new) }
-    ensures shorter { IfOk result (λ rest. length rest.now < length text.now) }
-    ensures utf8 { IfOk result (λ rest. IsUtf8 rest.now) }
-{
-    let rest = copy_alike(way, graph, text)?;
-    if rest.len() < text.len() {
-        return Ok(rest);
+    fn take(&mut self, graph: &Graph, at: Cursor, table: &Table, own: Own) -> Result<(), Memory> {
+        let (behind, front) = cut_choices(self.choices, graph, at);
+        let hop = next_hop(graph.step(at), front, self.place);
+        self.choices = behind;
+        self.place = put_hop(&mut self.out, table, hop, own)?;
+        Ok(())
     }
-    take_char(way, graph, table, rest)
-}
 
-/// Takes the steps of the characters of a text.
-fn take_chars(way: &mut WrittenWay, graph: &Graph, table: &Table, text: &str) -> Result<(), Memory>
-    requires inside { way.old.at.layer + length (chars text.now) ≤ length graph.now.steps }
-    requires choices { HasChoices graph.now way.old }
-    requires named { AreNamed table.now.entries graph.now.steps }
-    ensures passes { OnOk result (Passes graph.now (length (chars text.now)) way.old way.new) }
-    ensures goes { OnOk result ((kind : units.TextKind) → Goes table.now.entries graph.now (character_units kind (chars text.now)) way.old way.new) }
-{
-    let mut rest = text;
-    while !rest.is_empty() {
-        rest = take_some(way, graph, table, rest)?;
+    #[inline(always)]
+    fn copy(&mut self, _graph: &Graph, _at: Cursor, bytes: &[u8]) -> Result<(), Memory> {
+        self.out.extend_from_slice(bytes)?;
+        Ok(())
     }
-    Ok(())
-}
-
-/// Takes the steps of a part.
-fn take_part(way: &mut WrittenWay, graph: &Graph, table: &Table, part: Part) -> Result<(), Memory>
-    requires inside { way.old.at.layer + length (part_units part) ≤ length graph.now.steps }
-    requires choices { HasChoices graph.now way.old }
-    requires named { AreNamed table.now.entries graph.now.steps }
-    requires part { IsPart part }
-    ensures passes { OnOk result (Passes graph.now (length (part_units part.entry)) way.old way.new) }
-    ensures goes { OnOk result (Goes table.now.entries graph.now (part_units part.entry) way.old way.new) }
-{
-    match part {
-        Part::One { unit: _, own } => take(way, graph, table, Own::Bytes { text: own }),
-        Part::Comment { text } => take(way, graph, table, Own::Comment { text }),
-        Part::Chars { kind: _, text } => take_chars(way, graph, table, text),
-    }
-}
-
-/// Takes the steps of the parts of an event.
-fn take_parts(
-    way: &mut WrittenWay,
-    graph: &Graph,
-    table: &Table,
-    parts: &[Part],
-) -> Result<(), Memory>
-    requires inside { way.old.at.layer + length (parts_units parts.now) ≤ length graph.now.steps }
-    requires choices { HasChoices graph.now way.old }
-    requires named { AreNamed table.now.entries graph.now.steps }
-    requires parts { AreParts parts.now }
-    ensures passes { OnOk result (Passes graph.now (length (parts_units parts.now)) way.old way.new) }
-    ensures goes { OnOk result (Goes table.now.entries graph.now (parts_units parts.now) way.old way.new) }
-{
-    for part in parts {
-        take_part(way, graph, table, *part)?;
-    }
-    Ok(())
 }
 
 /// Writes the first way of a tree's graph, by the choices that were found for it.
@@ -289,16 +156,11 @@ pub fn write_path(
     requires choices { choices.now ≡ choices_of graph.now.last graph.now.steps }
     ensures { IfOk result (λ out. out.items ≡ way_from (piece_bytes table.now.entries) graph.now.last (units_of rules tree.now) graph.now.steps 0) }
 {
-    let mut parts = Vec::new(alloc);
-    let mut way = WrittenWay {
+    let start = WrittenWay {
         out: Vec::new(alloc),
-        at: graph.first_layer(),
         place: Some(0),
         choices,
     };
-    for i in 0..tree.len() {
-        find_parts(tree, rules, i, &mut parts)?;
-        take_parts(&mut way, graph, table, &parts)?;
-    }
+    let way = walk_over(alloc, tree, table, rules, graph, start)?;
     Ok(way.out)
 }

@@ -1,0 +1,9 @@
+//! Goes over the steps of a tree's graph, unit by unit. What is done at a step is the walker's own.
+#![tactic(auto)]
+
+mod copied;
+mod walkers;
+mod walks;
+
+pub use walkers::Walker;
+pub use walks::walk_over;

@@ -1,0 +1,184 @@
+//! What each scan reads, after the tokenization of the HTML Standard (13.2.5).
+ghost use Rattle.std.specs.Prelude.{◌^◌, ◌<◌, length, IsTrue, IsCharBoundary};
+
+use hm_mark_scan::{
+    begins_cdata, begins_comment, begins_doctype, scan_cdata, scan_comment, scan_doctype, scan_raw,
+    scan_script,
+};
+use hm_tree::{ScanFault, Token};
+
+/// Whether a text is short enough for every scan, and can be cut at its front.
+fn is_short(text: &str) -> bool
+    ensures { IsTrue result → (length text.now < 2 ^ 32) × IsCharBoundary text.now 0 }
+{
+    text.len() < 1000 && text.is_char_boundary(0)
+}
+
+/// Whether the answer is this piece of the text, in front of this rest.
+fn is_piece(text: &str, answer: Result<(Token, u32), ScanFault>, piece: &str, rest: &str) -> bool {
+    match answer {
+        Ok((Token::Comment { from, to } | Token::Slice { from, to }, behind)) => {
+            match (
+                text.get(from as usize..to as usize),
+                text.get(behind as usize..),
+            ) {
+                (Some(found), Some(left)) => found == piece && left == rest,
+                _ => false,
+            }
+        }
+        _ => false,
+    }
+}
+
+fn is_comment(text: &str, piece: &str, rest: &str) -> bool {
+    is_short(text) && begins_comment(text, 0) && is_piece(text, scan_comment(text, 0), piece, rest)
+}
+
+fn is_open_comment(text: &str) -> bool {
+    is_short(text)
+        && begins_comment(text, 0)
+        && matches!(scan_comment(text, 0), Err(ScanFault::Cut))
+}
+
+#[test]
+fn comments(rt: HostRuntime) {
+    for (text, piece, rest) in [
+        ("<!-->x", "", "x"),
+        ("<!--->-->", "", "-->"),
+        ("<!---->x", "", "x"),
+        ("<!----!>x", "", "x"),
+        ("<!--a--!>b", "a", "b"),
+        ("<!--a--!-->b", "a--!", "b"),
+        ("<!--a->-->", "a->", ""),
+        ("<!--a-b--->c", "a-b-", "c"),
+        ("<!-- <!-- -->x-->", " <!-- ", "x-->"),
+        ("<!--<!-->x", "<!", "x"),
+        ("<?x>y", "?x", "y"),
+        ("</ x>", " x", ""),
+        ("<!x>y", "x", "y"),
+        ("<!>y", "", "y"),
+        ("<!-x>y", "-x", "y"),
+        ("<![CDATA[x]]>y", "[CDATA[x]]", "y"),
+    ] {
+        assert!(rt; is_comment(text, piece, rest), "{text}");
+    }
+    for text in ["<!--", "<!--a--", "<!--a->", "<?", "<!", "</ x"] {
+        assert!(rt; is_open_comment(text), "{text}");
+    }
+    for text in ["</>", "</a>", "</", "<a>", "<!DOCTYPE"] {
+        assert!(rt; !begins_comment(text, 0), "{text}");
+    }
+}
+
+/// Whether a doctype is the legacy one, and the place behind it.
+fn form(text: &str) -> Result<(bool, u32), ScanFault> {
+    if !(is_short(text) && begins_doctype(text, 0)) {
+        return Err(ScanFault::Memory);
+    }
+    match scan_doctype(text, 0) {
+        Ok((Token::Doctype { legacy }, behind)) => Ok((legacy, behind)),
+        Ok(_) => Err(ScanFault::Memory),
+        Err(fault) => Err(fault),
+    }
+}
+
+#[test]
+fn doctypes(rt: HostRuntime) {
+    for (text, legacy, behind) in [
+        ("<!doctype html>x", false, 15),
+        ("<!DocTypehtml\u{c}\n>>", false, 16),
+        ("<!DOCTYPE\t\r HTML>", false, 17),
+        ("<!DOCTYPE html SYSTEM 'about:legacy-compat'>", true, 44),
+        ("<!doctype html\nsystem\"about:legacy-compat\" >x", true, 44),
+    ] {
+        assert!(rt; form(text) == Ok((legacy, behind)), "{text}");
+    }
+    for text in [
+        "<!doctype x>",
+        "<!doctype>",
+        "<!doctype html x>",
+        "<!doctype htmlSYSTEM\"about:legacy-compat\">",
+        "<!doctype html SYSTEM 'about:legacy-compat\">",
+        "<!doctype html SYSTEM 'About:legacy-compat'>",
+        "<!doctype html SYSTEM 'about:legacy-compat' x>",
+    ] {
+        assert!(rt; form(text) == Err(ScanFault::BadDoctype), "{text}");
+    }
+    assert!(rt; form("<!doctype html") == Err(ScanFault::Cut));
+    assert!(rt; form("<!doctype x") == Err(ScanFault::Cut));
+}
+
+fn is_cdata(text: &str, piece: &str, rest: &str) -> bool {
+    is_short(text) && begins_cdata(text, 0) && is_piece(text, scan_cdata(text, 0), piece, rest)
+}
+
+fn is_open_cdata(text: &str) -> bool {
+    is_short(text) && begins_cdata(text, 0) && matches!(scan_cdata(text, 0), Err(ScanFault::Cut))
+}
+
+#[test]
+fn cdata_sections(rt: HostRuntime) {
+    assert!(rt; is_cdata("<![CDATA[]]>", "", ""));
+    assert!(rt; is_cdata("<![CDATA[a]>b]]]>c]]>", "a]>b]", "c]]>"));
+    assert!(rt; is_open_cdata("<![CDATA[a]]"));
+    assert!(rt; !begins_cdata("<![cdata[", 0));
+}
+
+fn is_raw(text: &str, name: &str, piece: &str, rest: &str) -> bool {
+    is_short(text) && is_piece(text, scan_raw(text, 0, name), piece, rest)
+}
+
+fn is_open_raw(text: &str, name: &str) -> bool {
+    is_short(text) && matches!(scan_raw(text, 0, name), Err(ScanFault::Cut))
+}
+
+#[test]
+fn raw_texts(rt: HostRuntime) {
+    assert!(rt;
+        is_raw(
+            "a</styles></STYLE\n>b",
+            "style",
+            "a</styles>",
+            "</STYLE\n>b"
+        )
+    );
+    assert!(rt; is_raw("</Title/>", "title", "", "</Title/>"));
+    assert!(rt; is_raw("<!--</iframe>-->", "iframe", "<!--", "</iframe>-->"));
+    assert!(rt; is_raw("\u{e9}<</textarea ", "textarea", "\u{e9}<", "</textarea "));
+    assert!(rt; is_open_raw("a</ style></style", "style"));
+    assert!(rt; is_open_raw("", "style"));
+}
+
+fn is_script(text: &str, piece: &str, rest: &str) -> bool {
+    is_short(text) && is_piece(text, scan_script(text, 0), piece, rest)
+}
+
+fn is_open_script(text: &str) -> bool {
+    is_short(text) && matches!(scan_script(text, 0), Err(ScanFault::Cut))
+}
+
+#[test]
+fn scripts(rt: HostRuntime) {
+    for (text, piece, rest) in [
+        (
+            "<!--<script></script>--></script>",
+            "<!--<script></script>-->",
+            "</script>",
+        ),
+        ("<script>a</SCRIPT\t>b", "<script>a", "</SCRIPT\t>b"),
+        ("<!--</script>-->", "<!--", "</script>-->"),
+        ("<!--><script></script>", "<!--><script>", "</script>"),
+        ("<!-- <scriptx></script>", "<!-- <scriptx>", "</script>"),
+        (
+            "<!--<Script/></scripts></Script></script>",
+            "<!--<Script/></scripts></Script>",
+            "</script>",
+        ),
+        ("<!--<script>--></script>", "<!--<script>-->", "</script>"),
+        ("<!-<script></script>", "<!-<script>", "</script>"),
+    ] {
+        assert!(rt; is_script(text, piece, rest), "{text}");
+    }
+    assert!(rt; is_open_script("<!--<script></script>-->"));
+    assert!(rt; is_open_script("</script"));
+}

@@ -144,32 +144,3 @@ impl<'n> Named<'n> {
         self.kind.class.holds_nothing()
     }
 }
-
-#[cfg(test)]
-mod tests {
-    use super::*;
-
-    #[test]
-    fn kinds_of_names(rt: HostRuntime) {
-        let cell = kind_of("td");
-        assert_eq!(rt; cell.class, Class::TablePart);
-        assert!(rt; cell.boundary && cell.block && cell.yields && cell.p_yields);
-        assert!(rt; cell.ends && cell.p_ends && cell.bound);
-        assert!(rt; !cell.closes_p && !cell.has_children && !cell.has_parents);
-        assert!(rt; kind_of("h3").heading && kind_of("h3").closes_p);
-        assert!(rt; kind_of("a").unnested && !kind_of("a").block);
-        assert!(rt; kind_of("colgroup").yields && !kind_of("col").yields);
-        assert!(rt; kind_of("li").has_parents && !kind_of("ul").has_parents);
-        assert!(rt; kind_of("br").has_children && !kind_of("div").has_children);
-        assert_eq!(rt; kind_of("xmp").class, Class::Refused);
-    }
-
-    #[test]
-    fn names_in_no_table(rt: HostRuntime) {
-        for name in ["", "span", "T", "tdd", "t", "~"] {
-            let kind = kind_of(name);
-            assert_eq!(rt; kind.class, Class::Ordinary, "{name}");
-            assert!(rt; !kind.block && !kind.yields && !kind.ends && !kind.bound);
-        }
-    }
-}

@@ -76,15 +76,3 @@ pub(crate) fn is_pair(rows: &[PairRow<'_>], head: &str, name: &str) -> bool
         None => false,
     }
 }
-
-#[cfg(test)]
-mod tests {
-    use super::*;
-
-    #[test]
-    fn same_names(rt: HostRuntime) {
-        assert!(rt; same_name("td", "td") && same_name("", ""));
-        assert!(rt; !same_name("td", "th") && !same_name("td", "t"));
-        assert!(rt; is_one_of("th", &["td", "th"]) && !is_one_of("th", &["td"]));
-    }
-}

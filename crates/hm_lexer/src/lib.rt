@@ -8,6 +8,3 @@ mod ordinary;
 
 pub use lexer::Lexer;
 pub use modes::{Mode, RawName, RcdataName};
-
-#[cfg(test)]
-mod tests;

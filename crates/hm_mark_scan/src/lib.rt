@@ -14,6 +14,3 @@ pub use comments::{begins_cdata, begins_comment, scan_cdata, scan_comment};
 pub use doctypes::{begins_doctype, scan_doctype};
 pub use raw_texts::scan_raw;
 pub use scripts::scan_script;
-
-#[cfg(test)]
-mod tests;

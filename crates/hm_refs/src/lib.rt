@@ -12,8 +12,6 @@ mod plain;
 mod reading;
 mod scan;
 mod table;
-#[cfg(test)]
-mod tests;
 mod trie;
 
 pub use fault::TableFault;

@@ -229,6 +229,3 @@ fn push(elements: &mut Vec<OpenElement>, name: ElementName, kind: &Kind, foreign
     };
     elements.push(element).unwrap();
 }
-
-#[cfg(test)]
-mod tests;

@@ -10,8 +10,6 @@ mod parts;
 mod runs;
 mod scan;
 mod tag_body;
-#[cfg(test)]
-mod tests;
 mod values;
 
 pub use begins::begins_tag;

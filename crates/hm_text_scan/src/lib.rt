@@ -6,6 +6,3 @@ mod plain;
 mod scan;
 
 pub use scan::{begins_markup, scan_text};
-
-#[cfg(test)]
-mod tests;

@@ -20,6 +20,3 @@ pub use events::EventView;
 pub use maker::Maker;
 pub use tokens::{Lexeme, Placed, ScanFault, Spanned, Tag, Token};
 pub use tree::Tree;
-
-#[cfg(test)]
-mod tests;

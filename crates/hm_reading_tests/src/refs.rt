@@ -2,8 +2,8 @@ ghost use Rattle.std.specs.Prelude.{◌≤◌};
 
 mod standard;
 
-use crate::{Table, best_number, number_value};
 use hm_base::Points;
+use hm_refs::{Table, best_number, number_value};
 use standard::NAMES;
 use std::alloc::{AllocError, Global};
 use std::process::Abort;

@@ -2,8 +2,8 @@
 ghost use Rattle.std.specs.Prelude.{◌≡◌, ◌^◌, ◌<◌, drop, false, length, IsTrue, IsCharBoundary};
 ghost use Rattle.hm_text_scan.specs.Texts as texts;
 
-use crate::{begins_markup, scan_text};
 use hm_refs::Table;
+use hm_text_scan::{begins_markup, scan_text};
 use hm_tree::Token;
 use std::test::Fail;
 

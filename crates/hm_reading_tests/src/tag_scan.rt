@@ -1,7 +1,7 @@
 //! Tags, after the HTML Standard (13.2.5.6 to 13.2.5.8 and 13.2.5.32 to 13.2.5.40).
 
-use crate::{begins_tag, scan_tag};
 use hm_refs::Table;
+use hm_tag_scan::{begins_tag, scan_tag};
 use hm_tree::{Attrs, Token};
 use std::alloc::{AllocError, Global};
 use std::test::Fail;

@@ -1,6 +1,5 @@
-use super::Path;
-use crate::{Made, Moves, SettleFault};
 use hm_base::Rule;
+use hm_settle::{Made, Moves, Path, SettleFault};
 use std::alloc::Global;
 use std::process::Abort;
 use std::test::Fail;

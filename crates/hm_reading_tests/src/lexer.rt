@@ -1,9 +1,9 @@
 //! Pages, and what is printed of their tokens.
 mod cases;
 
-use crate::{Lexer, Mode, RawName, RcdataName};
 use cases::{ELEMENTS, ORDINARY, TAGS};
 use hm_base::{OUTPUT_LIMIT, Points, Refused, Rule, SourceText};
+use hm_lexer::{Lexer, Mode, RawName, RcdataName};
 use hm_refs::Table;
 use hm_tree::{Attrs, Token};
 use std::alloc::{AllocError, Global};

@@ -1,7 +1,7 @@
 //! What each scan reads, after the tokenization of the HTML Standard (13.2.5).
 ghost use Rattle.std.specs.Prelude.{◌^◌, ◌<◌, length, IsTrue, IsCharBoundary};
 
-use crate::{
+use hm_mark_scan::{
     begins_cdata, begins_comment, begins_doctype, scan_cdata, scan_comment, scan_doctype, scan_raw,
     scan_script,
 };

@@ -1,11 +1,11 @@
-#![tactic(auto, using(crate::proofs::RoomLemmas::room))]
+#![tactic(auto, using(hm_tree::proofs::RoomLemmas::room))]
 
 ghost use Rattle.std.specs.Prelude.{◌≡◌, ◌+◌, ◌^◌, ◌<◌, ◌≤◌, [], length, true, false, IfOk, OnOk};
 ghost use Rattle.hm_base.specs.Walks.{attributes_size, path_after, walk_size};
 ghost use Rattle.hm_tree.specs.Trees.{last_agrees};
 
-use super::*;
 use hm_base::{Memory, Word};
+use hm_tree::{Attrs, EventView, Lexeme, Maker, Placed, ScanFault, Tag, Token, Tree};
 use std::alloc::{AllocError, AllocFailed, Global};
 use std::test::Fail;
 

@@ -1,7 +1,7 @@
 use Rattle.std.proofs.Common.{◌≡◌, ◌+◌, ◌*◌, ◌≤◌, [], length, true, false}
 use Rattle.hm_base.specs.Walks.{path_after, walk_size}
 use Rattle.hm_tree.specs.Trees.{last_agrees}
-use Rattle.hm_tree.proofs.tests.made.Given as goal
+use Rattle.hm_reading_tests.proofs.tree.made.Given as goal
 
 abbrev pub invariant-loop-step : goal.invariant-loop-step
 invariant-loop-step l =

@@ -1,0 +1,19 @@
+//! The tests of the crates that read a page and keep a tree, apart from those crates, so that each of them is proved once.
+#![tactic(auto)]
+
+#[cfg(test)]
+mod elements;
+#[cfg(test)]
+mod lexer;
+#[cfg(test)]
+mod mark_scan;
+#[cfg(test)]
+mod refs;
+#[cfg(test)]
+mod settle;
+#[cfg(test)]
+mod tag_scan;
+#[cfg(test)]
+mod text_scan;
+#[cfg(test)]
+mod tree;

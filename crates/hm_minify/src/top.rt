@@ -128,6 +128,3 @@ pub fn run<S: Store, O: Sink>(alloc: Global, words: &[Word], store: &mut S, out:
 {
     perform(alloc, words, store, out)
 }
-
-#[cfg(test)]
-mod tests;

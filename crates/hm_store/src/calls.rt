@@ -72,12 +72,4 @@ impl Calls {
     {
         count_failure(&mut self.faults)
     }
-
-    /// How many calls have failed.
-    #[cfg(test)]
-    pub(crate) fn faults(&self) -> u64
-        ensures { result ≡ self.now.faults }
-    {
-        self.faults
-    }
 }

@@ -246,6 +246,3 @@ impl Store for MemStore {
         Ok(())
     }
 }
-
-#[cfg(test)]
-mod tests;

@@ -223,6 +223,3 @@ impl<W: Write> Sink for WriteSink<W> {
         }
     }
 }
-
-#[cfg(test)]
-mod tests;

@@ -4,8 +4,6 @@
 mod flags;
 mod line;
 mod numbers;
-#[cfg(test)]
-mod tests;
 mod words;
 mod writing;
 

@@ -1,7 +1,6 @@
 //! Whole runs over memory.
-use super::run;
-use crate::Status;
 use hm_base::Word;
+use hm_minify::{Status, run};
 use hm_store::{MemSink, MemStore};
 use std::alloc::{AllocError, Global};
 use std::test::Fail;
@@ -78,17 +77,22 @@ fn sink_of(alloc: Global, given: &Given) -> Result<MemSink, Fail> {
     Ok(sink)
 }
 
-/// Runs on what is given.
-fn ran(alloc: Global, given: &Given) -> Result<Left, Fail> {
-    let mut store = store_of(alloc, given)?;
-    let mut sink = sink_of(alloc, given)?;
-    let words = worded(alloc, &given.words)?;
-    let status = run(alloc, words.as_slice(), &mut store, &mut sink);
-    Ok(Left {
+/// Runs on these words, with a store and a sink.
+fn run_on(alloc: Global, words: &[Word], mut store: MemStore, mut sink: MemSink) -> Left {
+    let status = run(alloc, words, &mut store, &mut sink);
+    Left {
         status,
         sink,
         store,
-    })
+    }
+}
+
+/// Runs on what is given.
+fn ran(alloc: Global, given: &Given) -> Result<Left, Fail> {
+    let store = store_of(alloc, given)?;
+    let sink = sink_of(alloc, given)?;
+    let words = worded(alloc, &given.words)?;
+    Ok(run_on(alloc, words.as_slice(), store, sink))
 }
 
 /// Whether a file holds this text, or isn't there.
@@ -267,9 +271,9 @@ fn a_long_tree_is_put_in_pieces(rt: HostRuntime) -> Result<(), Fail> {
         let mut sink = MemSink::new(alloc);
         sink.fail(call)?;
         let words = worded(alloc, &["tree", "none", "page"])?;
-        let ended = run(alloc, words.as_slice(), &mut store, &mut sink);
-        assert_eq!(rt; ended, status, "call {call}");
-        assert!(rt; sink.bytes() == lines.as_bytes(), "call {call}");
+        let left = run_on(alloc, words.as_slice(), store, sink);
+        assert_eq!(rt; left.status, status, "call {call}");
+        assert!(rt; left.sink.bytes() == lines.as_bytes(), "call {call}");
     }
     Ok(())
 }
@@ -296,14 +300,8 @@ fn checked(alloc: Global, has_flags: bool, out: &str, cert: &str) -> Result<Left
     let mut store = store_of(alloc, &minifying(PAGE))?;
     store.add("out", out.as_bytes())?;
     store.add("cert", cert.as_bytes())?;
-    let mut sink = MemSink::new(alloc);
     let words = worded(alloc, if has_flags { &CHECK } else { &CHECK[..5] })?;
-    let status = run(alloc, words.as_slice(), &mut store, &mut sink);
-    Ok(Left {
-        status,
-        sink,
-        store,
-    })
+    Ok(run_on(alloc, words.as_slice(), store, MemSink::new(alloc)))
 }
 
 #[test]

@@ -1,5 +1,6 @@
-use crate::{Asked, Command, WordsFault};
+//! What the words of a call ask for.
 use hm_base::{SpellRules, TreeOptions, Word};
+use hm_words::{Asked, Command, WordsFault};
 use std::alloc::{AllocError, Global};
 use std::test::Fail;
 

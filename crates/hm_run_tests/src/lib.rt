@@ -1,0 +1,9 @@
+//! The tests of words, stores and whole runs.
+#![tactic(auto)]
+
+#[cfg(test)]
+mod minify;
+#[cfg(test)]
+mod store;
+#[cfg(test)]
+mod words;

@@ -1,5 +1,5 @@
 -- How many layers are written from one on, and whether their rows have the right widths.
-use Rattle.std.proofs.Common.{◌≡◌, ◌≢◌, ◌≤◌, ◌<◌, ◌+◌, ◌-◌, ◌==◌, ℕ, zero, suc, Bool, true, false, not, ◌&&◌, cond, add-one, List, [], ◌∷◌, length, drop, get_or, Some, None, refl, sym, ap, ◌∙◌, subst, arith}
+use Rattle.std.proofs.Common.{◌≡◌, ◌≢◌, ◌≤◌, ◌<◌, ◌+◌, ◌==◌, ℕ, zero, suc, Bool, true, false, not, ◌&&◌, cond, add-one, List, [], ◌∷◌, length, drop, get_or, Some, None, refl, sym, ap, ◌∙◌, subst, arith}
 use Rattle.std.proofs.Math.Seq.{drop-length}
 use Rattle.std.proofs.lemmas.Bool.{eqb-true}
 use Rattle.std.proofs.lemmas.List.{drop_more}
@@ -7,6 +7,7 @@ use Rattle.hm_cert.specs.declared.text.Format.{Format}
 use Rattle.hm_graph.specs.Prices.{Row}
 use Rattle.hm_steps.specs.Prices.{is_left_out}
 use Rattle.hm_steps.specs.Steps.{Step, leaves_out}
+use Rattle.hm_layers.specs.Kept.{kept_count}
 use Rattle.hm_check.specs.Steps.{count_over, other_width_over}
 
 pub other_test : (a b : ℕ) → a ≢ b → (a == b) ≡ false
@@ -46,86 +47,25 @@ counted_end format k steps e = rw (e, drop-length steps) refl
 pub out_later : (format : Format) (k : ℕ) (step : Step) → 0 < k → is_left_out format k step ≡ leaves_out format step
 out_later format k step some = ap (λ b. not b && leaves_out format step) (other_test k 0 (λ none. omega (arith, none, some)))
 
--- layers of the same step are all written or all left out, where the first one isn't among them
-pub alike_counted : (format : Format) (k n : ℕ) (step : Step) (steps : List Step) → 0 < k → k + n ≤ length steps → ((j : ℕ) → k ≤ j → j < k + n → get_or steps j [] ≡ step)
-    → count_over format k (drop k steps) ≡ cond (leaves_out format step) 0 n + count_over format (k + n) (drop (k + n) steps)
-alike_counted format k zero step steps some inside are =
-    let here : k ≡ k + 0 = omega arith in
-    let none : cond (leaves_out format step) 0 0 ≡ 0 = by_test 0 (leaves_out format step) in
-    (λ i. count_over format (here i) (drop (here i) steps)) ∙ omega (arith, none)
+-- behind the first layer each layer is written whose step says so
+kept_counted : (format : Format) (k : ℕ) (steps : List Step) → 0 < k → count_over format k steps ≡ kept_count format steps + 1
+kept_counted format k [] some = refl
+kept_counted format k (step ∷ steps) some = by_test (leaves_out format step) (out_later format k step some) (kept_counted format (suc k) steps (omega arith))
   where
-    by_test : (m : ℕ) (b : Bool) → cond b m m ≡ m
-    by_test m true = refl
-    by_test m false = refl
-alike_counted format k (suc n) step steps some inside are =
-    by_test (leaves_out format step) refl (alike_counted format (k + 1) n step steps (omega (arith, some)) (omega (arith, inside)) (λ j low high. are j (omega (arith, low)) (omega (arith, high))))
+    by_test : (b : Bool) → is_left_out format k step ≡ b → count_over format (suc k) steps ≡ kept_count format steps + 1
+        → cond (is_left_out format k step) (count_over format (suc k) steps) (suc (count_over format (suc k) steps)) ≡ cond b (kept_count format steps) (suc (kept_count format steps)) + 1
+    by_test true e more = rw e more
+    by_test false e more = rw e (omega (arith, more))
+
+-- the first one is written in any case
+pub first_counted : (format : Format) (steps : List Step) (out : Bool) → 0 < length steps → out ≡ leaves_out format (get_or steps 0 []) → count_over format 0 steps ≡ cond out (kept_count format steps + 2) (kept_count format steps + 1)
+first_counted format [] out some is = absurd (omega (arith, some))
+first_counted format (step ∷ steps) out some is = by_test out is (kept_counted format 1 steps (omega arith))
   where
-    next : k + 1 + n ≡ k + suc n
-    next = omega arith
-
-    test : is_left_out format k (get_or steps k []) ≡ leaves_out format step
-    test = out_later format k (get_or steps k []) some ∙ ap (leaves_out format) (are k (omega arith) (omega arith))
-
-    by_test : (b : Bool) → leaves_out format step ≡ b → count_over format (k + 1) (drop (k + 1) steps) ≡ cond (leaves_out format step) 0 n + count_over format (k + 1 + n) (drop (k + 1 + n) steps)
-        → count_over format k (drop k steps) ≡ cond (leaves_out format step) 0 (suc n) + count_over format (k + suc n) (drop (k + suc n) steps)
-    by_test true e more =
-        counted_out format k steps (omega (arith, inside)) (test ∙ e) ∙ more ∙ (λ i. cond (e i) 0 n + count_over format (next i) (drop (next i) steps))
-        ∙ sym (ap (λ b. cond b 0 (suc n) + count_over format (k + suc n) (drop (k + suc n) steps)) e)
-    by_test false e more =
-        let here : count_over format k (drop k steps) ≡ suc (count_over format (k + 1) (drop (k + 1) steps)) = counted_in format k steps (omega (arith, inside)) (test ∙ e) in
-        let left : count_over format (k + 1) (drop (k + 1) steps) ≡ n + count_over format (k + suc n) (drop (k + suc n) steps) = more ∙ (λ i. cond (e i) 0 n + count_over format (next i) (drop (next i) steps)) in
-        let all : count_over format k (drop k steps) ≡ suc n + count_over format (k + suc n) (drop (k + suc n) steps) = omega (arith, here, left) in
-        all ∙ sym (ap (λ b. cond b 0 (suc n) + count_over format (k + suc n) (drop (k + suc n) steps)) e)
-
--- ---- One layer more, and those behind it that have the same step
-
--- so many layers are written of those in front of a layer
-pub record AreCounted (format : Format) (steps : List Step) (k count : ℕ) : Type 0 where
-  pub few : count ≤ k
-  pub all : count + count_over format k (drop k steps) ≡ count_over format 0 steps
-
-pub none_counted : (format : Format) (steps : List Step) → AreCounted format steps 0 0
-none_counted format [] = record { few = omega arith; all = omega arith }
-none_counted format (step ∷ steps) = record { few = omega arith; all = omega arith }
-
-pub one_kept : (format : Format) (steps : List Step) (k next count more : ℕ) → k < length steps → is_left_out format k (get_or steps k []) ≡ false → next ≡ k + 1 → more ≡ count + 1 → AreCounted format steps k count → AreCounted format steps next more
-one_kept format steps k next count more inside kept is one h =
-    subst (λ j. AreCounted format steps j more) (sym is) (record {
-      few = omega (arith, one, h.few);
-      all = omega (arith, one, h.all, counted_in format k steps inside kept);
-    })
-
-pub one_out : (format : Format) (steps : List Step) (k next count more : ℕ) → k < length steps → is_left_out format k (get_or steps k []) ≡ true → next ≡ k + 1 → more ≡ count → AreCounted format steps k count → AreCounted format steps next more
-one_out format steps k next count more inside out is one h =
-    subst (λ j. AreCounted format steps j more) (sym is) (record {
-      few = omega (arith, one, h.few);
-      all = omega (arith, one, h.all, counted_out format k steps inside out);
-    })
-
-pub many_more : (format : Format) (steps : List Step) (step : Step) (k end count alike : ℕ) → 0 < k → k ≤ end → end ≤ length steps → step ≡ get_or steps k [] → ((j : ℕ) → k ≤ j → j < end → get_or steps j [] ≡ get_or steps k [])
-    → alike ≡ cond (leaves_out format step) 0 (end - k) → AreCounted format steps k count → AreCounted format steps end (count + alike)
-many_more format steps step k end count alike some low inside same are is h = record {
-  few = omega (arith, h.few, few, low);
-  all = omega (arith, h.all, all, is);
-}
-  where
-    n : ℕ
-    n = end - k
-
-    back : k + n ≡ end
-    back = omega (arith, low)
-
-    by_test : (b : Bool) → cond b 0 n ≤ n
-    by_test true = omega arith
-    by_test false = omega arith
-
-    few : alike ≤ end - k
-    few = subst (λ m. m ≤ end - k) (sym is) (by_test (leaves_out format step))
-
-    all : count_over format k (drop k steps) ≡ cond (leaves_out format step) 0 (end - k) + count_over format end (drop end steps)
-    all =
-        alike_counted format k n step steps some (omega (arith, back, inside)) (λ j l high. are j l (omega (arith, high, back)) ∙ sym same)
-        ∙ ap (λ m. cond (leaves_out format step) 0 n + count_over format m (drop m steps)) back
+    by_test : (b : Bool) → b ≡ leaves_out format step → count_over format 1 steps ≡ kept_count format steps + 1
+        → suc (count_over format 1 steps) ≡ cond b (cond (leaves_out format step) (kept_count format steps) (suc (kept_count format steps)) + 2) (cond (leaves_out format step) (kept_count format steps) (suc (kept_count format steps)) + 1)
+    by_test true e more = rw (sym e) (omega (arith, more))
+    by_test false e more = rw (sym e) (omega (arith, more))
 
 -- no more layers are written behind one than in all
 pub fewer_counted : (format : Format) (j n m : ℕ) (steps : List Step) → n ≡ j + m → count_over format n (drop m steps) ≤ count_over format j steps

@@ -1,5 +1,6 @@
 -- Following a text, step by step.
-use Rattle.std.proofs.Common.{◌≡◌, ◌∙◌, ℕ, zero, suc, ◌+◌, ◌<◌, ◌≤◌, List, [], ◌∷◌, ◌++◌, length, get_or, drop, Option, Some, None, Result, sym, ap, subst, arith, ◌⊎◌, inl, inr}
+use Rattle.std.proofs.Common.{◌≡◌, ◌∙◌, ℕ, zero, suc, ◌+◌, ◌<◌, ◌≤◌, List, [], ◌∷◌, ◌++◌, length, get_or, drop, Option, Some, None, Result, refl, sym, ap, subst, arith, ◌⊎◌, inl, inr}
+use Rattle.std.proofs.Math.ListN.{replicate}
 use Rattle.std.specs.Option.{IfSome}
 use Rattle.std.specs.Result.{IfOk}
 use Rattle.std.proofs.lemmas.Result.{IfOk-weaker}
@@ -7,17 +8,18 @@ use Rattle.std.specs.Prelude.{encode_utf8}
 use Rattle.std.specs.Str.{IsAscii}
 use Rattle.std.proofs.lemmas.List.{drop_all, drop_more}
 use Rattle.std.proofs.lemmas.Str.{encode_ascii}
-use Rattle.hm_edges.specs.Pieces.{HasName, piece_bytes, piece_text}
+use Rattle.hm_edges.specs.Pieces.{HasName, own_bytes, piece_bytes, piece_text}
 use Rattle.hm_edges.specs.declared.pieces.Piece.{Piece}
 use Rattle.hm_edges.specs.declared.pieces.Piece.TheVariants as pieces
-use Rattle.hm_layers.specs.Graphs.{GraphView, AreNamedHops}
+use Rattle.hm_layers.specs.Copied.{Copies}
+use Rattle.hm_layers.specs.Graphs.{AreNamedHops}
 use Rattle.hm_refs.specs.Names.{Entry}
 use Rattle.hm_refs.specs.Tables.{IsIn, first, later}
+use Rattle.hm_steps.specs.Steps.{Step}
 use Rattle.hm_steps.specs.Ways.{WayOver}
 use Rattle.hm_steps.specs.declared.hops.Hop.{Hop}
 use Rattle.hm_units.specs.Units.{TextKind, Unit, character, character_units, next_of}
-use Rattle.hm_walk.specs.Copied.{AreCopied, Copies}
-use Rattle.hm_check.specs.Following.{IsOver, IsWayOn, LeadsTo}
+use Rattle.hm_check.specs.Following.{GoesOverAlike, IsOver, IsWayOn, LeadsTo}
 use Rattle.hm_check.specs.declared.followed.Followed.{Followed}
 use Rattle.hm_check.specs.declared.followed.Taken.{Taken}
 
@@ -52,7 +54,7 @@ pub either_over : (bytes : Piece → List ℕ) (hops : List Hop) (text : List �
 either_over bytes hops text found one other (inl same) p q = subst (λ o. IfSome o (IsOver bytes hops text)) (sym same) p
 either_over bytes hops text found one other (inr same) p q = subst (λ o. IfSome o (IsOver bytes hops text)) (sym same) q
 
--- ---- Steps that copy
+-- ---- Characters with one step
 
 -- a hop that copies the unit's own bytes leads to this place
 record IsCopy (hops : List Hop) (p : ℕ) : Type 0 where
@@ -66,38 +68,59 @@ copy_of p [] h = absurd h
 copy_of p (x ∷ []) h = record { hop = x; among = first []; piece = h.0; to = h.1 }
 copy_of p (x ∷ y ∷ hops) h = absurd h
 
-later_copied : (g : GraphView) (k n p : ℕ) → AreCopied g k (suc n) (Some p) → AreCopied g (k + 1) n (Some p)
-later_copied g k n p are j low high = are j (omega (arith, low)) (omega (arith, high))
-
-abbrev text_way : List Entry → GraphView → TextKind → List ℕ → List Unit → ℕ → ℕ → List ℕ → Type 0
-text_way t g kind cs units k p b = WayOver (piece_bytes t) (character_units kind cs ++ units) (drop k g.steps) p b
-
-way_copied : (t : List Entry) (g : GraphView) (kind : TextKind) (front rest : List ℕ) (units : List Unit) (k p : ℕ) (b : List ℕ) → k + length front ≤ length g.steps → AreCopied g k (length front) (Some p) → IsAscii front
-    → text_way t g kind rest units (k + length front) p b → text_way t g kind (front ++ rest) units k p (front ++ b)
-way_copied t g kind [] rest units k p b inside are ascii on = let same : k + 0 ≡ k = omega arith in subst (λ j. text_way t g kind rest units j p b) same on
-way_copied t g kind (c ∷ front) rest units k p b inside are ascii on =
-    let u : Unit = character kind c (next_of (front ++ rest)) in
-    let same : k + suc (length front) ≡ k + 1 + length front = omega arith in
-    let copy : IsCopy (get_or (get_or g.steps k []) p []) p = copy_of p (get_or (get_or g.steps k []) p []) (are k (omega arith) (omega arith)).1 in
-    let more : text_way t g kind (front ++ rest) units (k + 1) p (front ++ b) =
-    way_copied t g kind front rest units (k + 1) p b (omega (arith, inside)) (later_copied g k (length front) p are) (λ i. ascii (suc i)) (subst (λ j. text_way t g kind rest units j p b) same on) in
-    subst (λ steps. WayOver (piece_bytes t) (u ∷ character_units kind (front ++ rest) ++ units) steps p (c ∷ front ++ b)) (sym (drop_more g.steps k [] (omega (arith, inside)))) (
+way_copied : (t : List Entry) (kind : TextKind) (front rest : List ℕ) (more : List Unit) (step : Step) (steps : List Step) (p : ℕ) (b : List ℕ) → Copies p (get_or step p []) → IsAscii front
+    → WayOver (piece_bytes t) (character_units kind rest ++ more) steps p b → WayOver (piece_bytes t) (character_units kind (front ++ rest) ++ more) (replicate (length front) step ++ steps) p (front ++ b)
+way_copied t kind [] rest more step steps p b copies ascii on = on
+way_copied t kind (c ∷ front) rest more step steps p b copies ascii on =
+    let copy : IsCopy (get_or step p []) p = copy_of p (get_or step p []) copies in (
       copy.hop,
       copy.among,
       (
         front ++ b,
         ap (λ x. x ++ (front ++ b)) (sym (encode_ascii c (ascii 0)) ∙ ap (piece_text t (encode_utf8 c)) (sym copy.piece)),
-        subst (λ q. text_way t g kind (front ++ rest) units (k + 1) q (front ++ b)) (sym copy.to) more,
+        subst (λ q. WayOver (piece_bytes t) (character_units kind (front ++ rest) ++ more) (replicate (length front) step ++ steps) q (front ++ b)) (sym copy.to)
+            (way_copied t kind front rest more step steps p b copies (λ i. ascii (suc i)) on),
+      ),
+    )
+
+-- a character's bytes are a way over a step that copies it
+pub way_character : (t : List Entry) (step : Step) (c : ℕ) (old new : Followed) → Copies old.place (get_or step old.place []) → old.rest.now ≡ encode_utf8 c ++ new.rest.now → new.place ≡ old.place
+    → (u : Unit) (more : List Unit) (steps : List Step) → own_bytes u ≡ encode_utf8 c → IsWayOn t more steps new → IsWayOn t (u ∷ more) (step ∷ steps) old
+way_character t step c old new copies text place u more steps own on =
+    let copy : IsCopy (get_or step old.place []) old.place = copy_of old.place (get_or step old.place []) copies in (
+      copy.hop,
+      copy.among,
+      (
+        new.rest.now,
+        text ∙ ap (λ x. x ++ new.rest.now) (sym own ∙ ap (piece_text t (own_bytes u)) (sym copy.piece)),
+        subst (λ p. WayOver (piece_bytes t) more steps p new.rest.now) (place ∙ sym copy.to) on,
       ),
     )
 
 -- the bytes are a way over the steps that copy them
-pub way_behind : (t : List Entry) (g : GraphView) (kind : TextKind) (front rest : List ℕ) (units : List Unit) (k : ℕ) (old new : Followed) → k + length front ≤ length g.steps → AreCopied g k (length front) (Some old.place) → IsAscii front
-    → old.rest.now ≡ front ++ new.rest.now → new.place ≡ old.place → IsWayOn t g (character_units kind rest ++ units) (k + length front) new → IsWayOn t g (character_units kind (front ++ rest) ++ units) k old
-way_behind t g kind front rest units k old new inside are ascii text place on =
-    subst (text_way t g kind (front ++ rest) units k old.place) (sym text)
-    (way_copied t g kind front rest units k old.place new.rest.now inside are ascii (subst (λ p. text_way t g kind rest units (k + length front) p new.rest.now) place on))
+pub way_behind : (t : List Entry) (step : Step) (front : List ℕ) (old new : Followed) → Copies old.place (get_or step old.place []) → IsAscii front → old.rest.now ≡ front ++ new.rest.now → new.place ≡ old.place → GoesOverAlike t step front old new
+way_behind t step front old new copies ascii text place = λ kind rest more steps on.
+    subst (WayOver (piece_bytes t) (character_units kind (front ++ rest) ++ more) (replicate (length front) step ++ steps) old.place) (sym text)
+    (way_copied t kind front rest more step steps old.place new.rest.now copies ascii (subst (λ p. WayOver (piece_bytes t) (character_units kind rest ++ more) steps p new.rest.now) place on))
 
--- behind the last step, where nothing is left
-pub way_ends : (t : List Entry) (g : GraphView) (way : Followed) → way.rest.now ≡ [] → IsWayOn t g [] (length g.steps) way
-way_ends t g way none = subst (λ steps. WayOver (piece_bytes t) [] steps way.place way.rest.now) (sym (drop_all (length g.steps) g.steps (omega arith))) none
+-- the first n of these characters were passed
+abbrev pub AlikePassed : List Entry → Step → List ℕ → ℕ → Followed → Followed → Type 0
+AlikePassed t step bytes n start way =
+    (kind : TextKind) (rest : List ℕ) (more : List Unit) (steps : List Step) → IsWayOn t (character_units kind (drop n bytes ++ rest) ++ more) (replicate (length (drop n bytes)) step ++ steps) way
+    → IsWayOn t (character_units kind (bytes ++ rest) ++ more) (replicate (length bytes) step ++ steps) start
+
+pub none_passed : (t : List Entry) (step : Step) (bytes : List ℕ) (way : Followed) → AlikePassed t step bytes 0 way way
+none_passed t step bytes way kind rest more steps on = on
+
+pub one_passed : (t : List Entry) (step : Step) (bytes : List ℕ) (n none : ℕ) (start way new : Followed) → n < length bytes → AlikePassed t step bytes n start way
+    → ((u : Unit) (more : List Unit) (steps : List Step) → own_bytes u ≡ encode_utf8 (get_or bytes n none) → IsWayOn t more steps new → IsWayOn t (u ∷ more) (step ∷ steps) way) → AlikePassed t step bytes (n + 1) start new
+one_passed t step bytes n none start way new inside passed one = λ kind rest more steps on.
+    let c : ℕ = get_or bytes n none in
+    let front : List ℕ = drop (n + 1) bytes in
+    passed kind rest more steps
+    (subst (λ xs. IsWayOn t (character_units kind (xs ++ rest) ++ more) (replicate (length xs) step ++ steps) way) (sym (drop_more bytes n none inside))
+    (one (character kind c (next_of (front ++ rest))) (character_units kind (front ++ rest) ++ more) (replicate (length front) step ++ steps) refl on))
+
+pub all_passed : (t : List Entry) (step : Step) (bytes : List ℕ) (n : ℕ) (start way : Followed) → length bytes ≤ n → AlikePassed t step bytes n start way → GoesOverAlike t step bytes start way
+all_passed t step bytes n start way past passed = λ kind rest more steps on.
+    passed kind rest more steps (subst (λ xs. IsWayOn t (character_units kind (xs ++ rest) ++ more) (replicate (length xs) step ++ steps) way) (sym (drop_all n bytes past)) on)

@@ -7,7 +7,7 @@ pub mod Feasible
 pub mod Accepted
 pub mod Shown
 pub mod Checking
-pub mod Alike
+pub mod StillLayers
 pub mod Within
 pub mod Following
 pub mod Spelled

@@ -7,11 +7,11 @@ use Rattle.hm_cert.specs.Certificate.{IsPrice, ArePrices, AreRows}
 use Rattle.hm_cert.specs.Layout.{told}
 use Rattle.hm_graph.specs.Prices.{Row}
 use Rattle.hm_graph.specs.Ways.{lesser, over}
-use Rattle.hm_layers.specs.Graphs.{AreLowHops, IsLowStep, AreLow}
+use Rattle.hm_layers.specs.Graphs.{AreLowHops, IsLowStep}
 use Rattle.hm_steps.specs.Prices.{price_over, best_price, row_over}
 use Rattle.hm_steps.specs.Steps.{Step}
 use Rattle.hm_steps.specs.declared.hops.Hop.{Hop}
-use Rattle.hm_check.specs.Rows.{is_above, high_in, high_at_end}
+use Rattle.hm_check.specs.Rows.{is_above, high_in}
 use Rattle.hm_cert.specs.Rows.{AreBelow, IsBelow}
 use Rattle.hm_cert.proofs.Below.{below_in}
 
@@ -32,12 +32,6 @@ pub told_at : (numbers : List ℕ) (i p : ℕ) → slice_get numbers i ≡ Some 
 told_at [] i p e = absurd (cc)
 told_at (q ∷ numbers) zero p e = let is : q ≡ p = cc in ap told is
 told_at (q ∷ numbers) (suc i) p e = told_at numbers i p e
-
--- no number is there
-pub none_at : (numbers : List ℕ) (i : ℕ) → slice_get numbers i ≡ None → get_or (map told numbers) i None ≡ None
-none_at [] i e = refl
-none_at (q ∷ numbers) zero e = absurd (cc)
-none_at (q ∷ numbers) (suc i) e = none_at numbers i e
 
 -- of two numbers the lesser tells the lesser price
 pub told_lesser : (a b : ℕ) → a ≤ 18446744073709551615 → b ≤ 18446744073709551615 → told (min a b) ≡ lesser (told a) (told b)
@@ -81,10 +75,6 @@ best_turn best price best_then behind h hops i within here is hb hp e =
     ∙ lesser_assoc (told best) (price_over behind h) (best_price behind (drop (i + 1) hops))
     ∙ ap (λ x. lesser (told best) (best_price behind (x ∷ drop (i + 1) hops))) here
     ∙ ap (λ xs. lesser (told best) (best_price behind xs)) (sym (drop_more hops i h within))
-
-pub lesser_none : (a : Option ℕ) → lesser a None ≡ a
-lesser_none None = refl
-lesser_none (Some a) = refl
 
 -- ---- Prices below a number
 
@@ -135,26 +125,12 @@ row_at (row ∷ rows) (suc i) h = row_at rows i h.2
 
 -- ---- Hops that write little
 
-pub low_step : (steps : List Step) (k : ℕ) → AreLow steps → IsLowStep (get_or steps k [])
-low_step [] k h = tt
-low_step (step ∷ steps) zero h = h.0
-low_step (step ∷ steps) (suc k) h = low_step steps k h.1
-
-pub low_hops : (step : Step) (i : ℕ) → IsLowStep step → AreLowHops (get_or step i [])
-low_hops [] i h = tt
-low_hops (hops ∷ step) zero h = h.0
-low_hops (hops ∷ step) (suc i) h = low_hops step i h.1
-
 pub low_hop : (hops : List Hop) (i : ℕ) (d : Hop) → i < length hops → AreLowHops hops → (get_or hops i d).len < 2 ^ 33
 low_hop [] i d h low = absurd (omega (arith, h))
 low_hop (x ∷ hops) zero d h low = low.0
 low_hop (x ∷ hops) (suc i) d h low = low_hop hops i d (omega (arith, h)) low.1
 
 -- ---- Prices above their bounds
-
--- the first price above its bound is that at the front of what is left
-pub high_here : (k i : ℕ) (price bound : Option ℕ) (row bounds : Row) → is_above price bound ≡ true → high_in k i (price ∷ row) (bound ∷ bounds) ≡ Some (record { layer = k; state = i; price = price; bound = bound })
-high_here k i price bound row bounds e = rw e refl
 
 pub high_later : (k i : ℕ) (price bound : Option ℕ) (row bounds : Row) → is_above price bound ≡ false → high_in k i (price ∷ row) (bound ∷ bounds) ≡ high_in k (suc i) row bounds
 high_later k i price bound row bounds e = rw e refl
@@ -167,15 +143,3 @@ high_self k i (price ∷ row) = high_later k i price price row row (not_above pr
     not_above : (p : Option ℕ) → is_above p p ≡ false
     not_above None = refl
     not_above (Some a) = le-ltb a a (omega arith)
-
--- a price of the last layer that isn't 0, and one that is
-pub high_end : (k i p : ℕ) (row : Row) → p ≢ 0 → high_at_end k i (told p ∷ row) ≡ Some (record { layer = k; state = i; price = told p; bound = Some 0 })
-high_end k i p row h = by_test (p == 18446744073709551615)
-  where
-    not_zero : (b : Bool) → (p == 0) ≡ b → b ≡ false
-    not_zero true e = absurd (h (eqb-true p 0 e))
-    not_zero false e = refl
-
-    by_test : (b : Bool) → high_at_end k i (cond b None (Some p) ∷ row) ≡ Some (record { layer = k; state = i; price = cond b None (Some p); bound = Some 0 })
-    by_test true = refl
-    by_test false = rw (not_zero (p == 0) refl) refl

@@ -1,5 +1,5 @@
 -- What is known of rows, one layer on.
-use Rattle.std.proofs.Common.{◌≡◌, ◌≢◌, ◌==◌, cond, ◌≤◌, ◌<◌, ◌+◌, ◌*◌, ◌^◌, ℕ, suc, Bool, true, false, add-one, List, [], ◌∷◌, length, map, drop, get_or, Option, Some, None, refl, sym, ap, ◌∙◌, subst, arith}
+use Rattle.std.proofs.Common.{◌≡◌, ◌==◌, cond, ◌≤◌, ◌<◌, ◌+◌, ◌*◌, ◌^◌, ℕ, suc, Bool, true, false, add-one, List, [], ◌∷◌, length, map, drop, get_or, Option, Some, None, refl, sym, ap, ◌∙◌, subst, arith}
 use Rattle.std.specs.Option.{option_map, option_or}
 use Rattle.std.proofs.Math.Seq.{drop-length}
 use Rattle.std.proofs.lemmas.Bool.{eq-eqb, eqb-true}
@@ -21,8 +21,9 @@ use Rattle.hm_check.specs.declared.sweep.Sweep.{Sweep}
 use Rattle.hm_check.specs.declared.verdicts.Why.{Why}
 use Rattle.hm_check.specs.declared.verdicts.Why.TheVariants.{WrongWidth}
 use Rattle.hm_check.specs.declared.verdicts.Verdict.TheVariants.{No}
-use Rattle.hm_check.proofs.Counting.{some_counted, counted_out, counted_in, counted_end, fewer_counted, wide_out, wide_kept, wide_end, other_test}
-use Rattle.hm_check.proofs.Sums.{below_more, row_below, written_below, row_at, low_step, high_self}
+use Rattle.hm_check.proofs.Counting.{some_counted, counted_out, counted_in, counted_end, fewer_counted, wide_out, wide_kept, wide_end}
+use Rattle.hm_layers.proofs.Low.{low_step}
+use Rattle.hm_check.proofs.Sums.{below_more, row_below, written_below, row_at, high_self}
 
 -- there is a row at hand
 pub has_row : (format : Format) (g : GraphView) (rows : List Row) (k at : ℕ) → at + count_over format k (drop k g.steps) ≡ length rows → at < length rows
@@ -52,32 +53,15 @@ swept_below format g rows k s few h right =
 
 -- ---- What is found with one more row
 
-pub judged_other : (found : SweepFound) (k : ℕ) (numbers behind : List ℕ) (step : Step) → length numbers ≢ length step
-    → record { right = false; why = Some (WrongWidth k (length numbers) (length step)) } ≡ judged found k (map told numbers) (map told behind) step
-judged_other found k numbers behind step h = sym (rw (length-map numbers told, other_test (length numbers) (length step) h) refl)
-
-pub judged_wrong : (found : SweepFound) (k : ℕ) (numbers behind : List ℕ) (step : Step) → length numbers ≡ length step → found.right ≡ false → found ≡ judged found k (map told numbers) (map told behind) step
-judged_wrong found k numbers behind step h e = sym (rw (length-map numbers told, eq-eqb (length numbers) (length step) h, e) refl)
-
 pub judged_right : (found : SweepFound) (k : ℕ) (numbers behind : List ℕ) (step : Step) (why high : Option Why) → length numbers ≡ length step → found.right ≡ true → why ≡ option_or high found.why
     → high ≡ option_map high_why (high_in k 0 (map told numbers) (row_over (map told behind) step)) → record { right = true; why = why } ≡ judged found k (map told numbers) (map told behind) step
 judged_right found k numbers behind step why high h e is f =
     ap (λ w. record { right = true; why = w }) (is ∙ ap (λ o. option_or o found.why) f)
     ∙ sym (rw (length-map numbers told, eq-eqb (length numbers) (length step) h, e) refl)
 
-pub judged_high : (found : SweepFound) (k : ℕ) (numbers behind : List ℕ) (step : Step) (why : Why) → length numbers ≡ length step → found.right ≡ true
-    → Some why ≡ option_map high_why (high_in k 0 (map told numbers) (row_over (map told behind) step)) → record { right = found.right; why = Some why } ≡ judged found k (map told numbers) (map told behind) step
-judged_high found k numbers behind step why h e f = ap (λ r. record { right = r; why = Some why }) e ∙ judged_right found k numbers behind step (Some why) (Some why) h e refl f
-
 pub judged_low : (found : SweepFound) (k : ℕ) (numbers behind : List ℕ) (step : Step) → length numbers ≡ length step → found.right ≡ true
     → None ≡ option_map high_why (high_in k 0 (map told numbers) (row_over (map told behind) step)) → found ≡ judged found k (map told numbers) (map told behind) step
 judged_low found k numbers behind step h e f = ap (λ r. record { right = r; why = found.why }) e ∙ judged_right found k numbers behind step found.why None h e refl f
-
-pub end_other : (k last : ℕ) (numbers : List ℕ) → length numbers ≢ last → record { right = false; why = Some (WrongWidth k (length numbers) last) } ≡ judged_at_end k (map told numbers) last
-end_other k last numbers h = sym (rw (length-map numbers told, other_test (length numbers) last h) refl)
-
-pub end_right : (k last : ℕ) (numbers : List ℕ) (why : Option Why) → length numbers ≡ last → why ≡ option_map high_why (high_at_end k 0 (map told numbers)) → record { right = true; why = why } ≡ judged_at_end k (map told numbers) last
-end_right k last numbers why h is = ap (λ w. record { right = true; why = w }) is ∙ sym (rw (length-map numbers told, eq-eqb (length numbers) last h) refl)
 
 -- ---- The last layer
 

@@ -1,13 +1,14 @@
 -- How far a text follows the steps of a graph.
-use Rattle.std.specs.Prelude.{◌≡◌, ◌++◌, ℕ, List, drop}
+use Rattle.std.specs.Prelude.{◌≡◌, ◌++◌, ℕ, List, length}
+use Rattle.std.proofs.Math.ListN.{replicate}
 use Rattle.hm_edges.specs.Pieces.{piece_bytes}
 use Rattle.hm_edges.specs.declared.pieces.Piece.{Piece}
-use Rattle.hm_layers.specs.Graphs.{GraphView}
 use Rattle.hm_refs.specs.Names.{Entry}
 use Rattle.hm_refs.specs.Tables.{IsIn}
+use Rattle.hm_steps.specs.Steps.{Step}
 use Rattle.hm_steps.specs.Ways.{WayOver}
 use Rattle.hm_steps.specs.declared.hops.Hop.{Hop}
-use Rattle.hm_units.specs.Units.{Unit}
+use Rattle.hm_units.specs.Units.{TextKind, Unit, character_units}
 use Rattle.hm_check.specs.declared.followed.Followed.{Followed}
 use Rattle.hm_check.specs.declared.followed.Taken.{Taken}
 
@@ -21,6 +22,11 @@ pub record IsOver (bytes : Piece → List ℕ) (hops : List Hop) (text : List �
   pub among : IsIn hop hops
   pub leads : LeadsTo bytes hop text taken
 
--- what is left of the text is a way over these units from layer k on, from the place that was reached
-abbrev pub IsWayOn : List Entry → GraphView → List Unit → ℕ → Followed → Type 0
-IsWayOn t g units k way = WayOver (piece_bytes t) units (drop k g.steps) way.place way.rest.now
+-- what is left of the text is a way over these units and their steps, from the place that was reached
+abbrev pub IsWayOn : List Entry → List Unit → List Step → Followed → Type 0
+IsWayOn t units steps way = WayOver (piece_bytes t) units steps way.place way.rest.now
+
+-- what goes on from the new place goes on from the old one over this step, once for each of these characters
+abbrev pub GoesOverAlike : List Entry → Step → List ℕ → Followed → Followed → Type 0
+GoesOverAlike t step bytes old new =
+    (kind : TextKind) (rest : List ℕ) (more : List Unit) (steps : List Step) → IsWayOn t (character_units kind rest ++ more) steps new → IsWayOn t (character_units kind (bytes ++ rest) ++ more) (replicate (length bytes) step ++ steps) old

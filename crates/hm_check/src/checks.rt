@@ -2,13 +2,13 @@
 ghost use Rattle.std.specs.Prelude.{◌≡◌, IfOk};
 ghost use Rattle.hm_cert.specs.Certificate.{AreRows};
 ghost use Rattle.hm_elements.specs.Settled.{Settled};
-ghost use Rattle.hm_layers.specs.Graphs.{IsGraphOf, tree_edges};
+ghost use Rattle.hm_layers.specs.Graphs.{tree_edges};
 ghost use Rattle.hm_outdone.specs.Formats.{follows_by};
 ghost use Rattle.hm_units.specs.Units.{units_of};
 ghost use Rattle.hm_check.specs.Verdicts as verdicts;
 ghost use Rattle.hm_check.specs.Verdicts.{verdict};
 
-use crate::followed::follows;
+use crate::followed::graph_followed;
 use crate::rows::by_rows;
 use crate::trees::find_difference;
 use crate::{Verdict, Why};
@@ -31,19 +31,6 @@ fn same_rules(left: SpellRules, right: SpellRules) -> bool
         && left.frame == right.frame
 }
 
-/// The graph of a tree in the format of a certificate.
-fn graph_of(
-    alloc: Global,
-    table: &Table,
-    wanted: &Tree,
-    certificate: &Certificate,
-    rules: SpellRules,
-) -> Result<Graph, Memory>
-    ensures { IfOk result (IsGraphOf table.now.entries rules certificate.now.format wanted.now) }
-{
-    Graph::of(alloc, wanted, table, rules, certificate.format)
-}
-
 /// What is found of the rows of a certificate, for a text of so many bytes.
 fn by_certificate(
     alloc: Global,
@@ -57,7 +44,7 @@ fn by_certificate(
     ensures { IfOk result (λ found. found ≡ verdicts.by_rows (tree_edges table.now.entries rules certificate.now.format)
         (follows_by certificate.now.format (tree_edges table.now.entries rules certificate.now.format)) length (units_of rules wanted.now) certificate.now.prices) }
 {
-    let graph = graph_of(alloc, table, wanted, certificate, rules)?;
+    let graph = Graph::of(alloc, wanted, table, rules, certificate.format)?;
     by_rows(
         alloc,
         &graph,
@@ -120,8 +107,7 @@ pub fn check_settled(
         && same_rules(certificate.rules, rules)
         && out.len() <= OUTPUT_LIMIT as usize
     {
-        let graph = graph_of(alloc, table, wanted, certificate, rules)?;
-        if follows(alloc, wanted, table, rules, &graph, out)? {
+        if let Some(graph) = graph_followed(alloc, wanted, table, rules, certificate.format, out)? {
             return by_rows(
                 alloc,
                 &graph,

@@ -1,21 +1,26 @@
 //! Whether a text follows the graph of a tree.
-ghost use Rattle.std.specs.Prelude.{◌≡◌, ◌++◌, ◌∷◌, ◌⊎◌, [], Some, codes, encode_utf8, if◌then◌else◌, length, slice_index_or, IfOk, IfSome, IsTrue};
-ghost use Rattle.hm_edges.specs.Pieces.{HasName, piece_bytes, piece_text, with_gap, with_opening};
-ghost use Rattle.hm_layers.specs.Graphs.{AreNamed, AreNamedHops, IsNamedStep};
+ghost use Rattle.std.specs.Prelude.{◌≡◌, ◌++◌, ◌∷◌, ◌⊎◌, ℕ, List, [], codes, encode_utf8, if◌then◌else◌, length, slice_index_or, IfOk, IfSome, IsTrue, OnOk};
+ghost use Rattle.std.specs.Str.{IsAscii};
+ghost use Rattle.hm_edges.specs.Pieces.{HasName, own_bytes, piece_bytes, piece_text, with_gap, with_opening};
+ghost use Rattle.hm_layers.specs.Copied.{Copies};
+ghost use Rattle.hm_layers.specs.Graphs.{AreNamedHops, IsGraphOf, IsNamedStep};
 ghost use Rattle.hm_parts.specs.Parts.{comment_bytes};
 ghost use Rattle.hm_pieces.specs.Own.{own_text};
+ghost use Rattle.hm_refs.specs.Names.{Entry};
+ghost use Rattle.hm_steps.specs.Steps.{Step as Hops};
 ghost use Rattle.hm_steps.specs.Ways.{WayOver};
+ghost use Rattle.hm_units.specs.Units as units;
 ghost use Rattle.hm_units.specs.Units.{units_of};
-ghost use Rattle.hm_check.specs.Following.{IsOver, IsWayOn, LeadsTo};
+ghost use Rattle.hm_check.specs.Following.{GoesOverAlike, IsOver, IsWayOn, LeadsTo};
 
 use hm_base::{Memory, SpellRules};
+use hm_cert::Format;
 use hm_edges::{Form, Piece};
-use hm_layers::{Cursor, Graph, Step};
+use hm_layers::{Follower, Graph, Step};
 use hm_pieces::{Own, put_piece};
 use hm_refs::Table;
 use hm_steps::Hop;
 use hm_tree::Tree;
-use hm_walk::{Walker, walk_over};
 use std::alloc::Global;
 
 /// Why a text isn't followed to its end.
@@ -103,15 +108,25 @@ fn behind<'o>(text: &'o [u8], bytes: &[u8]) -> Option<&'o [u8]>
     None
 }
 
+/// What is behind a character of several bytes, where the text begins with it.
+#[inline(never)]
+fn behind_wide(text: &[u8], c: char) -> Option<&[u8]>
+    ensures { IfSome result (λ rest. text.now ≡ encode_utf8 c ++ rest.now) }
+{
+    let mut buffer = [0; 4];
+    behind(text, c.encode_utf8(&mut buffer).as_bytes())
+}
+
 /// What is behind a character, where the text begins with it.
+#[inline(always)]
 fn behind_character(text: &[u8], c: char) -> Option<&[u8]>
     ensures { IfSome result (λ rest. text.now ≡ encode_utf8 c ++ rest.now) }
 {
     if c.is_ascii() {
-        return behind_byte(text, c as u8);
+        behind_byte(text, c as u8)
+    } else {
+        behind_wide(text, c)
     }
-    let mut buffer = [0; 4];
-    behind(text, c.encode_utf8(&mut buffer).as_bytes())
 }
 
 /// What is behind a comment, where the text begins with it.
@@ -261,6 +276,49 @@ fn over_hop<'o>(
     }
 }
 
+/// Whether what opens a value of this form may be at a place of a text.
+#[inline(always)]
+fn may_open(text: &[u8], at: usize, form: Form) -> bool {
+    match text.get(at..) {
+        Some([b'=', quote, ..]) => {
+            match form {
+                Form::Bare => true,
+                Form::Unquoted => *quote != b'"' && *quote != b'\'',
+                Form::Double => *quote == b'"',
+                Form::Single => *quote == b'\'',
+            }
+        }
+        _ => matches!(form, Form::Bare),
+    }
+}
+
+/// Whether a text may begin with the bytes of a piece. Of the forms of an attribute, those that open its value otherwise than the
+/// text does are passed over before its name is compared.
+#[inline(always)]
+fn may_begin(text: &[u8], piece: Piece, own: Own) -> bool {
+    match (piece, own) {
+        (Piece::Attribute { gap, form }, Own::Bytes { text: name }) => {
+            may_open(text, if gap { name.len() + 1 } else { name.len() }, form)
+        }
+        _ => true,
+    }
+}
+
+/// As `over_hop`, in a call of its own.
+#[inline(never)]
+fn over_one<'o>(
+    text: &'o [u8],
+    spare: &mut Vec<u8>,
+    table: &Table,
+    hop: Hop,
+    own: Own,
+) -> Result<Option<Taken<'o>>, Memory>
+    requires { HasName table.now.entries hop.piece }
+    ensures { IfOk result (λ found. IfSome found (LeadsTo (piece_text table.now.entries (own_text own.entry)) hop text.now)) }
+{
+    over_hop(text, spare, table, hop, own)
+}
+
 /// The one that leaves less of the text, where there are both.
 fn further<'o>(one: Option<Taken<'o>>, other: Option<Taken<'o>>) -> Option<Taken<'o>>
     ensures { (result ≡ one.entry) ⊎ (result ≡ other.entry) }
@@ -292,7 +350,9 @@ fn over_several<'o>(
 {
     let mut found = None;
     for hop in hops {
-        found = further(found, over_hop(text, spare, table, *hop, own)?);
+        if may_begin(text, hop.piece, own) {
+            found = further(found, over_one(text, spare, table, *hop, own)?);
+        }
     }
     Ok(found)
 }
@@ -334,88 +394,115 @@ fn over_step<'o>(
     over_hops(text, spare, table, step.hops(place), own)
 }
 
-impl<'o> Walker for Followed<'o> {
+/// Goes on over the step of a unit with these bytes of its own.
+#[inline(never)]
+fn go_over(way: &mut Followed, table: &Table, step: &Step, own: Own) -> Result<(), Stop>
+    requires named { IsNamedStep table.now.entries step.now }
+    ensures { OnOk result ((u : units.Unit) (more : List units.Unit) (steps : List Hops) → own_bytes u ≡ own_text own.entry → IsWayOn table.now.entries more steps way.new → IsWayOn table.now.entries (u ∷ more) (step.now ∷ steps) way.old) }
+{
+    match over_step(way.rest, &mut way.spare, table, step, way.place, own)? {
+        Some(taken) => {
+            way.rest = taken.rest;
+            way.place = taken.to;
+            Ok(())
+        }
+        None => Err(Stop::Leaves),
+    }
+}
+
+/// Goes on over the step of a character, which copies it.
+#[inline(always)]
+fn go_over_character(way: &mut Followed, step: &Step, c: char) -> Result<(), Stop>
+    requires { Copies way.old.place (slice_index_or step.now way.old.place []) }
+    ensures { OnOk result ((t : List Entry) (u : units.Unit) (more : List units.Unit) (steps : List Hops) → own_bytes u ≡ encode_utf8 c → IsWayOn t more steps way.new → IsWayOn t (u ∷ more) (step.now ∷ steps) way.old) }
+{
+    let _width = step.width();
+    match behind_character(way.rest, c) {
+        Some(rest) => {
+            way.rest = rest;
+            Ok(())
+        }
+        None => Err(Stop::Leaves),
+    }
+}
+
+/// Goes on over the steps of characters with these bytes, one by one.
+fn go_over_each(way: &mut Followed, table: &Table, step: &Step, bytes: &[u8]) -> Result<(), Stop>
+    requires named { IsNamedStep table.now.entries step.now }
+    ensures { OnOk result (GoesOverAlike table.now.entries step.now bytes.now way.old way.new) }
+{
+    for byte in bytes {
+        go_over(way, table, step, Own::Character { c: *byte as char })?;
+    }
+    Ok(())
+}
+
+/// Goes on over the steps of characters with these bytes, which copy them.
+#[inline(always)]
+fn go_over_copied(way: &mut Followed, step: &Step, bytes: &[u8]) -> Result<(), Stop>
+    requires copied { Copies way.old.place (slice_index_or step.now way.old.place []) }
+    requires ascii { IsAscii bytes.now }
+    ensures { OnOk result ((t : List Entry) → GoesOverAlike t step.now bytes.now way.old way.new) }
+{
+    let _width = step.width();
+    match behind(way.rest, bytes) {
+        Some(rest) => {
+            way.rest = rest;
+            Ok(())
+        }
+        None => Err(Stop::Leaves),
+    }
+}
+
+impl<'o> Follower for Followed<'o> {
     type Stop = Stop;
 
-    ghost stands = { λ _ _ _. Unit {0} };
-
-    ghost place = { λ way. Some way.place };
-
-    ghost comes = { λ t g units k way _. IsWayOn t g units k way };
+    ghost goes_on = { λ t more steps way. IsWayOn t more steps way };
 
     #[inline(always)]
-    fn place(&self) -> Option<usize> {
-        Some(self.place)
-    }
-
-    fn take(&mut self, graph: &Graph, at: Cursor, table: &Table, own: Own) -> Result<(), Stop> {
-        match over_step(
-            self.rest,
-            &mut self.spare,
-            table,
-            graph.step(at),
-            self.place,
-            own,
-        )? {
-            Some(taken) => {
-                self.rest = taken.rest;
-                self.place = taken.to;
-                Ok(())
-            }
-            None => Err(Stop::Leaves),
+    fn take(&mut self, table: &Table, step: &Step, own: Own) -> Result<(), Stop> {
+        match own {
+            Own::Character { c } if step.copies(self.place) => go_over_character(self, step, c),
+            own => go_over(self, table, step, own),
         }
     }
 
     #[inline(always)]
-    fn copy(&mut self, _graph: &Graph, _at: Cursor, bytes: &[u8]) -> Result<(), Stop> {
-        match behind(self.rest, bytes) {
-            Some(rest) => {
-                self.rest = rest;
-                Ok(())
-            }
-            None => Err(Stop::Leaves),
+    fn take_alike(&mut self, table: &Table, step: &Step, bytes: &[u8]) -> Result<(), Stop> {
+        if step.copies(self.place) {
+            go_over_copied(self, step, bytes)
+        } else {
+            go_over_each(self, table, step, bytes)
         }
     }
 }
 
-/// Takes the steps of all units of a tree, and gives what is left of the text.
-fn follow<'o>(
+/// The graph of a tree in a format, where a text follows it up to its end. One that doesn't may have the tree all the same.
+pub(crate) fn graph_followed(
     alloc: Global,
     tree: &Tree,
     table: &Table,
     rules: SpellRules,
-    graph: &Graph,
-    out: &'o [u8],
-) -> Result<&'o [u8], Stop>
-    requires count { length (units_of rules tree.now) ≡ length graph.now.steps }
-    requires named { AreNamed table.now.entries graph.now.steps }
-    ensures { IfOk result (λ rest. rest.now ≡ [] → WayOver (piece_bytes table.now.entries) (units_of rules tree.now) graph.now.steps 0 out.now) }
+    format: Format,
+    out: &[u8],
+) -> Result<Option<Graph>, Memory>
+    ensures graph { IfOk result (λ found. IfSome found (IsGraphOf table.now.entries rules format tree.now)) }
+    ensures way { IfOk result (λ found. IfSome found (λ graph. WayOver (piece_bytes table.now.entries) (units_of rules tree.now) graph.steps 0 out.now)) }
 {
     let start = Followed {
         rest: out,
         place: 0,
         spare: Vec::new(alloc),
     };
-    let way = walk_over(alloc, tree, table, rules, graph, start)?;
-    Ok(way.rest)
-}
-
-/// Whether a text follows the graph of a tree up to its end. One that doesn't may have the tree all the same.
-pub(crate) fn follows(
-    alloc: Global,
-    tree: &Tree,
-    table: &Table,
-    rules: SpellRules,
-    graph: &Graph,
-    out: &[u8],
-) -> Result<bool, Memory>
-    requires count { length (units_of rules tree.now) ≡ length graph.now.steps }
-    requires named { AreNamed table.now.entries graph.now.steps }
-    ensures { IfOk result (λ follows. IsTrue follows → WayOver (piece_bytes table.now.entries) (units_of rules tree.now) graph.now.steps 0 out.now) }
-{
-    match follow(alloc, tree, table, rules, graph, out) {
-        Ok(rest) => Ok(rest.is_empty()),
-        Err(Stop::Leaves) => Ok(false),
+    match Graph::followed(alloc, tree, table, rules, format, start) {
+        Ok((graph, way)) => {
+            if way.rest.is_empty() {
+                Ok(Some(graph))
+            } else {
+                Ok(None)
+            }
+        }
+        Err(Stop::Leaves) => Ok(None),
         Err(Stop::Memory) => Err(Memory),
     }
 }

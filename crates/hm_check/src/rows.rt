@@ -28,14 +28,10 @@ fn sweep<'a>(
     let mut sweep = Sweep::at_end(alloc, graph, prices, format)?;
     let mut layer = graph.last_layer();
     while layer.layer > 0 {
-        let front = graph.back(layer);
-        layer = match sweep.pass_alike(graph, prices, format, front) {
-            Some(reached) => reached,
-            None => {
-                sweep.take_layer(graph, prices, format, front.layer, graph.step(front))?;
-                sweep.go_on(graph, prices, format, front)?
-            }
-        };
+        let behind = sweep.pass_still(graph, prices, format, layer);
+        let front = graph.back(behind);
+        sweep.take_layer(graph, prices, format, front.layer, graph.step(front))?;
+        layer = sweep.go_on(graph, prices, format, front)?;
     }
     Ok(sweep)
 }

@@ -289,41 +289,33 @@ impl<'a> Sweep<'a> {
         Ok(())
     }
 
-    /// Goes on from a layer over the step in front of it and those in front of that which are equal, but not to the first layer, where no
-    /// state changes its place over them and none of their layers is written. Else nothing changes.
-    pub(crate) fn pass_alike(
+    /// Goes on from a layer over those in front of it that are left out, as long as no state changes its place, but not to the first
+    /// layer.
+    pub(crate) fn pass_still(
         &mut self,
         graph: &Graph,
         prices: &WrittenRows<'a>,
         format: Format,
         at: Cursor,
-    ) -> Option<Cursor>
+    ) -> Cursor
         requires place { IsPlace graph.now at }
-        requires inside { at.layer < length graph.now.steps }
-        requires swept { IsSwept format graph.now prices.now (at.layer + 1) self.old }
-        ensures place { IfSome result (λ front. IsPlace graph.now front) }
-        ensures layer { IfSome result (λ front. front.layer ≤ at.layer) }
-        ensures swept { IfSome result (λ front. IsSwept format graph.now prices.now front.layer self.new) }
-        ensures none { result ≡ None → self.new ≡ self.old }
+        requires within { at.layer ≤ length graph.now.steps }
+        requires swept { IsSwept format graph.now prices.now at.layer self.old }
+        ensures place { IsPlace graph.now result }
+        ensures layer { result.layer ≤ at.layer }
+        ensures first { 0 < at.layer → 0 < result.layer }
+        ensures swept { IsSwept format graph.now prices.now result.layer self.new }
     {
         let _rows = prices.len();
         graph.is_small();
-        let step = graph.step(at);
-        if at.layer == 0
-            || !self.found.right
-            || self.behind.len() != step.width()
-            || !step.is_left_out(format)
-        {
-            return None;
+        if at.layer == 0 || !self.found.right {
+            return at;
         }
-        let len = match step.still() {
-            Some(len) => len,
-            None => return None,
-        };
-        let front = graph.back_alike(at, at.layer - 1);
-        let count = (at.layer - front.layer + 1) as u64;
-        self.add(count * len);
-        Some(front)
+        let passed = graph.back_still(at, format, self.behind.len());
+        if passed.front.layer < at.layer {
+            self.add(passed.len);
+        }
+        passed.front
     }
 
     /// Goes on over layers in front of one that have the same step, where they are written and no state changes its place over

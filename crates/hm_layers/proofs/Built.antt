@@ -17,7 +17,7 @@ use Rattle.hm_steps.specs.Steps.{Step}
 use Rattle.hm_layers.specs.Graphs.{IsLowStep, AreLow, IsNamedStep, AreNamed}
 use Rattle.hm_layers.specs.Layers.{edges_under, states_of}
 use Rattle.hm_layers.specs.Met.{MetView, list_at, made_at, Grows, IsStepOf, IsListOf}
-use Rattle.hm_layers.specs.Building.{BuildingView, steps_at, building, IsBuilding, Lead, IsBuilt, AddsSteps}
+use Rattle.hm_layers.specs.Building.{BuildingView, steps_at, building, IsBuilding, Lead, IsBuilt, AddsSteps, IsAdded}
 
 -- ---- Leading on
 
@@ -104,6 +104,9 @@ adds_one m n numbers last unit k is grows step u stands =
           subst (λ steps. Lead edges bytes (us ++ u ∷ []) first_layer steps (states_of n.table (list_at n (made_at n k).behind))) (sym (steps_more m n numbers k grows is.numbers_there))
           (lead_more edges bytes us u first_layer (steps_at m numbers) (made_at n k).step (states_of n.table (list_at n last)) (states_of n.table (list_at n (made_at n k).behind)) lead (step.layer.fits u own) (step.layer.states u own));
     }
+
+pub added_one : (m n : MetView) (numbers : List ℕ) (last behind : ℕ) (unit : Unit) (k : ℕ) → IsBuilding m numbers last → Grows m n → IsStepOf n last unit k → IsAdded (building m numbers last) (building n (numbers ++ k ∷ []) behind) 1 k
+added_one m n numbers last behind unit k is grows step = record { table = grows.table; there = step.there; named = step.layer.named; steps = steps_more m n numbers k grows is.numbers_there }
 
 -- ---- Adding more and more
 

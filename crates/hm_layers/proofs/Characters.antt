@@ -1,12 +1,12 @@
--- The steps of the characters of a text: of the first one, and of a run of them of which it is known where they lead.
-use Rattle.std.proofs.Common.{◌≡◌, ◌∙◌, ℕ, suc, ◌+◌, ◌-◌, ◌<◌, ◌≤◌, ◌^◌, true, List, [], ◌∷◌, ◌++◌, length, take, drop, chars, Option, Some, None, refl, sym, ap, subst, arith, append_assoc, append-nil, length-append}
+-- The steps of a run of characters of which it is known where they lead.
+use Rattle.std.proofs.Common.{◌≡◌, ◌∙◌, ℕ, zero, suc, ◌+◌, ◌-◌, ◌<◌, ◌≤◌, ◌^◌, true, List, [], ◌∷◌, ◌++◌, length, take, drop, chars, Some, None, refl, sym, ap, subst, arith, append_assoc, length-append}
 use Rattle.std.specs.List.{All}
-use Rattle.std.specs.Prelude.{encode_utf8, encode_utf8_all, slice_get}
+use Rattle.std.specs.Prelude.{encode_utf8_all, slice_get}
 use Rattle.std.specs.Str.{IsAscii, IsCharBoundary, IsUtf8}
 use Rattle.std.proofs.Math.ListN.{replicate}
-use Rattle.std.proofs.lemmas.List.{length-take-le, take-append-drop}
+use Rattle.std.proofs.lemmas.List.{length-take-le, map-append, take-append-drop}
 use Rattle.std.proofs.lemmas.Str.Ascii.{IsAscii-from_all}
-use Rattle.std.proofs.lemmas.Str.{IsCharBoundary-from_take, IsUtf8-drop, IsUtf8-from_ascii, chars-IsAscii, chars-append, chars_past_char, encodes-chars}
+use Rattle.std.proofs.lemmas.Str.{IsCharBoundary-from_take, IsUtf8-drop, IsUtf8-from_ascii, chars-IsAscii, chars-append, encodes-chars}
 use Rattle.hm_edges.specs.Units as edges
 use Rattle.hm_edges.specs.Units.{StandsFor, kind_of}
 use Rattle.hm_edges.specs.declared.units.TextKind as code
@@ -14,10 +14,10 @@ use Rattle.hm_edges.specs.declared.units.Unit.{Unit}
 use Rattle.hm_edges.specs.declared.units.Unit.TheVariants.{Character}
 use Rattle.hm_units.specs.Units as units
 use Rattle.hm_units.specs.Units.{TextKind, character_units, next_of}
-use Rattle.hm_layers.specs.Building.{BuildingView, AddsSteps, AddsFront, IsBuilding, building}
-use Rattle.hm_layers.specs.Met.{MetView, Grows, Leads}
+use Rattle.hm_layers.specs.Building.{BuildingView, AddsSteps, AddsFront, IsAdded, IsBuilding, building, steps_at}
+use Rattle.hm_layers.specs.Met.{MetView, Grows, Leads, made_at}
 use Rattle.hm_layers.specs.declared.made.Reached.{Reached}
-use Rattle.hm_layers.proofs.Built.{adds_none, adds_on, adds_one, building_more}
+use Rattle.hm_layers.proofs.Built.{adds_on, adds_one, building_more}
 
 -- ---- Texts
 
@@ -44,9 +44,6 @@ length_characters kind (c ∷ cs) = omega (arith, length_characters kind cs)
 
 -- ---- Fronts
 
-pub front_none : (a : BuildingView) (kind : TextKind) (cs : List ℕ) → AddsFront a a kind cs cs
-front_none a kind cs = record { done = []; adds = adds_none a; whole = refl }
-
 pub front_on : (a b d : BuildingView) (kind : TextKind) (cs mid rest : List ℕ) → AddsFront a b kind cs mid → AddsFront b d kind mid rest → AddsFront a d kind cs rest
 front_on a b d kind cs mid rest one more =
     record {
@@ -58,23 +55,9 @@ front_on a b d kind cs mid rest one more =
 pub front_one : (a b : BuildingView) (kind : TextKind) (c : ℕ) (rest : List ℕ) → AddsSteps a b (units.character kind c (next_of rest) ∷ []) → AddsFront a b kind (c ∷ rest) rest
 front_one a b kind c rest one = record { done = units.character kind c (next_of rest) ∷ []; adds = one; whole = refl }
 
-first_of : (cs : List ℕ) → slice_get cs 0 ≡ next_of cs
+pub first_of : (cs : List ℕ) → slice_get cs 0 ≡ next_of cs
 first_of [] = refl
 first_of (c ∷ cs) = refl
-
--- the first character of a text, by the one behind it, where there is one
-pub front_first : (a b : BuildingView) (kind : TextKind) (c : ℕ) (text rest : List ℕ) (next : Option ℕ) → IsUtf8 text → text ≡ encode_utf8 c ++ rest → next ≡ slice_get (chars rest) 0 → AddsSteps a b (units.character kind c next ∷ []) → AddsFront a b kind (chars text) (chars rest)
-front_first a b kind c text rest next utf8 cut is adds =
-    subst (λ cs. AddsFront a b kind cs (chars rest)) (sym (chars_past_char text rest c utf8 cut))
-    (front_one a b kind c (chars rest) (subst (λ n. AddsSteps a b (units.character kind c n ∷ [])) (is ∙ first_of (chars rest)) adds))
-
-pub front_all : (a b : BuildingView) (kind : TextKind) (cs rest : List ℕ) → rest ≡ [] → AddsFront a b kind cs rest → AddsSteps a b (character_units kind cs)
-front_all a b kind cs rest none front =
-    subst (AddsSteps a b) (sym (append-nil front.done) ∙ ap (λ r. front.done ++ character_units kind r) (sym none) ∙ front.whole) front.adds
-
--- and then the characters of the rest
-pub front_then : (a b d : BuildingView) (kind : TextKind) (cs rest : List ℕ) → AddsFront a b kind cs rest → AddsSteps b d (character_units kind rest) → AddsSteps a d (character_units kind cs)
-front_then a b d kind cs rest front adds = subst (AddsSteps a d) front.whole (adds_on a b d front.done (character_units kind rest) front.adds adds)
 
 -- ---- Characters of which it is known where they lead
 
@@ -144,3 +127,19 @@ text_added m numbers last kind to text count utf8 some short back is leads few =
     subst (λ cs. RunAdded m numbers last to.behind (kind_of kind) to.number count cs (chars (drop count text))) (sym (text_cut text count ascii))
     (subst (λ i. RunAdded m numbers last to.behind (kind_of kind) to.number i (take count text ++ chars (drop count text)) (chars (drop count text))) len
     (before_more m numbers last kind to (take count text) (chars (drop count text)) (omega (arith, some, len)) more is leads (λ others. back (omega (arith, others, len))) (omega (arith, few, len))))
+
+alike_steps : (m : MetView) (n count : ℕ) → steps_at m (replicate count n) ≡ replicate count (made_at m n).step
+alike_steps m n zero = refl
+alike_steps m n (suc count) = ap (λ steps. (made_at m n).step ∷ steps) (alike_steps m n count)
+
+-- their step was added for each of them
+pub alike_added : (m : MetView) (numbers : List ℕ) (last : ℕ) (kind : code.TextKind) (to : Reached) (text : List ℕ) (count : ℕ) → 0 < count → count ≤ length text → All (Leads m last kind true to) (take count text)
+    → IsAdded (building m numbers last) (building m (numbers ++ replicate count to.number) to.behind) count to.number
+alike_added m numbers last kind to text count some inside leads =
+    let first : Leads m last kind true to _ = leads 0 0 (omega (arith, some, length-take-le count text inside)) in
+    record {
+      table = refl;
+      there = first.step.there;
+      named = first.step.layer.named;
+      steps = map-append (λ n. (made_at m n).step) numbers (replicate count to.number) ∙ ap (λ steps. steps_at m numbers ++ steps) (alike_steps m to.number count);
+    }

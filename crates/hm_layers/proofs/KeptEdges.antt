@@ -124,7 +124,3 @@ known_last v (d ∷ kept) e known own = (known.0, known_last v kept e known.1 ow
 pub known_next : (v : TableView) (kept : List Edge) (e : Edge) (b : Bool) → AreOfTable v kept → IsOfTable v e → AreOfTable v (kept ++ cond b [] (e ∷ []))
 known_next v kept e true known own = subst (AreOfTable v) (sym (append-nil kept)) known
 known_next v kept e false known own = known_last v kept e known own
-
-pub kept_end : (v : TableView) (u : units.Unit) (edges kept : List Edge) (n : ℕ) → length edges ≤ n → SomeKept v u edges kept n → edges_seen v u kept ≡ kept_edges (edges_seen v u edges)
-kept_end v u edges kept n past some =
-    sym (append-nil (edges_seen v u kept)) ∙ ap (λ es. edges_seen v u kept ++ kept_behind (reverse (edges_seen v u (take n edges))) (edges_seen v u es)) (sym (drop_all n edges past)) ∙ some

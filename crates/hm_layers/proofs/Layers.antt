@@ -20,7 +20,7 @@ use Rattle.hm_steps.specs.Fits.{HopFits, HopsFit, StepFits}
 use Rattle.hm_steps.specs.Steps.{Step}
 use Rattle.hm_steps.specs.declared.hops.Hop.{Hop}
 use Rattle.hm_layers.specs.Graphs.{AreLowHops, AreNamedHops, IsLowStep, IsNamedStep}
-use Rattle.hm_layers.specs.Layers.{edges_under, AreEdgesUnder, states_of, HaveNodes, IsPlaced, IsHop, AreHops, IsLayer}
+use Rattle.hm_layers.specs.Layers.{edges_under, AreEdgesUnder, states_of, IsPlaced, IsHop, AreHops, IsLayer}
 use Rattle.hm_layers.proofs.Placed.{Keeps, state_keeps, ends_keep, ends_more, layer_more}
 
 pub hop_made : (v : TableView) (unit : Unit) (e : Edge) (before now : List State) (len n : ℕ) → IsOfTable v e → ((u : units.Unit) → StandsFor v.entries unit u → len ≡ length (piece_bytes v.entries u e.piece))
@@ -76,9 +76,6 @@ step_named : (t : List Entry) (step : Step) (hops : List Hop) → IsNamedStep t 
 step_named t [] hops named own = (own, tt)
 step_named t (x ∷ step) hops named own = (named.0, step_named t step hops named.1 own)
 
-pub hops_none : (v : TableView) (unit : Unit) (before : List State) → HaveNodes v before → AreHops v unit [] before before []
-hops_none v unit before nodes = record { fit = λ u stands. tt; states = λ u. refl; nodes = nodes; low = tt; named = tt }
-
 pub hops_more : (v : TableView) (unit : Unit) (es : List Edge) (e : Edge) (before between now : List State) (hops : List Hop) (h : Hop)
     → AreHops v unit es before between hops → IsHop v unit e between now h → AreHops v unit (es ++ e ∷ []) before now (hops ++ h ∷ [])
 hops_more v unit es e before between now hops h are is =
@@ -94,9 +91,6 @@ hops_more v unit es e before between now hops h are is =
       low = one_low hops h are.low is.low;
       named = one_named v.entries hops h are.named is.named;
     }
-
-pub layer_none : (v : TableView) (rules : EdgeRules) (unit : Unit) → IsLayer v rules unit [] [] []
-layer_none v rules unit = record { fits = λ u stands. tt; states = λ u stands. refl; nodes = tt; low = tt; named = tt }
 
 pub layer_next : (v : TableView) (rules : EdgeRules) (unit : Unit) (from behind now : List State) (s : State) (es : List Edge) (step : Step) (hops : List Hop)
     → IsLayer v rules unit from behind step → AreEdgesUnder v rules unit s es → AreHops v unit es behind now hops → IsLayer v rules unit (from ++ s ∷ []) now (step ++ hops ∷ [])

@@ -9,8 +9,11 @@ pub mod PairNames
 pub mod Built
 pub mod Characters
 pub mod Parts
-pub mod Events
+pub mod Going
 pub mod Finished
 pub mod Runs
 pub mod Named
+pub mod Counts
+pub mod Low
+pub mod StillSteps
 mod StillLengths

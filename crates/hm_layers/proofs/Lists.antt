@@ -1,7 +1,6 @@
 -- Lists and steps that are added behind others.
 use Rattle.std.proofs.Common.{◌≡◌, ◌∙◌, ℕ, zero, suc, ◌<◌, List, Bool, [], ◌∷◌, ◌++◌, None, length, get_or, map, refl, sym, ap, subst, arith}
 use Rattle.std.proofs.lemmas.List.{get_or-map, get_or_append_left, length-map, length_push}
-use Rattle.std.proofs.Math.Seq.{get_or-append_seam}
 use Rattle.std.proofs.lemmas.List.Elements.{All-append}
 use Rattle.std.specs.List.{All}
 use Rattle.hm_layers.specs.declared.rules.EdgeRules.{EdgeRules}
@@ -98,9 +97,6 @@ list_grows v rules lists made states =
       lists = λ k within. record { there = omega (arith, length_push lists states); list = get_or_append_left lists (states ∷ []) [] k within };
       made = λ n within. (within, refl);
     }
-
-pub list_added : (v : TableView) (rules : EdgeRules) (lists : List (List State)) (made : List MadeStep) (states : List State) (k : ℕ) → k ≡ length lists → IsListOf (met v rules (lists ++ states ∷ []) made) states k
-list_added v rules lists made states k is = record { there = omega (arith, length_push lists states); list = ap (λ i. get_or (lists ++ states ∷ []) i []) is ∙ get_or-append_seam lists states [] [] }
 
 nodes_at : (v : TableView) (lists : List (List State)) (states : List State) → ((k : ℕ) → HaveNodes v (get_or lists k [])) → HaveNodes v states → (k : ℕ) → HaveNodes v (get_or (lists ++ states ∷ []) k [])
 nodes_at v [] states nodes own zero = own

@@ -9,10 +9,6 @@ use Rattle.hm_refs.specs.Names.{Entry}
 use Rattle.hm_refs.specs.Tables.{entry_at, is_for, no_entry, places_from, places_for}
 use Rattle.hm_edges.specs.Units.{has_pair}
 
--- the name stands for the two
-abbrev is_pair : ℕ → ℕ → Entry → Bool
-is_pair c d e = bytes_eq e.points (c ∷ d ∷ [])
-
 -- some name at these places stands for the two
 abbrev pub pair_among : List Entry → ℕ → ℕ → List ℕ → Bool
 pair_among t c d is = list_any (λ i. bytes_eq (entry_at t i).points (c ∷ d ∷ [])) is

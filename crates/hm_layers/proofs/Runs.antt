@@ -17,9 +17,6 @@ pub runs_more : (runs : List Run) (r : Run) → AreRuns runs → 0 < r.count →
 runs_more [] r are some = (some, tt)
 runs_more (x ∷ runs) r are some = (are.0, runs_more runs r are.1 some)
 
-pub no_more : (runs : List Run) (count number : ℕ) → count ≡ 0 → unroll runs ≡ unroll runs ++ replicate count number
-no_more runs count number none = sym (append-nil (unroll runs)) ∙ ap (λ n. unroll runs ++ replicate n number) (sym none)
-
 pub more_same : (ns : List ℕ) (n m number : ℕ) → ns ++ replicate (n + m) number ≡ (ns ++ replicate n number) ++ replicate m number
 more_same ns n m number = ap (λ ms. ns ++ ms) (sym (replicate-append-replicate n m number)) ∙ sym (append_assoc ns (replicate n number) (replicate m number))
 

@@ -1,5 +1,5 @@
 -- Lengths of hops over which no state changes its place.
-use Rattle.std.proofs.Common.{◌≡◌, ℕ, ◌<◌, ◌^◌, List, [], ◌∷◌, Option, Some, None, subst, arith}
+use Rattle.std.proofs.Common.{ℕ, ◌<◌, ◌^◌, List, [], ◌∷◌, Option, Some, None, subst, arith}
 use Rattle.std.specs.Prelude.{IfSome}
 use Rattle.hm_layers.specs.Graphs.{AreLowHops, IsLowStep}
 use Rattle.hm_steps.specs.Steps.{Step}

@@ -1,6 +1,7 @@
 -- What is built of a tree's graph: the steps so far, and the states behind them.
-use Rattle.std.specs.Prelude.{◌≡◌, ℕ, ◌<◌, ◌^◌, List, [], ◌∷◌, ◌++◌, length, map}
+use Rattle.std.specs.Prelude.{◌≡◌, ℕ, ◌<◌, ◌^◌, List, [], ◌∷◌, ◌++◌, length, map, slice_index_or}
 use Rattle.std.specs.List.{All}
+use Rattle.std.proofs.Math.ListN.{replicate}
 use Rattle.hm_graph.specs.Layers.{first_layer, states_behind}
 use Rattle.hm_graph.specs.Ways.{Edges}
 use Rattle.hm_refs.specs.Tables.{TableView}
@@ -12,15 +13,17 @@ use Rattle.hm_edges.specs.declared.pieces.Piece.{Piece}
 use Rattle.hm_edges.specs.declared.states.State.{State}
 use Rattle.hm_steps.specs.Fits.{StepFits}
 use Rattle.hm_steps.specs.Steps.{Step}
-use Rattle.hm_layers.specs.Graphs.{AreLow, AreNamed}
+use Rattle.hm_layers.specs.Graphs.{AreLow, AreNamed, IsNamedStep}
 use Rattle.hm_layers.specs.Layers.{edges_under, states_of}
-use Rattle.hm_layers.specs.Met.{MetView, list_at, made_at}
+use Rattle.hm_layers.specs.Met.{MetView, list_at, made_at, none_made}
+use Rattle.hm_layers.specs.declared.made.MadeStep.{MadeStep}
 use Rattle.hm_layers.specs.declared.rules.EdgeRules.{EdgeRules}
 
--- the steps so far, and the states of the layer behind them
+-- the steps that were met, the steps so far, and the states of the layer behind them
 pub record BuildingView : Type 0 where
   pub table : TableView
   pub rules : EdgeRules
+  pub made : List MadeStep
   pub steps : List Step
   pub last : List State
 
@@ -29,7 +32,7 @@ abbrev pub steps_at : MetView → List ℕ → List Step
 steps_at m numbers = map (λ n. (made_at m n).step) numbers
 
 abbrev pub building : MetView → List ℕ → ℕ → BuildingView
-building m numbers last = record { table = m.table; rules = m.rules; steps = steps_at m numbers; last = list_at m last }
+building m numbers last = record { table = m.table; rules = m.rules; made = m.made; steps = steps_at m numbers; last = list_at m last }
 
 -- the numbers are those of steps, and the last list is there
 pub record IsBuilding (m : MetView) (numbers : List ℕ) (last : ℕ) : Type 0 where
@@ -62,3 +65,14 @@ pub record AddsFront (old new : BuildingView) (kind : units.TextKind) (cs rest :
   pub done : List units.Unit
   pub adds : AddsSteps old new done
   pub whole : done ++ character_units kind rest ≡ character_units kind cs
+
+-- the step of a number
+abbrev pub numbered_step : BuildingView → ℕ → Step
+numbered_step b n = (slice_index_or b.made n none_made).step
+
+-- the step of this number is added so many times behind
+pub record IsAdded (old new : BuildingView) (count number : ℕ) : Type 0 where
+  pub table : new.table ≡ old.table
+  pub there : number < length new.made
+  pub named : IsNamedStep new.table.entries (numbered_step new number)
+  pub steps : new.steps ≡ old.steps ++ replicate count (numbered_step new number)

@@ -3,3 +3,7 @@ pub mod Graphs
 pub mod Layers
 pub mod Met
 pub mod Building
+pub mod Going
+pub mod Copied
+pub mod Kept
+pub mod StillRuns

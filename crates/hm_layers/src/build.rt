@@ -1,8 +1,11 @@
 //! The graph of a tree.
-ghost use Rattle.std.specs.Prelude.{IfOk};
+ghost use Rattle.std.specs.Prelude.{◌≡◌, [], IfOk};
 ghost use Rattle.hm_layers.specs.Graphs.{IsGraphOf};
+ghost use Rattle.hm_units.specs.Units.{units_of};
 
+use crate::along::{Along, add_parts};
 use crate::building::GraphBuilder;
+use crate::followers::{Follower, Nobody};
 use crate::graph::Graph;
 use crate::rules::EdgeRules;
 use hm_base::{Memory, SpellRules};
@@ -26,19 +29,37 @@ impl Graph {
     ) -> Result<Graph, Memory>
         ensures { IfOk result (IsGraphOf table.now.entries rules format tree.now) }
     {
-        let mut building = GraphBuilder::new(
-            alloc,
-            table,
-            EdgeRules {
-                spell: rules,
-                format,
-            },
-        )?;
+        let (graph, _nobody) = Graph::followed(alloc, tree, table, rules, format, Nobody)?;
+        Ok(graph)
+    }
+
+    /// As `of`. What goes along takes each step as it is added, and is given back behind the last one.
+    pub fn followed<F: Follower>(
+        alloc: Global,
+        tree: &Tree,
+        table: &Table,
+        rules: SpellRules,
+        format: Format,
+        follower: F,
+    ) -> Result<(Graph, F), F::Stop>
+        ensures graph { IfOk result (λ made. IsGraphOf table.now.entries rules format tree.now made.0) }
+        ensures goes_on { IfOk result (λ made. F.goes_on table.now.entries [] [] made.1 → F.goes_on table.now.entries (units_of rules tree.now) made.0.steps follower) }
+    {
+        let edges = EdgeRules {
+            spell: rules,
+            format,
+        };
+        let mut along = Along {
+            graph: GraphBuilder::new(alloc, table, edges)?,
+            by: follower,
+        };
         let mut parts = Vec::new(alloc);
         for i in 0..tree.len() {
             find_parts(tree, rules, i, &mut parts)?;
-            building.add_parts(parts.as_slice())?;
+            add_parts(&mut along, table, parts.as_slice())?;
         }
-        building.into_graph()
+        let Along { graph, by } = along;
+        let graph = graph.into_graph()?;
+        Ok((graph, by))
     }
 }

@@ -1,21 +1,19 @@
 //! A graph while it is built.
-ghost use Rattle.std.specs.Prelude.{◌≡◌, ◌<◌, ◌≤◌, ◌∷◌, [], None, Some, length, IfOk, OnOk};
-ghost use Rattle.std.specs.Str.{IsUtf8, chars};
+ghost use Rattle.std.specs.Prelude.{◌≡◌, ◌<◌, ◌≤◌, ◌∷◌, [], None, Some, drop, length, take, IfOk, OnOk};
+ghost use Rattle.std.specs.Str.{IsAscii, chars};
 ghost use Rattle.hm_units.specs.Units as units;
-ghost use Rattle.hm_units.specs.Units.{character_units};
 ghost use Rattle.hm_edges.specs.Units.{StandsFor, kind_of};
-ghost use Rattle.hm_parts.specs.Parts.{AreParts, IsPart, part_units, parts_units};
 ghost use Rattle.hm_layers.specs.Graphs.{AreNamed};
-ghost use Rattle.hm_layers.specs.Building.{AddsSteps, AddsFront, IsBuilt};
+ghost use Rattle.hm_layers.specs.Building.{AddsSteps, AddsFront, IsAdded, IsBuilt, numbered_step};
 
 use crate::graph::Graph;
 use crate::met::{LIMIT, Met};
 use crate::numbers::Numbers;
 use crate::plain::Alike;
 use crate::rules::EdgeRules;
+use crate::step::Step;
 use hm_base::Memory;
 use hm_edges::{TextKind, Unit};
-use hm_parts::Part;
 use hm_refs::Table;
 use std::alloc::Global;
 use std::marker::Model;
@@ -58,9 +56,20 @@ impl<'t> GraphBuilder<'t> {
         })
     }
 
-    /// Adds the step of a unit.
-    fn add(&mut self, unit: &Unit) -> Result<(), Memory>
-        ensures { OnOk result ((u : units.Unit) → StandsFor self.old.table.entries unit.now u → AddsSteps self.old self.new (u ∷ [])) }
+    /// The step of this number.
+    #[inline(always)]
+    pub(crate) fn step(&self, number: u32) -> &Step
+        requires { number < length self.now.made }
+        ensures { result.now ≡ numbered_step self.now number }
+    {
+        self.met.made_step(number)
+    }
+
+    /// Adds the step of a unit, and gives its number.
+    #[inline(always)]
+    pub(crate) fn add(&mut self, unit: &Unit) -> Result<u32, Memory>
+        ensures adds { OnOk result ((u : units.Unit) → StandsFor self.old.table.entries unit.now u → AddsSteps self.old self.new (u ∷ [])) }
+        ensures step { IfOk result (IsAdded self.old self.new 1) }
     {
         if self.numbers.len() >= LIMIT - 1 {
             return Err(Memory);
@@ -69,12 +78,14 @@ impl<'t> GraphBuilder<'t> {
         self.numbers.push(number)?;
         let last = self.met.behind(number);
         self.last = last;
-        Ok(())
+        Ok(number)
     }
 
-    /// Adds the step of a character, behind which the next one stands in the same text.
-    fn add_character(&mut self, kind: TextKind, c: char, next: char) -> Result<(), Memory>
-        ensures { OnOk result (AddsSteps self.old self.new (units.character (kind_of kind) c (Some next) ∷ [])) }
+    /// Adds the step of a character, behind which the next one stands in the same text, and gives its number.
+    #[inline(always)]
+    fn add_in_front(&mut self, kind: TextKind, c: char, next: char) -> Result<u32, Memory>
+        ensures adds { OnOk result (AddsSteps self.old self.new (units.character (kind_of kind) c (Some next) ∷ [])) }
+        ensures step { IfOk result (IsAdded self.old self.new 1) }
     {
         if self.numbers.len() >= LIMIT - 1 {
             return Err(Memory);
@@ -82,12 +93,14 @@ impl<'t> GraphBuilder<'t> {
         let to = self.met.character_step(self.last, kind, c, next)?;
         self.numbers.push(to.number)?;
         self.last = to.behind;
-        Ok(())
+        Ok(to.number)
     }
 
-    /// Adds the step of the last character of a text.
-    fn add_last(&mut self, kind: TextKind, c: char) -> Result<(), Memory>
-        ensures { OnOk result (AddsSteps self.old self.new (units.character (kind_of kind) c None ∷ [])) }
+    /// Adds the step of the last character of a text, and gives its number.
+    #[inline(always)]
+    fn add_last(&mut self, kind: TextKind, c: char) -> Result<u32, Memory>
+        ensures adds { OnOk result (AddsSteps self.old self.new (units.character (kind_of kind) c None ∷ [])) }
+        ensures step { IfOk result (IsAdded self.old self.new 1) }
     {
         if self.numbers.len() >= LIMIT - 1 {
             return Err(Memory);
@@ -95,93 +108,47 @@ impl<'t> GraphBuilder<'t> {
         let to = self.met.end_step(self.last, kind, c)?;
         self.numbers.push(to.number)?;
         self.last = to.behind;
-        Ok(())
+        Ok(to.number)
     }
 
-    /// Adds the step of the first character of a text, where there is one, and gives the rest of the text.
-    fn add_first<'s>(&mut self, kind: TextKind, text: &'s str) -> Result<&'s str, Memory>
-        ensures adds { IfOk result (λ rest. AddsFront self.old self.new (kind_of kind) (chars text.now) (chars rest.now)) }
-        ensures shorter { IfOk result (λ rest. 0 < length text.now → length rest.now < length text.now) }
-        ensures utf8 { IfOk result (λ rest. IsUtf8 rest.now) }
+    /// Adds the step of a character by the one behind it in the same text, where there is one, and gives its number.
+    #[inline(always)]
+    pub(crate) fn add_character(
+        &mut self,
+        kind: TextKind,
+        c: char,
+        next: Option<char>,
+    ) -> Result<u32, Memory>
+        ensures adds { OnOk result (AddsSteps self.old self.new (units.character (kind_of kind) c next ∷ [])) }
+        ensures step { IfOk result (IsAdded self.old self.new 1) }
     {
-        let mut characters = text.chars();
-        let first = characters.next();
-        let rest = characters.as_str();
-        if let Some(c) = first {
-            match characters.next() {
-                Some(next) => self.add_character(kind, c, next)?,
-                None => self.add_last(kind, c)?,
-            }
+        match next {
+            Some(next) => self.add_in_front(kind, c, next),
+            None => self.add_last(kind, c),
         }
-        Ok(rest)
     }
 
-    /// Adds the steps of characters that a text begins with, as far as they are known to lead to one place, and gives the rest
-    /// of the text.
-    fn add_alike<'s>(&mut self, kind: TextKind, text: &'s str) -> Result<&'s str, Memory>
-        ensures adds { IfOk result (λ rest. AddsFront self.old self.new (kind_of kind) (chars text.now) (chars rest.now)) }
-        ensures within { IfOk result (λ rest. length rest.now ≤ length text.now) }
-        ensures utf8 { IfOk result (λ rest. IsUtf8 rest.now) }
+    /// Adds the steps of characters that a text begins with, as far as they are known to lead to one place, and gives how many
+    /// they are and where they lead. All are of ASCII and have the same step.
+    #[inline(always)]
+    pub(crate) fn add_alike(&mut self, kind: TextKind, text: &str) -> Result<Alike, Memory>
+        ensures adds { IfOk result (λ alike. AddsFront self.old self.new (kind_of kind) (chars text.now) (chars (drop alike.count text.now))) }
+        ensures within { IfOk result (λ alike. alike.count ≤ length text.now) }
+        ensures ascii { IfOk result (λ alike. IsAscii (take alike.count text.now)) }
+        ensures step { IfOk result (λ alike. 0 < alike.count → IsAdded self.old self.new alike.count alike.to.number) }
+        ensures none { IfOk result (λ alike. alike.count ≡ 0 → self.new ≡ self.old) }
     {
-        let Alike { to, count } = self.met.alike(self.last, kind, text.as_bytes());
+        let alike = self.met.alike(self.last, kind, text.as_bytes());
+        let Alike { to, count } = alike;
         if count == 0 {
-            return Ok(text);
+            return Ok(alike);
         }
         if count >= LIMIT || self.numbers.len() >= LIMIT - count {
             return Err(Memory);
         }
         self.numbers.push_alike(to.number, count as u32)?;
         self.last = to.behind;
-        Ok(&text[count..])
-    }
-
-    /// Adds the steps of some characters that a text begins with, of one at least, and gives the rest of the text.
-    fn add_some<'s>(&mut self, kind: TextKind, text: &'s str) -> Result<&'s str, Memory>
-        ensures adds { IfOk result (λ rest. AddsFront self.old self.new (kind_of kind) (chars text.now) (chars rest.now)) }
-        ensures shorter { IfOk result (λ rest. 0 < length text.now → length rest.now < length text.now) }
-        ensures utf8 { IfOk result (λ rest. IsUtf8 rest.now) }
-    {
-        let rest = self.add_alike(kind, text)?;
-        if rest.len() < text.len() {
-            return Ok(rest);
-        }
-        self.add_first(kind, rest)
-    }
-
-    /// Adds the steps of the characters of a text.
-    fn add_characters(&mut self, kind: TextKind, text: &str) -> Result<(), Memory>
-        ensures { OnOk result (AddsSteps self.old self.new (character_units (kind_of kind) (chars text.now))) }
-    {
-        let mut rest = text;
-        while !rest.is_empty() {
-            rest = self.add_some(kind, rest)?;
-        }
-        Ok(())
-    }
-
-    /// Adds the steps of a part.
-    fn add_part(&mut self, part: &Part<'_>) -> Result<(), Memory>
-        requires { IsPart part.now }
-        ensures { OnOk result (AddsSteps self.old self.new (part_units part.now)) }
-    {
-        match part {
-            Part::One { unit, own: _ } => self.add(unit),
-            Part::Comment { text } => self.add(&Unit::Fixed {
-                len: text.len() as u32 + 7,
-            }),
-            Part::Chars { kind, text } => self.add_characters(*kind, *text),
-        }
-    }
-
-    /// Adds the steps of these parts.
-    pub(crate) fn add_parts(&mut self, parts: &[Part<'_>]) -> Result<(), Memory>
-        requires { AreParts parts.now }
-        ensures { OnOk result (AddsSteps self.old self.new (parts_units parts.now)) }
-    {
-        for part in parts {
-            self.add_part(part)?;
-        }
-        Ok(())
+        Ok(alike)
     }
 
     /// The graph of what is built.

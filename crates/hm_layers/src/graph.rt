@@ -1,10 +1,15 @@
 //! The steps of a tree.
-ghost use Rattle.std.specs.Prelude.{◌≡◌, ◌+◌, ◌-◌, ◌<◌, ◌≤◌, ◌^◌, ℕ, [], length, slice_index_or};
-ghost use Rattle.hm_layers.specs.Graphs.{AreLow, AreNumbers, GraphView, IsPlace, spread};
+ghost use Rattle.std.specs.Prelude.{◌≡◌, ◌+◌, ◌-◌, ◌<◌, ◌≤◌, ◌^◌, ℕ, [], true, drop, length, slice_index_or, IfSome, IsSome};
+ghost use Rattle.hm_layers.specs.Graphs.{AreLow, AreNumbers, GraphView, IsLowStep, IsPlace, spread};
+ghost use Rattle.hm_layers.specs.Kept.{kept_count};
 ghost use Rattle.hm_layers.specs.Runs.{AreRuns, unroll};
+ghost use Rattle.hm_layers.specs.StillRuns.{AreStillOver};
+ghost use Rattle.hm_steps.specs.Steps.{leaves_out};
+ghost use Rattle.hm_steps.specs.Still.{AreStill};
 
 use crate::numbers::Run;
 use crate::step::Step;
+use hm_cert::Format;
 use std::marker::Model;
 
 /// The steps between the layers of a tree's graph, in their order, and how many states the last layer has. Each different
@@ -24,6 +29,31 @@ pub struct Cursor {
     used: usize,
     /// How many layers are in front.
     pub layer: usize,
+}
+
+/// Layers that were passed.
+#[derive(Clone, Copy)]
+pub struct Passed {
+    /// The layer that was reached.
+    pub front: Cursor,
+    /// How many bytes the hops over them write together, from each state.
+    pub len: u64,
+}
+
+/// The length in bytes of each hop of a step, where no state changes its place, there are so many, and a certificate of this
+/// format leaves out the layer in front.
+#[inline(always)]
+fn still_over(step: &Step, format: Format, width: usize) -> Option<u64>
+    ensures still { IfSome result (λ len. AreStill len step.now) }
+    ensures width { IsSome result → length step.now ≡ width }
+    ensures out { IsSome result → leaves_out format step.now ≡ true }
+    ensures low { IsLowStep step.now → IfSome result (λ len. len < 2 ^ 33) }
+{
+    if step.width() == width && step.is_left_out(format) {
+        step.still()
+    } else {
+        None
+    }
 }
 
 impl Model for Graph {
@@ -172,13 +202,12 @@ impl Graph {
         }
     }
 
-    /// Goes on over at most so many layers that have the same step behind them as this one, over one at least where one may be passed.
+    /// Goes on over at most so many layers that have the same step behind them as this one.
     pub fn next_alike(&self, at: Cursor, limit: usize) -> Cursor
         requires place { IsPlace self.now at }
         requires inside { at.layer < length self.now.steps }
         ensures place { IsPlace self.now result }
         ensures layer { (at.layer ≤ result.layer) × (result.layer ≤ at.layer + limit) }
-        ensures some { 0 < limit → at.layer < result.layer }
         ensures alike { (k : ℕ) → at.layer ≤ k → k < result.layer → slice_index_or self.now.steps k [] ≡ slice_index_or self.now.steps at.layer [] }
     {
         let left = self.runs[at.run].count as usize - at.used;
@@ -194,6 +223,46 @@ impl Graph {
             used: 0,
             layer: at.layer + left,
         }
+    }
+
+    /// Goes back from a layer over layers that a certificate of this format leaves out, as long as there are so many states and
+    /// none changes its place, but not to the first layer.
+    pub fn back_still(&self, at: Cursor, format: Format, width: usize) -> Passed
+        requires place { IsPlace self.now at }
+        requires within { at.layer ≤ length self.now.steps }
+        ensures place { IsPlace self.now result.front }
+        ensures layer { result.front.layer ≤ at.layer }
+        ensures first { 0 < at.layer → 0 < result.front.layer }
+        ensures still { AreStillOver format (drop result.front.layer self.now.steps) (at.layer - result.front.layer) width result.len }
+        ensures low { result.len < 2 ^ 62 }
+    {
+        self.is_small();
+        let mut front = at;
+        let mut len = 0;
+        while front.layer > 1 {
+            let next = self.back(front);
+            let own = match still_over(self.step(next), format, width) {
+                Some(own) => own,
+                None => return Passed { front, len },
+            };
+            front = self.back_alike(next, next.layer - 1);
+            len += (next.layer - front.layer + 1) as u64 * own;
+        }
+        Passed { front, len }
+    }
+
+    /// How many layers a certificate of this format writes: the last one isn't counted, and the first one only where its step
+    /// isn't left out.
+    pub fn count_kept(&self, format: Format) -> usize
+        ensures { result ≡ kept_count format self.now.steps }
+    {
+        let mut count = 0;
+        for run in &self.runs {
+            if !self.steps[run.number as usize].is_left_out(format) {
+                count += run.count as usize;
+            }
+        }
+        count
     }
 
     /// A graph has fewer than 2^29 steps, and no edge writes 2^33 bytes. The call does nothing.

@@ -1,8 +1,11 @@
 //! The layered graph of a tree: the steps between its layers, each different one once.
 #![tactic(auto)]
 
+mod along;
 mod build;
 mod building;
+mod copied;
+mod followers;
 mod graph;
 mod layer;
 mod made;
@@ -15,5 +18,6 @@ mod rules;
 mod step;
 mod still;
 
-pub use graph::{Cursor, Graph};
+pub use followers::Follower;
+pub use graph::{Cursor, Graph, Passed};
 pub use step::Step;

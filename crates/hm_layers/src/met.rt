@@ -215,6 +215,15 @@ impl<'t> Met<'t> {
         self.made[number as usize].behind
     }
 
+    /// The step of this number.
+    #[inline(always)]
+    pub(crate) fn made_step(&self, number: u32) -> &Step
+        requires { number < length self.now.made }
+        ensures { result.now ≡ (made_at self.now number).step }
+    {
+        &self.made[number as usize].step
+    }
+
     /// The steps.
     pub(crate) fn into_steps(self) -> Result<Vec<Step>, Memory>
         ensures { IfOk result (λ steps. steps.items ≡ map (λ made. made.step) self.entry.made) }
@@ -371,6 +380,7 @@ impl<'t> Met<'t> {
 
     /// Where the plain characters at the front of a text lead, as far as they are known to lead to one place, each with
     /// another one behind it. Only where that is the list itself they are more than one.
+    #[inline(always)]
     pub(crate) fn alike(&self, list: u32, kind: TextKind, text: &[u8]) -> Alike
         ensures within { result.count ≤ length text.now }
         ensures short { 0 < result.count → result.count < length text.now }

@@ -58,6 +58,7 @@ fn is_toward(steps: &[Reached], to: Reached, byte: u8) -> bool
 }
 
 /// How many characters at the front of a text lead where the first one does, each with another one behind it.
+#[inline(always)]
 fn alike_run(steps: &[Reached], to: Reached, text: &[u8]) -> usize
     requires some { 1 < length text.now }
     requires first { IsToward steps.now to (slice_index_or text.now 0 0) }
@@ -123,6 +124,7 @@ impl PlainRow {
 
     /// Where the characters at the front of a text lead, as far as they lead to one place, each with another one behind it.
     /// Only where that is the list itself they are more than one.
+    #[inline(always)]
     pub(crate) fn alike(&self, text: &[u8]) -> Alike
         ensures within { result.count ≤ length text.now }
         ensures short { 0 < result.count → result.count < length text.now }

@@ -1,6 +1,7 @@
 -- Over equal steps over which no state changes its place.
-use Rattle.std.proofs.Common.{◌≡◌, ◌∙◌, ℕ, zero, suc, ◌+◌, ◌-◌, ◌*◌, ◌<◌, ◌≤◌, ◌^◌, ◌&&◌, Bool, true, false, cond, List, [], ◌∷◌, ◌++◌, length, map, get_or, drop, reverse, refl, sym, ap, subst, arith, append-nil, append_assoc, ⊎_elim}
-use Rattle.std.proofs.lemmas.Bool.{cases_lt}
+use Rattle.std.proofs.Common.{◌≡◌, ◌==◌, ◌∙◌, ℕ, zero, suc, ◌+◌, ◌-◌, ◌*◌, ◌<◌, ◌≤◌, ◌^◌, not, ◌&&◌, Bool, true, false, cond, List, [], ◌∷◌, ◌++◌, length, map, get_or, drop, reverse, refl, sym, ap, subst, arith, append-nil, append_assoc, ⊎_elim}
+use Rattle.std.proofs.lemmas.Bool.{cases_lt, false_from_ne_true}
+use Rattle.std.proofs.lemmas.Bool.Decides.{Decides-eqb}
 use Rattle.std.proofs.lemmas.List.{length-map}
 use Rattle.std.proofs.lemmas.Nat.{mul-lt}
 use Rattle.std.proofs.Math.Nat.{mul-le-mul_right}
@@ -21,7 +22,10 @@ use Rattle.hm_steps.specs.Still.{AreStill, Stays}
 use Rattle.hm_steps.specs.declared.hops.Hop.{Hop}
 use Rattle.hm_plan.proofs.FirstWay.{forced_none}
 use Rattle.hm_plan.proofs.FromLast.{back_more, step_cut}
-use Rattle.hm_plan.proofs.Only.{left_out_later}
+
+-- whether a format leaves a layer out that isn't the first one
+left_out_later : (format : Format) (k : ℕ) (step : Step) (b : Bool) → (k ≡ 0 → ⊥) → leaves_out format step ≡ b → is_left_out format k step ≡ b
+left_out_later format k step b other left = λ i. not (false_from_ne_true (k == 0) (λ t. other ((Decides-eqb k 0).0 t)) i) && left i
 
 -- ---- Over many
 

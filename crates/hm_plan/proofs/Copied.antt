@@ -12,7 +12,8 @@ use Rattle.hm_steps.specs.Steps.{Step, is_forced}
 use Rattle.hm_steps.specs.Ways.{along, choice, choices_of, way_from}
 use Rattle.hm_steps.specs.declared.hops.Hop.{Hop}
 use Rattle.hm_units.specs.Units.{TextKind, Unit, character, character_units, next_of}
-use Rattle.hm_walk.specs.Copied.{AreCopied, Copies, IsCopied}
+use Rattle.hm_layers.specs.Copied.{Copies}
+use Rattle.hm_walk.specs.Copied.{AreCopied, IsCopied}
 use Rattle.hm_plan.specs.Paths.{ComesTo, HasChoices, row_behind, way_on}
 use Rattle.hm_plan.specs.declared.paths.WrittenWay.{WrittenWay}
 use Rattle.hm_plan.proofs.FirstWay.{forced_choice, forced_none, step_next, way_next}

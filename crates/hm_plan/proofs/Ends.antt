@@ -36,15 +36,6 @@ pub record IsTurning (first now : List ℕ) (done : ℕ) : Type 0 where
   pub half : done + done ≤ length first
   pub all : (take done now ++ reverse (take (length first - done - done) (drop done now))) ++ drop (length first - done) now ≡ reverse first
 
-pub turning_none : (first : List ℕ) → IsTurning first first 0
-turning_none first =
-    let none : drop (length first - 0) first ≡ [] = drop_of_length-le first {i = length first - 0} (omega arith) in
-    let whole : take (length first - 0 - 0) first ≡ first = take_all (length first - 0 - 0) first (omega arith) in record {
-      len = refl;
-      half = omega arith;
-      all = (λ i. (take 0 first ++ reverse (whole i)) ++ none i) ∙ append-nil (reverse first);
-    }
-
 -- the bytes between the ends, their own ends apart
 middle_cut : (m : List ℕ) → 16 ≤ length m → reverse m ≡ (reverse (drop (length m - 8) m) ++ reverse (take (length m - 16) (drop 8 m))) ++ reverse (take 8 m)
 middle_cut m long =
@@ -103,10 +94,3 @@ turning_more first now part done k t long k_is part_is =
     let old : (take done now ++ reverse m) ++ drop (n - done) now ≡ reverse first = ap (λ j. (take done now ++ reverse (take j (drop done now))) ++ drop (n - done) now) k_is ∙ t.all in
     let all : (take done now ++ ((r ++ reverse inner) ++ f)) ++ drop (n - done) now ≡ reverse first = ap (λ x. (take done now ++ x) ++ drop (n - done) now) (sym (middle_cut m (omega (arith, m_len, k_is, long)))) ∙ old in
     subst (λ x. IsTurning first x (done + 8)) (sym written) (parts_turned first (take done now) r inner f (drop (n - done) now) n done refl a_len r_len inner_len f_len b_len long all)
-
-pub turning_end : (first now part : List ℕ) (done k : ℕ) → IsTurning first now done → k ≡ length first - done - done → part ≡ reverse (take k (drop done now)) → put_mid done k now part ≡ reverse first
-turning_end first now part done k t k_is part_is =
-    let part_len : length part ≡ k = ap length part_is ∙ length-reverse (take k (drop done now)) ∙ length-take-le k (drop done now) (omega (arith, length-drop done now, t.len, k_is)) in
-    let behind : done + k ≡ length first - done = omega (arith, k_is, t.half) in
-    put_is done k now part (omega (arith, t.len, t.half)) part_len ∙ (λ i. (take done now ++ part_is i) ++ drop (behind i) now)
-    ∙ ap (λ j. (take done now ++ reverse (take j (drop done now))) ++ drop (length first - done) now) k_is ∙ t.all

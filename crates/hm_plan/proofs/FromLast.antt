@@ -65,11 +65,6 @@ low_drop [] (suc k) l = l
 low_drop (step ∷ steps) zero l = l
 low_drop (step ∷ steps) (suc k) l = low_drop steps k l.1
 
-pub low_step : (steps : List Step) (k : ℕ) → AreLow steps → IsLowStep (get_or steps k [])
-low_step [] k l = tt
-low_step (step ∷ steps) zero l = l.0
-low_step (step ∷ steps) (suc k) l = low_step steps k l.1
-
 -- the prices of each layer of a small graph are below 2^62
 pub prices_below : (last : ℕ) (steps : List Step) (k : ℕ) → AreLow steps → length steps < 2 ^ 29 → AreBelow (2 ^ 62) (first_row (rows_of last (drop k steps)))
 prices_below last steps k l few =

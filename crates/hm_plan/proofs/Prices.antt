@@ -7,9 +7,8 @@ use Rattle.std.proofs.lemmas.List.{get_or-map}
 use Rattle.hm_cert.specs.Layout.{told}
 use Rattle.hm_graph.specs.Prices.{Row}
 use Rattle.hm_graph.specs.Ways.{lesser, same_price}
-use Rattle.hm_layers.specs.Graphs.{AreLowHops, IsLowStep}
+use Rattle.hm_layers.specs.Graphs.{AreLowHops}
 use Rattle.hm_steps.specs.Prices.{price_over, best_price}
-use Rattle.hm_steps.specs.Steps.{Step}
 use Rattle.hm_steps.specs.Ways.{place_over, choice}
 use Rattle.hm_steps.specs.declared.hops.Hop.{Hop}
 
@@ -27,9 +26,6 @@ told_cases n h = ⊎_elim
     (λ l. inr (record { less = l; some = ap (λ b. cond b None (Some n)) (false_from_ne_true (n == 18446744073709551615) (λ t. omega (arith, (Decides-eqb n 18446744073709551615).0 t))) }))
     (λ l. let e : n ≡ 18446744073709551615 = omega arith in inl (record { greatest = e; none = rw e refl }))
     (cases_lt n 18446744073709551615)
-
-pub told_open : (n : ℕ) → n < 2 ^ 63 → told n ≡ Some n
-told_open n h = ap (λ b. cond b None (Some n)) (false_from_ne_true (n == 18446744073709551615) (λ t. omega (arith, (Decides-eqb n 18446744073709551615).0 t)))
 
 nat_eq_self : (n : ℕ) → nat_eq n n ≡ true
 nat_eq_self n = (Decides-eqb n n).1 refl
@@ -139,8 +135,3 @@ pub low_hop : (hops : List Hop) (k : ℕ) (x : Hop) → AreLowHops hops → k < 
 low_hop [] k x h inside is = absurd (omega arith)
 low_hop (y ∷ hops) zero x h inside is = subst (λ z. z.len < 2 ^ 33) (sym is) h.0
 low_hop (y ∷ hops) (suc k) x h inside is = low_hop hops k x h.1 (omega arith) is
-
-pub low_hops : (step : Step) (k : ℕ) → IsLowStep step → AreLowHops (get_or step k [])
-low_hops [] k h = tt
-low_hops (hops ∷ step) zero h = h.0
-low_hops (hops ∷ step) (suc k) h = low_hops step k h.1

@@ -1,5 +1,5 @@
 -- Walks, step by step.
-use Rattle.std.proofs.Common.{◌≡◌, ◌∙◌, ℕ, zero, suc, ◌+◌, ◌<◌, ◌≤◌, List, [], ◌∷◌, ◌++◌, length, get_or, take, drop, chars, refl, sym, ap, subst, arith, append_assoc}
+use Rattle.std.proofs.Common.{◌≡◌, ◌∙◌, ℕ, ◌+◌, ◌<◌, ◌≤◌, List, [], ◌∷◌, ◌++◌, length, get_or, take, drop, chars, refl, sym, ap, subst, arith, append_assoc}
 use Rattle.std.specs.Str.{IsAscii}
 use Rattle.std.proofs.lemmas.List.{drop_all, drop_more, length-append, length-take-le}
 use Rattle.hm_base.specs.Walks.{Event}
@@ -8,7 +8,7 @@ use Rattle.hm_layers.proofs.Characters.{length_characters, text_cut}
 use Rattle.hm_layers.specs.Graphs.{GraphView, IsPlace}
 use Rattle.hm_parts.proofs.UnitsLeft.{units_left-next, units_left-none}
 use Rattle.hm_parts.specs.Events.{units_at, units_left}
-use Rattle.hm_parts.specs.Parts.{AreParts, IsPart, part_units, parts_units}
+use Rattle.hm_parts.specs.Parts.{part_units, parts_units}
 use Rattle.hm_parts.specs.declared.parts.Part.{Part}
 use Rattle.hm_units.specs.Units.{TextKind, Unit, in_text, character, character_units, next_of, units_of}
 use Rattle.hm_walk.specs.Walks.{Goes, GoesOver}
@@ -103,11 +103,6 @@ text_copied g S C text n old new few ascii place layer stands comes kind =
 -- the first n parts were taken
 abbrev pub PartsTaken : {W : Type 0} → GraphView → (ℕ → W → Type 0) → (List Unit → ℕ → W → List ℕ → Type 0) → List Part → ℕ → Walk W → Walk W → Type 0
 PartsTaken g S C parts n old walk = Goes g S C (parts_units parts) (parts_units (drop n parts)) old walk
-
-pub part_is : (parts : List Part) (n : ℕ) (none : Part) → n < length parts → AreParts parts → IsPart (get_or parts n none)
-part_is [] n none inside h = absurd (omega arith)
-part_is (part ∷ parts) zero none inside h = h.0
-part_is (part ∷ parts) (suc n) none inside h = part_is parts n none (omega arith) h.1
 
 pub part_inside : {W : Type 0} (g : GraphView) (S : ℕ → W → Type 0) (C : List Unit → ℕ → W → List ℕ → Type 0) (parts : List Part) (n : ℕ) (none : Part) (old walk : Walk W) → n < length parts → old.at.layer + length (parts_units parts) ≤ length g.steps
     → PartsTaken g S C parts n old walk → walk.at.layer + length (part_units (get_or parts n none)) ≤ length g.steps

@@ -1,17 +1,10 @@
 -- Steps that copy a byte.
-use Rattle.std.specs.Prelude.{◌≡◌, ◌+◌, ◌<◌, ◌≤◌, ℕ, true, List, [], ◌∷◌, Option, Some, None, slice_index_or}
-use Rattle.hm_edges.specs.declared.pieces.Piece.TheVariants as pieces
+use Rattle.std.specs.Prelude.{◌≡◌, ◌+◌, ◌<◌, ◌≤◌, ℕ, true, [], Option, Some, None, slice_index_or}
+use Rattle.hm_layers.specs.Copied.{Copies}
 use Rattle.hm_layers.specs.Graphs.{GraphView}
 use Rattle.hm_steps.specs.Steps.{Step, is_forced}
-use Rattle.hm_steps.specs.declared.hops.Hop.{Hop}
 
--- one hop, which copies the unit's own bytes and leads to this place
-abbrev pub Copies : ℕ → List Hop → Type 0
-Copies place [] = ⊥
-Copies place (h ∷ []) = (h.piece ≡ pieces.Itself) × (h.to ≡ place)
-Copies place (h ∷ g ∷ hops) = ⊥
-
--- there is nothing to choose, and there is such a hop from the place, to the same place
+-- there is nothing to choose, and the hop from the place copies the unit's own bytes and leads to the same place
 abbrev pub IsCopied : Step → Option ℕ → Type 0
 IsCopied step None = ⊥
 IsCopied step (Some place) = (is_forced step ≡ true) × Copies place (slice_index_or step place [])

@@ -1,21 +1,19 @@
-use Rattle.std.proofs.Common.{◌≡◌, ◌∙◌, true, sym}
+use Rattle.std.proofs.Common.{◌≡◌, ◌∙◌, true, sym, subst}
+use Rattle.std.specs.Option.{IfSome}
 use Rattle.hm_edges.specs.Pieces.{piece_bytes}
-use Rattle.hm_graph.specs.Layers.{first_layer}
-use Rattle.hm_layers.specs.Graphs.{tree_edges}
-use Rattle.hm_steps.proofs.Ways.{steps_count}
+use Rattle.hm_layers.specs.Graphs.{IsGraphOf}
+use Rattle.hm_steps.specs.Ways.{WayOver}
 use Rattle.hm_units.specs.Units.{units_of}
 use Rattle.hm_check.specs.Verdicts.{same_rules}
 use Rattle.hm_check.proofs.Checking.{if_ok}
 use Rattle.hm_check.proofs.Spelled.{followed_verdict}
 use Rattle.hm_check.proofs.checks.check_settled.Goals as goal
 
-pub follows-requires-clause-count : goal.follows-requires-clause-count
-follows-requires-clause-count c =
-    steps_count (tree_edges c.args.table.now.entries c.args.rules c.args.certificate.now.format) (piece_bytes c.args.table.now.entries) (units_of c.args.rules c.args.wanted.now) first_layer c.in_ok-graph.graph.steps c.in_ok-graph.graph.last c.in_ok-graph.ensures.fits
-
-pub returns-then-branch : goal.returns-then-branch
-returns-then-branch c =
+pub returns-in-Some : goal.returns-in-Some
+returns-in-Some c =
+    let t = c.args.table.now.entries in
     let same : same_rules c.args.certificate.now.rules c.args.rules ≡ true = sym c.same_rules.ensures ∙ c.if-same_rules.true in
+    let graph = subst (λ found. IfSome found (IsGraphOf t c.args.rules c.args.certificate.now.format c.args.wanted.now)) c.in-Some.is c.in_ok-graph.ensures.graph in
+    let way = subst (λ found. IfSome found (λ g. WayOver (piece_bytes t) (units_of c.args.rules c.args.wanted.now) g.steps 0 c.args.out.now)) c.in-Some.is c.in_ok-graph.ensures.way in
     if_ok c.by_rows.result
-    (λ found e. followed_verdict c.args.table.now.entries c.every_table.ensures.names c.args.rules c.args.wanted.now c.requires.settled c.args.out.now c.args.certificate.now c.in_ok-graph.graph c.in_ok-graph.ensures same c.if-out.true
-    (c.in_ok-follows.ensures c.if-branch.true) found e) c.by_rows.ensures
+    (λ found e. followed_verdict t c.every_table.ensures.names c.args.rules c.args.wanted.now c.requires.settled c.args.out.now c.args.certificate.now c.in-Some.graph graph same c.if-out.true way found e) c.by_rows.ensures

@@ -1,4 +1,4 @@
-use Rattle.std.proofs.Common.{◌≡◌, ◌+◌, refl, sym, subst, arith}
+use Rattle.std.proofs.Common.{◌≡◌, ◌+◌, sym, subst, arith}
 use Rattle.hm_check.specs.Sweeps.{IsSwept}
 use Rattle.hm_check.proofs.rows.sweep.Goals as goal
 
@@ -9,16 +9,10 @@ loop-layer-init c = record {
   within = omega (arith, c.last_layer-layer.ensures.layer);
 }
 
-pub pass_alike-requires-clause-swept : goal.pass_alike-requires-clause-swept
-pass_alike-requires-clause-swept c =
-    let next : c.loop-layer.layer.layer ≡ c.back-front.result.layer + 1 = omega (arith, c.back-front.ensures.layer, c.loop-layer-test.true) in
-    subst (λ k. IsSwept c.args.format c.args.graph.now c.args.prices.now k c.loop-layer.sweep) next c.loop-layer.invariant.swept
-
 pub take_layer-requires-clause-swept : goal.take_layer-requires-clause-swept
 take_layer-requires-clause-swept c =
-    let next : c.loop-layer.layer.layer ≡ c.back-front.result.layer + 1 = omega (arith, c.back-front.ensures.layer, c.loop-layer-test.true) in
-    subst (IsSwept c.args.format c.args.graph.now c.args.prices.now (c.back-front.result.layer + 1)) (sym (c.in-None.ensures.none refl))
-    (subst (λ k. IsSwept c.args.format c.args.graph.now c.args.prices.now k c.loop-layer.sweep) next c.loop-layer.invariant.swept)
+    let next : c.pass_still-behind.result.layer ≡ c.back-front.result.layer + 1 = omega (arith, c.back-front.ensures.layer, c.pass_still-behind.ensures.first c.loop-layer-test.true) in
+    subst (λ k. IsSwept c.args.format c.args.graph.now c.args.prices.now k c.pass_still-behind.new.self) next c.pass_still-behind.ensures.swept
 
 pub returns : goal.returns
 returns c =

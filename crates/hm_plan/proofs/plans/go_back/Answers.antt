@@ -9,7 +9,8 @@ use Rattle.hm_steps.specs.Steps.{leaves_out}
 use Rattle.hm_cert.specs.Rows.{AreBelow}
 use Rattle.hm_plan.specs.Plans.{IsFound}
 use Rattle.hm_plan.proofs.Alike.{along_found, along_low, still_forced}
-use Rattle.hm_plan.proofs.FromLast.{are_below, back_more, low_step, prices_below, step_cut}
+use Rattle.hm_layers.proofs.Low.{low_step}
+use Rattle.hm_plan.proofs.FromLast.{are_below, back_more, prices_below, step_cut}
 use Rattle.hm_plan.proofs.plans.go_back.Goals as goal
 
 pub pass_alike-requires-clause-below : goal.pass_alike-requires-clause-below

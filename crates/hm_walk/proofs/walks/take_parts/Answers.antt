@@ -1,4 +1,5 @@
-use Rattle.hm_walk.proofs.Walking.{goes_none, part_inside, part_is, part_taken, parts_all}
+use Rattle.hm_layers.proofs.Parts.{part_at}
+use Rattle.hm_walk.proofs.Walking.{goes_none, part_inside, part_taken, parts_all}
 use Rattle.hm_parts.specs.Parts.{parts_units}
 use Rattle.hm_walk.proofs.walks.take_parts.Goals as goal
 
@@ -16,7 +17,7 @@ pub take_part-requires-clause-stands : goal.take_part-requires-clause-stands
 take_part-requires-clause-stands g c = c.loop-part.invariant.stands
 
 pub take_part-requires-clause-part : goal.take_part-requires-clause-part
-take_part-requires-clause-part g c = part_is c.args.parts.now c.loop-part.part-index _ c.loop-part-test.true c.requires.parts
+take_part-requires-clause-part g c = part_at c.args.parts.now c.loop-part.part-index _ c.requires.parts c.loop-part-test.true
 
 pub loop-part-preserved : goal.loop-part-preserved
 loop-part-preserved g c =

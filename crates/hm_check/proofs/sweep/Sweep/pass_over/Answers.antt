@@ -4,7 +4,7 @@ use Rattle.hm_cert.specs.Layout.{told}
 use Rattle.hm_layers.specs.Graphs.{IsLowStep}
 use Rattle.hm_steps.specs.Prices.{is_left_out, row_over}
 use Rattle.hm_check.specs.declared.sweep.Sweep.{Sweep}
-use Rattle.hm_check.proofs.Sums.{low_step}
+use Rattle.hm_layers.proofs.Low.{low_step}
 use Rattle.hm_check.proofs.Sweeping.{swept_below, out_swept}
 use Rattle.hm_check.proofs.sweep.Sweep.pass_over.Goals as goal
 

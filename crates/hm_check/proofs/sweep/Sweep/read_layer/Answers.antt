@@ -5,7 +5,7 @@ use Rattle.hm_steps.specs.Prices.{is_left_out}
 use Rattle.hm_cert.specs.Rows.{AreBelow}
 use Rattle.hm_check.specs.Sweeps.{judged}
 use Rattle.hm_check.specs.declared.sweep.Sweep.{Sweep}
-use Rattle.hm_check.proofs.Sums.{low_step}
+use Rattle.hm_layers.proofs.Low.{low_step}
 use Rattle.hm_check.proofs.Sweeping.{has_front, swept_below, in_swept}
 use Rattle.hm_check.proofs.sweep.Sweep.read_layer.Goals as goal
 

@@ -68,12 +68,3 @@ returns-clause-alike c = λ k low high.
     let count : c.index.result.now.count ≡ (get_or runs c.args.at.run c.index.result.now).count = ap (λ r. r.count) c.index.ensures in
     subst (λ g. get_or g.steps k [] ≡ get_or g.steps c.args.at.layer []) c.self.view_is
     (same_later c.self.inside.steps.items runs c.args.at.run c.args.at.used c.args.at.layer k c.index.result.now place run low (omega (arith, high, count)))
-
-pub returns-clause-some : goal.returns-clause-some
-returns-clause-some c = λ some.
-    let runs : List Run = c.self.inside.runs.items in
-    let place : IsAt runs c.args.at.run c.args.at.used c.args.at.layer = subst (λ g. IsAt g.runs c.args.at.run c.args.at.used c.args.at.layer) (sym c.self.view_is) c.requires.place in
-    let inside : c.args.at.layer < length (unroll runs) = omega (arith, c.requires.inside, ap (λ g. length g.steps) c.self.view_is, length-map (unroll runs) (λ n. get_or c.self.inside.steps.items n [])) in
-    let run : c.args.at.run < length runs = at_run runs c.args.at.run c.args.at.used c.args.at.layer place inside in
-    let count : c.index.result.now.count ≡ (get_or runs c.args.at.run c.index.result.now).count = ap (λ r. r.count) c.index.ensures in
-    omega (arith, count, some, c.if-limit-left.false, at_used runs c.args.at.run c.args.at.used c.args.at.layer c.index.result.now place run)

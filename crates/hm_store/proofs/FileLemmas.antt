@@ -51,7 +51,7 @@ front_none old new name bytes e = record { taken = 0; files = e }
 pub front_all : (old new : Option FileMap) (name bytes : List ℕ) → new ≡ with_file old name bytes → HasFront old new name bytes
 front_all old new name bytes e = record { taken = length bytes; files = e ∙ ap (with_file old name) (sym (take_all (length bytes) bytes (omega arith))) }
 
--- a prefix that was appended to an empty file is a prefix under its name
+-- where a prefix was appended to an empty file, that prefix stands under its name
 pub front_put : (old mid new : Option FileMap) (name target bytes : List ℕ) → mid ≡ with_file old name [] → (IsSome old → target ≡ name) → (new ≡ mid) ⊎ PutsFront mid new target bytes → HasFront old new name bytes
 front_put old mid new name target bytes e h (inl s) = front_none old new name bytes (s ∙ e)
 front_put old mid new name target bytes e h (inr p) = record {

@@ -56,7 +56,7 @@ pub record Pulls (old new : Option (List ℕ)) (n : ℕ) (into : List ℕ) : Typ
   pub front : old ≡ prepend_known (take n into) new
   pub ended : n ≡ 0 → 0 < length into → IsAtEnd new
 
--- where the content is known, these bytes are its first ones, at most `most` of them
+-- where the content is known, these bytes are its first `most`, or all where it has fewer
 abbrev pub Takes : Option (List ℕ) → ℕ → List ℕ → Type 0
 Takes None most bytes = Unit {0}
 Takes (Some file) most bytes = bytes ≡ take most file

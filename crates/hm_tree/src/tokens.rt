@@ -101,7 +101,7 @@ impl Lexeme {
         }
     }
 
-    /// The token. Where it is a tag, it takes over its name and its attributes.
+    /// The token. A tag takes over the name and the attributes of `tag`.
     pub fn token(self, tag: Tag) -> Token
         ensures { result ≡ token_of self tag }
     {
@@ -131,7 +131,7 @@ pub struct Placed {
 }
 
 impl Placed {
-    /// The token with its bytes. Where it is a tag, it takes over its name and its attributes.
+    /// The token with its bytes. A tag takes over the name and the attributes of `tag`.
     pub fn spanned(self, tag: Tag) -> Spanned
         ensures { result ≡ spanned_of self tag }
     {

@@ -1,4 +1,4 @@
--- The mark at the front of a page.
+-- The byte order mark at the start of a page.
 use Rattle.std.proofs.Common.{◌≡◌, ℕ, ◌≢◌, Bool, true, false, cond, ◌&&◌, List, [], ◌∷◌, None, refl, ◌∙◌, nat_eq}
 use lib.Utf8.{encode}
 use Rattle.std.proofs.lemmas.Bool.{eqb-true}

@@ -24,7 +24,7 @@ source_from_start start pairs text e f =
     let none : start + length text + length pairs ≡ start = omega (arith, ap length e, ap length f) in
     same_source _ _ _ _ (rw (e, f) refl) none
 
--- behind the mark come the lines
+-- after the mark come the lines
 pub source_of_lines : (b : Bool) (page rest : List ℕ) → page ≡ mark_of b ++ rest → without_mark (numbered 0 page) ≡ numbered (start_of b) rest → with_lines (record { placed = []; end = start_of b }) rest ≡ source_of page
 source_of_lines b page rest e places =
     same_source _ _ _ _ (ap (λ (s : List PlacedByte). returns_replaced (pairs_joined s)) (sym places)) (sym (length_marked b page rest e))

@@ -1,4 +1,5 @@
--- The places that a text keeps: a byte behind the others stands in the page behind theirs, and the pairs before an index give its place.
+-- The places that a text keeps: a later byte of the text stands later in the page too, and the pairs before an index
+-- give its place.
 use Rattle.std.proofs.Common.{◌≡◌, ℕ, zero, suc, ◌+◌, ◌<◌, ◌≤◌, Bool, true, false, cond, List, [], ◌∷◌, ◌++◌, length, map, refl, sym, ap, ◌∙◌, arith, add-zero, zero-add, length-append, ⊎_elim}
 use Rattle.std.specs.List.{All, AllPairs, AllWithin, count_by}
 use Rattle.std.specs.List.Sorted.{IsPartitionedBy}
@@ -17,7 +18,7 @@ use Rattle.hm_base.specs.Places.{IsSourceText, is_below, place_at, placed_from, 
 abbrev pub placed_at : ℕ → ℕ → PlacedByte
 placed_at byte place = record { byte = byte; place = place }
 
--- every pair is below an index behind them all
+-- every pair is below an index after them all
 pub count_all : (n i : ℕ) (pairs : List ℕ) → All (λ j. j < n) pairs → n ≤ i → count_by (is_below i) pairs ≡ length pairs
 count_all n i [] h l = refl
 count_all n i (j ∷ pairs) h l =
@@ -38,7 +39,7 @@ placed_from-append start i pairs (c ∷ t) u =
     let next : i + suc (length t) ≡ i + 1 + length t = omega arith in
     rw next (ap (λ r. placed_at c (place_at start pairs i) ∷ r) (placed_from-append start (i + 1) pairs t u))
 
--- behind every pair the places go up by one
+-- after every pair the places go up by one
 pub placed_from-behind : (start n i : ℕ) (pairs u : List ℕ) → All (λ j. j < n) pairs → n ≤ i → placed_from start pairs i u ≡ numbered (start + i + length pairs) u
 placed_from-behind start n i pairs [] h l = refl
 placed_from-behind start n i pairs (c ∷ u) h l =
@@ -57,7 +58,7 @@ source_at placed end = record { placed = placed; end = end }
 pub same_source : (p q : List PlacedByte) (m n : ℕ) → p ≡ q → m ≡ n → source_at p m ≡ source_at q n
 same_source p q m n e f = ap (λ r. source_at r m) e ∙ ap (source_at q) f
 
--- bytes behind a text
+-- bytes after a text
 pub source_from-append : (start : ℕ) (pairs text s : List ℕ) → All (λ j. j < length text) pairs → source_from start pairs (text ++ s) ≡ with_bytes (source_from start pairs text) s
 unfolding source_from
 source_from-append start pairs text s inside =
@@ -65,7 +66,7 @@ source_from-append start pairs text s inside =
     same_source _ _ _ _ (placed_from-append start 0 pairs text s ∙ ap (λ r. placed_from start pairs 0 text ++ r) (placed_from-behind start (length text) (0 + length text) pairs s inside (omega arith) ∙ ap (λ n. numbered n s) place))
     (omega (arith, length-append text s))
 
--- a pair behind a text
+-- a pair after a text
 pub source_from_pair : (start : ℕ) (pairs text : List ℕ) → All (λ j. j < length text) pairs → source_from start (pairs ++ length text ∷ []) (text ++ 10 ∷ []) ≡ with_pair (source_from start pairs text)
 unfolding source_from
 source_from_pair start pairs text inside =
@@ -78,7 +79,7 @@ pub source_from-end : (start : ℕ) (pairs text : List ℕ) → (source_from sta
 unfolding source_from
 source_from-end start pairs text = refl
 
--- what a text keeps when bytes or a pair come behind it
+-- what stays true of a text when bytes or a pair are appended
 pub IsSourceText-append : (start : ℕ) (pairs text s : List ℕ) → IsSourceText start pairs text → all_pass is_text_byte s ≡ true → (source_from start pairs text).end + length s ≤ OUTPUT_LIMIT → IsSourceText start pairs (text ++ s)
 IsSourceText-append start pairs text s kept plain room = record {
   rising = kept.rising;
@@ -123,7 +124,7 @@ pub source_from-length : (start : ℕ) (pairs text : List ℕ) → length (sourc
 unfolding source_from
 source_from-length start pairs text = length-placed_from start 0 pairs text
 
--- at an index of the text or behind it, the place is what the pairs below it say
+-- at an index of the text or after it, the place is what the pairs below it say
 pub source_from-place : (start i : ℕ) (pairs text : List ℕ) → All (λ j. j < length text) pairs → i ≤ length text → place_at start pairs i ≡ place_in (source_from start pairs text).placed (source_from start pairs text).end i
 unfolding source_from
 source_from-place start i pairs text inside l =

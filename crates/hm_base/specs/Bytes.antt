@@ -1,4 +1,4 @@
--- Words on texts as lists of bytes: tests of a byte, fronts that pass a test, prefixes, cuts at a mark.
+-- Terms for texts as lists of bytes: tests of a byte, prefixes that pass a test or are given, cuts at a mark.
 use Rattle.std.specs.Prelude.{ℕ, ◌+◌, Bool, true, false, ◌&&◌, ◌||◌, ◌==◌, nat_le, nat_lt, List, [], ◌∷◌, Option, Some, None, if◌then◌else◌}
 use Rattle.std.specs.Char.{digit_value}
 
@@ -26,16 +26,16 @@ is_hex c = is_digit_of 16 c
 unfoldable pub is_alnum : ℕ → Bool
 is_alnum c = is_letter c || is_digit c
 
--- an ASCII capital as its small letter, every other byte as it is
+-- an ASCII uppercase letter as its lowercase letter, every other byte as it is
 unfoldable pub lower : ℕ → ℕ
 lower c = if nat_le 65 c && nat_le c 90 then c + 32 else c
 
--- the longest front whose bytes pass
+-- the longest prefix whose bytes pass
 abbrev pub front : (ℕ → Bool) → List ℕ → List ℕ
 front p [] = []
 front p (c ∷ s) = if p c then c ∷ front p s else []
 
--- what stands behind that front
+-- what follows that prefix
 abbrev pub behind : (ℕ → Bool) → List ℕ → List ℕ
 behind p [] = []
 behind p (c ∷ s) = if p c then behind p s else c ∷ s
@@ -50,12 +50,12 @@ abbrev pub some_passes : (ℕ → Bool) → List ℕ → Bool
 some_passes p [] = false
 some_passes p (c ∷ s) = p c || some_passes p s
 
--- the first byte is there and passes
+-- there is a first byte, and it passes
 abbrev pub head_is : (ℕ → Bool) → List ℕ → Bool
 head_is p [] = false
 head_is p (c ∷ s) = p c
 
--- no byte is there
+-- there is no byte
 abbrev pub is_null : List ℕ → Bool
 is_null [] = true
 is_null (c ∷ s) = false
@@ -66,13 +66,13 @@ strip [] s = Some s
 strip (c ∷ p) [] = None
 strip (c ∷ p) (d ∷ s) = if c == d then strip p s else None
 
--- what follows a word of small letters, where the text begins with it in any ASCII case
+-- what follows a word of lowercase letters, where the text begins with it in any ASCII case
 abbrev pub strip_word : List ℕ → List ℕ → Option (List ℕ)
 strip_word [] s = Some s
 strip_word (c ∷ p) [] = None
 strip_word (c ∷ p) (d ∷ s) = if c == lower d then strip_word p s else None
 
--- what stands before a mark and what stands behind it
+-- what comes before a mark, and what follows it
 pub record Cut : Type 0 where
   pub before : List ℕ
   pub behind : List ℕ

@@ -10,7 +10,7 @@ pub record HasText (limit : ℕ) (page : List ℕ) : Type 0 where
   pub short : length page ≤ limit
   pub sound : text_fault page ≡ None
 
--- what is true of a page that is refused so, and of no page that is refused otherwise
+-- what is true of a page with this fault, and of no page with another
 abbrev pub IsRefusedBy : TextFault → ℕ → List ℕ → Type 0
 IsRefusedBy TooLong limit page = limit < length page
 IsRefusedBy (NotUtf8 at) limit page = (length page ≤ limit) × (text_fault page ≡ Some (refusal_at rules.NotUtf8 at))

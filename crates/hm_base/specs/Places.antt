@@ -1,10 +1,11 @@
--- How a text that was read knows the places of its bytes: where it starts in the page, and which of its line feeds were pairs of CR and LF.
+-- How a text that was read knows the places of its bytes: where it starts in the page, and which of its line feeds were
+-- pairs of CR and LF.
 use Rattle.std.specs.Prelude.{ℕ, ◌≡◌, ◌+◌, ◌<◌, ◌≤◌, Bool, true, not, ◌==◌, List, [], ◌∷◌, ◌++◌, length, nat_lt, All, AllPairs, count_by, if◌then◌else◌}
 use Rattle.hm_base.specs.Bytes.{all_pass}
 use Rattle.hm_base.specs.Source.{PlacedByte, Source, numbered, pairs_joined, returns_replaced, is_text_byte}
 use Rattle.hm_base.specs.declared.limits.TheConstants.{OUTPUT_LIMIT}
 
--- a text starts behind the mark, where there is one
+-- a text starts after the byte order mark, where there is one
 abbrev pub start_of : Bool → ℕ
 start_of has_mark = if has_mark then 3 else 0
 
@@ -29,21 +30,21 @@ mark_of has_mark = if has_mark then 0xEF ∷ 0xBB ∷ 0xBF ∷ [] else []
 abbrev pub is_nonzero : ℕ → Bool
 is_nonzero c = not (c == 0)
 
--- what is true of each text that was read, or of a front of one
+-- what is true of each text that was read, or of a prefix of one
 pub record IsSourceText (start : ℕ) (pairs text : List ℕ) : Type 0 where
   pub rising : AllPairs (λ i j. i < j) pairs
   pub inside : All (λ j. j < length text) pairs
   pub short : start + length text + length pairs ≤ OUTPUT_LIMIT
   pub plain : all_pass is_text_byte text ≡ true
 
--- a source, and behind it bytes that stand in the page as they are
+-- a source, and after it bytes that stand in the page as they are
 abbrev pub with_bytes : Source → List ℕ → Source
 with_bytes source s = record { placed = source.placed ++ numbered source.end s; end = source.end + length s }
 
--- a source, and behind it a pair of CR and LF as one LF
+-- a source, and after it a pair of CR and LF as one LF
 abbrev pub with_pair : Source → Source
 with_pair source = record { placed = source.placed ++ record { byte = 10; place = source.end } ∷ []; end = source.end + 2 }
 
--- a source, and behind it what is left of a page, with its line ends as LF
+-- a source, and after it what is left of a page, with its line ends as LF
 abbrev pub with_lines : Source → List ℕ → Source
 with_lines source s = record { placed = source.placed ++ returns_replaced (pairs_joined (numbered source.end s)); end = source.end + length s }

@@ -19,17 +19,17 @@ is_found_whole (Some rest) = head_is is_name_end rest
 unfoldable pub begins_end_tag : List ℕ → List ℕ → Bool
 begins_end_tag name s = is_found_whole (strip_word (60 ∷ 47 ∷ name) s)
 
--- the least place whose rest passes; the first byte of the text has the place i
+-- the first place whose rest passes; the first byte of the text has the place i
 abbrev pub place_from : (List ℕ → Bool) → ℕ → List ℕ → Option ℕ
 place_from passes i [] = None
 place_from passes i (c ∷ s) = if passes (c ∷ s) then Some i else place_from passes (suc i) s
 
--- Where a raw text, or the text of title and textarea, ends (13.2.5.9 to 13.2.5.14): the least place of an end tag
--- with the element's name.
+-- Where a raw text, or the text of title and textarea, ends (#rcdata-less-than-sign-state to
+-- #rawtext-end-tag-name-state): the first place of an end tag with the element's name.
 abbrev pub raw_end : List ℕ → List ℕ → Option ℕ
 raw_end name s = place_from (begins_end_tag name) 0 s
 
--- what a script's text is read by: `<!--`, `-->`, `<script` and `</script`
+-- the marks by which a script's text is read: `<!--`, `-->`, `<script` and `</script`
 pub data Mark : Type 0 where
   opens_comment : Mark
   closes_comment : Mark
@@ -58,13 +58,14 @@ abbrev pub marks_from : ℕ → List ℕ → List Marked
 marks_from i [] = []
 marks_from i (c ∷ s) = with_mark (mark_at (c ∷ s)) i (marks_from (suc i) s)
 
--- How a script's text is read (13.2.5.4 and 13.2.5.15 to 13.2.5.31): as it is, in a comment, in a script in a comment.
+-- How a script's text is read (#script-data-state and #script-data-less-than-sign-state to
+-- #script-data-double-escape-end-state): as it is, in a comment, in a script in a comment.
 pub data ScriptState : Type 0 where
   unescaped : ScriptState
   escaped : ScriptState
   double_escaped : ScriptState
 
--- the state behind a mark
+-- the state after a mark
 abbrev pub state_behind : ScriptState → Mark → ScriptState
 state_behind unescaped opens_comment = escaped
 state_behind escaped closes_comment = unescaped
@@ -84,6 +85,6 @@ abbrev pub first_end : ScriptState → List Marked → Option ℕ
 first_end state [] = None
 first_end state (k ∷ ks) = if ends_script state k.mark then Some k.place else first_end (state_behind state k.mark) ks
 
--- Where a script's text ends: the least place of `</script` that doesn't close a script in a comment.
+-- Where a script's text ends: the first place of `</script` that doesn't close a script in a comment.
 abbrev pub script_end : List ℕ → Option ℕ
 script_end s = first_end unescaped (marks_from 0 s)

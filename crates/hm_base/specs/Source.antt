@@ -1,4 +1,5 @@
--- The text of a page (HTML Standard, 13.2.3): its bytes without a mark, each line end as one LF, each byte with its place.
+-- The text of a page (HTML Standard, #the-input-byte-stream): its bytes without a byte order mark, each line end as one
+-- LF, each byte with its place.
 use Rattle.std.specs.Prelude.{ℕ, zero, suc, ◌+◌, Bool, not, ◌&&◌, ◌==◌, nat_lt, List, [], ◌∷◌, length, map, Option, Some, None, if◌then◌else◌}
 use Rattle.hm_base.specs.declared.rules.Rule.{Rule}
 use Rattle.hm_base.specs.declared.rules.Rule.TheVariants.{NotUtf8, Nul}
@@ -47,7 +48,7 @@ text_of page = map byte_of (placed_text page)
 abbrev pub is_text_byte : ℕ → Bool
 is_text_byte c = not (c == 0) && not (c == 13)
 
--- the place of the byte at an index; behind the last one it is the page's length
+-- the place of the byte at an index; after the last byte it is the page's length
 abbrev pub place_in : List PlacedByte → ℕ → ℕ → ℕ
 place_in [] end i = end
 place_in (a ∷ s) end zero = a.place
@@ -70,7 +71,7 @@ pub record Refusal : Type 0 where
 abbrev pub refusal_at : Rule → ℕ → Refusal
 refusal_at rule at = record { rule = rule; at = at }
 
--- of two refusals that of the lesser place
+-- of two refusals the earlier one
 abbrev pub earlier : Option ℕ → Option ℕ → Option Refusal
 earlier None None = None
 earlier (Some bad) None = Some (refusal_at NotUtf8 bad)

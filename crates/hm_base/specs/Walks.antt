@@ -26,7 +26,7 @@ same_flag false b = not b
 abbrev pub is_same_element : Element → List ℕ → Bool → Bool
 is_same_element e n foreign = bytes_eq e.name n && same_flag e.foreign foreign
 
--- the open elements behind an event, innermost first
+-- the open elements after an event, innermost first
 abbrev pub path_behind : List Element → Event → List Element
 path_behind path (doctype legacy) = path
 path_behind path (start n foreign attributes) = record { name = n; foreign = foreign } ∷ path
@@ -35,7 +35,7 @@ path_behind path (comment s) = path
 path_behind [] (end n foreign) = []
 path_behind (e ∷ path) (end n foreign) = path
 
--- the open elements behind a list of events
+-- the open elements after a list of events
 abbrev pub path_after : List Element → List Event → List Element
 path_after path [] = path
 path_after path (e ∷ w) = path_after (path_behind path e) w
@@ -76,19 +76,19 @@ abbrev pub walk_size : List Event → ℕ
 walk_size [] = 0
 walk_size (e ∷ w) = event_size e + walk_size w
 
--- a text put behind what is there: it joins a text that stands last, and an empty one adds nothing
+-- a text appended to what is there: it joins a text that stands last, and an empty one adds nothing
 abbrev pub with_text : List Event → List ℕ → Bool → List Event
 with_text w [] raw = w
 with_text [] (c ∷ s) raw = text (c ∷ s) raw ∷ []
 with_text (text t last_raw ∷ []) (c ∷ s) raw = text (t ++ c ∷ s) last_raw ∷ []
 with_text (e ∷ w) (c ∷ s) raw = e ∷ with_text w (c ∷ s) raw
 
--- a text put in front of what follows: it joins a text that stands first
+-- a text put before what follows: it joins a text that stands first
 abbrev pub text_before : List ℕ → Bool → List Event → List Event
 text_before s raw (text t next_raw ∷ w) = text (s ++ t) raw ∷ w
 text_before s raw w = text s raw ∷ w
 
--- an event put in front of what follows
+-- an event put before what follows
 abbrev pub pushed : Event → List Event → List Event
 pushed (text s raw) w = text_before s raw w
 pushed (doctype legacy) w = doctype legacy ∷ w
@@ -96,7 +96,7 @@ pushed (start n foreign attributes) w = start n foreign attributes ∷ w
 pushed (comment s) w = comment s ∷ w
 pushed (end n foreign) w = end n foreign ∷ w
 
--- events put in front of what follows, texts that touch joined
+-- events put before what follows, texts that touch joined
 abbrev pub pushes : List Event → List Event → List Event
 pushes [] w = w
 pushes (e ∷ es) w = pushed e (pushes es w)

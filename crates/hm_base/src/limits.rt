@@ -6,7 +6,7 @@ pub const PAGE_LIMIT: u32 = 16_777_216;
 /// The most bytes of a table of named character references.
 pub const TABLE_LIMIT: u32 = 1_048_576;
 
-/// The most bytes of an output that is checked. No longer text is read, whatever its limit.
+/// The most bytes of an output that is checked. No text longer than this is read, whatever limit is asked for.
 pub const OUTPUT_LIMIT: u32 = 67_108_864;
 
 /// The most bytes of a certificate that is checked.

@@ -6,7 +6,7 @@ use std::alloc::{AllocError, AllocFailed};
 use std::convert::AsStr;
 use std::marker::Model;
 
-/// Memory was refused: the error of each call whose only refusal is want of memory.
+/// Memory was refused: the error of each call that fails only for lack of memory.
 #[derive(Clone, Copy, Debug, PartialEq, Eq)]
 pub struct Memory;
 
@@ -22,7 +22,7 @@ impl<T: Drop> From<AllocFailed<T>> for Memory {
     }
 }
 
-/// A text of its own. Contracts see it as the list of its bytes.
+/// An owned text. Contracts see it as the list of its bytes.
 #[derive(Debug, Drop)]
 pub struct Word {
     pub text: String,

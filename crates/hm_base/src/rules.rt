@@ -4,7 +4,7 @@ ghost use Rattle.hm_base.specs.Rules.{number_of, name_of};
 
 /// Why a page is refused.
 ///
-/// The rules of tokens are of the HTML Standard, 13.2.5, those of nesting of 13.2.6.
+/// The rules of tokens follow the HTML Standard (#tokenization), and so do those of nesting (#tree-construction).
 #[derive(Clone, Copy, Debug, PartialEq, Eq)]
 pub enum Rule {
     /// The page has more bytes than its limit.
@@ -23,11 +23,11 @@ pub enum Rule {
     BadDoctype,
     /// Anything but whitespace and comments before the doctype, or the end.
     NoDoctype,
-    /// A doctype later.
+    /// A doctype in a later place.
     SecondDoctype,
     /// An element that isn't read.
     RefusedName,
-    /// An `html`, `head` or `body` start tag out of its turn.
+    /// An `html`, `head` or `body` start tag out of order.
     SecondRoot,
     /// An end tag with no open element of its name.
     StrayEnd,
@@ -43,7 +43,7 @@ pub enum Rule {
     TextHere,
     /// Metadata between `</head>` and body.
     AfterHead,
-    /// Content behind `</body>` or `</html>`.
+    /// Content after `</body>` or `</html>`.
     AfterBody,
     /// An element is open at the end whose end isn't implied.
     Unclosed,
@@ -115,7 +115,7 @@ impl Rule {
     }
 }
 
-/// A page is refused, with its rule and its place in bytes of the page, or memory for reading it is.
+/// A page is refused, with the rule and its place in bytes of the page; or memory for reading it is refused.
 #[derive(Clone, Copy, Debug, PartialEq, Eq)]
 pub enum Refused {
     Page { rule: Rule, at: u32 },

@@ -40,7 +40,7 @@ impl From<Memory> for TextFault {
     }
 }
 
-/// The text of a page (HTML Standard, 13.2.3): without a leading U+FEFF, its line ends LF alone.
+/// The text of a page (HTML Standard, #the-input-byte-stream): without a leading U+FEFF, each of its line ends one LF.
 ///
 /// Contracts see its bytes, each with its place in the page, and the page's length.
 #[derive(Debug, Drop)]
@@ -66,8 +66,8 @@ impl Model for SourceText {
 impl SourceText {
     /// The text of the bytes of a page. Places count bytes of the page as it is.
     ///
-    /// The fault is `TooLong` where there are more bytes than `limit`, else that of the lesser
-    /// place. `Memory` comes only where the page has a text.
+    /// The fault is `TooLong` where there are more bytes than `limit`, else the earlier fault is reported. `Memory`
+    /// comes only where the page has a text.
     pub fn read(alloc: Global, bytes: &[u8], limit: u32) -> Result<SourceText, TextFault>
         requires { limit ≤ OUTPUT_LIMIT }
         ensures read { IfOk result (λ text. text ≡ source_of bytes.now) }
@@ -79,7 +79,7 @@ impl SourceText {
         Ok(text)
     }
 
-    /// What `read` gives, from bytes that are taken over: where the text is the page as it stands, without a mark and
+    /// What `read` gives, from owned bytes. Where the text is the page as it stands, without a byte order mark and
     /// without CR, nothing is copied.
     pub fn take(alloc: Global, bytes: Vec<u8>, limit: u32) -> Result<SourceText, TextFault>
         requires { limit ≤ OUTPUT_LIMIT }
@@ -122,10 +122,10 @@ impl SourceText {
         start_of(self.has_mark) + index + before as u32
     }
 
-    /// Gives the memory back.
+    /// Frees the memory.
     ///
-    /// The C library's allocator takes every block up to the size of the largest that was given back to it whole from its heap
-    /// from then on, where a long list can't grow in place. So a long text is cut short where it stands, and then let go.
+    /// Once a large block was freed whole, the C library's allocator takes every block up to that size from its heap,
+    /// where a long list can't grow in place. So a long text is first cut short in place, and then freed.
     pub fn release(self) {
         let mut text = self.text;
         text.clear();
@@ -200,7 +200,8 @@ fn start_of(has_mark: bool) -> u32
     if has_mark { 3 } else { 0 }
 }
 
-// Whether a page without zero bytes is its own text: no line end in it has to be changed, and its front can't be a mark.
+// Whether a page without zero bytes is its own text: no line end in it has to be changed, and it can't begin with a
+// byte order mark.
 fn is_own_text(page: &[u8]) -> bool
     ensures unmarked { result ≡ true → without_mark (numbered 0 page.now) ≡ numbered 0 page.now }
     ensures plain { result ≡ true → all_pass is_nonzero page.now ≡ true → all_pass is_text_byte page.now ≡ true }
@@ -214,7 +215,7 @@ fn is_own_text(page: &[u8]) -> bool
     }
 }
 
-// Whether the page begins with the mark U+FEFF, and what is left of it.
+// Whether the page begins with the byte order mark U+FEFF, and what is left of the page.
 fn without_mark(page: &str) -> (bool, &str)
     ensures whole { page.now ≡ mark_of result.0 ++ result.1.now }
     ensures places { without_mark (numbered 0 page.now) ≡ numbered (start_of result.0) result.1.now }

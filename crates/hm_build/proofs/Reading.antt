@@ -11,7 +11,7 @@ use Rattle.hm_construction.specs.Trees.{Outcome, built, refused_by, after_events
 use Rattle.hm_builder.specs.Building.{grown}
 use Rattle.hm_builder.proofs.Events.{grown_pushes}
 
--- the bytes to pass over are passed over
+-- the bytes to skip are skipped
 skipped : (t : List Entry) (place : ℕ → ℕ) (k at : ℕ) (st : Construction) (s : List ℕ) → k ≤ length s → tree_from t place k at st s ≡ tree_from t place 0 (at + k) st (drop k s)
 skipped t place zero at st [] h = ap (λ i. tree_from t place 0 i st []) (omega arith)
 skipped t place zero at st (c ∷ s) h = ap (λ i. tree_from t place 0 i st (c ∷ s)) (omega arith)
@@ -23,7 +23,7 @@ skipped t place (suc k) at st (c ∷ s) h =
     let more : tree_from t place k (at + 1) st s ≡ tree_from t place 0 (at + 1 + k) st (drop k s) = skipped t place k (at + 1) st s (omega arith) in
     more ∙ ap (λ i. tree_from t place 0 i st (drop k s)) (omega arith)
 
--- behind a token of so many bytes, or what it follows, the tree goes on
+-- the tree goes on after a token, which ends at `to`, and after the n bytes before it that stand for nothing
 pub goes_on : (t : List Entry) (place : ℕ → ℕ) (at n to : ℕ) (st : Construction) (token : Seen) (s : List ℕ) → at < to → to ≤ at + length s
     → first t (mode_of st.path) s ≡ behind_bytes n (taken token (drop (to - at) s))
     → tree_from t place 0 at st s ≡ stepped place (at + n) (step st token) (λ next. tree_from t place 0 to next (drop (to - at) s))
@@ -68,7 +68,7 @@ pub is_faulty : (t : List Entry) (place : ℕ → ℕ) (at n : ℕ) (st : Constr
 is_faulty t place at n st fault [] e = absurd (no_fault t (mode_of st.path) n fault e)
 is_faulty t place at n st fault (c ∷ s) e = rw e refl
 
--- events behind a walk
+-- events after a walk
 pub after_grown : (w es : List Event) (o : Outcome) → after_events (grown w es) o ≡ after_events w (after_events es o)
 after_grown w es (built v) = ap built (grown_pushes w es v)
 after_grown w es (refused_by rule at) = refl

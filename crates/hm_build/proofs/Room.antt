@@ -83,7 +83,7 @@ few_bytes (slice s) count a b = omega arith
 few_bytes (points ps) count a b = omega arith
 few_bytes (comment_token s) count a b = omega arith
 
--- the events of a step behind the walk, none joined
+-- the events of a step after the walk, none joined
 went_within : (read count a b m : ℕ) (w es : List Event) (st next : Construction) → IsWithin read w st → a ≤ 3 * count → b ≤ 6 * count → Within (load st + a) (load_size st + b) m (went es next)
     → (weight (w ++ es) + load next ≤ 3 * (read + count) + 13) × (walk_size (w ++ es) + load_size next ≤ 6 * (read + count) + 12)
 went_within read count a b m w es st next in_it h k x =

@@ -97,7 +97,7 @@ token_fits r b m token new s names p e k t short =
     subst (λ x. Fits (step b.state (seen x token.token)) b.walk) t
     (step_fits r.at c.count (length (text_of r)) b.walk b.state (seen (text_of r) token.token) p.within c.size c.least (omega arith) (subst (λ x. 6 * length x + 13 < 2 ^ 29) (sym t) short))
 
--- the tree goes on behind the token
+-- the tree goes on after the token
 steps_on : (r : Reading) (b : Building) (token : Spanned) (new : Reading) → IsParsing r b → (k : IsTaken r (mode_of b.state.path) token new)
     → tree_of r ≡ after_events b.walk (stepped (place_of r.source) token.from (step b.state (seen (text_of r) token.token)) (λ next. tree_from r.names (place_of r.source) 0 token.to next (drop token.to (text_of r))))
 steps_on r b token new p k =

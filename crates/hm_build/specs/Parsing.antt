@@ -15,12 +15,12 @@ use Rattle.hm_builder.specs.declared.fault.BuildFault.{BuildFault}
 use Rattle.hm_builder.specs.declared.fault.BuildFault.TheVariants as faults
 use Rattle.hm_construction.specs.Weights.{weight, load, load_size}
 
--- why there is no tree; want of memory has no cause in the page
+-- why there is no tree; lack of memory has no cause in the page
 abbrev pub IsRefusedAs : Outcome → Refused → Type 0
 IsRefusedAs outcome (answers.Page rule at) = outcome ≡ refused_by rule at
 IsRefusedAs outcome answers.Memory = Unit {0}
 
--- what was built of so many bytes of a text
+-- what was built of the first `read` bytes of a text
 pub record IsWithin (read : ℕ) (w : List Event) (st : Construction) : Type 0 where
   pub events : weight w + load st ≤ 3 * read + 13
   pub bytes : walk_size w + load_size st ≤ 6 * read + 12
@@ -60,7 +60,7 @@ pub record IsFurther (old new : Reading) : Type 0 where
   pub forward : old.at < new.at
   pub inside : new.at ≤ length (text_of new)
 
--- what a fault is answered as, and how far behind its token's first byte it is
+-- the refusal that a fault gives, and how far after its token's first byte it is
 abbrev pub answer_of : BuildFault → ℕ → Refused
 answer_of (faults.Rule rule behind) at = answers.Page rule at
 answer_of faults.Memory at = answers.Memory

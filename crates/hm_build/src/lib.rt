@@ -1,4 +1,4 @@
-//! The tree of a page (HTML Standard, 13.2), or its first refusal.
+//! The tree of a page (HTML Standard, #parsing), or its first refusal.
 #![tactic(auto)]
 
 mod page;

@@ -14,7 +14,7 @@ use hm_refs::laws::every_table;
 use hm_tree::{Tag, Tree};
 use std::alloc::Global;
 
-/// What a fault is answered as, of a token that begins at byte `at` of the text.
+/// The refusal that a fault gives, for a token that begins at byte `at` of the text.
 fn refusal(text: &SourceText, fault: BuildFault, at: u32) -> Refused
     requires { at + span_of fault ≤ length text.now.placed }
     ensures { result ≡ answer_of fault (place_of text.now (at + span_of fault)) }
@@ -98,7 +98,7 @@ fn finish<'a>(
     }
 }
 
-/// The tree of a page (13.2.6), or its first refusal, with its rule and its byte of the page.
+/// The tree of a page (#tree-construction), or its first refusal, with its rule and its byte of the page.
 ///
 /// The time is linear in the page, and the tree is settled: it keeps the rules of
 /// nesting and text of a page without repairs.

@@ -13,7 +13,7 @@ use hm_lexer::{Mode, RawName, RcdataName};
 use hm_tree::{Lexeme, Tag};
 use std::alloc::Global;
 
-/// How the text in an HTML element of this name is read (13.2.6.2 and 13.2.6.4).
+/// How the text in an HTML element of this name is read (#parsing-elements-that-contain-only-text and #parsing-main-inhtml).
 #[tactic(auto, unfolding(hm_elements::specs::Tables::is_rcdata, hm_elements::specs::Tables::is_raw, hm_elements::specs::Tables::rcdata_names, hm_elements::specs::Tables::raw_names, hm_elements::specs::Names::is_among))]
 fn mode_of_name(name: &str) -> Mode
     ensures { mode_of result ≡ trees.mode_of_name name.now }

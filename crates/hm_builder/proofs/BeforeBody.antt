@@ -26,7 +26,7 @@ use Rattle.hm_builder.proofs.Others.{any_done}
 use Rattle.hm_builder.proofs.Texts.{behind_nothing}
 use Rattle.hm_builder.proofs.Unbegun.{unbegun_fresh, at_its_mode, kept_at}
 
--- ---- A step behind events that were put behind the walk
+-- ---- A step after events that were appended to the walk
 
 pub done_then : (es : List Event) (s : Stepped) (old mid new : Parts) → mid.maker ≡ old.maker ++ es → IsDone s mid new → IsDone (behind_events es s) old new
 unfolding grown

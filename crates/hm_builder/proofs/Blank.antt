@@ -1,4 +1,4 @@
--- Whether a text is whitespace alone, by the innermost element of the body.
+-- Whether a text is only whitespace, by the innermost element of the body.
 use Rattle.std.proofs.Common.{◌≡◌, true, false, List, [], ◌∷◌, refl}
 use Rattle.hm_base.specs.Walks.{Element}
 use Rattle.hm_elements.specs.Names.{is_among}

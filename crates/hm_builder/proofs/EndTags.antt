@@ -238,7 +238,7 @@ step_end_text n st h = by (is_in_text st.path) h
     by true k = refl
     by false k = absurd (cc)
 
--- the step behind the tests of a text
+-- the step after the tests of a text
 abbrev end_no_text : List ℕ → Construction → Stepped
 end_no_text n st = cond (steps.is_outside st.insertion_mode) (steps.end_outside st.insertion_mode n st) (cond (is_in_svg st.path || steps.is_in_noscript st.insertion_mode st.path) (end_current n st st.path) (steps.html_end n st))
 

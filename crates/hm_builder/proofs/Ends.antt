@@ -1,4 +1,4 @@
--- The ends of the innermost elements, put behind a walk one by one.
+-- The ends of the innermost elements, appended to a walk one by one.
 use Rattle.std.proofs.Common.{◌≡◌, ℕ, ◌+◌, ◌<◌, ◌≤◌, List, [], ◌∷◌, ◌++◌, map, length, take, drop, sym, ap, ◌∙◌, refl, arith, append-nil, append_assoc, length-drop, add-one, drop-cons, get_or, false}
 use Rattle.std.proofs.lemmas.List.{take_more, map-append}
 use Rattle.hm_base.specs.Walks.{Event, Element, path_behind, path_after}
@@ -6,7 +6,7 @@ use Rattle.hm_construction.specs.Steps.{end_event}
 use Rattle.hm_tree.specs.Trees.{end_of}
 use Rattle.hm_tree.proofs.WalkLemmas.{path_after-push}
 
--- so many elements have ended
+-- `count` elements have ended
 pub record EndsSoFar (w : List Event) (path : List Element) (count : ℕ) (now : List Event) : Type 0 where
   pub walk : now ≡ w ++ map end_event (take count path)
   pub open_still : path_after [] now ≡ drop count path

@@ -1,4 +1,4 @@
--- Events put behind a walk.
+-- Events appended to a walk.
 use Rattle.std.proofs.Common.{◌≡◌, ℕ, ◌+◌, ◌≤◌, Bool, true, false, not, List, [], ◌∷◌, ◌++◌, length, sym, ap, subst, ◌∙◌, refl, arith, length-append, append_assoc, append-nil}
 use Rattle.std.proofs.lemmas.Bool.{and_parts}
 use Rattle.hm_base.specs.Walks.{Event, doctype, start, text, comment, end, Element, path_behind, path_after, walk_size, with_text, text_before, pushed, pushes, begins_text}
@@ -26,7 +26,7 @@ closes path (comment s ∷ w) = omega (arith, closes path w)
 closes [] (end n foreign ∷ w) = omega arith
 closes (e ∷ path) (end n foreign ∷ w) = omega (arith, closes path w)
 
--- a front of events with room has room
+-- a prefix of events that have room has room
 pub HasRoom-front : (w v : List Event) → HasRoom (w ++ v) → HasRoom w
 HasRoom-front w v room = record {
   events = omega (arith, room.events, length-append w v, closes (path_after [] w) v, ap length (path_after-append [] w v));
@@ -59,7 +59,7 @@ pushed_pushes (text s raw) u v = text_pushes s raw u v
 pushed_pushes (comment s) u v = refl
 pushed_pushes (end n foreign) u v = refl
 
--- joined events join in front of what follows as they did before
+-- joined events join what follows as they would one by one
 pub pushes_pushes : (u v w : List Event) → pushes (pushes u v) w ≡ pushes u (pushes v w)
 pushes_pushes [] v w = refl
 pushes_pushes (e ∷ u) v w = pushed_pushes e (pushes u v) w ∙ ap (λ x. pushed e x) (pushes_pushes u v w)
@@ -68,7 +68,7 @@ pub pushes-append : (u v w : List Event) → pushes (u ++ v) w ≡ pushes u (pus
 pushes-append [] v w = refl
 pushes-append (e ∷ u) v w = ap (λ x. pushed e x) (pushes-append u v w)
 
--- what follows is put behind a grown walk as behind the walk and its events
+-- what follows is appended to a grown walk as to the walk and its events
 pub grown_pushes : (w es v : List Event) → pushes (grown w es) v ≡ pushes w (pushes es v)
 unfolding grown
 grown_pushes w es v = pushes_pushes (w ++ es) [] v ∙ pushes-append w es v
@@ -145,7 +145,7 @@ no_text_pushes (text s raw ∷ es) h = absurd (cc)
 no_text_pushes (comment s ∷ es) h = ap (λ x. comment s ∷ x) (no_text_pushes es h)
 no_text_pushes (end n foreign ∷ es) h = ap (λ x. end n foreign ∷ x) (no_text_pushes es h)
 
--- events without a text are put behind a walk as they are
+-- events without a text are appended to a walk as they are
 pub grown_tags : (w es : List Event) → is_apart w ≡ true → has_no_text es ≡ true → grown w es ≡ w ++ es
 unfolding grown
 grown_tags w es h k = pushes-append w es [] ∙ ap (pushes w) (no_text_pushes es k) ∙ pushes_tags w es h (no_text_begins es k)
@@ -188,7 +188,7 @@ pub grown_is : (w es : List Event) → grown w es ≡ pushes w (pushes es [])
 unfolding grown
 grown_is w es = pushes-append w es []
 
--- a text is put behind a walk byte by byte or as a whole
+-- a text is appended to a walk byte by byte or as a whole
 pub grown_text : (w : List Event) (s : List ℕ) (raw : Bool) → is_apart w ≡ true → grown w (each_byte s raw) ≡ with_text w s raw
 grown_text w [] raw h = grown_nothing w h
 grown_text w (c ∷ s) raw h = grown_is w (each_byte (c ∷ s) raw) ∙ ap (pushes w) (one_text c s raw) ∙ pushes_text w c s raw h
@@ -209,7 +209,7 @@ last_tags w e (f ∷ es) raw h =
     let parts : (not (is_text e) ≡ true) × (has_no_text (f ∷ es) ≡ true) = and_parts (not (is_text e)) (has_no_text (f ∷ es)) h in
     ap (λ v. last_agrees v raw) (sym (append_assoc w (e ∷ []) (f ∷ es))) ∙ last_tags (w ++ e ∷ []) f es raw parts.1
 
--- the walk behind tags, comments and a doctype
+-- the walk after tags, comments and a doctype
 pub walk_tags : (w : List Event) (path : List Element) (e : Event) (es : List Event) (after : List Element) → IsWalkTo w path → has_no_text (e ∷ es) ≡ true → path_after path (e ∷ es) ≡ after → IsWalkTo (w ++ e ∷ es) after
 walk_tags w path e es after walk tags leads = record {
   leads = path_after-append [] w (e ∷ es) ∙ ap (λ p. path_after p (e ∷ es)) walk.leads ∙ leads;
@@ -217,7 +217,7 @@ walk_tags w path e es after walk tags leads = record {
   apart = sym (ap is_apart (grown_tags w (e ∷ es) walk.apart tags)) ∙ apart_grown w (e ∷ es);
 }
 
--- the walk behind a text
+-- the walk after a text
 pub walk_text : (w : List Event) (path : List Element) (s : List ℕ) → IsWalkTo w path → IsWalkTo (with_text w s (is_in_raw path)) path
 walk_text w path s walk = record {
   leads = path_after-with_text [] w s (is_in_raw path) ∙ walk.leads;

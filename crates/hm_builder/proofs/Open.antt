@@ -12,7 +12,7 @@ use Rattle.hm_builder.specs.declared.insertion.HeadText.TheVariants.{Title, Styl
 use Rattle.hm_builder.specs.declared.insertion.BuilderMode.{BuilderMode}
 use Rattle.hm_builder.specs.declared.insertion.BuilderMode.TheVariants.{Initial, BeforeHtml, BeforeHead, AfterHead}
 
--- the name tells whether the text is raw, where one text stands alone
+-- the name says whether the text is raw, where one text stands alone
 pub raw_by : (path : List Element) → is_in_text path ≡ true → is_raw (current path) ≡ is_in_raw path
 raw_by [] alone = cc
 raw_by (e ∷ path) alone = rw (and_parts (not e.foreign) (holds_text e.name) alone).0 refl
@@ -22,7 +22,7 @@ pub no_text_around : (ph : BuilderMode) (path : List Element) → (ph ≡ Initia
 unfolding holds_text is_raw is_rcdata raw_names rcdata_names is_among
 no_text_around ph path = ⊎_elim (λ e. rw e refl) (⊎_elim (λ e. rw e refl) (⊎_elim (λ e. rw e refl) (λ e. rw e refl)))
 
--- in head the elements that hold one text are those that are told apart
+-- in head the elements that hold one text are those that are distinguished
 pub text_in_head : (here : Bool) (inner : Option HeadText) → is_some inner ≡ is_in_text (inside_head here inner)
 unfolding holds_text is_raw is_rcdata raw_names rcdata_names is_among
 text_in_head here (Some Title) = refl

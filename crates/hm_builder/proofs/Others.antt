@@ -14,7 +14,7 @@ use Rattle.hm_builder.specs.declared.parts.Parts.{Parts}
 use Rattle.hm_builder.proofs.Events.{grown_tags, grown_nothing, walk_any}
 use Rattle.hm_builder.proofs.PlainTexts.{done_by}
 
--- tags, comments and a doctype were put behind the walk
+-- tags, comments and a doctype were appended to the walk
 pub any_done : (s : Stepped) (es : List Event) (st : Construction) (old new : Parts) → s ≡ went es st → IsKept old → has_no_text es ≡ true → state_of new ≡ st → path_after (open_path old.insertion_mode old.path) es ≡ open_path new.insertion_mode new.path
     → IsFresh new.insertion_mode new.path → new.maker ≡ old.maker ++ es → IsDone s old new
 any_done s es st old new is kept tags state leads fresh walk =
@@ -26,7 +26,7 @@ pub tags_done : (s : Stepped) (e : Event) (es : List Event) (st : Construction) 
     → IsFresh new.insertion_mode new.path → new.maker ≡ old.maker ++ e ∷ es → IsDone s old new
 tags_done s e es st old new is kept tags state leads fresh walk = any_done s (e ∷ es) st old new is kept tags state leads fresh walk
 
--- nothing was put behind the walk
+-- nothing was appended to the walk
 pub silent_done : (s : Stepped) (st : Construction) (old new : Parts) → s ≡ went [] st → IsKept old → state_of new ≡ st → open_path new.insertion_mode new.path ≡ open_path old.insertion_mode old.path → IsFresh new.insertion_mode new.path → new.maker ≡ old.maker → IsDone s old new
 silent_done s st old new is kept state same fresh walk =
     done_by s [] st old new is (record { walk = rw (walk, same) kept.walk; fresh = fresh }) state (walk ∙ sym (grown_nothing old.maker kept.walk.apart))
@@ -34,7 +34,7 @@ silent_done s st old new is kept state same fresh walk =
 at_mode : (p : Parts) (ph : BuilderMode) → p.insertion_mode ≡ ph → p ≡ record p { insertion_mode = ph }
 at_mode p ph e = ap (λ x. record p { insertion_mode = x }) e
 
--- what holds of the parts in a insertion mode
+-- what holds of the parts in an insertion mode
 pub in_insertion_mode : (P : Parts → Type 0) (p : Parts) (ph : BuilderMode) → p.insertion_mode ≡ ph → IsKept p → (IsKept (record p { insertion_mode = ph }) → P (record p { insertion_mode = ph })) → P p
 in_insertion_mode P p ph e kept f = subst P (sym (at_mode p ph e)) (f (subst IsKept (at_mode p ph e) kept))
 

@@ -84,7 +84,7 @@ is_zero n h = grind (arith, nat_tests)
 pub is_some : (n : ℕ) → (n == 0) ≡ false → n ≡ 0 → ⊥
 is_some n h e = absurd (grind (arith, nat_tests))
 
--- whitespace and a text behind it that was put into the body
+-- whitespace and a text after it that was put into the body
 pub mixed_done : (p new : Parts) (s blank rest : List ℕ) (all : p.drops_line_feed ≡ false) → Mixed p all s blank rest → None ≡ text_rule p.insertion_mode p.path → IsPutBehind (mixed_events p.insertion_mode blank rest) p new → IsDone (step_bytes s (state_of p)) p new
 mixed_done p new s blank rest all mixed none put =
     done_by (step_bytes s (state_of p)) (mixed_events p.insertion_mode blank rest) (at_state InBody (body_path p.insertion_mode p.path) p.behind_body.items p.behind_html.items) p new

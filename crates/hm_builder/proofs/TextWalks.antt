@@ -1,4 +1,4 @@
--- The walk behind a text.
+-- The walk after a text.
 use Rattle.std.proofs.Common.{◌≡◌, ℕ, ◌+◌, ◌≤◌, Bool, true, false, cond, List, [], ◌∷◌, ◌++◌, length, Some, None, sym, ap, subst, ◌∙◌, refl, arith, length-append, append_assoc, append-nil}
 use Rattle.std.proofs.lemmas.Bool.{and_parts, and_from}
 use Rattle.hm_base.specs.Bytes.{all_pass}
@@ -144,7 +144,7 @@ fresh_body InBody path none fresh = fresh
 fresh_body PastBody path none fresh = refl
 fresh_body AfterHtml path none fresh = refl
 
--- whitespace, what is missing, and a text of the body, put behind a walk
+-- whitespace, what is missing, and a text of the body, appended to a walk
 pub record MixedWalk (ph : BuilderMode) (open_elements : List Element) (w : List Event) (before rest : List ℕ) : Type 0 where
   pub blank_room : HasRoom (with_blank ph w before)
   pub same_raw : last_agrees w false ≡ true

@@ -64,7 +64,7 @@ all_events : (es : List Event) → es ++ [] ≡ es
 all_events [] = refl
 all_events (e ∷ es) = ap (λ x. e ∷ x) (all_events es)
 
--- bytes with nothing behind them
+-- bytes with nothing after them
 all_bytes_pass : (p : ℕ → Bool) (keep raw : Bool) (st : Construction) → ((c : ℕ) → p c ≡ true → step_byte c st ≡ went (one_kept keep c raw) st) → (s : List ℕ) → all_pass p s ≡ true
     → step_bytes s st ≡ went (kept_bytes keep s raw) st
 all_bytes_pass p keep raw st one s all =

@@ -17,11 +17,11 @@ pub record Building : Type 0 where
 abbrev pub first_building : Building
 first_building = record { state = first_state; walk = [] }
 
--- events put behind a walk, texts that touch joined
+-- events appended to a walk, texts that touch joined
 unfoldable pub grown : List Event → List Event → List Event
 grown w es = pushes (w ++ es) []
 
--- There is room for the events of a step behind the walk, none of them joined.
+-- There is room for the events of a step after the walk, none of them joined.
 abbrev pub Fits : Stepped → List Event → Type 0
 Fits (went es st) w = HasRoom (w ++ es)
 Fits (stops rule n) w = Unit {0}
@@ -36,7 +36,7 @@ abbrev pub IsRefused : Stepped → BuildFault → Type 0
 IsRefused step (faults.Rule rule n) = step ≡ stops rule n
 IsRefused step faults.Memory = Unit {0}
 
--- a fault of the open elements, at the front of a token
+-- a fault of the open elements, at the start of a token
 abbrev pub of_settle : SettleFault → BuildFault
 of_settle (settle.Rule rule) = faults.Rule rule 0
 of_settle settle.Memory = faults.Memory
@@ -46,7 +46,7 @@ abbrev pub IsBuilt : Stepped → List Event → List Event → Type 0
 IsBuilt (went es st) w tree = tree ≡ grown w es
 IsBuilt (stops rule n) w tree = ⊥
 
--- the fault at the front of its token
+-- the fault at the start of its token
 abbrev pub front_of : BuildFault → BuildFault
 front_of (faults.Rule rule n) = faults.Rule rule 0
 front_of faults.Memory = faults.Memory

@@ -83,7 +83,7 @@ is_apart (text s raw ∷ w) = not (begins_text w) && is_apart w
 is_apart (comment s ∷ w) = is_apart w
 is_apart (end n foreign ∷ w) = is_apart w
 
--- the events so far, with these elements open behind them
+-- the events so far, with these elements open after them
 pub record IsWalkTo (w : List Event) (path : List Element) : Type 0 where
   pub leads : path_after [] w ≡ path
   pub same_raw : last_agrees w (is_in_raw path) ≡ true
@@ -166,7 +166,7 @@ pub record IsCut (s blank rest : List ℕ) : Type 0 where
   pub spaces : all_pass is_space blank ≡ true
   pub stops : head_is is_space rest ≡ false
 
--- a walk with whitespace behind it, where that stands
+-- a walk with whitespace after it, where that stands
 abbrev pub with_blank : BuilderMode → List Event → List ℕ → List Event
 with_blank insertion_mode w s = if keeps_space insertion_mode then with_text w s false else w
 
@@ -189,7 +189,7 @@ abbrev pub Takes : {A : Type 0} → Stepped → Result A BuildFault → Parts �
 Takes step (Ok done) old new = IsDone step old new
 Takes step (Err fault) old new = IsRefused step fault
 
--- these events, which make what is missing, are put behind the walk
+-- these events, which make what is missing, are appended to the walk
 pub record IsPutBehind (es : List Event) (old new : Parts) : Type 0 where
   pub kept : IsKept new
   pub walk : new.maker ≡ grown old.maker es

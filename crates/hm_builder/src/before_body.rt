@@ -1,4 +1,4 @@
-//! Start tags before the body (HTML Standard, 13.2.6.4.2 to 13.2.6.4.6).
+//! Start tags before the body (HTML Standard, #the-before-html-insertion-mode to #the-after-head-insertion-mode).
 ghost use Rattle.std.specs.Prelude.{◌≡◌, [], ◌∷◌, ◌++◌, false, true, Some, None, OnOk};
 ghost use Rattle.hm_construction.specs.Steps as steps;
 ghost use Rattle.hm_construction.specs.Steps.{html_start, opened, start_inside, under_head};
@@ -21,7 +21,8 @@ use hm_tree::{Attrs, Maker};
 use std::alloc::Global;
 
 impl Parts {
-    /// Takes the start tag of `html`, `head` or `body`, which opens once (13.2.6.4.2, 13.2.6.4.3, 13.2.6.4.6).
+    /// Takes the start tag of `html`, `head` or `body`, which opens once (#the-before-html-insertion-mode,
+    /// #the-before-head-insertion-mode, #the-after-head-insertion-mode).
     pub(crate) fn open_root(
         &mut self,
         alloc: Global,
@@ -43,7 +44,7 @@ impl Parts {
         }
     }
 
-    /// Takes the start tag of `html` (13.2.6.4.2).
+    /// Takes the start tag of `html` (#the-before-html-insertion-mode).
     fn open_html(&mut self, attrs: &Attrs) -> Result<(), BuildFault>
         requires kept { IsKept self.old }
         requires room { Fits (steps.open_html (insertion_mode_of self.old.insertion_mode) attrs.now (state_of self.old)) self.old.maker }
@@ -59,7 +60,7 @@ impl Parts {
         }
     }
 
-    /// Takes the start tag of `head` (13.2.6.4.3).
+    /// Takes the start tag of `head` (#the-before-head-insertion-mode).
     fn open_head(&mut self, alloc: Global, attrs: &Attrs) -> Result<(), BuildFault>
         requires kept { IsKept self.old }
         requires room { Fits (steps.open_head (insertion_mode_of self.old.insertion_mode) attrs.now (state_of self.old)) self.old.maker }
@@ -79,7 +80,7 @@ impl Parts {
         }
     }
 
-    /// Takes the start tag of `body` (13.2.6.4.6). Where `head` is missing it is made, and it closes.
+    /// Takes the start tag of `body` (#the-after-head-insertion-mode). Where `head` is missing it is made, and it closes.
     fn open_body(&mut self, alloc: Global, attrs: &Attrs) -> Result<(), BuildFault>
         requires kept { IsKept self.old }
         requires not_text { is_in_text (open_path self.old.insertion_mode self.old.path) ≡ false }
@@ -92,7 +93,7 @@ impl Parts {
         self.open_body_here(alloc, attrs)
     }
 
-    /// Opens `body` where it is missing and nothing is open in `head` (13.2.6.4.6).
+    /// Opens `body` where it is missing and nothing is open in `head` (#the-after-head-insertion-mode).
     fn open_body_here(&mut self, alloc: Global, attrs: &Attrs) -> Result<(), BuildFault>
         requires kept { IsKept self.old }
         requires unbegun { IsUnbegun self.old.insertion_mode }
@@ -105,7 +106,8 @@ impl Parts {
         Ok(())
     }
 
-    /// Takes the start tag of any other element, where the body hasn't begun (13.2.6.4.2 to 13.2.6.4.6).
+    /// Takes the start tag of any other element, where the body hasn't begun (#the-before-html-insertion-mode to
+    /// #the-after-head-insertion-mode).
     pub(crate) fn start_before_body(
         &mut self,
         alloc: Global,
@@ -133,7 +135,7 @@ impl Parts {
         }
     }
 
-    /// Takes a start tag between `head` and `body` (13.2.6.4.6).
+    /// Takes a start tag between `head` and `body` (#the-after-head-insertion-mode).
     fn start_after_head(
         &mut self,
         alloc: Global,
@@ -153,8 +155,8 @@ impl Parts {
         self.start_in_body(alloc, name, attrs, slash)
     }
 
-    /// Takes a start tag where `head` can take a child. One that may stand in `head` opens in it; before any other `head`
-    /// closes and the body begins (13.2.6.4.4).
+    /// Takes a start tag where `head` can take a child. One that may stand in `head` opens in it; before any other
+    /// `head` closes and the body begins (#parsing-main-inhead).
     fn start_in_head(
         &mut self,
         alloc: Global,
@@ -177,7 +179,7 @@ impl Parts {
         }
     }
 
-    /// Makes `html` and `head` where they are missing (13.2.6.4.2, 13.2.6.4.3).
+    /// Makes `html` and `head` where they are missing (#the-before-html-insertion-mode, #the-before-head-insertion-mode).
     fn reach_head(&mut self, alloc: Global) -> Result<(), Memory>
         requires kept { IsKept self.old }
         requires takes { TakesChildren self.old.insertion_mode }
@@ -192,7 +194,7 @@ impl Parts {
         Ok(())
     }
 
-    /// Starts a child of `head` (13.2.6.4.4). A void one closes at once.
+    /// Starts a child of `head` (#parsing-main-inhead). A void one closes at once.
     fn start_child(&mut self, name: &str, attrs: &Attrs) -> Result<(), Memory>
         requires kept { IsKept self.old }
         requires all { self.old.drops_line_feed ≡ false }
@@ -210,7 +212,7 @@ impl Parts {
         }
     }
 
-    /// Takes a start tag in `noscript` in `head` (13.2.6.4.5).
+    /// Takes a start tag in `noscript` in `head` (#parsing-main-inheadnoscript).
     fn start_in_noscript(&mut self, name: &str, attrs: &Attrs) -> Result<(), BuildFault>
         requires kept { IsKept self.old }
         requires all { self.old.drops_line_feed ≡ false }
@@ -226,7 +228,7 @@ impl Parts {
         Ok(())
     }
 
-    /// Starts `noscript` in `head` (13.2.6.4.4).
+    /// Starts `noscript` in `head` (#parsing-main-inhead).
     fn start_noscript(&mut self, attrs: &Attrs) -> Result<(), Memory>
         requires kept { IsKept self.old }
         requires all { self.old.drops_line_feed ≡ false }
@@ -242,7 +244,8 @@ impl Parts {
         Ok(())
     }
 
-    /// Starts an element that holds a text, in `head` or in `noscript` in it (13.2.6.4.4, 13.2.6.4.5).
+    /// Starts an element that holds a text, in `head` or in `noscript` in it (#parsing-main-inhead,
+    /// #parsing-main-inheadnoscript).
     fn start_text(&mut self, noscript: bool, text: HeadText, attrs: &Attrs) -> Result<(), Memory>
         requires kept { IsKept self.old }
         requires all { self.old.drops_line_feed ≡ false }
@@ -258,7 +261,7 @@ impl Parts {
         Ok(())
     }
 
-    /// Starts and ends a void element, in `head` or in `noscript` in it (13.2.6.4.4, 13.2.6.4.5).
+    /// Starts and ends a void element, in `head` or in `noscript` in it (#parsing-main-inhead, #parsing-main-inheadnoscript).
     fn start_void(&mut self, noscript: bool, name: &str, attrs: &Attrs) -> Result<(), Memory>
         requires kept { IsKept self.old }
         requires all { self.old.drops_line_feed ≡ false }
@@ -286,7 +289,7 @@ fn has_begun(insertion_mode: BuilderMode) -> bool
     }
 }
 
-/// Makes `html` where it is missing (13.2.6.4.2).
+/// Makes `html` where it is missing (#the-before-html-insertion-mode).
 fn make_only_html(
     alloc: Global,
     maker: &mut Maker,
@@ -301,7 +304,7 @@ fn make_only_html(
     }
 }
 
-/// Makes `html` and `head` where they are missing (13.2.6.4.2, 13.2.6.4.3).
+/// Makes `html` and `head` where they are missing (#the-before-html-insertion-mode, #the-before-head-insertion-mode).
 fn make_open_head(
     alloc: Global,
     maker: &mut Maker,

@@ -15,7 +15,7 @@ use hm_tree::{Attrs, Tree};
 use std::alloc::Global;
 use std::marker::Model;
 
-/// A tree that is being built, token by token (HTML Standard, 13.2.6). Contracts see the state of tree
+/// A tree that is being built, token by token (HTML Standard, #tree-construction). Contracts see the state of tree
 /// construction and the events so far.
 #[derive(Debug, Drop)]
 pub struct TreeBuilder {
@@ -77,7 +77,8 @@ impl TreeBuilder {
         current(self.parts.insertion_mode, &self.parts.path)
     }
 
-    /// Takes a doctype (13.2.6.4.1). After a fault no token is taken any more: each call answers that memory is refused.
+    /// Takes a doctype (#the-initial-insertion-mode). After a fault no token is taken any more: each call returns that
+    /// memory is refused.
     pub fn doctype(&mut self, legacy: bool) -> Result<(), BuildFault>
         requires { Fits (step self.old.state (tokens.doctype legacy)) self.old.walk }
         ensures { Answers (step self.old.state (tokens.doctype legacy)) result self.old self.new }
@@ -91,7 +92,7 @@ impl TreeBuilder {
         Ok(())
     }
 
-    /// Takes a start tag (13.2.6.4). None is read inside an element that holds a text.
+    /// Takes a start tag (#parsing-main-inhtml). None is read inside an element that holds a text.
     pub fn start_tag(
         &mut self,
         alloc: Global,
@@ -112,7 +113,7 @@ impl TreeBuilder {
         Ok(())
     }
 
-    /// Takes an end tag (13.2.6.4).
+    /// Takes an end tag (#parsing-main-inhtml).
     pub fn end_tag(&mut self, alloc: Global, name: &str) -> Result<(), BuildFault>
         requires { Fits (step self.old.state (tokens.end_tag name.now)) self.old.walk }
         ensures { Answers (step self.old.state (tokens.end_tag name.now)) result self.old self.new }
@@ -126,7 +127,7 @@ impl TreeBuilder {
         Ok(())
     }
 
-    /// Takes a text as it is written, of fewer than 2 ^ 32 bytes (13.2.6.4).
+    /// Takes a text as it is written, of fewer than 2 ^ 32 bytes (#parsing-main-inhtml).
     #[tactic(auto, unfolding(hm_construction::specs::Steps::step))]
     pub fn text(&mut self, alloc: Global, text: &str) -> Result<(), BuildFault>
         requires short { length text.now < 2 ^ 32 }
@@ -142,7 +143,7 @@ impl TreeBuilder {
         Ok(())
     }
 
-    /// Takes a comment (13.2.6.4).
+    /// Takes a comment (#parsing-main-inhtml).
     pub fn comment(&mut self, alloc: Global, text: &str) -> Result<(), BuildFault>
         requires { Fits (step self.old.state (tokens.comment text.now)) self.old.walk }
         ensures { Answers (step self.old.state (tokens.comment text.now)) result self.old self.new }
@@ -156,7 +157,7 @@ impl TreeBuilder {
         Ok(())
     }
 
-    /// Takes what a character reference stands for (13.2.6.4). It is refused at its front.
+    /// Takes what a character reference stands for (#parsing-main-inhtml). It is refused at its start.
     pub fn points(&mut self, alloc: Global, points: Points) -> Result<(), BuildFault>
         requires { Fits (step self.old.state (tokens.points (points_of points))) self.old.walk }
         ensures { Answers (step self.old.state (tokens.points (points_of points))) result self.old self.new }
@@ -170,7 +171,7 @@ impl TreeBuilder {
         Ok(())
     }
 
-    /// The tree, at the end of the page: what is missing is made, and all closes (13.2.6.4).
+    /// The tree, at the end of the page: what is missing is made, and all closes (#parsing-main-inhtml).
     pub fn finish(self, alloc: Global) -> Result<Tree, BuildFault>
         requires { Fits (step_over self.state) self.walk }
         ensures { Builds (step_over self.state) result self.walk }

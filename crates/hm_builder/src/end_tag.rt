@@ -1,4 +1,4 @@
-//! End tags (HTML Standard, 13.2.6.4).
+//! End tags (HTML Standard, #parsing-main-inhtml).
 ghost use Rattle.std.specs.Prelude.{◌≡◌, ◌≢◌, ◌||◌, false, true};
 ghost use Rattle.hm_construction.specs.Steps as steps;
 ghost use Rattle.hm_construction.specs.Steps.{after_end_moves, end_current, step, step_end};
@@ -21,7 +21,7 @@ use hm_settle::Path;
 use std::alloc::Global;
 
 impl Parts {
-    /// Takes an end tag (13.2.6.4).
+    /// Takes an end tag (#parsing-main-inhtml).
     pub(crate) fn end_tag(&mut self, alloc: Global, name: &str) -> Result<(), BuildFault>
         requires kept { IsKept self.old }
         requires room { Fits (step (state_of self.old) (tokens.end_tag name.now)) self.old.maker }
@@ -39,7 +39,7 @@ impl Parts {
         }
     }
 
-    /// Takes an end tag in `head` (13.2.6.4.4, 13.2.6.4.5, 13.2.6.4.8).
+    /// Takes an end tag in `head` (#parsing-main-inhead, #parsing-main-inheadnoscript, #parsing-main-incdata).
     fn end_in_head(
         &mut self,
         alloc: Global,
@@ -59,7 +59,8 @@ impl Parts {
         }
     }
 
-    /// Where something is open in `head`, its own end tag alone ends it (13.2.6.4.5, 13.2.6.4.8).
+    /// Where something is open in `head`, only its own end tag ends it (#parsing-main-inheadnoscript,
+    /// #parsing-main-incdata).
     fn end_inside_head(
         &mut self,
         noscript: bool,
@@ -86,7 +87,7 @@ impl Parts {
         Err(BuildFault::from(Rule::StrayEnd))
     }
 
-    /// Takes an end tag before the body (13.2.6.4.2 to 13.2.6.4.6).
+    /// Takes an end tag before the body (#the-before-html-insertion-mode to #the-after-head-insertion-mode).
     fn end_unbegun(&mut self, alloc: Global, name: &str) -> Result<(), BuildFault>
         requires kept { IsKept self.old }
         requires unbegun { IsUnbegun self.old.insertion_mode }
@@ -101,7 +102,7 @@ impl Parts {
         }
     }
 
-    /// Takes the end tag of `head` (13.2.6.4.4).
+    /// Takes the end tag of `head` (#parsing-main-inhead).
     fn end_head(&mut self, alloc: Global) -> Result<(), BuildFault>
         requires kept { IsKept self.old }
         requires unbegun { IsUnbegun self.old.insertion_mode }
@@ -116,7 +117,7 @@ impl Parts {
         Ok(())
     }
 
-    /// The body ends before anything of it (13.2.6.4.7).
+    /// The body ends before anything of it (#parsing-main-inbody).
     fn leave_unbegun(
         &mut self,
         alloc: Global,
@@ -133,7 +134,7 @@ impl Parts {
         Ok(())
     }
 
-    /// Takes an end tag where the innermost elements are those of a body (13.2.6.4.7, 13.2.6.4.8).
+    /// Takes an end tag where the innermost elements are those of a body (#parsing-main-inbody, #parsing-main-incdata).
     fn end_in_body(&mut self, name: &str) -> Result<(), BuildFault>
         requires kept { IsKept self.old }
         requires body { HasBodyPath self.old.insertion_mode }
@@ -150,7 +151,7 @@ impl Parts {
         }
     }
 
-    /// Takes an end tag behind `body` (13.2.6.4, "after body").
+    /// Takes an end tag after `body` (#parsing-main-afterbody).
     fn end_behind_body(&mut self, name: &str) -> Result<(), BuildFault>
         requires kept { IsKept self.old }
         requires insertion_mode { self.old.insertion_mode ≡ BuilderMode.AfterBody }
@@ -165,7 +166,7 @@ impl Parts {
         }
     }
 
-    /// Takes an end tag in the body (13.2.6.4.7).
+    /// Takes an end tag in the body (#parsing-main-inbody).
     fn end_open(&mut self, name: &str) -> Result<(), BuildFault>
         requires kept { IsKept self.old }
         requires insertion_mode { self.old.insertion_mode ≡ BuilderMode.InBody }
@@ -188,7 +189,7 @@ impl Parts {
         self.end_named(name)
     }
 
-    /// The body ends where nothing but a `p` is open in it (13.2.6.4.7).
+    /// The body ends where nothing but a `p` is open in it (#parsing-main-inbody).
     fn leave_body(&mut self, insertion_mode: BuilderMode) -> Result<(), BuildFault>
         requires kept { IsKept self.old }
         requires here { self.old.insertion_mode ≡ BuilderMode.InBody }
@@ -203,7 +204,7 @@ impl Parts {
         }
     }
 
-    /// Ends an element of HTML, and those whose ends are implied (13.2.6.4.7 to 13.2.6.4.15).
+    /// Ends an element of HTML, and those whose ends are implied (#parsing-main-inbody to #parsing-main-intd).
     fn end_named(&mut self, name: &str) -> Result<(), BuildFault>
         requires kept { IsKept self.old }
         requires body { HasBodyPath self.old.insertion_mode }
@@ -216,8 +217,8 @@ impl Parts {
         Ok(())
     }
 
-    /// Ends the innermost element of a body, which is one of SVG or holds a text, if the tag has its name (13.2.6.5,
-    /// 13.2.6.4.8).
+    /// Ends the innermost element of a body, which is one of SVG or holds a text, if the tag has its name
+    /// (#parsing-main-inforeign, #parsing-main-incdata).
     fn end_inner(&mut self, name: &str) -> Result<(), BuildFault>
         requires kept { IsKept self.old }
         requires body { HasBodyPath self.old.insertion_mode }
@@ -239,7 +240,7 @@ impl Parts {
     }
 }
 
-/// Whether nothing but `html`, `body` and at most one `p` in it is open (13.2.6.4.7).
+/// Whether nothing but `html`, `body` and at most one `p` in it is open (#parsing-main-inbody).
 pub(crate) fn is_at_end(path: &Path) -> bool
     ensures { result ≡ steps.is_at_end path.now }
 {

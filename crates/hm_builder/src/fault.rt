@@ -10,14 +10,14 @@ use std::alloc::{AllocError, AllocFailed};
 /// Why a token isn't built into the tree.
 #[derive(Clone, Copy, Debug, PartialEq, Eq)]
 pub enum BuildFault {
-    /// The page is refused by this rule, `behind` bytes of text behind where the token begins.
+    /// The page is refused by this rule, `behind` bytes of text after the place where the token begins.
     Rule { rule: Rule, behind: u32 },
     /// Memory was refused.
     Memory,
 }
 
 impl BuildFault {
-    /// The fault, at the front of its token.
+    /// The fault, at the start of its token.
     pub(crate) fn at_front(self) -> BuildFault
         ensures { result ≡ front_of self }
     {

@@ -1,4 +1,4 @@
-//! The end of the page (HTML Standard, 13.2.6.4).
+//! The end of the page (HTML Standard, #parsing-main-inhtml).
 ghost use Rattle.std.specs.Prelude.{◌≡◌, ◌<◌, [], ◌++◌, length, map, OnOk};
 ghost use Rattle.hm_base.specs.Walks as walks;
 ghost use Rattle.hm_base.specs.Walks.{path_after};
@@ -20,7 +20,7 @@ use hm_tree::{Maker, Tree};
 use std::alloc::Global;
 
 impl Parts {
-    /// All that is missing is made, and all closes (13.2.6.4.2 to 13.2.6.4.7).
+    /// All that is missing is made, and all closes (#the-before-html-insertion-mode to #parsing-main-inbody).
     pub(crate) fn finish(self, alloc: Global) -> Result<Tree, BuildFault>
         requires kept { IsKept self }
         requires room { Fits (step_over (state_of self)) self.maker }
@@ -45,7 +45,7 @@ impl Parts {
     }
 }
 
-/// Why a page doesn't end here (13.2.6.4.1, 13.2.6.4.5, 13.2.6.4.7).
+/// Why a page doesn't end here (#the-initial-insertion-mode, #parsing-main-inheadnoscript, #parsing-main-inbody).
 fn end_rule(insertion_mode: BuilderMode, path: &Path) -> Option<Rule>
     ensures { result ≡ inside.end_rule insertion_mode path.now }
 {
@@ -60,7 +60,7 @@ fn end_rule(insertion_mode: BuilderMode, path: &Path) -> Option<Rule>
     }
 }
 
-/// Ends all that is open, with comments before the last end and behind it.
+/// Ends all that is open, with comments before the last end and after it.
 fn close_all(maker: &mut Maker, inner: &[Word], last: &[Word]) -> Result<(), Memory>
     requires open_still { 0 < length (path_after [] maker.old) }
     requires room { HasRoom (maker.old ++ closing (path_after [] maker.old) inner.now last.now) }

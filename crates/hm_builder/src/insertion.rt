@@ -8,8 +8,8 @@ pub(crate) enum HeadText {
     Script,
 }
 
-/// The insertion modes (HTML Standard, 13.2.4.1), as far as they are told apart. Before the body the
-/// mode tells which elements are open.
+/// The insertion modes (HTML Standard, #the-insertion-mode), as far as they are distinguished. Before the body the mode
+/// says which elements are open.
 #[derive(Clone, Copy, Debug, PartialEq, Eq)]
 pub(crate) enum BuilderMode {
     Initial,

@@ -1,4 +1,4 @@
-//! A tree that is built token by token (HTML Standard, 13.2.6).
+//! A tree that is built token by token (HTML Standard, #tree-construction).
 #![tactic(auto)]
 
 mod before_body;

@@ -1,4 +1,5 @@
-//! The elements that are made where their tags are left out (HTML Standard, 13.2.6.4.2 to 13.2.6.4.6).
+//! The elements that are made where their tags are left out (HTML Standard, #the-before-html-insertion-mode to
+//! #the-after-head-insertion-mode).
 ghost use Rattle.std.specs.Prelude.{◌≡◌, [], ◌∷◌, ◌++◌, OnOk};
 ghost use Rattle.hm_base.specs.Walks.{path_after};
 ghost use Rattle.hm_construction.specs.Steps.{under_html, under_head};
@@ -10,7 +11,7 @@ use hm_base::Memory;
 use hm_tree::{Attrs, Maker};
 use std::alloc::Global;
 
-/// Makes what is missing up to `body`, and closes `head` (13.2.6.4.2 to 13.2.6.4.6).
+/// Makes what is missing up to `body`, and closes `head` (#the-before-html-insertion-mode to #the-after-head-insertion-mode).
 pub(crate) fn make_missing(
     alloc: Global,
     maker: &mut Maker,
@@ -66,7 +67,7 @@ fn make_body(alloc: Global, maker: &mut Maker) -> Result<(), Memory>
     maker.start("body", false, Attrs::new(alloc))
 }
 
-/// Makes `head` where it is missing, and closes it (13.2.6.4.2 to 13.2.6.4.4).
+/// Makes `head` where it is missing, and closes it (#the-before-html-insertion-mode to #parsing-main-inhead).
 pub(crate) fn close_made_head(
     alloc: Global,
     maker: &mut Maker,

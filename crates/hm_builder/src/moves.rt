@@ -11,7 +11,7 @@ use hm_settle::Made;
 use hm_tree::{Attrs, Maker};
 use std::alloc::Global;
 
-/// Ends so many elements.
+/// Ends `count` elements.
 pub(crate) fn end_elements(maker: &mut Maker, count: u32) -> Result<(), Memory>
     requires { count ≤ length (path_after [] maker.old) }
     ensures { OnOk result (maker.new ≡ maker.old ++ map end_event (take count (path_after [] maker.old))) }

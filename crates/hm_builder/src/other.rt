@@ -1,4 +1,4 @@
-//! Doctypes and comments (HTML Standard, 13.2.6.4).
+//! Doctypes and comments (HTML Standard, #parsing-main-inhtml).
 ghost use Rattle.std.specs.Prelude.{◌≡◌, IfOk, OnOk};
 ghost use Rattle.hm_construction.specs.Steps.{step};
 ghost use Rattle.hm_tree.specs.Tokens as tokens;
@@ -12,7 +12,7 @@ use hm_base::{Memory, Rule, Word};
 use std::alloc::Global;
 
 impl Parts {
-    /// Takes a doctype (13.2.6.4.1).
+    /// Takes a doctype (#the-initial-insertion-mode).
     pub(crate) fn doctype(&mut self, legacy: bool) -> Result<(), BuildFault>
         requires kept { IsKept self.old }
         requires room { Fits (step (state_of self.old) (tokens.doctype legacy)) self.old.maker }
@@ -32,7 +32,7 @@ impl Parts {
         }
     }
 
-    /// Takes a comment (13.2.6.4). Behind `body` and behind `html` it is kept for the end of the page.
+    /// Takes a comment (#parsing-main-inhtml). After `body` and after `html` it is kept for the end of the page.
     pub(crate) fn comment(&mut self, alloc: Global, text: &str) -> Result<(), Memory>
         requires kept { IsKept self.old }
         requires room { Fits (step (state_of self.old) (tokens.comment text.now)) self.old.maker }

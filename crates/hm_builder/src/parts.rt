@@ -19,7 +19,7 @@ pub(crate) struct Parts {
     pub path: Path,
     /// Whether a line feed that comes next is dropped.
     pub drops_line_feed: bool,
-    /// The comments that stand behind `body` and behind `html`.
+    /// The comments that stand after `body` and after `html`.
     pub behind_body: Vec<Word>,
     pub behind_html: Vec<Word>,
 }
@@ -89,7 +89,7 @@ pub(crate) fn is_in_raw(insertion_mode: BuilderMode, path: &Path) -> bool
     is_in_text(insertion_mode, path) && is_raw(current(insertion_mode, path))
 }
 
-/// Whether a text is whitespace alone in the innermost element of a body.
+/// Whether a text is only whitespace in the innermost element of a body.
 pub(crate) fn is_in_blank(path: &Path) -> bool
     ensures { result ≡ paths.is_in_blank path.now }
 {

@@ -1,4 +1,4 @@
-//! Start tags (HTML Standard, 13.2.6.4).
+//! Start tags (HTML Standard, #parsing-main-inhtml).
 ghost use Rattle.std.specs.Prelude.{◌≡◌, ◌≤◌, [], ◌∷◌, ◌++◌, length, map, take, false, OnOk, IfErr};
 ghost use Rattle.hm_base.specs.Walks as walks;
 ghost use Rattle.hm_base.specs.Walks.{path_after};
@@ -25,7 +25,7 @@ use hm_tree::{Attrs, Maker};
 use std::alloc::Global;
 
 impl Parts {
-    /// Takes a start tag (13.2.6.4). None is read inside an element that holds a text.
+    /// Takes a start tag (#parsing-main-inhtml). None is read inside an element that holds a text.
     pub(crate) fn start_tag(
         &mut self,
         alloc: Global,
@@ -42,7 +42,7 @@ impl Parts {
         self.start_undropped(alloc, name, attrs, slash)
     }
 
-    /// Takes a start tag where no line feed is dropped any more (13.2.6.4).
+    /// Takes a start tag where no line feed is dropped any more (#parsing-main-inhtml).
     fn start_undropped(
         &mut self,
         alloc: Global,
@@ -66,7 +66,7 @@ impl Parts {
         }
     }
 
-    /// Takes a start tag before the body (13.2.6.4.2 to 13.2.6.4.6).
+    /// Takes a start tag before the body (#the-before-html-insertion-mode to #the-after-head-insertion-mode).
     fn start_html(
         &mut self,
         alloc: Global,
@@ -90,7 +90,7 @@ impl Parts {
         self.start_before_body(alloc, name, attrs, slash)
     }
 
-    /// Opens an element in the body, which is made where it is missing (13.2.6.4.7, 13.2.6.5).
+    /// Opens an element in the body, which is made where it is missing (#parsing-main-inbody, #parsing-main-inforeign).
     pub(crate) fn start_in_body(
         &mut self,
         alloc: Global,
@@ -113,8 +113,8 @@ impl Parts {
         self.close_at_once(tag, foreign, slash)
     }
 
-    /// Closes a void element, and one of SVG whose tag closes itself; else the element stays open. Behind `pre` and
-    /// `textarea` a line feed is dropped (13.2.6.4.7, 13.2.6.5).
+    /// Closes a void element, and one of SVG whose tag closes itself; else the element stays open. After `pre` and
+    /// `textarea` a line feed is dropped (#parsing-main-inbody, #parsing-main-inforeign).
     fn close_at_once(
         &mut self,
         tag: Named<'_>,
@@ -141,14 +141,15 @@ impl Parts {
     }
 }
 
-/// Whether the element opens as one of SVG (13.2.6.5).
+/// Whether the element opens as one of SVG (#parsing-main-inforeign).
 fn opens_as_svg(path: &Path, name: &str) -> bool
     ensures { result ≡ plans.opens_as_svg name.now path.now }
 {
     path.is_in_svg() || same_name(name, "svg")
 }
 
-/// Ends the elements that close, starts those that are made, and then the element of the tag (13.2.6.4.7 and following).
+/// Ends the elements that close, starts those that are made, and then the element of the tag (#parsing-main-inbody and
+/// following).
 fn move_and_start(
     alloc: Global,
     maker: &mut Maker,

@@ -1,4 +1,4 @@
-//! Texts (HTML Standard, 13.2.6.4).
+//! Texts (HTML Standard, #parsing-main-inhtml).
 ghost use Rattle.std.specs.Prelude.{◌≡◌, ◌+◌, ◌^◌, ◌<◌, ◌++◌, length, string_bytes, encode_utf8_all, true, false, None, IfOk, OnOk};
 ghost use Rattle.hm_elements.specs.Paths as paths;
 ghost use Rattle.hm_tree.specs.Trees.{HasRoom, last_agrees};
@@ -17,7 +17,7 @@ use hm_base::{Memory, Points, Rule, is_space};
 use hm_tree::Maker;
 use std::alloc::Global;
 
-/// The whitespace that the text begins with, and what is behind it.
+/// The whitespace that the text begins with, and what follows it.
 fn split_blank(text: &str) -> (&str, &str)
     ensures { IsCut text.now result.0.now result.1.now }
 {
@@ -29,7 +29,7 @@ fn split_blank(text: &str) -> (&str, &str)
     (&text[..at], &text[at..])
 }
 
-/// Why a text that isn't whitespace is refused (13.2.6.4).
+/// Why a text that isn't whitespace is refused (#parsing-main-inhtml).
 fn text_rule(insertion_mode: BuilderMode, path: &hm_settle::Path) -> Option<Rule>
     ensures { result ≡ inside.text_rule insertion_mode path.now }
 {
@@ -45,7 +45,7 @@ fn text_rule(insertion_mode: BuilderMode, path: &hm_settle::Path) -> Option<Rule
     }
 }
 
-/// Puts whitespace where it stands, or drops it (13.2.6.4.1 to 13.2.6.4.3).
+/// Puts whitespace where it stands, or drops it (#the-initial-insertion-mode to #the-before-head-insertion-mode).
 fn keep_blank(maker: &mut Maker, insertion_mode: BuilderMode, text: &str) -> Result<(), Memory>
     requires room { HasRoom (with_blank insertion_mode maker.old text.now) }
     requires same_raw { last_agrees maker.old false ≡ true }
@@ -62,7 +62,8 @@ fn keep_blank(maker: &mut Maker, insertion_mode: BuilderMode, text: &str) -> Res
 }
 
 impl Parts {
-    /// Takes a text of fewer than 2 ^ 32 bytes (13.2.6.4). A line feed directly behind `pre` or `textarea` is dropped (13.2.6.4.7).
+    /// Takes a text of fewer than 2 ^ 32 bytes (#parsing-main-inhtml). A line feed directly after `pre` or `textarea`
+    /// is dropped (#parsing-main-inbody).
     pub(crate) fn text(&mut self, alloc: Global, text: &str) -> Result<(), BuildFault>
         requires kept { IsKept self.old }
         requires short { length text.now < 2 ^ 32 }
@@ -82,7 +83,7 @@ impl Parts {
         }
     }
 
-    /// Takes what a character reference stands for (13.2.6.4).
+    /// Takes what a character reference stands for (#parsing-main-inhtml).
     pub(crate) fn points(&mut self, alloc: Global, points: Points) -> Result<(), BuildFault>
         requires kept { IsKept self.old }
         requires room { Fits (step (state_of self.old) (tokens.points (points_of points))) self.old.maker }
@@ -95,7 +96,7 @@ impl Parts {
         }
     }
 
-    /// Takes a text of which no line feed is dropped, with so many bytes of its token before it (13.2.6.4).
+    /// Takes a text of which no line feed is dropped, with `before` bytes of its token before it (#parsing-main-inhtml).
     fn plain_text(&mut self, alloc: Global, text: &str, before: u32) -> Result<(), BuildFault>
         requires kept { IsKept self.old }
         requires all { self.old.drops_line_feed ≡ false }
@@ -121,7 +122,8 @@ impl Parts {
         Ok(())
     }
 
-    /// Takes whitespace and a text behind it that isn't, where text may stand (13.2.6.4.2 to 13.2.6.4.7).
+    /// Takes whitespace and a text after it that isn't, where text may stand (#the-before-html-insertion-mode to
+    /// #parsing-main-inbody).
     fn mixed_text(&mut self, alloc: Global, blank: &str, rest: &str) -> Result<(), Memory>
         requires kept { IsKept self.old }
         requires not_text { paths.is_in_text (open_path self.old.insertion_mode self.old.path) ≡ false }

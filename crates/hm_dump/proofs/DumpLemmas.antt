@@ -17,7 +17,7 @@ pub flat_map_step : {X : Type 0} (f : X → List ℕ) (xs : List X) (i : ℕ) (x
 flat_map_step f xs i x at =
     rw (take_more xs i x (slice_get_within xs i x at), get_or_from_slice_get xs i x x at, flat_map-append f (take i xs) (x ∷ []), append-nil) refl
 
--- lines of events, and of others behind them
+-- lines of events, and of others after them
 pub lines_from-append : (path : List Element) (w v : List Event) → lines_from path (w ++ v) ≡ lines_from path w ++ lines_from (path_after path w) v
 lines_from-append path [] v = refl
 lines_from-append path (e ∷ w) v = ap (λ l. line_of (length path) e ++ l) (lines_from-append (path_behind path e) w v) ∙ sym (append_assoc (line_of (length path) e) (lines_from (path_behind path e) w) (lines_from (path_after (path_behind path e) w) v))

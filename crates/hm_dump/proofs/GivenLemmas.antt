@@ -1,4 +1,4 @@
--- Bytes that are given to a buffer one behind the other.
+-- Bytes that are given to a buffer one after the other.
 use Rattle.std.proofs.Common.{◌≡◌, ℕ, ◌+◌, ◌≤◌, inl, inr, List, [], ◌++◌, length, take, drop, Bool, true, false, Some, None, refl, sym, ap, ◌∙◌, subst, arith, append_assoc}
 use Rattle.std.proofs.Math.Seq.{take-append_seam, take-append-add}
 use Rattle.std.proofs.lemmas.Bool.{false≢true}
@@ -22,7 +22,7 @@ rose_later : (a b c : ℕ) → a ≤ b → Rose b c → Rose a c
 rose_later a b c low (inl higher) = inl (omega (arith, low, higher))
 rose_later a b c low (inr most) = inr most
 
--- a front of bytes is a front of them with more behind
+-- a prefix of bytes is a prefix of them with more after them
 front_more : (old new : Option (List ℕ)) (s more : List ℕ) → AppendsFront old new s → AppendsFront old new (s ++ more)
 front_more old new s more h =
     let front = take h.taken s in
@@ -30,7 +30,7 @@ front_more old new s more h =
     let same : take (length front) (s ++ more) ≡ front = ap (take (length front)) parts ∙ take-append_seam front (drop h.taken s ++ more) in
     record { taken = length front; bytes_are = h.bytes_are ∙ ap (append_known old) (sym same) }
 
--- a front of what was put behind other bytes is a front of both
+-- where a prefix of `more` was put after all of s, a prefix of both together was put
 front_behind : (old mid new : Option (List ℕ)) (s more : List ℕ) → mid ≡ append_known old s → AppendsFront mid new more → AppendsFront old new (s ++ more)
 front_behind old mid new s more is h = record {
   taken = length s + h.taken;
@@ -38,7 +38,7 @@ front_behind old mid new s more is h = record {
 }
 
 module _ (sink_old sink_new : Option (List ℕ)) (faults_old faults_new : ℕ) (old new : Buffer) (more : List ℕ) where
-  -- the bytes that wait are put with more behind, and nothing waits then
+  -- the bytes that wait are put with more after them, and then nothing waits
   pub Gives-put : (put : List ℕ) → Puts sink_old sink_new faults_old faults_new old.failed new.failed put → put ≡ old.bytes.items ++ more → new.bytes.items ≡ [] → Gives sink_old sink_new faults_old faults_new old new more
   Gives-put put h is none = record { behind = λ sink faults given before. subst (λ w. ArePut sink sink_new faults faults_new (given ++ more) w new.failed) (sym none) (go old.failed new.failed sink faults given before h) }
     where
@@ -101,7 +101,7 @@ module _ (sink_old sink_new : Option (List ℕ)) (faults_old faults_new : ℕ) (
       go waiting true sound empty h = absurd (false≢true (sym sound))
       go waiting false sound empty h = (h.0, h.1.sunk ∙ ap (append_known sink_old) (sym (append-nil h.1.put) ∙ ap (λ w. h.1.put ++ w) (sym empty) ∙ h.1.whole))
 
-  -- else a front was put
+  -- else a prefix was put
   pub put_front : new.failed ≡ true → (faults_old ≤ faults_new) × AppendsFront sink_old sink_new all × Rose faults_old faults_new
   put_front failed = go new.failed failed (Gives-all sink_old sink_new faults_old faults_new old new all fresh given)
     where

@@ -10,7 +10,7 @@ none_passes p [] none k within = absurd (omega (arith, within))
 none_passes p (c ∷ s) none zero within = (or_parts (p c) (some_passes p s) none).0
 none_passes p (c ∷ s) none (suc k) within = none_passes p s (or_parts (p c) (some_passes p s) none).1 k (omega (arith, within))
 
--- so many bytes more, none of which is escaped
+-- `width` more bytes, none of which is escaped
 pub plain_more : (s : List ℕ) (from at width : ℕ) → IsPlainRun s from at → at + width ≤ length s → some_passes is_escaped (take (at + width - at) (drop at s)) ≡ false → IsPlainRun s from (at + width)
 plain_more s from at width h inside none k low high = by_test (nat_lt k at) refl
   where

@@ -18,7 +18,7 @@ quoted s = 34 ∷ flat_map quoted_byte s ++ 34 ∷ []
 abbrev pub attribute_text : Attribute → List ℕ
 attribute_text a = 32 ∷ a.name ++ 61 ∷ quoted a.value
 
--- what the line of an event says behind its spaces
+-- what the line of an event says after its spaces
 abbrev pub event_text : Event → List ℕ
 event_text (doctype false) = codes "doctype"
 event_text (doctype true) = codes "doctype legacy"
@@ -35,7 +35,7 @@ spaces_for depth = replicate (2 * depth) 32
 abbrev pub whole_line : ℕ → List ℕ → List ℕ
 whole_line depth said = spaces_for depth ++ said ++ 10 ∷ []
 
--- the line of an event under so many open elements; an end has none
+-- the line of an event under `depth` open elements; an end has none
 abbrev pub line_of : ℕ → Event → List ℕ
 line_of depth (doctype legacy) = whole_line depth (event_text (doctype legacy))
 line_of depth (start n foreign attributes) = whole_line depth (event_text (start n foreign attributes))
@@ -43,7 +43,7 @@ line_of depth (text s raw) = whole_line depth (event_text (text s raw))
 line_of depth (comment s) = whole_line depth (event_text (comment s))
 line_of depth (end n foreign) = []
 
--- the lines of the events behind this path
+-- the lines of the events, before which the elements of this path are open
 abbrev pub lines_from : List Element → List Event → List ℕ
 lines_from path [] = []
 lines_from path (e ∷ w) = line_of (length path) e ++ lines_from (path_behind path e) w

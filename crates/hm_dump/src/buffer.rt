@@ -27,7 +27,7 @@ fn append(waiting: &mut Vec<u8>, bytes: &[u8])
 }
 
 impl Buffer {
-    /// A buffer whose room is that of a list, which is emptied.
+    /// A buffer with the room of a list, which is emptied.
     pub(crate) fn of(mut bytes: Vec<u8>) -> Buffer
         ensures { IsFresh result }
     {
@@ -38,7 +38,7 @@ impl Buffer {
         }
     }
 
-    /// Gives bytes. They wait where there is room; more than the whole room of them never wait.
+    /// Gives bytes. They wait where there is room; more bytes than the whole room never wait.
     #[inline(always)]
     pub(crate) fn give<O: Sink>(&mut self, out: &mut O, bytes: &[u8])
         ensures { Gives (O.contents out.old) (O.contents out.new) (O.faults out.old) (O.faults out.new) self.old self.new bytes.now }

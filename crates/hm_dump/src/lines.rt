@@ -13,7 +13,7 @@ use hm_tree::{AttrsView, EventView, Tree};
 /// Spaces, two for each of 32 open elements.
 const SPACES: &[u8] = b"                                                                ";
 
-/// Gives the lines of a tree, up to one behind which a put has failed.
+/// Gives the lines of a tree, up to one after which a put has failed.
 pub(crate) fn give_lines<O: Sink>(buffer: &mut Buffer, out: &mut O, tree: &Tree)
     ensures { Gives (O.contents out.old) (O.contents out.new) (O.faults out.old) (O.faults out.new) buffer.old buffer.new (dump_of tree.now) }
 {
@@ -28,7 +28,7 @@ pub(crate) fn give_lines<O: Sink>(buffer: &mut Buffer, out: &mut O, tree: &Tree)
     }
 }
 
-/// How many elements are open behind an event, by those that are open before it.
+/// How many elements are open after an event, by those that are open before it.
 fn depth_behind(depth: u32, event: &EventView<'_>) -> u32
     requires { depth + 1 < 2 ^ 32 }
     ensures depth { (path : List Element) → depth ≡ length path → result ≡ length (path_behind path (event_of event.now)) }
@@ -41,7 +41,7 @@ fn depth_behind(depth: u32, event: &EventView<'_>) -> u32
     }
 }
 
-/// Gives the line of an event under so many open elements.
+/// Gives the line of an event under `depth` open elements.
 fn give_line<O: Sink>(buffer: &mut Buffer, out: &mut O, depth: u32, event: &EventView<'_>)
     ensures { Gives (O.contents out.old) (O.contents out.new) (O.faults out.old) (O.faults out.new) buffer.old buffer.new (line_of depth (event_of event.now)) }
 {
@@ -65,7 +65,7 @@ fn give_spaces<O: Sink>(buffer: &mut Buffer, out: &mut O, depth: u32)
     buffer.give(out, &SPACES[..left]);
 }
 
-/// Gives what the line of an event says behind its spaces.
+/// Gives what the line of an event says after its spaces.
 fn give_event<O: Sink>(buffer: &mut Buffer, out: &mut O, event: &EventView<'_>)
     ensures { Gives (O.contents out.old) (O.contents out.new) (O.faults out.old) (O.faults out.new) buffer.old buffer.new (event_text (event_of event.now)) }
 {

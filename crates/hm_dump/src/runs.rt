@@ -23,7 +23,7 @@ fn has_escaped(bytes: &[u8]) -> bool
     found != 0
 }
 
-/// Goes on from a place by so many bytes at a time, as long as none of them is escaped.
+/// Goes on from a place by `width` bytes at a time, as long as none of them is escaped.
 #[inline(always)]
 fn skip_plain(bytes: &[u8], from: usize, width: usize) -> usize
     requires inside { from ≤ length bytes.now }

@@ -42,7 +42,7 @@ impl Shown {
         Ok(Shown { tree, room })
     }
 
-    /// Puts the lines one behind the other. They never stand in memory together.
+    /// Puts the lines one after the other. They never stand in memory together.
     pub fn put<O: Sink>(self, out: &mut O) -> Result<(), Failed>
         ensures ok { OnOk result (O.contents out.new ≡ append_known (O.contents out.old) self) }
         ensures err { OnErr result (AppendsFront (O.contents out.old) (O.contents out.new) self) }

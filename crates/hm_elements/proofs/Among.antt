@@ -26,7 +26,7 @@ among_found name rs i d h e = rw (among_more name rs i d h, e) refl
 pub among_passed : (name : List ℕ) (rs : List (Bor (List ℕ))) (i : ℕ) (d : Bor (List ℕ)) → i < length rs → bytes_eq (get_or rs i d).now name ≡ false → is_among name (texts (drop i rs)) ≡ is_among name (texts (drop (i + 1) rs))
 among_passed name rs i d h e = rw (among_more name rs i d h, e) refl
 
--- lists one behind the other
+-- lists one after the other
 pub joined_more : (name : List ℕ) (gs : List (Bor (List (Bor (List ℕ))))) (i : ℕ) (d : Bor (List (Bor (List ℕ)))) → i < length gs → is_among name (joined_texts (drop i gs)) ≡ is_among name (texts (get_or gs i d).now) || is_among name (joined_texts (drop (i + 1) gs))
 joined_more name gs i d h = at_drop_more (λ x. is_among name (joined_texts x)) gs i d h ∙ is_among-append name (texts (get_or gs i d).now) (joined_texts (drop (i + 1) gs))
 

@@ -32,7 +32,7 @@ ends_behind path (comment s) w h = h
 ends_behind [] (end n foreign) w h = cc
 ends_behind (m ∷ path) (end n foreign) w h = (and_parts (is_same_element m n foreign) (ends_match path w) h).1
 
--- the rules behind an event, at the place where it leads
+-- the rules after an event, at the place that it leads to
 pub behind_event : (t : Top) (f : Frame) (path : List Element) (e : Event) (w : List Event) → SettledFrom t f path (e ∷ w) → (t' : Top) (f' : Frame) → has_top t' (path_behind path e) w ≡ true → has_frame f' (path_behind path e) w ≡ true → SettledFrom t' f' (path_behind path e) w
 behind_event t f path e w s t' f' top frame = record {
   ends = ends_behind path e w s.ends;
@@ -60,7 +60,7 @@ pub html_is : (root n : List ℕ) (foreign : Bool) → is_html root n foreign �
 html_is root n true h = cc
 html_is root n false h = (same_bytes n root h, refl)
 
--- behind html
+-- after html
 chain_last : (f : Frame) (w : List Event) → SettledFrom all_there f [] w → SettledLast w
 chain_last f [] s = tt
 chain_last f (comment x ∷ w) s = (comment_allowed [] x w (here all_there f [] (comment x) w s), chain_last no_head w (behind_event all_there f [] (comment x) w s all_there no_head s.top s.frame))
@@ -80,7 +80,7 @@ chain_behind_body (doctype legacy ∷ w) s = let h = s.top in cc
 chain_behind_body (start n foreign attributes ∷ w) s = let h = s.frame in cc
 chain_behind_body (text x raw ∷ w) s = let h = s.frame in cc
 
--- the path inside a root: its own path, and elements that aren't its name's
+-- the path inside a root: its own path, and elements with other names
 pub data Inside (root : List ℕ) : List Element → Type 0 where
   at_root : Inside root (html_element root ∷ html_path)
   deeper : (e : Element) (path : List Element) → is_html root e.name e.foreign ≡ false → Inside root path → Inside root (e ∷ path)
@@ -109,7 +109,7 @@ html_is_itself root n foreign e =
     let name : root ≡ n = ap (λ (m : Element). m.name) e in
     rw (sym flag, sym name) (eq_self root)
 
--- the end of an element inside a root, with the law of what is behind it
+-- the end of an element inside a root, with the law of what follows it
 end_inside : (root : List ℕ) (f : Frame) (after : List Event → Type 0) → ((w : List Event) → SettledFrom all_there f html_path w → after w)
     → (path : List Element) → Inside root path → (n : List ℕ) (foreign : Bool) (w : List Event)
     → ((path' : List Element) → Inside root path' → SettledFrom all_there f path' w → SettledInside root after path' w)
@@ -154,7 +154,7 @@ pub body_is_root : is_root body ≡ true
 unfolding is_root roots is_among
 body_is_root = refl
 
--- the place behind a test
+-- the place after a test
 passed : {A : Type 0} (b : Bool) (a : A) (more : A → Bool) → go_on (cond b (Some a) None) more ≡ true → (b ≡ true) × (more a ≡ true)
 passed true a more h = (refl, h)
 passed false a more h = cc

@@ -11,7 +11,7 @@ use Rattle.hm_elements.proofs.TableTools.{eq_self}
 use Rattle.hm_elements.proofs.Events.{EventStands, is_same, comment_stands, text_stands, start_stands, start_is_no_root}
 use Rattle.hm_elements.proofs.Chain.{Inside, at_root, deeper, inside_top, inside_frame, no_root_is_other, html_is_itself, head_is_root, body_is_root}
 
--- an event in front of what is settled
+-- an event before what is settled
 put_event : (t t' : Top) (f f' : Frame) (path : List Element) (e : Event) (w : List Event) → EventStands path e w → SettledFrom t' f' (path_behind path e) w → ends_match path (e ∷ w) ≡ true → has_top t path (e ∷ w) ≡ true → has_frame f path (e ∷ w) ≡ true → SettledFrom t f path (e ∷ w)
 put_event t t' f f' path e w st s ends top frame = record {
   ends = ends;

@@ -1,4 +1,4 @@
--- The rows of known names tell the kind of every name.
+-- The rows of known names give the kind of every name.
 use Rattle.std.proofs.Common.{◌≡◌, ℕ, zero, suc, ◌+◌, ◌<◌, length, get_or, nat_le, ◌≤◌, Bool, true, false, cond, ◌||◌, ◌&&◌, not, ◌==◌, List, [], ◌∷◌, bytes_eq, refl, sym, ap, ◌∙◌, map, None, arith}
 use Rattle.std.specs.List.{list_all, slice_get}
 use Rattle.std.proofs.lemmas.Bool.{and_parts, leb-true, false_from_ne_true, both_ways, eqb-true}
@@ -25,7 +25,7 @@ abbrev begins : ℕ → List ℕ → Bool
 begins c [] = false
 begins c (d ∷ s) = d == c
 
--- a row with the name tells its kind
+-- a row with the name gives its kind
 row_tells : (n : List ℕ) (ks : List Known) → map kind (names_of ks) ≡ kinds_of ks → is_among n (names_of ks) ≡ true → kind_in ks n ≡ kind n
 unfolding is_among
 row_tells n [] right among = cc
@@ -83,7 +83,7 @@ none_begin c (m ∷ ms) none all =
     let both = and_parts (begins_with_letter m) (list_all begins_with_letter ms) all in
     rw (false_from_ne_true (begins c m) (not_begun c m none both.0)) (none_begin c ms none both.1)
 
--- no listed name begins with a byte that is no small letter
+-- no listed name begins with a byte that is no lowercase letter
 pub others_tell : (c : ℕ) → (97 ≤ c → c ≤ 122 → ⊥) → TellsKinds c []
 others_tell c none = tells c [] refl (none_begin c listed none letters_begin)
 
@@ -101,7 +101,7 @@ abbrev pub all_kinds : List (Bor (List Known)) → List (List Kind)
 all_kinds [] = []
 all_kinds (g ∷ gs) = kinds_of g.now ∷ all_kinds gs
 
--- the groups have each listed name that begins with their byte, this one or one behind it
+-- the groups have each listed name that begins with their byte, this one or a later one
 abbrev pub have_all : ℕ → List (Bor (List Known)) → Bool
 have_all c [] = true
 have_all c (g ∷ gs) = has_all c g.now && have_all (c + 1) gs

@@ -18,7 +18,7 @@ same_if_whole : (b : Bool) (p q : Option (List ℕ)) → is_found_whole p ≡ is
 same_if_whole true p q h = h
 same_if_whole false p q h = refl
 
--- a word without '<' is found, or not, whatever stands behind a '<'
+-- a word without '<' is found, or not, whatever follows a '<'
 found_alike : (w s x y : List ℕ) → has_byte 60 w ≡ false → is_found (strip w (s ++ 60 ∷ x)) ≡ is_found (strip w (s ++ 60 ∷ y))
 found_alike [] s x y h = refl
 found_alike (d ∷ w) [] x y h = let e : eqb d 60 ≡ false = (or_parts (eqb d 60) (has_byte 60 w) h).0 in rw e refl
@@ -47,7 +47,7 @@ one_later m i k e = omega arith
 not_here : (m i k : ℕ) → k ≡ suc m + i → i ≡ k → ⊥
 not_here m i k e h = omega arith
 
--- an end tag behind the text is found where another one was
+-- an end tag after the text is found where another one was
 place_kept : (n : List ℕ) → has_byte 60 n ≡ false → (s : List ℕ) (i k : ℕ) (x y : List ℕ) → k ≡ length s + i → place_from (begins_end_tag n) i (s ++ 60 ∷ x) ≡ Some k → begins_end_tag n (60 ∷ y) ≡ true → place_from (begins_end_tag n) i (s ++ 60 ∷ y) ≡ Some k
 place_kept n plain [] i k x y at h tag = rw tag (ap (λ j. Some j) (at_end i k at))
 place_kept n plain (c ∷ s) i k x y at h tag = by (begins_end_tag n (c ∷ (s ++ 60 ∷ x))) refl (λ h'. place_kept n plain s (suc i) k x y (one_later (length s) i k at) h' tag) h
@@ -74,7 +74,7 @@ lower_is_small c h = by (nat_le 65 c && nat_le c 90) refl h
     by true e h = absurd (never (leb-true 65 c (and_parts (nat_le 65 c) (nat_le c 90) e).0) (eqb-true 60 (c + 32) h))
     by false e h = sym (eqb-true 60 c h)
 
--- behind '</' no mark but that of an end tag begins
+-- after '</' no mark but that of an end tag begins
 closing_mark : (y : List ℕ) → begins_end_tag script (60 ∷ y) ≡ true → mark_at (60 ∷ y) ≡ Some closes_script
 unfolding begins_end_tag mark_at lower
 closing_mark [] h = cc
@@ -90,7 +90,7 @@ closing_mark (d ∷ y) h = by (eqb 47 (lower d)) refl h
     by true e h = rw (no_comment e, no_start e, e, h) refl
     by false e h = cc
 
--- what stands behind the '<' of a script's end tag
+-- what follows the '<' of a script's end tag
 abbrev script_rest : List ℕ
 script_rest = codes "/script>"
 
@@ -98,7 +98,7 @@ double_goes_on : (i k : ℕ) → first_end double_escaped (marks_from i (60 ∷ 
 unfolding mark_at is_name_end is_space lower
 double_goes_on i k h = cc
 
--- a script's end tag behind the text is found where another one was
+-- a script's end tag after the text is found where another one was
 script_kept : (s : List ℕ) (st : ScriptState) (i k : ℕ) (y : List ℕ) → k ≡ length s + i → first_end st (marks_from i (s ++ 60 ∷ script_rest)) ≡ Some k → begins_end_tag script (60 ∷ y) ≡ true → first_end st (marks_from i (s ++ 60 ∷ y)) ≡ Some k
 script_kept [] unescaped i k y at h tag = rw (closing_mark y tag) (ap (λ j. Some j) (at_end i k at))
 script_kept [] escaped i k y at h tag = rw (closing_mark y tag) (ap (λ j. Some j) (at_end i k at))

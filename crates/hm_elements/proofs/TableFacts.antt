@@ -43,7 +43,7 @@ makes_nothing_holds = record {
 pub stands_made : (n t : List ℕ) (g : Option (List ℕ)) → may_stand n t g ≡ true → made_under t n ≡ []
 stands_made n t g h = nil_is (made_under t n) (stands_passes makes_nothing makes_nothing_holds n t g h)
 
--- a child of these names stands under these parents alone
+-- a child of these names stands only under these parents
 abbrev pub only_in : List (List ℕ) → List (List ℕ) → List ℕ → List ℕ → Bool
 only_in names ps c t = not (is_among c names) || is_among t ps
 

@@ -148,7 +148,7 @@ yields_col : (c : List ℕ) → goes_before c colgroup ≡ true → bytes_eq c c
 unfolding goes_before
 yields_col c goes other = let h : is_pair before_rows c colgroup ≡ true = rw other at goes in pair_passes (λ c' k. not (bytes_eq k colgroup) || yields c' col) c colgroup before_rows before_colgroup h
 
--- an omitted start tag behind an omitted end tag: what goes before the element yields to its first child too
+-- an omitted start tag after an omitted end tag: what goes before the element yields to its first child too
 pub goes_yields_inside : (c n k : List ℕ) → goes_before c n ≡ true → bars_start c n ≡ false → start_goes_before n k ≡ true → yields c k ≡ true
 unfolding bars_start
 goes_yields_inside c n k goes free before =

@@ -4,11 +4,11 @@ use Rattle.hm_base.specs.Bytes.{lower}
 use Rattle.hm_base.specs.Walks.{Attribute}
 use Rattle.hm_elements.specs.Names.{words}
 
--- attributes that say nothing where their value is whitespace alone
+-- attributes that say nothing where their value is only whitespace
 abbrev pub nothing_blank : List (List ℕ)
 nothing_blank = words "class id style"
 
--- an attribute of an element, with a value in small letters that says what holds without it
+-- an attribute of an element, with a value in lowercase letters that says what holds without it
 pub record Default : Type 0 where
   pub element : List ℕ
   pub name : List ℕ

@@ -1,4 +1,4 @@
--- What the rows of known names tell of a name.
+-- What the rows of known names say of a name.
 use Rattle.std.specs.Prelude.{◌≡◌, ℕ, ◌+◌, ◌<◌, length, get_or, false, List, [], ◌∷◌, Option, Some, None, if◌then◌else◌, bytes_eq}
 use denote.Ref.{Bor}
 use Rattle.hm_elements.specs.declared.class.Class.TheVariants.{Ordinary}
@@ -42,7 +42,7 @@ abbrev pub HasName : List ℕ → Option (Bor Known) → Type 0
 HasName n None = Unit {0}
 HasName n (Some k) = k.now.0.now ≡ n
 
--- The rows tell the kind of each name that begins with this byte.
+-- The rows give the kind of each name that begins with this byte.
 pub record TellsKinds (c : ℕ) (ks : List Known) : Type 0 where
   pub each : (s : List ℕ) → kind_in ks (c ∷ s) ≡ kind (c ∷ s)
 

@@ -91,7 +91,7 @@ LeftOpenInBody = (c : List ℕ) (g : Option (List ℕ)) → may_stand c body g �
 abbrev pub LeftOpenHolds : Type 0
 LeftOpenHolds = (c k : List ℕ) → (goes_before c k ≡ true) ⊎ (goes_up c k ≡ true) → HoldsMore c
 
--- Where a start tag may be left out, the start tag behind it makes the element.
+-- Where a start tag may be left out, the start tag that follows it makes the element.
 abbrev pub LeftOutIsMade : Type 0
 LeftOutIsMade = (n k t : List ℕ) (g : Option (List ℕ)) → may_stand n t g ≡ true → start_goes_before n k ≡ true → StartIsMade n k t
 

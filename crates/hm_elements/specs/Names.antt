@@ -6,7 +6,7 @@ abbrev pub with_byte : ℕ → List (List ℕ) → List (List ℕ)
 with_byte c [] = (c ∷ []) ∷ []
 with_byte c (w ∷ ws) = (c ∷ w) ∷ ws
 
--- a byte in front of words: a space begins a new one
+-- a byte before words: a space begins a new one
 abbrev pub before_words : ℕ → List (List ℕ) → List (List ℕ)
 before_words c ws = if c == 32 then [] ∷ ws else with_byte c ws
 

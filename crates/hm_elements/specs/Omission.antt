@@ -44,7 +44,7 @@ start_rows = row "colgroup" (words "col") ∷ row "tbody" (words "tr") ∷ []
 unfoldable pub start_goes_before : List ℕ → List ℕ → Bool
 start_goes_before n child = is_pair start_rows n child
 
--- Where the end tag of this element was left out, the start tag of that one behind it isn't left out.
+-- Where the end tag of this element was left out, the start tag of that one after it isn't left out.
 unfoldable pub bars_start : List ℕ → List ℕ → Bool
 bars_start before n = (bytes_eq n tbody && is_section before) || (bytes_eq n colgroup && bytes_eq before colgroup)
 

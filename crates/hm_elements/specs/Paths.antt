@@ -9,12 +9,12 @@ use Rattle.hm_elements.specs.Nesting.{is_name, may_stand, yields, ends_with, mad
 abbrev pub html_element : List ℕ → Element
 html_element n = record { name = n; foreign = false }
 
--- the longest front whose elements pass
+-- the longest prefix whose elements pass
 abbrev pub front : (Element → Bool) → List Element → List Element
 front q [] = []
 front q (e ∷ path) = if q e then e ∷ front q path else []
 
--- what is behind that front
+-- what follows that prefix
 abbrev pub behind : (Element → Bool) → List Element → List Element
 behind q [] = []
 behind q (e ∷ path) = if q e then behind q path else e ∷ path
@@ -99,7 +99,7 @@ is_in_text (e ∷ path) = not e.foreign && holds_text e.name
 unfoldable pub blank_parents : List (List ℕ)
 blank_parents = words "head table thead tbody tfoot tr colgroup select optgroup"
 
--- A text here is whitespace alone.
+-- A text here is only whitespace.
 unfoldable pub is_in_blank : List Element → Bool
 is_in_blank [] = false
 is_in_blank (e ∷ path) = not e.foreign && (is_among e.name blank_parents || (bytes_eq e.name noscript && is_name head (current_name path)))

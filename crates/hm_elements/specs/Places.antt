@@ -74,13 +74,13 @@ one_of_two false A B = B
 abbrev pub html_path : List Element
 html_path = html_element html ∷ []
 
--- behind the end of html
+-- after the end of html
 abbrev pub SettledLast : List Event → Type 0
 SettledLast [] = Unit {0}
 SettledLast (comment s ∷ w) = CommentAllowed [] s × SettledLast w
 SettledLast (e ∷ w) = ⊥
 
--- behind the end of body
+-- after the end of body
 abbrev pub SettledBehindBody : List Event → Type 0
 SettledBehindBody (comment s ∷ w) = CommentAllowed html_path s × SettledBehindBody w
 SettledBehindBody (end n foreign ∷ w) = (n ≡ html) × (foreign ≡ false) × SettledLast w
@@ -99,7 +99,7 @@ SettledInside root after (e ∷ path) (end n foreign ∷ w) = (e ≡ record { na
 abbrev pub SettledBody : List Element → List Event → Type 0
 SettledBody path w = SettledInside body SettledBehindBody path w
 
--- behind the end of head
+-- after the end of head
 abbrev pub SettledBeforeBody : List Event → Type 0
 SettledBeforeBody (text s raw ∷ w) = TextAllowed html_path s raw w × (is_blank s ≡ true) × SettledBeforeBody w
 SettledBeforeBody (comment s ∷ w) = CommentAllowed html_path s × SettledBeforeBody w
@@ -109,13 +109,13 @@ SettledBeforeBody w = ⊥
 abbrev pub SettledHead : List Element → List Event → Type 0
 SettledHead path w = SettledInside head SettledBeforeBody path w
 
--- behind the start of html
+-- after the start of html
 abbrev pub SettledBeforeHead : List Event → Type 0
 SettledBeforeHead (comment s ∷ w) = CommentAllowed html_path s × SettledBeforeHead w
 SettledBeforeHead (start n foreign attributes ∷ w) = RootAllowed head n foreign attributes × SettledHead (html_element head ∷ html_path) w
 SettledBeforeHead w = ⊥
 
--- behind the doctype
+-- after the doctype
 abbrev pub SettledBeforeHtml : List Event → Type 0
 SettledBeforeHtml (comment s ∷ w) = CommentAllowed [] s × SettledBeforeHtml w
 SettledBeforeHtml (start n foreign attributes ∷ w) = RootAllowed html n foreign attributes × SettledBeforeHead w

@@ -75,7 +75,7 @@ sample_settles = record {
 abbrev page : List Event → List Event
 page w = doctype false ∷ around html (around head [] ++ around body w)
 
--- so many elements in each other
+-- elements nested to this depth
 abbrev nested_b : ℕ → List Event
 nested_b zero = words_of (codes "x")
 nested_b (suc k) = around (codes "b") (nested_b k)

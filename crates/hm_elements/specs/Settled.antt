@@ -1,5 +1,5 @@
--- Settled walks: trees of pages that are read without any repair. Each rule is a test of an event,
--- with the open elements and the events behind it, or a recursion over the events.
+-- Settled walks: trees of pages that are read without any repair. Each rule is a test of an event, with the open
+-- elements and the events after it, or a recursion over the events.
 use Rattle.std.specs.Prelude.{◌≡◌, ℕ, Bool, true, false, not, ◌&&◌, ◌||◌, ◌==◌, nat_le, List, [], ◌∷◌, ◌++◌, length, Option, Some, None, if◌then◌else◌, codes, bytes_eq}
 use Rattle.std.specs.Str.{is_utf8}
 use Rattle.hm_base.specs.Bytes.{is_null}
@@ -76,13 +76,13 @@ has_frame frame [] (e ∷ w) = not (starts_inner_root e) && has_frame no_head (p
 has_frame frame (m ∷ []) (e ∷ w) = go_on (next_frame frame e) (λ next. has_frame next (path_behind (m ∷ []) e) w)
 has_frame frame (m ∷ k ∷ path) (e ∷ w) = not (starts_root e) && has_frame frame (path_behind (m ∷ k ∷ path) e) w
 
--- each event passes, with the open elements before it and the events behind it
+-- each event passes, with the open elements before it and the events after it
 abbrev pub all_events : (List Element → Event → List Event → Bool) → List Element → List Event → Bool
 all_events test path [] = true
 all_events test path (e ∷ w) = test path e w && all_events test (path_behind path e) w
 
--- 3. Every other HTML element stands in an HTML element that may hold it and doesn't yield to it, has a name that is
--- read, and stands neither in a paragraph that it would close nor in one of its own kind.
+-- 3. Every other HTML element stands in an HTML element that may hold it and doesn't yield to it. It has a name that is
+-- read. It stands neither in a paragraph that it would close nor in an element of its own kind.
 unfoldable pub nests : List Element → Event → List Event → Bool
 nests path (start n foreign attributes) w =
     if foreign || is_root n then true
@@ -106,9 +106,9 @@ abbrev pub no_zero_in_values : List Attribute → Bool
 no_zero_in_values [] = true
 no_zero_in_values (a ∷ attributes) = not (has_byte 0 a.value) && no_zero_in_values attributes
 
--- 6. No text is empty, no two texts touch, and no text, comment or value holds a zero byte. A text is raw exactly in the
--- HTML elements style, iframe and script. These three and the HTML elements title and textarea hold at most one text and
--- nothing else. In some elements a text is whitespace alone.
+-- 6. No text is empty, no two texts touch, and no text, comment or value holds a zero byte. A text is raw exactly in
+-- the HTML elements style, iframe and script. These three and the HTML elements title and textarea hold at most one
+-- text and nothing else. In some elements a text is only whitespace.
 unfoldable pub is_text_in_place : List Element → Event → List Event → Bool
 is_text_in_place path (text s raw) w = not (is_null s) && not (begins_text w) && not (has_byte 0 s) && same_flag raw (is_in_raw path) && (not (is_in_blank path) || is_blank s)
 is_text_in_place path (comment s) w = not (has_byte 0 s) && not (is_in_text path)
@@ -162,7 +162,8 @@ is_event_utf8 path (text s raw) w = is_utf8 s
 is_event_utf8 path (comment s) w = is_utf8 s
 is_event_utf8 path e w = true
 
--- The rules from a place in a walk on: what has stood at the top and under html, the open elements, and the events behind.
+-- The rules from a place in a walk on: what has stood at the top and under html, the open elements, and the events that
+-- follow.
 pub record SettledFrom (t : Top) (f : Frame) (path : List Element) (w : List Event) : Type 0 where
   pub ends : ends_match path w ≡ true
   pub closed : path_after path w ≡ []

@@ -58,11 +58,11 @@ svg_boundaries = words "title desc"
 unfoldable pub block_names : List (List ℕ)
 block_names = blocks ++ words "body caption col colgroup dd dt head html legend li optgroup option tbody td tfoot th thead title tr"
 
--- elements directly in which whitespace alone isn't seen
+-- elements directly in which a text of only whitespace isn't seen
 unfoldable pub space_parents : List (List ℕ)
 space_parents = words "html head table colgroup thead tbody tfoot tr select optgroup datalist ul ol menu dir dl"
 
--- elements in which whitespace is seen as it is, and behind whose start tags a line feed is dropped
+-- elements in which whitespace is seen as it is, and after whose start tags a line feed is dropped
 abbrev pub preformatted : List (List ℕ)
 preformatted = words "pre textarea"
 
@@ -133,7 +133,7 @@ is_boolean n = is_among n boolean_attributes
 unfoldable pub is_svg_name : List ℕ → Bool
 is_svg_name n = is_among n svg_names
 
--- elements of SVG that hold texts and comments alone
+-- elements of SVG that hold only texts and comments
 unfoldable pub holds_svg_text : List ℕ → Bool
 holds_svg_text n = is_among n svg_boundaries
 

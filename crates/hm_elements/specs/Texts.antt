@@ -8,7 +8,7 @@ abbrev pub texts : List (Bor (List ℕ)) → List (List ℕ)
 texts [] = []
 texts (r ∷ rs) = r.now ∷ texts rs
 
--- the names of lists that stand one behind the other
+-- the names of lists that stand one after the other
 abbrev pub joined_texts : List (Bor (List (Bor (List ℕ)))) → List (List ℕ)
 joined_texts [] = []
 joined_texts (g ∷ gs) = texts g.now ++ joined_texts gs

@@ -11,7 +11,7 @@ use crate::look_up::is_one_of;
 pub enum Class {
     /// `html`, `head`, `body`.
     Root,
-    /// It holds nothing and has no end tag (HTML Standard, 13.1.2).
+    /// It holds nothing and has no end tag (HTML Standard, #elements-2).
     Void,
     /// It holds one text, in which character references are read.
     Rcdata,
@@ -19,7 +19,7 @@ pub enum Class {
     Raw,
     /// `script`, whose text ends by rules of its own.
     Script,
-    /// `table` and what stands in it, but for `col`, which is void.
+    /// `table` and what stands in it, except for `col`, which is void.
     TablePart,
     Ordinary,
     /// A page with this element is refused.
@@ -63,7 +63,7 @@ pub fn class_of(name: &str) -> Class
     kind_of(name).class
 }
 
-/// Whether the HTML element holds nothing and has no end tag (13.1.2).
+/// Whether the HTML element holds nothing and has no end tag (#elements-2).
 #[tactic(auto, using(crate::proofs::ClassFacts::void_by_class))]
 pub fn is_void(name: &str) -> bool
     ensures { result ≡ tables.is_void name.now }
@@ -109,7 +109,7 @@ pub fn is_unnested(name: &str) -> bool
     kind_of(name).unnested
 }
 
-/// Whether a start tag of this name closes an open paragraph (13.2.6.4.7).
+/// Whether a start tag of this name closes an open paragraph (#parsing-main-inbody).
 pub fn closes_p(name: &str) -> bool
     ensures { result ≡ tables.closes_p name.now }
 {
@@ -235,7 +235,7 @@ const SVG: [&str; 61] = [
     "view",
 ];
 
-/// Whether SVG has an element of this name that is read, in small letters.
+/// Whether SVG has an element of this name that is read, in lowercase letters.
 #[tactic(auto, unfolding(crate::specs::Tables::is_svg_name, crate::specs::Tables::svg_names))]
 pub fn svg_name(name: &str) -> bool
     ensures { result ≡ tables.is_svg_name name.now }

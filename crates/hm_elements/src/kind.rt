@@ -18,7 +18,7 @@ pub struct Kind {
     pub heading: bool,
     /// It may not stand in one of its own name.
     pub unnested: bool,
-    /// Its start tag closes an open paragraph (HTML Standard, 13.2.6.4.7).
+    /// Its start tag closes an open paragraph (HTML Standard, #parsing-main-inbody).
     pub closes_p: bool,
     /// A paragraph is never closed through it.
     pub boundary: bool,
@@ -28,15 +28,15 @@ pub struct Kind {
     pub yields: bool,
     /// A `p` that is the innermost element closes before its start tag.
     pub p_yields: bool,
-    /// It ends with some end tags of other names (13.1.2.4).
+    /// It ends with some end tags of other names (#optional-tags).
     pub ends: bool,
     /// A `p` ends with its end tag.
     pub p_ends: bool,
-    /// It takes children of certain names alone.
+    /// It takes only children of certain names.
     pub has_children: bool,
-    /// Where its parent takes any children, it stands in parents of certain names alone.
+    /// Where its parent takes any children, it stands only in parents of certain names.
     pub has_parents: bool,
-    /// It stands only in parents that take children of certain names alone.
+    /// It stands only in parents that take only children of certain names.
     pub bound: bool,
 }
 
@@ -136,7 +136,7 @@ impl<'n> Named<'n> {
         self.text
     }
 
-    /// Whether the HTML element holds nothing and has no end tag (HTML Standard, 13.1.2).
+    /// Whether the HTML element holds nothing and has no end tag (HTML Standard, #elements-2).
     #[tactic(auto, using(crate::proofs::ClassFacts::void_by_class))]
     pub fn is_void(self) -> bool
         ensures { result ≡ tables.is_void self.entry.name.now }

@@ -15,7 +15,7 @@ pub fn svg_in_place()
     ensures svg_is_kept { SvgIsKept }
 {}
 
-/// Where an end tag may be left out (13.1.2.4), the next tag that is written closes or ends the element.
+/// Where an end tag may be left out (#optional-tags), the next tag that is written closes or ends the element.
 pub fn end_tags_left_out()
     ensures yields { LeftOpenYields }
     ensures yields_inside { LeftOpenYieldsInside }
@@ -24,7 +24,7 @@ pub fn end_tags_left_out()
     ensures holds { LeftOpenHolds }
 {}
 
-/// Where a start tag may be left out (13.1.2.4), the next tag that is written makes the element.
+/// Where a start tag may be left out (#optional-tags), the next tag that is written makes the element.
 pub fn start_tags_left_out()
     ensures { LeftOutIsMade }
 {}
@@ -35,7 +35,8 @@ pub fn element_names()
     ensures svg { SvgNamesAreNames }
 {}
 
-/// The text of `style`, `iframe` and `script` before a written end tag (13.2.5.9 to 13.2.5.31).
+/// The text of `style`, `iframe` and `script` before a written end tag (#rawtext-less-than-sign-state to
+/// #script-data-double-escape-end-state).
 pub fn raw_texts_end()
     ensures { RawTextsEnd }
 {}

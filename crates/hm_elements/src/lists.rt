@@ -32,7 +32,8 @@ pub fn is_cell(name: &str) -> bool
     is_one_of(name, &["td", "th"])
 }
 
-/// Whether the element is metadata, which doesn't stand between `head` and `body` (HTML Standard, 13.2.6.4.6).
+/// Whether the element is metadata, which doesn't stand between `head` and `body` (HTML Standard,
+/// #the-after-head-insertion-mode).
 #[tactic(auto, unfolding(crate::specs::Tables::is_metadata))]
 pub fn is_metadata(name: &str) -> bool
     ensures { result ≡ tables.is_metadata name.now }
@@ -40,15 +41,15 @@ pub fn is_metadata(name: &str) -> bool
     is_one_of(name, &["base", "link", "meta", "script", "style", "title"])
 }
 
-/// Whether whitespace is seen as it is in the HTML element, and a line feed directly behind its start
-/// tag is dropped (13.2.6.4.7).
+/// Whether whitespace is seen as it is in the HTML element, and a line feed directly after its start tag is dropped
+/// (#parsing-main-inbody).
 pub fn is_preformatted(name: &str) -> bool
     ensures { result ≡ is_among name.now tables.preformatted }
 {
     is_one_of(name, &["pre", "textarea"])
 }
 
-/// Whether a text directly in the HTML element is whitespace alone.
+/// Whether a text directly in the HTML element is only whitespace.
 #[tactic(auto, unfolding(crate::specs::Paths::blank_parents))]
 pub fn is_blank_parent(name: &str) -> bool
     ensures { result ≡ is_among name.now blank_parents }
@@ -61,7 +62,7 @@ pub fn is_blank_parent(name: &str) -> bool
     )
 }
 
-/// Whether whitespace alone isn't seen directly in the HTML element.
+/// Whether a text of only whitespace isn't seen directly in the HTML element.
 #[tactic(auto, unfolding(crate::specs::Tables::space_parents))]
 pub fn is_space_parent(name: &str) -> bool
     ensures { result ≡ is_among name.now tables.space_parents }
@@ -75,7 +76,7 @@ pub fn is_space_parent(name: &str) -> bool
     )
 }
 
-/// Whether the attribute says nothing where its value is whitespace alone.
+/// Whether the attribute says nothing where its value is only whitespace.
 pub fn says_nothing_blank(attribute: &str) -> bool
     ensures { result ≡ is_among attribute.now attributes.nothing_blank }
 {
@@ -104,7 +105,7 @@ fn is_default(element: &str, name: &str, value: &str, of: &str, called: &str, de
     same_name(element, of) && same_name(name, called) && is_but_for_case(value, default)
 }
 
-/// Whether a value is that word but for the case of its ASCII letters.
+/// Whether a value is that word apart from the case of its ASCII letters.
 fn is_but_for_case(value: &str, word: &str) -> bool
     ensures { result ≡ str_eq_ignore_ascii_case value.now word.now }
 {

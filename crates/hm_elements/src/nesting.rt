@@ -17,7 +17,7 @@ const PARTS: [&str; 9] = [
     "caption", "col", "colgroup", "thead", "tbody", "tfoot", "tr", "td", "th",
 ];
 
-/// What an open element yields to, but for `colgroup` and `p`.
+/// What an open element yields to, except for `colgroup` and `p`.
 const YIELDS: [PairRow<'static>; 8] = [
     PairRow {
         heads: &["li"],
@@ -55,7 +55,8 @@ const YIELDS: [PairRow<'static>; 8] = [
     },
 ];
 
-/// Whether the open element `current` closes before the start tag of an HTML element `next` (13.1.2.4, 13.2.6.4.7 and following).
+/// Whether the open element `current` closes before the start tag of an HTML element `next` (#optional-tags,
+/// #parsing-main-inbody and following).
 #[tactic(auto, using(crate::proofs::NestingFacts::never_yields), unfolding(crate::specs::Nesting::yields))]
 pub fn yields(current: Named<'_>, next: Named<'_>) -> bool
     ensures { result ≡ nesting.yields current.entry.name.now next.entry.name.now }
@@ -79,7 +80,7 @@ fn yields_by_rows(current: &str, next: &str) -> bool
     is_pair(&YIELDS, current, next)
 }
 
-/// What end tags an open element ends with, but for `p`.
+/// What end tags an open element ends with, except for `p`.
 const ENDS: [PairRow<'static>; 8] = [
     PairRow {
         heads: &["li"],
@@ -115,7 +116,7 @@ const ENDS: [PairRow<'static>; 8] = [
     },
 ];
 
-/// Whether the open element `child` ends with the end tag `ending` (13.1.2.4).
+/// Whether the open element `child` ends with the end tag `ending` (#optional-tags).
 #[tactic(auto, using(crate::proofs::NestingFacts::never_ends))]
 pub fn ends_with(child: Named<'_>, ending: &str) -> bool
     ensures { result ≡ nesting.ends_with child.entry.name.now ending.now }
@@ -219,7 +220,7 @@ pub fn may_stand(name: Named<'_>, parent: Named<'_>, grandparent: Option<&str>) 
     }
 }
 
-/// The names of the children that the element takes, where it takes those alone.
+/// The names of the children that the element takes, where it takes only those.
 fn own_children(parent: Named<'_>) -> Option<&'static [&'static [&'static str]]>
     ensures { names_of result ≡ names.find parent.entry.name.now nesting.children }
 {
@@ -237,7 +238,7 @@ fn children_by_rows(parent: &str) -> Option<&'static [&'static [&'static str]]>
     find(&CHILDREN, parent)
 }
 
-/// The names of the parents that the element stands in, where it stands in those alone.
+/// The names of the parents that the element stands in, where it stands only in those.
 fn own_parents(child: Named<'_>) -> Option<&'static [&'static [&'static str]]>
     ensures { names_of result ≡ names.find child.entry.name.now nesting.own_parents }
 {

@@ -1,4 +1,4 @@
--- Over `</>` and on.
+-- How `</>` is skipped.
 use Rattle.std.proofs.Common.{◌≡◌, ℕ, ◌+◌, ◌-◌, ◌≤◌, Bool, true, false, ◌&&◌, ◌==◌, List, [], ◌∷◌, length, drop, get_or, refl, sym, ap, subst, ◌∙◌, arith, length-drop}
 use Rattle.std.specs.Str.{IsUtf8, IsCharBoundary}
 use Rattle.std.proofs.lemmas.Str.{IsCharBoundary-after_ascii}
@@ -7,7 +7,7 @@ use Rattle.std.proofs.lemmas.Bool.Decides.{Decides-eqb}
 use Rattle.hm_tokens.specs.First.{Behind, behind_empty_tags}
 use Rattle.hm_lexer.specs.Steps.{begins_empty_tag}
 
--- so many bytes more before
+-- with n more bytes before
 abbrev pub more_by : ℕ → Behind → Behind
 more_by n k = record { count = n + k.count; rest = k.rest }
 

@@ -1,4 +1,4 @@
--- What is read in the front of a text, up to the end of an element's text.
+-- What is read in a prefix of a text, up to the end of an element's text.
 use Rattle.std.proofs.Common.{◌≡◌, ℕ, zero, suc, ◌+◌, ◌-◌, ◌<◌, ◌≤◌, true, false, List, ◌++◌, length, take, drop, get_or, slice_range, Result, Ok, Err, IfOk, Some, refl, sym, ap, ap₂, subst, ◌∙◌, inl, inr, arith}
 use Rattle.std.specs.Str.{IsCharBoundary}
 use Rattle.std.proofs.lemmas.Bool.{cases_lt}
@@ -16,7 +16,7 @@ use Rattle.hm_tree.specs.declared.tokens.Token.{Token}
 use Rattle.hm_tree.specs.declared.tokens.Token.TheVariants as tokens
 use Rattle.hm_lexer.specs.Steps.{read_piece, read_with}
 
--- ---- a front of a text, and the text
+-- ---- a prefix of a text, and the text
 
 range_front : (s : List ℕ) (n from to : ℕ) → from ≤ to → to ≤ n → slice_range (take n s) from to ≡ slice_range s from to
 range_front s n from to low high =

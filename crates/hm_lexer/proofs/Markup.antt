@@ -8,13 +8,13 @@ use Rattle.hm_mark_scan.specs.Comments.{begins_comment}
 use Rattle.hm_mark_scan.specs.Doctypes.{begins_doctype}
 use Rattle.hm_lexer.specs.Steps.{begins_empty_tag}
 
--- behind `</`
+-- after `</`
 by_slash : (s : List ℕ) → not (is_null s) ≡ true → begins_empty_tag (60 ∷ 47 ∷ s) ≡ false → begins_tag (60 ∷ 47 ∷ s) ≡ false → begins_comment (60 ∷ 47 ∷ s) ≡ true
 unfolding begins_comment begins_tag is_letter
 by_slash [] h empty tag = absurd (cc)
 by_slash (c ∷ s) h empty tag = rw (tag, empty) refl
 
--- behind `<`, by the next byte
+-- after `<`, by the next byte
 by_second : (b : ℕ) (s : List ℕ) → is_letter b || (b == 33 || (b == 63 || (b == 47 && not (is_null s)))) ≡ true
     → begins_empty_tag (60 ∷ b ∷ s) ≡ false → begins_tag (60 ∷ b ∷ s) ≡ false → begins_doctype (60 ∷ b ∷ s) ≡ false → begins_comment (60 ∷ b ∷ s) ≡ true
 unfolding begins_comment begins_tag

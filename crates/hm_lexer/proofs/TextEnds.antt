@@ -69,7 +69,7 @@ tag_begins (c ∷ name) (a ∷ b ∷ d ∷ s) h e = by_tests (60 == a) refl (47 
     by_tests true p false q z r e = absurd (cc)
     by_tests false p y q z r e = absurd (cc)
 
--- ---- the place that a scan tells
+-- ---- the place that a scan returns
 
 -- at the place that is found a tag begins
 abbrev pub IsTagAt : List ℕ → ℕ → Type 0

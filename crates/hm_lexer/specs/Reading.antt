@@ -1,4 +1,4 @@
--- A text that is read token by token, and what is answered of the next one.
+-- A text that is read token by token, and what is returned of the next one.
 use Rattle.std.specs.Prelude.{◌≡◌, ◌≢◌, ℕ, ◌+◌, ◌<◌, ◌≤◌, Bool, true, false, ◌&&◌, if◌then◌else◌, List, length, drop, map, Option, MatchOption}
 use Rattle.hm_base.specs.Source.{Source, byte_of, place_in}
 use Rattle.hm_base.specs.declared.rules.Refused.{Refused}
@@ -42,7 +42,7 @@ text_front (rcdata name) s = 0
 text_front (raw name) s = 0
 text_front script s = 0
 
--- This token stands next, and was taken: it begins behind so many bytes that stand for nothing.
+-- This token stands next, and was taken: it begins after `passed` bytes that stand for nothing.
 pub record IsTaken (old : Reading) (mode : Mode) (token : Spanned) (new : Reading) : Type 0 where
   pub passed : ℕ
   pub is : next_of old mode ≡ behind_bytes passed (taken (seen (text_of old) token.token) (drop token.to (text_of old)))
@@ -57,7 +57,7 @@ pub record IsTaken (old : Reading) (mode : Mode) (token : Spanned) (new : Readin
 abbrev pub Gives : Reading → Mode → Option Spanned → Reading → Type 0
 Gives old mode token new = MatchOption token ((next_of old mode ≡ at_end) × (new ≡ old)) (λ token. IsTaken old mode token new)
 
--- What stands next has this fault, which is called so. Its place is that of its first byte in the page.
+-- What stands next has a fault of this rule. Its place is that of its first byte in the page.
 pub record IsFaulty (old : Reading) (mode : Mode) (rule : Rule) (place : ℕ) : Type 0 where
   pub passed : ℕ
   pub fault : ScanFault
@@ -66,7 +66,7 @@ pub record IsFaulty (old : Reading) (mode : Mode) (rule : Rule) (place : ℕ) : 
   pub rule_is : rule ≡ rule_of fault
   pub place_is : place ≡ place_in old.source.placed old.source.end (old.at + passed)
 
--- why the next token is refused; want of memory has no cause in the text
+-- why the next token is refused; lack of memory has no cause in the text
 abbrev pub Refuses : Reading → Mode → Refused → Type 0
 Refuses old mode (answers.Page rule place) = IsFaulty old mode rule place
 Refuses old mode answers.Memory = Unit {0}

@@ -17,14 +17,14 @@ use Rattle.hm_tokens.specs.First.{Mode, ordinary, in_svg, rcdata, raw, script, N
 use Rattle.hm_lexer.specs.Modes.{rcdata_name}
 use Rattle.hm_lexer.specs.declared.lexer.TextEnd.{TextEnd}
 
--- ---- what stands for nothing in front
+-- ---- what stands for nothing before a token
 
--- `</>` is in front
+-- `</>` stands first
 abbrev pub begins_empty_tag : List ℕ → Bool
 begins_empty_tag (a ∷ b ∷ c ∷ s) = a == 60 && (b == 47 && c == 62)
 begins_empty_tag s = false
 
--- the bytes behind what stands for nothing, and how many that are: only ordinary text has such
+-- the bytes after what stands for nothing, and how many bytes that takes: only ordinary text has such bytes
 abbrev pub behind_nothing : Mode → List ℕ → Behind
 behind_nothing ordinary s = behind_empty_tags s
 behind_nothing in_svg s = behind_empty_tags s
@@ -32,7 +32,7 @@ behind_nothing (rcdata name) s = behind_none s
 behind_nothing (raw name) s = behind_none s
 behind_nothing script s = behind_none s
 
--- start tags are read, and what stands for nothing may be in front
+-- start tags are read, and what stands for nothing may come first
 abbrev pub has_markup : Mode → Bool
 has_markup ordinary = true
 has_markup in_svg = true
@@ -40,7 +40,7 @@ has_markup (rcdata name) = false
 has_markup (raw name) = false
 has_markup script = false
 
--- what stands for nothing is in front
+-- what stands for nothing comes first
 abbrev pub begins_nothing : Mode → List ℕ → Bool
 begins_nothing ordinary s = begins_empty_tag s
 begins_nothing in_svg s = begins_empty_tag s
@@ -48,7 +48,7 @@ begins_nothing (rcdata name) s = false
 begins_nothing (raw name) s = false
 begins_nothing script s = false
 
--- behind it another place of the text begins
+-- after it another place of the text begins
 pub record IsBehind (mode : Mode) (s : List ℕ) (at to : ℕ) : Type 0 where
   pub is : behind_nothing mode (drop at s) ≡ record { count = to - at; rest = drop to s }
   pub forward : at ≤ to
@@ -96,7 +96,7 @@ pub record IsLexer (s : List ℕ) (at : ℕ) (kept : Option TextEnd) : Type 0 wh
   pub boundary : IsCharBoundary s at
   pub end : IfSome kept (λ e. IsEndAt (raw_end (rcdata_name e.name) (drop at s)) s at e.place)
 
--- ---- what a fault is answered as
+-- ---- the refusal that a fault gives
 
 abbrev pub refusal_of : ScanFault → ℕ → Refused
 refusal_of faults.Cut place = answers.Page (rule_of faults.Cut) place

@@ -41,7 +41,7 @@ fn script_text_end(text: &str, at: u32) -> Option<u32>
 }
 
 /// Reads from byte `at` on in the text of an element that ends at `to`: a piece of it, or at its end the end tag.
-/// `references` tells whether character references are read.
+/// `references` says whether character references are read.
 pub fn scan_up_to(
     alloc: Global,
     text: &str,

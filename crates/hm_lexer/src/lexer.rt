@@ -31,10 +31,11 @@ struct TextEnd {
 ///
 /// Contracts see the names of character references, the text with its places, and how many of its bytes were taken.
 ///
-/// What is looked at for a token runs to the token's own end, or, where a piece of text ends before a character
-/// reference, to the end of that reference; where a token's end is missing, to the end of the text, and the page is
-/// refused. So all tokens of a page together take time linear in it. In title, textarea, style, iframe and script the
-/// first token looks for the end tag of the element; the pieces of a title or a textarea behind it don't look again.
+/// For a token the lexer looks no further than the token's own end. Where a piece of text ends before a character
+/// reference, it looks to the end of that reference. Where a token's end is missing, it looks to the end of the text,
+/// and the page is refused. So all tokens of a page together take time linear in it. In title, textarea, style, iframe
+/// and script the first token looks for the end tag of the element; the later pieces of a title or a textarea don't
+/// look again.
 #[derive(Drop)]
 pub struct Lexer<'a> {
     source: &'a SourceText,
@@ -57,7 +58,7 @@ impl<'a> Model for Lexer<'a> {
     ghost invariant = { λ l. IsLexer (map byte_of l.source.now.placed) l.at l.text_end };
 }
 
-/// What a fault is answered as, at byte `at` of the text.
+/// The refusal that a fault gives, at byte `at` of the text.
 fn refusal(source: &SourceText, fault: ScanFault, at: u32) -> Refused
     requires { at ≤ length source.now.placed }
     ensures { result ≡ refusal_of fault (place_in source.now.placed source.now.end at) }
@@ -87,7 +88,7 @@ fn token_start(text: &str, at: u32, mode: Mode) -> u32
     }
 }
 
-// The end of a text that is kept, where byte `to` isn't behind it.
+// The end of a text that is kept, where byte `to` isn't after it.
 fn kept_end(end: Option<TextEnd>, to: u32) -> Option<TextEnd>
     ensures { (s : List ℕ) (at : ℕ) → at ≤ to → IsCharBoundary s to → IsLexer s at end → IsLexer s to result }
 {
@@ -98,7 +99,7 @@ fn kept_end(end: Option<TextEnd>, to: u32) -> Option<TextEnd>
 }
 
 impl<'a> Lexer<'a> {
-    /// A lexer at the front of a text.
+    /// A lexer at the start of a text.
     pub fn new(text: &'a SourceText, table: &'a Table) -> Lexer<'a>
         ensures { result ≡ record { names = table.now.entries; source = text.now; at = 0 } }
     {
@@ -113,9 +114,9 @@ impl<'a> Lexer<'a> {
 
     /// Reads the next token, with the bytes of the text that it was read from; None at the end of the text.
     ///
-    /// `</>` stands for nothing and is passed over. A refusal has the place of the token's first byte in the page, and
-    /// leaves the lexer as it was; its rule is `Cut` where the token's end is missing, `BadName`,
-    /// `TooManyAttributes` or `BadDoctype`.
+    /// `</>` stands for nothing and is skipped. A refusal has the place of the token's first byte in the page, and
+    /// leaves the lexer as it was. Its rule is `Cut` where the token's end is missing, `BadName`, `TooManyAttributes`
+    /// or `BadDoctype`.
     pub fn next(&mut self, alloc: Global, mode: Mode) -> Result<Option<Spanned>, Refused>
         ensures ok { IfOk result (λ token. Gives self.old (mode_of mode) token self.new) }
         ensures err { IfErr result (λ refusal. Refuses self.old (mode_of mode) refusal) }

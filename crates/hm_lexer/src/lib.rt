@@ -1,4 +1,4 @@
-//! The lexer: the next token of a page's text, in a mode, with its place (HTML Standard, 13.2.5).
+//! The lexer: the next token of a page's text, in a mode, with its place (HTML Standard, #tokenization).
 #![tactic(auto)]
 
 mod inside;

@@ -3,7 +3,7 @@ ghost use Rattle.std.specs.Prelude.{◌≡◌};
 ghost use Rattle.hm_lexer.specs.Modes.{mode_of, raw_name, rcdata_name};
 ghost use Rattle.hm_lexer.specs.Steps as steps;
 
-/// An element whose text has character references, and no markup (13.2.5.2).
+/// An element whose text has character references, and no markup (#rcdata-state).
 #[derive(Clone, Copy, Debug, PartialEq, Eq)]
 pub enum RcdataName {
     Title,
@@ -11,7 +11,7 @@ pub enum RcdataName {
 }
 
 impl RcdataName {
-    /// The name, in small letters.
+    /// The name, in lowercase letters.
     pub fn as_str(self) -> &'static str
         ensures { result.now ≡ rcdata_name self }
     {
@@ -22,7 +22,7 @@ impl RcdataName {
     }
 }
 
-/// An element whose text has neither character references nor markup (13.2.5.3).
+/// An element whose text has neither character references nor markup (#rawtext-state).
 #[derive(Clone, Copy, Debug, PartialEq, Eq)]
 pub enum RawName {
     Style,
@@ -30,7 +30,7 @@ pub enum RawName {
 }
 
 impl RawName {
-    /// The name, in small letters.
+    /// The name, in lowercase letters.
     pub fn as_str(self) -> &'static str
         ensures { result.now ≡ raw_name self }
     {
@@ -41,12 +41,12 @@ impl RawName {
     }
 }
 
-/// What kind of text is read next (13.2.5.1 to 13.2.5.4).
+/// What kind of text is read next (#data-state to #script-data-state).
 #[derive(Clone, Copy, Debug, PartialEq, Eq)]
 pub enum Mode {
     /// Ordinary text: tags, comments, doctypes, and the text between them.
     Html,
-    /// The same in an element of SVG, where CDATA sections may stand (13.2.5.42).
+    /// The same in an element of SVG, where CDATA sections may stand (#markup-declaration-open-state).
     Foreign,
     /// The text of title or textarea, and its end tag.
     Rcdata { name: RcdataName },

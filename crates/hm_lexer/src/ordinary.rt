@@ -16,7 +16,7 @@ use hm_text_scan::{begins_markup, scan_text};
 use hm_tree::{Lexeme, ScanFault, Tag, Token};
 use std::alloc::Global;
 
-/// Whether the bytes begin with `</>`, which stands for nothing (13.2.5.7).
+/// Whether the bytes begin with `</>`, which stands for nothing (#end-tag-open-state).
 fn begins_empty_tag(bytes: &[u8]) -> bool
     ensures { result ≡ steps.begins_empty_tag bytes.now }
 {
@@ -26,7 +26,7 @@ fn begins_empty_tag(bytes: &[u8]) -> bool
     }
 }
 
-/// The first place at or behind `at` where no `</>` begins, over those that follow each other.
+/// The first place at or after `at` where no `</>` begins; each one before it is skipped.
 pub fn behind_empty_tags(text: &str, at: u32) -> u32
     requires boundary { IsCharBoundary text.now at }
     requires size { length text.now < 2 ^ 32 }
@@ -82,7 +82,7 @@ fn scan_markup(
     placed(scan_comment(text, at), tag)
 }
 
-/// Reads the markup or the piece of text that begins at byte `at`. `foreign` tells that a CDATA section may.
+/// Reads the markup or the piece of text that begins at byte `at`. `foreign` says that a CDATA section may begin there.
 pub fn scan_here(
     alloc: Global,
     text: &str,

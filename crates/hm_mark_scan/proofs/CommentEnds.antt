@@ -72,7 +72,7 @@ cut_at_arrow s e f = rw (begins_not (codes ">") s e, begins_front (codes "->") s
 pub cut_further : (s : List ℕ) → begins (codes ">") s ≡ false → begins (codes "->") s ≡ false → cut_comment s ≡ cut_where behind_end s
 cut_further s e f = rw (begins_not (codes ">") s e, begins_not (codes "->") s f) refl
 
--- behind `<!` or `</`
+-- after `<!` or `</`
 pub second_byte : (s : List ℕ) → begins_comment s ≡ true → begins (codes "<?") s ≡ false → (2 ≤ length s) × (get_or s 1 0 < 128)
 unfolding begins_comment
 second_byte s e f = either (begins (codes "<!") s) (strip (codes "</") s) refl refl (rw f at e)
@@ -102,7 +102,7 @@ module _ (s : List ℕ) (start : ℕ) where
   abbrev Piece_at : Option MarkPiece → Type 0
   Piece_at found = MatchOption found (comment_at (drop start s) ≡ None) (IsFoundBehind s start (comment_at (drop start s)))
 
-  -- by a cut from a place on that stands behind an ASCII byte
+  -- by a cut from a place on that stands after an ASCII byte
   from_place : (from : ℕ) (cut : Option Cut) (found : Option MarkPiece) → start < from → get_or s (from - 1) 0 < 128 → comment_at (drop start s) ≡ cut → Finds s from cut found → Piece_at found
   from_place from cut None beyond ascii same h = same ∙ h
   from_place from cut (Some p) beyond ascii same h = rw same (found_behind s start from cut p beyond ascii h)

@@ -8,7 +8,7 @@ pub cond_both : {A B : Type 0} (R : A → B → Type 0) (b : Bool) {x y : A} {u 
 cond_both R true p q = p
 cond_both R false p q = q
 
--- what was found is found in the longer text, with more behind it
+-- what was found is found in the longer text, with more after it
 abbrev pub RestExtends : List ℕ → Option (List ℕ) → Option (List ℕ) → Type 0
 RestExtends y None b = Unit {0}
 RestExtends y (Some r) b = b ≡ Some (r ++ y)

@@ -61,7 +61,7 @@ end_looks = marks_look (codes "-->") (codes "--!>") (omega arith) (omega arith)
 start_looks : Looks (λ s. option_or (strip (codes ">") s) (strip (codes "->") s)) 2
 start_looks = marks_look (codes ">") (codes "->") (omega arith) (omega arith)
 
--- behind `<!--`
+-- after `<!--`
 cut_comment_extends : (s y : List ℕ) → CutExtends y (cut_comment s) (cut_comment (s ++ y))
 cut_comment_extends s y = extended (option_or (strip (codes ">") s) (strip (codes "->") s)) (cut_where behind_end s) refl (start_looks.extends s y) (cut_takes behind_end 4 end_looks s) (cut_extends behind_end 4 end_looks s y)
   where
@@ -72,7 +72,7 @@ cut_comment_extends s y = extended (option_or (strip (codes ">") s) (strip (code
     extended None None e x h i = tt
     extended None (Some k) e x h i = rw (start_looks.whole s y (omega arith) e) i
 
--- behind `<!`
+-- after `<!`
 declared : List ℕ → Option Cut
 declared s = cond (begins (codes "--") s) (cut_comment (drop 2 s)) (cut_at (codes ">") s)
 
@@ -115,7 +115,7 @@ pub comment_extends : (s y : List ℕ) → Extends y (read_comment s) (read_comm
 unfolding read_comment
 comment_extends s y = as_comment_extends y (comment_at s) (comment_at (s ++ y)) (comment_at_extends s y)
 
--- behind n bytes
+-- after n bytes
 behind_extends : (mark : List ℕ) (n : ℕ) (s y : List ℕ) → CutExtends y (cut_at mark (drop n s)) (cut_at mark (drop n (s ++ y)))
 behind_extends mark n s y = elim (cases_lt n (length s)) [
   | inl h ↦ rw (drop-append-le n s y (omega arith)) (cut_at_extends mark (drop n s) y)

@@ -1,10 +1,10 @@
--- Words in any case, by the lowered text: what a test of a front sees of it.
+-- Words in any case, by the lowered text: what a test of a prefix sees of it.
 use Rattle.std.proofs.Common.{◌≡◌, ◌≢◌, ℕ, ◌+◌, ◌≤◌, ◌<◌, Bool, true, false, cond, ◌==◌, ◌⊎◌, inl, inr, List, [], ◌∷◌, ◌++◌, map, length, None, option_and_then, refl, sym, ◌∙◌, arith, lit<}
 use Rattle.std.proofs.lemmas.Bool.Decides.{nat_tests, Decides-eqb}
 use Rattle.hm_base.specs.Bytes.{strip, strip_word, head_is, lower, is_space}
 use Rattle.hm_base.specs.RawText.{is_name_end, is_found, is_found_whole}
 
--- a capital, or a byte that stays as it is
+-- an uppercase letter, or a byte that stays as it is
 pub lower_cases : (c : ℕ) → ((65 ≤ c) × (c ≤ 90) × (lower c ≡ c + 32)) ⊎ (((c < 65) ⊎ (90 < c)) × (lower c ≡ c))
 unfolding lower
 lower_cases c = grind (arith, nat_tests)
@@ -25,7 +25,7 @@ eqb_lower' a c h = elim (lower_cases c) [
   | inr q ↦ rw q.1 refl
 ]
 
--- case doesn't tell whether a byte ends a name
+-- whether a byte ends a name doesn't depend on its case
 name_end_lower : (c : ℕ) → is_name_end (lower c) ≡ is_name_end c
 unfolding is_name_end is_space
 name_end_lower c =
@@ -55,7 +55,7 @@ found_lower (c ∷ m) (d ∷ s) signs = rw (eqb_lower c d signs.0) (
     elim (c == d) as (λ b. is_found (cond b (strip m s) None) ≡ is_found (cond b (strip m (map lower s)) None))
     [ true ↦ found_lower m s signs.1 | false ↦ refl ])
 
--- What stands behind a word and one more byte doesn't matter.
+-- What follows a word and one more byte doesn't matter.
 pub whole_front : (w z r : List ℕ) → length w < length z → is_found_whole (strip w (z ++ r)) ≡ is_found_whole (strip w z)
 whole_front w [] r h = absurd (omega arith)
 whole_front [] (d ∷ z) r h = refl
@@ -98,7 +98,7 @@ word_long (c ∷ w) (d ∷ s) h =
     elim (c == lower d) as (λ b. is_found (cond b (strip_word w s) None) ≡ true → length (c ∷ w) ≤ length (d ∷ s))
     [ true ↦ λ f. omega (arith, word_long w s f) | false ↦ λ f. cc ] h
 
--- two words, one behind the other
+-- two words, one after the other
 pub words_joined : (v w s : List ℕ) → strip_word (v ++ w) s ≡ option_and_then (strip_word w) (strip_word v s)
 words_joined [] w s = refl
 words_joined (c ∷ v) w [] = refl

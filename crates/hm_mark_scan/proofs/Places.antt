@@ -1,4 +1,4 @@
--- What a scan answers: a token whose places can be cut, and the place behind it.
+-- What a scan returns: a token whose places can be cut, and the place after it.
 use Rattle.std.proofs.Common.{◌≡◌, ℕ, ◌+◌, ◌-◌, ◌<◌, ◌≤◌, List, length, get_or, Option, refl, sym, subst, arith, IsUtf8, IsCharBoundary}
 use Rattle.std.proofs.lemmas.Str.{IsCharBoundary-before_ascii, IsCharBoundary-after_ascii}
 use Rattle.hm_base.specs.Bytes.{Cut}
@@ -8,7 +8,7 @@ use Rattle.hm_mark_scan.specs.Pieces.{as_comment, as_slice}
 use Rattle.hm_mark_scan.specs.Found.{IsFound, IsFoundBehind}
 use Rattle.hm_mark_scan.specs.declared.search.MarkPiece.{MarkPiece}
 
--- behind a byte below 128 a text can be cut
+-- after a byte below 128 a text can be cut
 pub boundary_behind : (s : List ℕ) (n : ℕ) → IsUtf8 s → 0 < n → n ≤ length s → get_or s (n - 1) 0 < 128 → IsCharBoundary s n
 boundary_behind s n utf8 some inside ascii =
     let at : n - 1 + 1 ≡ n = omega arith in
@@ -34,7 +34,7 @@ module _ (s : List ℕ) (utf8 : IsUtf8 s) (start : ℕ) (cut : Option Cut) (p : 
   pub slice_read : Reads (as_slice cut) s (tokens.Slice p.from p.to) p.behind
   slice_read = record { is = rw h.found.is refl; inside = piece_cuts; boundary = end_cuts }
 
--- a piece from a place on that stands behind an ASCII byte
+-- a piece from a place on that stands after an ASCII byte
 pub found_behind : (s : List ℕ) (start from : ℕ) (cut : Option Cut) (p : MarkPiece) → start < from → get_or s (from - 1) 0 < 128 → IsFound s from cut p → IsFoundBehind s start cut p
 found_behind s start from cut p beyond ascii found =
     let same : p.from ≡ from = found.starts in

@@ -12,7 +12,7 @@ map-append : (xs ys : List ℕ) → map lower (xs ++ ys) ≡ map lower xs ++ map
 map-append [] ys = refl
 map-append (x ∷ xs) ys = ap (λ r. lower x ∷ r) (map-append xs ys)
 
--- in front of an end tag a text is seen up to the name of the tag
+-- before an end tag a text is seen up to the name of the tag
 pub lowered_before : (w t e : List ℕ) → is_found_whole (strip_word w e) ≡ true → (r : List ℕ) × (map lower (t ++ e) ≡ (map lower t ++ w) ++ r)
 lowered_before w t e h =
     let q = whole_word w e h in
@@ -56,7 +56,7 @@ module _ (name e e' : List ℕ) (ends : begins_end_tag name e ≡ true) (ends' :
       elim (begins_end_tag name (c ∷ (t ++ e))) as (λ b. cond b (Some i) (place_from (begins_end_tag name) (suc i) (t ++ e)) ≡ Some n → cond b (Some i) (place_from (begins_end_tag name) (suc i) (t ++ e')) ≡ Some n)
       [ true ↦ λ f. f | false ↦ λ f. place_same t (suc i) n (omega arith) f ] found)
 
--- the text in front of the end tag is read
+-- the text before the end tag is read
 pub raw_read : (name t e e' : List ℕ) → begins_end_tag name e' ≡ true → raw_end name (t ++ e) ≡ Some (length t) → read_raw name (t ++ e') ≡ taken (slice t) e'
 unfolding read_raw
 raw_read name t e e' ends found =

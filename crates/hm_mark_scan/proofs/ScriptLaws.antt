@@ -141,7 +141,7 @@ module _ (e e' : List ℕ) (ends_e : ends e ≡ true) (ends_e' : ends e' ≡ tru
           elim (ends_script st k) as (λ b. cond b (Some i) (first_end (state_behind st k) (marks_from (suc i) (t ++ e))) ≡ Some n → cond b (Some i) (first_end (state_behind st k) (marks_from (suc i) (t ++ e'))) ≡ Some n)
           [ true ↦ λ g. g | false ↦ λ g. more (state_behind st k) g ] f
 
--- the text in front of the end tag is read
+-- the text before the end tag is read
 pub script_read : (t e e' : List ℕ) → ends e' ≡ true → script_end (t ++ e) ≡ Some (length t) → read_script (t ++ e') ≡ taken (slice t) e'
 unfolding read_script
 script_read t e e' ends_e' found =

@@ -24,7 +24,7 @@ cut_none ends (c ∷ s) none =
     let passed : ends (c ∷ s) ≡ None = none 0 (omega arith) in
     rw (passed, cut_none ends s (λ k l. none (suc k) (omega arith))) refl
 
--- a mark at the front
+-- a mark at the start
 pub strip_front : (mark r : List ℕ) → strip mark (mark ++ r) ≡ Some r
 strip_front [] r = refl
 strip_front (c ∷ mark) r = let same : (c == c) ≡ true = (Decides-eqb c c).1 refl in rw (same, strip_front mark r) refl
@@ -38,7 +38,7 @@ front_stripped (c ∷ mark) (d ∷ s) r e = either (c == d) refl e (front_stripp
     either true f g more = let same : c ≡ d = (Decides-eqb c d).0 f in rw (same, sym (more g)) refl
     either false f g more = cc
 
--- a mark at a place, as a search tells it
+-- a mark at a place, as a search finds it
 pub occurs_stripped : (mark s : List ℕ) (k : ℕ) → OccursAt s mark k → strip mark (drop k s) ≡ Some (drop (k + length mark) s)
 occurs_stripped mark s k o = rw (at_from_reads 0 s mark k o.fits o.reads) (strip_front mark (drop (k + length mark) s))
 
@@ -91,7 +91,7 @@ no_end ends s from none =
     let long : length (drop from s) ≡ length s - from = length-drop from s in
     cut_none ends (drop from s) (λ k h. rw (drop-drop k from s) (none (from + k) (omega arith) (omega arith)))
 
--- the piece up to a mark, by its first place behind `from`
+-- the piece up to a mark, by its first place after `from`
 pub found_piece : (s mark : List ℕ) (from k : ℕ) → OccursAt (drop from s) mark k → ((j : ℕ) → j < k → OccursAt (drop from s) mark j → ⊥)
     → 0 < length mark → get_or mark 0 0 < 128 → get_or mark (length mark - 1) 0 < 128 → from ≤ length s
     → IsFound s from (cut_at mark (drop from s)) (record { from = from; to = from + k; behind = from + k + length mark })

@@ -1,4 +1,4 @@
--- Fronts of a text, as the library's tests tell them.
+-- Prefixes of a text, as the library's tests find them.
 use Rattle.std.proofs.Common.{◌≡◌, ℕ, ◌<◌, true, false, cond, ◌&&◌, ◌==◌, List, [], ◌∷◌, length, None, nat_eq, refl, arith}
 use Rattle.std.specs.List.{starts_with}
 use Rattle.hm_base.specs.Bytes.{strip, strip_word, lower}

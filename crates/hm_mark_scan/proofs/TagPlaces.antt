@@ -28,7 +28,7 @@ no_place passes i (c ∷ s) none =
     let passed : passes (c ∷ s) ≡ false = none 0 (omega arith) in
     rw (passed, no_place passes (suc i) s (λ k l. none (suc k) (omega arith))) refl
 
--- a word isn't there where its front, without letters, isn't
+-- a word isn't there where its prefix, without letters, isn't
 signs_missing : (m w s : List ℕ) → AreSigns m → strip m s ≡ None → strip_word (m ++ w) s ≡ None
 signs_missing [] w s signs e = cc
 signs_missing (c ∷ m) w [] signs e = refl

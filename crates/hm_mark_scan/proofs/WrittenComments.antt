@@ -9,11 +9,11 @@ use Rattle.hm_mark_scan.specs.Comments.{begins, cut_where, behind_end, read_comm
 use Rattle.hm_mark_scan.proofs.Cuts.{strip_whole}
 use Rattle.hm_mark_scan.proofs.Searches.{begins_not}
 
--- what follows a text that is at least as long as the mark makes no mark of it
+-- a text that is at least as long as a mark and doesn't begin with it doesn't begin with it with more after it either
 still_missing : (mark t y : List ℕ) → length mark ≤ length t → begins mark t ≡ false → strip mark (t ++ y) ≡ None
 still_missing mark t y long e = strip_whole mark t y long ∙ ap (option_map (λ r. r ++ y)) (begins_not mark t e)
 
--- the end of the comment behind a text makes no end of it
+-- a text that isn't empty and begins with no end of a comment doesn't begin with one either where `-->` follows it
 no_end_before : (t rest : List ℕ) → 0 < length t → begins (codes "-->") t ≡ false → begins (codes "--!>") t ≡ false → behind_end (t ++ (codes "-->" ++ rest)) ≡ None
 no_end_before [] rest some e f = absurd (omega arith)
 no_end_before (c ∷ []) rest some e f = elim (45 == c) as (λ b. option_or {T = List ℕ} (cond b None None) (cond b None None) ≡ None) [ true ↦ refl | false ↦ refl ]

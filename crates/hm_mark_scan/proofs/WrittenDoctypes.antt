@@ -11,7 +11,7 @@ use Rattle.hm_mark_scan.specs.Doctypes.{doctype_form, form_behind_name, is_ident
 use Rattle.hm_markup_forms.proofs.Gaps.{gap_blank, gap_front}
 use Rattle.hm_mark_scan.proofs.Lowered.{eqb_lower'}
 
--- a word at the front
+-- a word at the start
 word_front : (w xs s : List ℕ) → IsWord w xs → strip_word w (xs ++ s) ≡ Some s
 word_front [] [] s e = refl
 word_front [] (x ∷ xs) s e = cc
@@ -27,7 +27,7 @@ both true true e = (refl, refl)
 both true false e = cc
 both false b e = cc
 
--- whitespace at the front
+-- whitespace at the start
 space_front : (xs s : List ℕ) → is_blank xs ≡ true → head_is is_space s ≡ false → behind is_space (xs ++ s) ≡ s
 space_front [] [] all stop = refl
 space_front [] (c ∷ s) all stop = rw stop refl
@@ -88,7 +88,7 @@ apart a b e = either (b == a) refl
     either false f = refl
     either true f = sym ((Decides-eqb a b).1 (sym ((Decides-eqb b a).0 f))) ∙ e
 
--- the cut at a byte behind what doesn't hold it
+-- the cut at a byte after what doesn't hold it
 cut_byte : (m : ℕ) (xs rest : List ℕ) → has_byte m xs ≡ false → cut_at (m ∷ []) (xs ++ m ∷ rest) ≡ Some (record { before = xs; behind = rest })
 cut_byte m [] rest e = let same : (m == m) ≡ true = (Decides-eqb m m).1 refl in rw same refl
 cut_byte m (x ∷ xs) rest e =

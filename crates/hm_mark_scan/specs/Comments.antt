@@ -1,4 +1,5 @@
--- Comments (HTML Standard, 13.2.5.6, 13.2.5.7, 13.2.5.41 to 13.2.5.52) and CDATA sections (13.2.5.69 to 13.2.5.71).
+-- Comments (HTML Standard, #tag-open-state, #end-tag-open-state, #bogus-comment-state to #comment-end-bang-state) and
+-- CDATA sections (#cdata-section-state to #cdata-section-end-state).
 use Rattle.std.specs.Prelude.{ℕ, Bool, false, not, ◌&&◌, ◌||◌, ◌==◌, List, [], ◌∷◌, Option, Some, None, if◌then◌else◌, codes, drop}
 use Rattle.std.specs.Option.{option_or}
 use Rattle.hm_base.specs.Bytes.{Cut, cut_at, or_go_on, strip, head_is, is_letter}
@@ -11,12 +12,12 @@ use Rattle.hm_mark_scan.specs.Doctypes.{begins_doctype}
 abbrev pub begins : List ℕ → List ℕ → Bool
 begins mark s = is_found (strip mark s)
 
--- the text cut at the first place where ends finds what it looks for; it answers what is behind that
+-- the text cut at the first place where `ends` finds what it looks for; `ends` returns what follows that
 abbrev pub cut_where : (List ℕ → Option (List ℕ)) → List ℕ → Option Cut
 cut_where ends [] = None
 cut_where ends (c ∷ s) = or_go_on (ends (c ∷ s)) c (cut_where ends s)
 
--- what is behind `-->` or `--!>`
+-- what follows `-->` or `--!>`
 abbrev pub behind_end : List ℕ → Option (List ℕ)
 behind_end s = option_or (strip (codes "-->") s) (strip (codes "--!>") s)
 
@@ -24,12 +25,12 @@ abbrev pub at_once : Option (List ℕ) → Option Cut → Option Cut
 at_once None k = k
 at_once (Some rest) k = Some (record { before = []; behind = rest })
 
--- behind `<!--`: a `>` or `->` ends the comment at once, else its text runs to the first `-->` or `--!>`
+-- after `<!--`: a `>` or `->` ends the comment at once, else its text runs to the first `-->` or `--!>`
 abbrev pub cut_comment : List ℕ → Option Cut
 cut_comment s = at_once (option_or (strip (codes ">") s) (strip (codes "->") s)) (cut_where behind_end s)
 
--- The text of the comment that begins here, and what is behind its end. Behind `<!` and `</` the text runs to the
--- first `>`; a `?` belongs to it.
+-- The text of the comment that begins here, and what follows its end. After `<!` and `</` the text runs to the first
+-- `>`; a `?` belongs to it.
 abbrev pub comment_at : List ℕ → Option Cut
 comment_at s =
     if begins (codes "<?") s then cut_at (codes ">") (drop 1 s)
@@ -47,7 +48,7 @@ comment_front s =
 unfoldable pub read_comment : List ℕ → Scanned
 read_comment s = as_comment (comment_at s)
 
--- behind `</`: neither a tag's name nor `>`
+-- after `</`: neither a tag's name nor `>`
 abbrev pub is_no_tag : ℕ → Bool
 is_no_tag c = not (is_letter c || c == 62)
 
@@ -55,7 +56,8 @@ abbrev pub found_and : (ℕ → Bool) → Option (List ℕ) → Bool
 found_and p None = false
 found_and p (Some rest) = head_is p rest
 
--- A comment begins here, where no CDATA section may stand: `<?`, `<!` of no doctype, or `</` before a byte that is neither a letter nor `>`.
+-- A comment begins here, where no CDATA section may stand: `<?`, `<!` of no doctype, or `</` before a byte that is
+-- neither a letter nor `>`.
 unfoldable pub begins_comment : List ℕ → Bool
 begins_comment s = begins (codes "<?") s || (begins (codes "<!") s && not (begins_doctype s)) || found_and is_no_tag (strip (codes "</") s)
 

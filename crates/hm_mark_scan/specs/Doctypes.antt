@@ -1,4 +1,4 @@
--- Doctypes (HTML Standard, 13.2.5.53 to 13.2.5.68), of the two forms that are read.
+-- Doctypes (HTML Standard, #doctype-state to #bogus-doctype-state), of the two forms that are read.
 use Rattle.std.specs.Prelude.{ℕ, Bool, true, false, ◌&&◌, List, Option, Some, None, if◌then◌else◌, codes, drop}
 use Rattle.std.specs.Option.{option_or}
 use Rattle.hm_base.specs.Bytes.{Cut, cut_at, strip, strip_word, head_is, is_null, is_space, behind}
@@ -10,7 +10,7 @@ use Rattle.hm_tree.specs.declared.tokens.ScanFault.TheVariants as faults
 unfoldable pub begins_doctype : List ℕ → Bool
 begins_doctype s = is_found (strip_word (codes "<!doctype") s)
 
--- nothing but whitespace behind the identifier
+-- nothing but whitespace after the identifier
 abbrev pub is_legacy_end : Option (List ℕ) → Bool
 is_legacy_end None = false
 is_legacy_end (Some s) = is_null (behind is_space s)
@@ -19,12 +19,13 @@ is_legacy_end (Some s) = is_null (behind is_space s)
 abbrev pub is_identifier : List ℕ → Bool
 is_identifier s = is_legacy_end (option_or (strip (codes "\"about:legacy-compat\"") s) (strip (codes "'about:legacy-compat'") s))
 
--- behind `system`
+-- after `system`
 abbrev pub is_legacy : Option (List ℕ) → Bool
 is_legacy None = false
 is_legacy (Some s) = is_identifier (behind is_space s)
 
--- Behind `html`: nothing but whitespace is the plain form; whitespace, `system` in any case and the identifier are the legacy one.
+-- After `html`: nothing but whitespace is the plain form; whitespace, `system` in any case and the identifier are the
+-- legacy one.
 abbrev pub form_behind_name : Option (List ℕ) → Option Bool
 form_behind_name None = None
 form_behind_name (Some s) =

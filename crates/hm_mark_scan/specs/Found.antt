@@ -3,7 +3,7 @@ use Rattle.std.specs.Prelude.{◌≡◌, ℕ, ◌-◌, ◌<◌, ◌≤◌, List,
 use Rattle.hm_base.specs.Bytes.{Cut}
 use Rattle.hm_mark_scan.specs.declared.search.MarkPiece.{MarkPiece}
 
--- A piece of the text from a place on, and its end behind it. The first and the last byte of the end are ASCII.
+-- A piece of the text from a place on, and its end after it. The first and the last byte of the end are ASCII.
 pub record IsFound (s : List ℕ) (from : ℕ) (cut : Option Cut) (p : MarkPiece) : Type 0 where
   pub starts : p.from ≡ from
   pub ordered : p.from ≤ p.to
@@ -13,7 +13,7 @@ pub record IsFound (s : List ℕ) (from : ℕ) (cut : Option Cut) (p : MarkPiece
   pub last : slice_index s (p.behind - 1) < 128
   pub is : cut ≡ Some (record { before = slice_range s p.from p.to; behind = drop p.behind s })
 
--- the same, for a piece that stands somewhere behind a place, directly behind an ASCII byte
+-- the same, for a piece that stands somewhere after a place, directly after an ASCII byte
 pub record IsFoundBehind (s : List ℕ) (start : ℕ) (cut : Option Cut) (p : MarkPiece) : Type 0 where
   pub beyond : start < p.from
   pub ascii : slice_index s (p.from - 1) < 128

@@ -8,7 +8,8 @@ use Rattle.hm_mark_scan.specs.Comments.{read_comment, read_cdata}
 use Rattle.hm_mark_scan.specs.Doctypes.{read_doctype}
 use Rattle.hm_mark_scan.specs.RawTexts.{read_raw, read_script}
 
--- What ends by itself is the same in a longer text: comments, CDATA sections, doctypes, raw text and scripts with their end tags.
+-- What ends by itself is the same in a longer text: comments, CDATA sections, doctypes, raw text and scripts with their
+-- end tags.
 
 abbrev pub CommentsExtend : Type 0
 CommentsExtend = (s y : List ℕ) → Extends y (read_comment s) (read_comment (s ++ y))

@@ -12,7 +12,7 @@ abbrev pub as_slice : Option Cut → Scanned
 as_slice None = refused faults.Cut
 as_slice (Some k) = taken (slice k.before) k.behind
 
--- the text up to a place, with the bytes from there on behind it
+-- the text up to a place, followed by the bytes from there on
 abbrev pub slice_up_to : List ℕ → Option ℕ → Scanned
 slice_up_to s None = refused faults.Cut
 slice_up_to s (Some n) = taken (slice (take n s)) (drop n s)

@@ -17,7 +17,7 @@ mark_of marks.ClosesComment = closes_comment
 mark_of marks.OpensScript = opens_script
 mark_of marks.ClosesScript = closes_script
 
--- the state behind a place, with its mark if there is one; none where the script ends there
+-- the state after a place, with its mark if there is one; none where the script ends there
 abbrev pub next_state : ScriptState → Option Mark → Option ScriptState
 next_state state None = Some state
 next_state state (Some k) = if ends_script state k then None else Some (state_behind state k)

@@ -25,8 +25,8 @@ fn begins_no_tag(bytes: &[u8]) -> bool
     }
 }
 
-/// Whether a comment begins at byte `at` of the text, where no CDATA section may stand (13.2.5.6,
-/// 13.2.5.7 and 13.2.5.42).
+/// Whether a comment begins at byte `at` of the text, where no CDATA section may stand (#tag-open-state,
+/// #end-tag-open-state and #markup-declaration-open-state).
 #[tactic(auto, unfolding(crate::specs::Comments::begins_comment))]
 pub fn begins_comment(text: &str, at: u32) -> bool
     requires { at ≤ length text.now }
@@ -51,8 +51,8 @@ fn comment_end(bytes: &[u8]) -> Option<usize>
     }
 }
 
-/// The bytes from a place on up to the first end of a comment. The third byte of an end is `>` or
-/// `!`, so an end is sought only in front of these.
+/// The bytes from a place on up to the first end of a comment. The third byte of an end is `>` or `!`, so an end is
+/// looked for only before these.
 fn up_to_end(bytes: &[u8], from: usize) -> Option<MarkPiece>
     requires { from ≤ length bytes.now }
     ensures { Finds bytes.now from (cut_where behind_end (drop from bytes.now)) result }
@@ -72,7 +72,7 @@ fn up_to_end(bytes: &[u8], from: usize) -> Option<MarkPiece>
     None
 }
 
-/// The text of a comment from behind its `<!--` on.
+/// The text of a comment from after its `<!--` on.
 fn comment_text(bytes: &[u8], from: usize) -> Option<MarkPiece>
     requires { from ≤ length bytes.now }
     ensures { Finds bytes.now from (cut_comment (drop from bytes.now)) result }
@@ -95,7 +95,7 @@ fn comment_text(bytes: &[u8], from: usize) -> Option<MarkPiece>
     up_to_end(bytes, from)
 }
 
-/// The text of the comment that begins at a place. It stands behind an ASCII byte.
+/// The text of the comment that begins at a place. It stands after an ASCII byte.
 fn comment_piece(bytes: &[u8], start: usize) -> Option<MarkPiece>
     requires inside { start + 2 ≤ length bytes.now }
     requires begins { comments.begins_comment (drop start bytes.now) ≡ true }
@@ -112,9 +112,9 @@ fn comment_piece(bytes: &[u8], start: usize) -> Option<MarkPiece>
     up_to_greater(bytes, start + 2)
 }
 
-/// Reads the comment that begins at byte `at` of the text (13.2.5.41 to 13.2.5.52): `<!--`, or a
-/// bogus comment, which is `<?`, `<!` where neither a doctype nor a CDATA section is read, and
-/// `</` before a byte that is neither a letter nor `>`. `Cut` comes where its end is missing.
+/// Reads the comment that begins at byte `at` of the text (#bogus-comment-state to #comment-end-bang-state). It begins
+/// with `<!--`, or is a bogus comment. That begins with `<?`, with `<!` where neither a doctype nor a CDATA section is
+/// read, or with `</` before a byte that is neither a letter nor `>`. `Cut` comes where its end is missing.
 pub fn scan_comment(text: &str, at: u32) -> Result<(Token, u32), ScanFault>
     requires begins { comments.begins_comment (drop at text.now) ≡ true }
     requires size { length text.now < 2 ^ 32 }
@@ -136,7 +136,7 @@ pub fn scan_comment(text: &str, at: u32) -> Result<(Token, u32), ScanFault>
 }
 
 /// Whether a CDATA section begins at byte `at` of the text. One may stand only in an SVG element
-/// (13.2.5.42).
+/// (#markup-declaration-open-state).
 #[tactic(auto, unfolding(crate::specs::Comments::begins_cdata))]
 pub fn begins_cdata(text: &str, at: u32) -> bool
     requires { at ≤ length text.now }
@@ -145,8 +145,8 @@ pub fn begins_cdata(text: &str, at: u32) -> bool
     begins_with(&text.as_bytes()[at as usize..], b"<![CDATA[")
 }
 
-/// Reads the text of the CDATA section that begins at byte `at` of the text (13.2.5.69 to
-/// 13.2.5.71). `Cut` comes where no `]]>` follows.
+/// Reads the text of the CDATA section that begins at byte `at` of the text (#cdata-section-state to
+/// #cdata-section-end-state). `Cut` comes where no `]]>` follows.
 pub fn scan_cdata(text: &str, at: u32) -> Result<(Token, u32), ScanFault>
     requires begins { comments.begins_cdata (drop at text.now) ≡ true }
     requires size { length text.now < 2 ^ 32 }

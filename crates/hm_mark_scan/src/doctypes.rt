@@ -7,7 +7,7 @@ ghost use Rattle.hm_mark_scan.specs.Doctypes as doctypes;
 use crate::search::{behind_mark, behind_space, behind_word, up_to_greater};
 use hm_tree::{ScanFault, Token};
 
-/// Whether a doctype begins at byte `at` of the text: `<!doctype` in any ASCII case (13.2.5.42).
+/// Whether a doctype begins at byte `at` of the text: `<!doctype` in any ASCII case (#markup-declaration-open-state).
 #[tactic(auto, unfolding(crate::specs::Doctypes::begins_doctype))]
 pub fn begins_doctype(text: &str, at: u32) -> bool
     requires { at ≤ length text.now }
@@ -49,7 +49,7 @@ fn is_legacy(bytes: &[u8]) -> bool
     }
 }
 
-/// Whether a doctype whose bytes behind `html` are these is of the legacy form or of the plain one.
+/// Whether a doctype whose bytes after `html` are these is of the legacy form or of the plain one.
 fn form_behind_name(bytes: &[u8]) -> Option<bool>
     ensures { result ≡ doctypes.form_behind_name (Some bytes.now) }
 {
@@ -75,9 +75,9 @@ fn doctype_form(bytes: &[u8]) -> Option<bool>
     }
 }
 
-/// Reads the doctype that begins at byte `at` of the text (13.2.5.53 to 13.2.5.68): `<!doctype
-/// html>`, or that with `SYSTEM` and the identifier `about:legacy-compat`. `Cut` comes where no `>`
-/// follows, else `BadDoctype` where it has another form.
+/// Reads the doctype that begins at byte `at` of the text (#doctype-state to #bogus-doctype-state): `<!doctype html>`,
+/// or that with `SYSTEM` and the identifier `about:legacy-compat`. `Cut` comes where no `>` follows, else `BadDoctype`
+/// where it has another form.
 pub fn scan_doctype(text: &str, at: u32) -> Result<(Token, u32), ScanFault>
     requires begins { doctypes.begins_doctype (drop at text.now) ≡ true }
     requires size { length text.now < 2 ^ 32 }

@@ -36,7 +36,7 @@ pub fn doctypes_are_read()
     ensures { DoctypesAreRead }
 {}
 
-/// Raw text that one end tag of its element ends is read back in front of each.
+/// Raw text that one end tag of its element ends is read back before each one.
 pub fn raw_text_is_read()
     ensures { RawTextIsRead }
 {}

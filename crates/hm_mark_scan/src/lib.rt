@@ -1,6 +1,6 @@
 //! Comments, doctypes, CDATA sections, raw text and scripts, each read from a place of a text on.
 //!
-//! A scan answers the token and the place behind it, in bytes of the text, or why there is none.
+//! A scan returns the token and the place after it, in bytes of the text, or why there is none.
 #![tactic(auto)]
 
 mod comments;

@@ -21,7 +21,7 @@ fn ends_name(bytes: &[u8]) -> bool
     }
 }
 
-/// Whether the bytes begin with a word of small letters, in any ASCII case, before the end of a name.
+/// Whether the bytes begin with a word of lowercase letters, in any ASCII case, before the end of a name.
 pub fn begins_with_name(bytes: &[u8], word: &[u8]) -> bool
     ensures { result ≡ raw.is_found_whole (strip_word word.now bytes.now) }
 {
@@ -58,9 +58,9 @@ fn end_tag_place(bytes: &[u8], from: usize, name: &[u8]) -> Option<usize>
     None
 }
 
-/// Reads the text from byte `at` on up to the end tag with that name, which is `</`, the name in any
-/// ASCII case, and whitespace, `/` or `>` (13.2.5.9 to 13.2.5.14). The name is given in small
-/// letters. `Cut` comes where no such end tag follows.
+/// Reads the text from byte `at` on up to the end tag with that name (#rcdata-less-than-sign-state to
+/// #rawtext-end-tag-name-state). The end tag is `</`, the name in any ASCII case, and whitespace, `/` or `>`. The name
+/// is given in lowercase letters. `Cut` comes where no such end tag follows.
 pub fn scan_raw(text: &str, at: u32, name: &str) -> Result<(Token, u32), ScanFault>
     requires boundary { IsCharBoundary text.now at }
     requires size { length text.now < 2 ^ 32 }

@@ -30,7 +30,7 @@ enum ScriptMark {
 }
 
 impl Escaping {
-    /// The state behind a mark; none where the script ends at it.
+    /// The state after a mark; none where the script ends at it.
     fn behind(self, mark: Option<ScriptMark>) -> Option<Escaping>
         ensures { option_map state_of result ≡ next_state (state_of self) (option_map mark_of mark) }
     {
@@ -81,8 +81,9 @@ fn script_end(bytes: &[u8], from: usize) -> Option<usize>
     None
 }
 
-/// Reads the text of a script from byte `at` on up to its end tag (13.2.5.4 and 13.2.5.15 to
-/// 13.2.5.31). `Cut` comes where no such end tag follows.
+/// Reads the text of a script from byte `at` on up to its end tag (#script-data-state and
+/// #script-data-less-than-sign-state to #script-data-double-escape-end-state). `Cut` comes where no such end tag
+/// follows.
 pub fn scan_script(text: &str, at: u32) -> Result<(Token, u32), ScanFault>
     requires boundary { IsCharBoundary text.now at }
     requires size { length text.now < 2 ^ 32 }

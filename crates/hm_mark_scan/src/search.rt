@@ -6,7 +6,7 @@ ghost use Rattle.hm_mark_scan.specs.Found.{Finds};
 
 use memchr::{memchr, memmem};
 
-/// A piece of a text from `from` up to `to`, where its end stands; behind that `behind` begins.
+/// A piece of a text from `from` up to `to`, where its end stands; what follows the end begins at `behind`.
 #[derive(Clone, Copy)]
 pub struct MarkPiece {
     pub from: usize,
@@ -52,7 +52,7 @@ pub fn begins_with(bytes: &[u8], mark: &[u8]) -> bool
     bytes.starts_with(mark)
 }
 
-/// What is behind a mark, where the bytes begin with it.
+/// What follows a mark, where the bytes begin with it.
 pub fn behind_mark<'t>(bytes: &'t [u8], mark: &[u8]) -> Option<&'t [u8]>
     ensures { MatchOption result (strip mark.now bytes.now ≡ None) (λ rest. strip mark.now bytes.now ≡ Some rest.now) }
 {
@@ -63,7 +63,7 @@ pub fn behind_mark<'t>(bytes: &'t [u8], mark: &[u8]) -> Option<&'t [u8]>
     }
 }
 
-/// An ASCII capital as its small letter.
+/// An ASCII uppercase letter as its lowercase letter.
 #[tactic(auto, unfolding(hm_base::specs::Bytes::lower))]
 fn lowered(byte: u8) -> u8
     ensures { result ≡ lower byte }
@@ -71,7 +71,7 @@ fn lowered(byte: u8) -> u8
     byte.to_ascii_lowercase()
 }
 
-/// What is behind a word of small letters in any ASCII case, where the bytes begin with it.
+/// What follows a word of lowercase letters in any ASCII case, where the bytes begin with it.
 #[tactic(auto, using(crate::proofs::Steps::word_short))]
 pub fn behind_word<'t>(bytes: &'t [u8], word: &[u8]) -> Option<&'t [u8]>
     ensures { MatchOption result (strip_word word.now bytes.now ≡ None) (λ rest. strip_word word.now bytes.now ≡ Some rest.now) }
@@ -87,7 +87,7 @@ pub fn behind_word<'t>(bytes: &'t [u8], word: &[u8]) -> Option<&'t [u8]>
     Some(&bytes[word.len()..])
 }
 
-/// What is behind the whitespace that the bytes begin with.
+/// What follows the whitespace that the bytes begin with.
 pub fn behind_space(bytes: &[u8]) -> &[u8]
     ensures { result.now ≡ behind is_space bytes.now }
 {

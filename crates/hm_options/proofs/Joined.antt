@@ -15,7 +15,7 @@ pushes-append : (w v u : List Event) → pushes (w ++ v) u ≡ pushes w (pushes 
 pushes-append [] v u = refl
 pushes-append (e ∷ w) v u = ap (pushed e) (pushes-append w v u)
 
--- a text in front of a walk, and a text put behind it
+-- a text before a walk, and a text appended to it
 before_and_behind : (t : List ℕ) (r : Bool) (w : List Event) (c : ℕ) (s : List ℕ) (raw : Bool) → text_before t r (with_text w (c ∷ s) raw) ≡ with_text (text_before t r w) (c ∷ s) raw
 before_and_behind t r [] c s raw = refl
 before_and_behind t r (text u q ∷ []) c s raw = ap (λ x. text x r ∷ []) (sym (append_assoc t u (c ∷ s)))
@@ -40,7 +40,7 @@ pushed_behind (comment t) (x ∷ w) c s raw = refl
 pushed_behind (end n foreign) [] c s raw = refl
 pushed_behind (end n foreign) (x ∷ w) c s raw = refl
 
--- a text put behind
+-- a text appended
 pushes_text : (v : List Event) (c : ℕ) (s : List ℕ) (raw : Bool) → pushes v (text (c ∷ s) raw ∷ []) ≡ with_text (pushes v []) (c ∷ s) raw
 pushes_text [] c s raw = refl
 pushes_text (e ∷ v) c s raw = ap (pushed e) (pushes_text v c s raw) ∙ pushed_behind e (pushes v []) c s raw
@@ -85,7 +85,7 @@ pushes_other : (v : List Event) (e : Event) → is_text e ≡ false → pushes v
 pushes_other [] e h = refl
 pushes_other (x ∷ v) e h = ap (pushed x) (pushes_other v e h) ∙ pushed_other x (pushes v []) e h
 
--- any other event is put behind
+-- any other event is appended
 pub other_put : (v m : List Event) (e : Event) → m ≡ pushes v [] → is_text e ≡ false → m ++ e ∷ [] ≡ pushes (v ++ e ∷ []) []
 other_put v m e is h = rw is (sym (pushes-append v (e ∷ []) [] ∙ ap (pushes v) (one_pushed e h) ∙ pushes_other v e h))
 

@@ -90,7 +90,7 @@ text_stays o s raw = kept_by o.comments o (text s raw) (λ t e. absurd (cc))
 pub comment_goes : (o : TreeOptions) (s : List ℕ) → o.comments ≡ true → event_pass o [] None (comment s) None ≡ []
 comment_goes o s on = rw on refl
 
--- an event put behind a walk that is no text, and what it was before
+-- an event appended to a walk that is no text, and what it was before
 module _ (o : TreeOptions) (m u : List Event) (e : Event) (other : is_text (changed o e) ≡ false) (put : u ≡ m ++ changed o e ∷ []) where
   pub put_behind : map (changed o) (kept o.comments e) ≡ changed o e ∷ [] → (v : List Event) → m ≡ pushes v [] → u ≡ pushes (v ++ event_pass o [] None e None) []
   put_behind one v is = rw one (put ∙ other_put v m (changed o e) is other)

@@ -42,7 +42,7 @@ not_true : (b : Bool) → not b ≡ true → b ≡ false
 not_true true h = absurd (cc)
 not_true false h = refl
 
--- one attribute in front of others, or none
+-- one attribute before others, or none
 distinct_by : (b : Bool) (a : Attribute) (rest : List Attribute) → has_name a.name rest ≡ false → has_distinct_names rest ≡ true → has_distinct_names ((if b then [] else a ∷ []) ++ rest) ≡ true
 distinct_by true a rest fresh h = h
 distinct_by false a rest fresh h = rw (fresh, h) refl
@@ -246,7 +246,7 @@ module _ (path : List Element) (t u : List ℕ) (kind raw : Bool) (rest : List E
   front_longer (comment s ∷ w) (inr (more, is, b)) = absurd (cc)
   front_longer (end n foreign ∷ w) (more, is, b) = absurd (cc)
 
--- a text in front of what the events behind it become
+-- a text before what the events after it become
 text_joins : (path : List Element) (s : List ℕ) (raw : Bool) (w x : List Event) → TextAllowed path s raw w → (path ≡ html_path → is_blank s ≡ true) → (begins_text x ≡ true → is_in_text path ≡ false) → Becomes path w x → Becomes path (text s raw ∷ w) (text_before s raw x)
 text_joins path s raw w [] a blank outside b = inr (s, raw, [], refl, text_before_others path s raw w [] a refl, blank, b)
 text_joins path s raw w (doctype legacy ∷ x) a blank outside b = inr (s, raw, doctype legacy ∷ x, refl, text_before_others path s raw w (doctype legacy ∷ x) a refl, blank, b)

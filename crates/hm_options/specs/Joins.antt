@@ -5,7 +5,7 @@ use Rattle.hm_base.specs.Walks.{Event, text, path_after, ends_match}
 use Rattle.hm_tree.specs.Rows.{ends_in_text}
 use Rattle.hm_tree.specs.Trees.{last_agrees}
 
--- The event can be put behind the walk: an end ends the innermost open element, and a text isn't empty.
+-- The event can be appended to the walk: an end ends the innermost open element, and a text isn't empty.
 abbrev pub may_join : List Event → Event → Bool
 may_join w (text s raw) = not (is_null s)
 may_join w e = ends_match (path_after [] w) (e ∷ [])

@@ -24,7 +24,7 @@ pub(crate) fn rewritten(alloc: Global, tree: &Tree, options: &TreeOptions) -> Re
     Ok(maker.finish())
 }
 
-// Puts what an event becomes. `last` tells whether a text stands last, and whether it is raw.
+// Puts what an event becomes. `last` says whether a text stands last, and whether it is raw.
 fn put_rewritten(
     alloc: Global,
     maker: &mut Maker,

@@ -1,4 +1,4 @@
--- What a table's names say of a front, and of the longest name behind it.
+-- What a table's names say of a prefix, and of the longest name that goes on from it.
 use Rattle.std.proofs.Common.{◌≡◌, ℕ, ◌<◌, ◌≤◌, Bool, true, false, cond, ◌&&◌, ◌||◌, ◌==◌, List, [], ◌∷◌, ◌++◌, length, Option, Some, None, refl, sym, ap, ◌∙◌, subst, append_assoc, append-nil, inl, inr, ◌⊎◌, arith, bytes_eq, is_some}
 use Rattle.std.proofs.lemmas.Bool.{cases_lt}
 use Rattle.std.proofs.lemmas.Slice.Eq.{bytes_eq-Decides}
@@ -38,7 +38,7 @@ pub here_found : (t : List Entry) (q ps s : List ℕ) → points_of t q ≡ Some
 unfolding found_here
 here_found t q ps s h = rw h refl
 
--- ---- fronts
+-- ---- prefixes
 
 pub begins_itself : (q : List ℕ) → begins q q ≡ true
 begins_itself [] = refl
@@ -64,7 +64,7 @@ pub points_front : (t : List Entry) (q : List ℕ) → is_front t q ≡ false �
 points_front [] q h = refl
 points_front (e ∷ t) q h = points_step e t q (bytes_eq e.name q) refl (points_front t q) h
 
--- behind what begins no name, nothing is found
+-- after what begins no name, nothing is found
 pub found_none : (t : List Entry) (q s : List ℕ) → is_front t q ≡ false → found t q s ≡ None
 unfolding found_here
 found_none t q [] h = rw (points_front t q h) refl
@@ -114,7 +114,7 @@ entered t q ps h = rw h refl
 
 -- ---- children
 
--- what may be the next byte of a name, behind its first
+-- what may be the next byte of a name, after its first
 abbrev pub Next : List ℕ → List ℕ → ℕ → Type 0
 Next q n c = (is_alnum c ≡ true) ⊎ ((c ≡ 59) × (n ≡ q ++ c ∷ []))
 
@@ -186,7 +186,7 @@ pub found_over : (t : List Entry) (q s : List ℕ) → found t q s ≡ or_else (
 found_over t q [] = refl
 found_over t q (c ∷ s) = refl
 
--- a found name is a name, and behind it nothing longer is found
+-- a found name is a name, and after it nothing longer is found
 pub record IsLast (t : List Entry) (s : List ℕ) (f : Found) : Type 0 where
   pub cut : f.name ++ f.rest ≡ s
   pub own : points_of t f.name ≡ Some f.points
@@ -212,12 +212,12 @@ found_last t q (c ∷ s) f h = by_longer (found t (q ++ c ∷ []) s) refl (λ g 
         let i : g ≡ f = cc in
         subst (λ w. IsLast t w f) (append_assoc q (c ∷ []) s) (more f (e ∙ ap Some i))
 
--- what is found behind a front is found from its beginning
+-- what is found after a prefix is found from its beginning
 pub found_front : (t : List Entry) (m q x : List ℕ) (f : Found) → found t (q ++ m) x ≡ Some f → found t q (m ++ x) ≡ Some f
 found_front t [] q x f h = subst (λ w. found t w x ≡ Some f) (append-nil q) h
 found_front t (c ∷ m) q x f h = rw (found_front t m (q ++ c ∷ []) x f (subst (λ w. found t w x ≡ Some f) (sym (append_assoc q (c ∷ []) m)) h)) refl
 
--- where nothing is found behind a front, none of its continuations is a name
+-- where nothing is found after a prefix, none of its continuations is a name
 pub found_nothing : (t : List Entry) (m q x : List ℕ) → found t q (m ++ x) ≡ None → is_name t (q ++ m) ≡ false
 found_nothing t m q x h = by_name (is_name t (q ++ m)) refl
   where
@@ -229,7 +229,7 @@ found_nothing t m q x h = by_name (is_name t (q ++ m)) refl
     by_name false e = refl
     by_name true e = absurd (by_found (found t (q ++ m) x) refl (found_some t (q ++ m) x e))
 
--- two fronts of one text: the one with more bytes goes on behind the other
+-- two prefixes of one text: the one with more bytes goes on where the other ends
 pub record GoesOn (q n rest : List ℕ) : Type 0 where
   pub head : ℕ
   pub more : List ℕ
@@ -276,7 +276,7 @@ no_empty_name t k = by_points (points_of t []) refl
     by_points None e = refl
     by_points (Some ps) e = absurd (let g = good_of t k [] ps e in cc)
 
--- ---- behind a ';'
+-- ---- after a ';'
 
 not_longer : (n : List ℕ) (c : ℕ) → begins (n ++ c ∷ []) n ≡ false
 not_longer [] c = refl
@@ -286,7 +286,7 @@ semicolon_no : is_alnum 59 ≡ false
 unfolding is_alnum is_letter is_digit_of
 semicolon_no = refl
 
--- nothing goes on behind a ';'
+-- nothing goes on after a ';'
 pub semicolon_last : (t : List Entry) → IsTable t → (q : List ℕ) (c : ℕ) → is_null q ≡ false → is_front t ((q ++ 59 ∷ []) ++ c ∷ []) ≡ false
 semicolon_last t k q c e = by_test (is_front t ((q ++ 59 ∷ []) ++ c ∷ [])) refl
   where
@@ -304,7 +304,7 @@ pub found_not_name : (t : List Entry) (q s : List ℕ) → is_name t q ≡ false
 found_not_name t q [] h = here_none t q [] h
 found_not_name t q (c ∷ s) h = rw (here_none t q (c ∷ s) h) (or_else_none (found t (q ++ c ∷ []) s))
 
--- behind a name that ends in ';' nothing longer is found
+-- after a name that ends in ';' nothing longer is found
 pub semicolon_longer : (t : List Entry) → IsTable t → (q s : List ℕ) → is_null q ≡ false → found_longer t (q ++ 59 ∷ []) s ≡ None
 semicolon_longer t k q [] h = refl
 semicolon_longer t k q (c ∷ s) h = found_none t ((q ++ 59 ∷ []) ++ c ∷ []) s (semicolon_last t k q c h)

@@ -25,7 +25,7 @@ begins_take zero n = refl
 begins_take (suc j) [] = refl
 begins_take (suc j) (c ∷ n) = grind (arith, begins_take j n)
 
--- a front of a name is one of the names
+-- a prefix of a name is one of the names
 front_of_name : (t : List Entry) (k : ℕ) (q : List ℕ) → k < length t → begins q (entry_at t k).name ≡ true → is_front t q ≡ true
 front_of_name [] k q l h = absurd (omega arith)
 front_of_name (e ∷ t) zero q l h = rw h refl
@@ -71,7 +71,7 @@ begins_front t i d s = rw s.begins (begins_take d (drop 1 (entry_at t i).name))
 length_front : (t : List Entry) (i d : ℕ) → d ≤ length (tail_at t i) → length (front_to t i d) ≡ d + 1
 length_front t i d l = omega (arith, length-take-le d (tail_at t i) l)
 
--- a name between two names with the same front has it too
+-- a name between two names with the same prefix has it too
 pub between : (t : List Entry) (d h j i : ℕ) → AreNames t → h < j → j < i → i < length t → d ≤ length (tail_at t i) → front_to t h d ≡ front_to t i d → front_to t j d ≡ front_to t i d
 between t d h j i a l m k s e =
     let n : length (names_in t) ≡ length t = length-map t (λ (x : Entry). x.name) in
@@ -200,7 +200,7 @@ module _ (t : List Entry) (d j : ℕ) (nodes : List TrieNode) (places : List ℕ
     longer : front_in t node ++ byte ∷ [] ≡ front_to t j (d + 1)
     longer = rw (at_front, is) (ap (λ w. 38 ∷ w) (sym (take_more (tail_at t j) d 0 b)))
 
-    -- the places behind the name
+    -- the places after the name
     other_place : (i child : ℕ) → (i ≡ j → ⊥) → place_at (set places j child) i ≡ place_at places i
     other_place i child n = get_or-set_other places j i child 0 n
 
@@ -404,7 +404,7 @@ stands nodes at z y n a e = by_eq (cases_eq n at)
     by_eq (inl i) = let f : get_or (set nodes at z) at y ≡ y = subst (λ m. get_or (set nodes at z) m y ≡ y) i e in inl (i, sym f ∙ get_or-set_same nodes at z y a)
     by_eq (inr d) = inr (d, sym (get_or-set_other nodes at n z y d) ∙ e)
 
--- what stood there, but for the name that ends there
+-- what stood there, except for the name that ends there
 record Stood (t : List Entry) (nodes : List TrieNode) (n : ℕ) (y : TrieNode) : Type 0 where
   pub node : TrieNode
   pub is : get_or nodes n node ≡ node

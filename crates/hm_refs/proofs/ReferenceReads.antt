@@ -191,7 +191,7 @@ pub name_blocked : (t : List Entry) (text : List ℕ) (id : ℕ) (in_value block
 unfolding refs.is_blocked
 name_blocked t text id in_value blocked e by stops = ap (refs.named in_value) e ∙ rw (← by, stops) refl
 
--- by what stands behind the '&'
+-- by what follows the '&'
 pub reference_hash : (t : List Entry) (in_value : Bool) (text : List ℕ) → 1 < length text → get_or text 0 0 ≡ 38 → get_or text 1 0 ≡ 35 → refs.reference t in_value text ≡ refs.hash (drop 2 text)
 unfolding refs.reference
 reference_hash t in_value [] h amp hash = absurd (omega arith)

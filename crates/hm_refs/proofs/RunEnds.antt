@@ -29,7 +29,7 @@ run_more p s from at r h e =
       behind = r.behind ∙ ap (behind p) cut ∙ rw e refl;
     }
 
--- the bytes of a front pass
+-- the bytes of a prefix pass
 pub front_passes : (p : ℕ → Bool) (s : List ℕ) → all_pass p (front p s) ≡ true
 front_passes p [] = refl
 front_passes p (c ∷ s) = elim (p c) as (λ b. p c ≡ b → all_pass p (cond b (c ∷ front p s) []) ≡ true)

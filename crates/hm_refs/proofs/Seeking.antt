@@ -1,4 +1,4 @@
--- The longest name, sought down a trie.
+-- The search for the longest name, down a trie.
 use Rattle.std.proofs.Common.{◌≡◌, ℕ, ◌+◌, ◌<◌, ◌≤◌, Bool, true, false, cond, ◌==◌, List, [], ◌∷◌, ◌++◌, length, get_or, take, drop, Option, Some, None, option_map, IfSome, refl, sym, ap, ◌∙◌, arith, is_some}
 use Rattle.std.specs.Option.{option_or}
 use Rattle.std.proofs.lemmas.List.{take_more, take-append-drop, drop_at, at_drop_more, at_drop_all}
@@ -17,7 +17,7 @@ short_no t a q l = name_place t q ∙ by_place (place q (names_in t)) refl
     by_place None e = refl
     by_place (Some i) e = absurd (let n = named_at t q i e in let s = a.short i n.inside in omega (arith, s.long, ap length n.is))
 
--- behind '&' only longer ones are found
+-- after '&' only longer ones are found
 pub longest_amp : (t : List Entry) → AreNames t → (s : List ℕ) → longest t (38 ∷ s) ≡ found_longer t (38 ∷ []) s
 longest_amp t a s =
     rw (here_none t [] (38 ∷ s) (short_no t a [] (omega arith)), or_else_none (found t (38 ∷ []) s), found_over t (38 ∷ []) s, here_none t (38 ∷ []) s (short_no t a (38 ∷ []) (omega arith)))

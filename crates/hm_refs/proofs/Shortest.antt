@@ -64,7 +64,7 @@ seven_places : (l k : ℕ) → k ≤ 0x10FFFF → k < 10 ^ suc (suc (suc (suc (s
 seven_places zero k h = omega arith
 seven_places (suc l) k h = let m = seven_places l k h in omega arith
 
--- the decimal has one digit more than the hexadecimal at most, but for seven digits against five
+-- the decimal has one digit more than the hexadecimal at most, except for seven digits against five
 hex_fits : (l k : ℕ) → 0 < l → k < 16 ^ l → k ≤ 0x10FFFF → (k < 10 ^ suc l) ⊎ ((1000000 ≤ k) × (k < 16 ^ 5))
 hex_fits zero k s h small = absurd (omega arith)
 hex_fits (suc zero) k s h small = inl (omega arith)

@@ -10,7 +10,7 @@ use Rattle.hm_refs.specs.declared.nodes.TrieNode.{TrieNode}
 use Rattle.hm_refs.proofs.Bools.{eq_of}
 use Rattle.hm_refs.proofs.Places.{place_stands, place_some, place_stays, place_other, apart_push, apart_same}
 
--- the front of a node, by its place
+-- the prefix of a node, by its place
 pub front_at_place : (t : List Entry) (nodes : List TrieNode) (n : ℕ) (x : TrieNode) → n < length nodes → get_or nodes n x ≡ x → get_or (fronts_of t nodes) n [] ≡ front_in t x
 front_at_place t nodes n x l e = get_or-map (front_in t) nodes n x [] l ∙ ap (front_in t) e
 
@@ -39,7 +39,7 @@ which nodes at y z x n a l e = by_eq (cases_eq n at)
         subst (λ m. Which nodes at y z x m) (sym i) (changed (sym f ∙ get_or-set_same (nodes ++ y ∷ []) at z x inside))
     by_eq (inr d) = by_lt d (sym (get_or-set_other (nodes ++ y ∷ []) at n z x d) ∙ e) (cases_lt n (length nodes))
 
--- the fronts of such a list, where z has the front of what stood there
+-- the prefixes of such a list, where z has the prefix of what stood there
 pub fronts_grown : (t : List Entry) (nodes : List TrieNode) (at : ℕ) (y z : TrieNode) → at < length nodes → get_or (fronts_of t nodes) at [] ≡ front_in t z
     → fronts_of t (set (nodes ++ y ∷ []) at z) ≡ fronts_of t nodes ++ front_in t y ∷ []
 fronts_grown t nodes at y z a e =
@@ -76,7 +76,7 @@ spans x len side = by_test (x.count == 0) refl side
       keeps = λ m a. a.0;
     }
 
--- ---- one more node behind the node `node` at a place
+-- ---- one more node after the node `node` at a place
 
 pub record Grows (t : List Entry) (nodes : List TrieNode) (at byte : ℕ) (node y : TrieNode) : Type 0 where
   pub web : IsWeb t nodes
@@ -90,16 +90,16 @@ pub record Grows (t : List Entry) (nodes : List TrieNode) (at byte : ℕ) (node 
   pub front : front_in t y ≡ front_in t node ++ byte ∷ []
   pub known : is_front t (front_in t y) ≡ true
 
--- what stands at a place has the front and the byte of what stood there, or is the new node
+-- what stands at a place has the prefix and the byte of what stood there, or is the new node
 data Was (t : List Entry) (nodes : List TrieNode) (y w : TrieNode) (m : ℕ) : Type 0 where
   stood : (x : TrieNode) → m < length nodes → get_or nodes m x ≡ x → front_in t x ≡ front_in t w → x.byte ≡ w.byte → Was t nodes y w m
   made : m ≡ length nodes → w ≡ y → Was t nodes y w m
 
--- the element at a place, whichever is given in its stead
+-- the element at a place, whichever default is given
 pub same_element : (xs : List TrieNode) (i : ℕ) (x y : TrieNode) → i < length xs → get_or xs i x ≡ x → y ≡ get_or xs i y → y ≡ x
 same_element xs i x y l e f = get_or_read xs i y l f x ∙ e
 
--- in the stead of a node that isn't there
+-- the default for a node that isn't there
 pub no_node : TrieNode
 no_node = record { name = 0; depth = 0; ends = None; byte = 0; first = 0; count = 0 }
 
@@ -166,7 +166,7 @@ module _ (t : List Entry) (nodes : List TrieNode) (at byte : ℕ) (node y : Trie
   unfolding new
   was_in m w l e = was m w (which nodes at y z w m g.inside (omega (arith, grown_length)) e)
 
-  -- an old node with the front of the node is the node
+  -- an old node with the prefix of the node is the node
   is_at : (n : ℕ) (x : TrieNode) → n < length nodes → get_or nodes n x ≡ x → front_in t x ≡ front_in t node → n ≡ at
   is_at n x l e f =
       let p = front_at_place t nodes n x l e in

@@ -1,4 +1,4 @@
--- What a whole trie tells: children, names, nodes.
+-- What a whole trie gives: children, names, nodes.
 use Rattle.std.proofs.Common.{◌≡◌, ℕ, zero, suc, ◌+◌, ◌<◌, ◌⊎◌, inl, inr, Bool, true, false, cond, List, [], ◌∷◌, ◌++◌, length, get_or, Option, Some, None, option_map, IfSome, refl, sym, ap, ◌∙◌, subst, arith, bytes_eq, is_some, append_assoc, append-nil}
 use Rattle.std.proofs.lemmas.List.{get_or_read, get_or-map, length-map, length_push, same_from_push}
 use Rattle.std.specs.Option.{MatchOption}
@@ -11,7 +11,7 @@ use Rattle.hm_refs.proofs.Places.{place_stands, apart_same}
 use Rattle.hm_refs.proofs.Splits.{begins_split}
 use Rattle.hm_refs.proofs.Webs.{front_at_place, length_fronts, no_node, own_element}
 
--- ---- fronts of names by their numbers
+-- ---- prefixes of names by their numbers
 
 pub record FrontOf (t : List Entry) (q : List ℕ) : Type 0 where
   pub number : ℕ
@@ -37,7 +37,7 @@ too_short : (q : List ℕ) → is_null q ≡ false → length q + 1 ≡ 1 → �
 too_short [] h e = cc
 too_short (x ∷ q) h e = omega arith
 
--- a front of a node's bytes is a node
+-- a prefix of a node's bytes is a node
 closed_front : (t : List Entry) (nodes : List TrieNode) → IsWeb t nodes → (q m : List ℕ) → is_null q ≡ false → is_some (place (q ++ m) (fronts_of t nodes)) ≡ true → is_some (place q (fronts_of t nodes)) ≡ true
 closed_front t nodes w q [] e h = subst (λ n. is_some (place n (fronts_of t nodes)) ≡ true) (append-nil q) h
 closed_front t nodes w q (c ∷ m) e h =
@@ -50,7 +50,7 @@ some_fronts t (x ∷ nodes) zero l = refl
 some_fronts t (x ∷ nodes) (suc n) l = some_fronts t nodes n (omega arith)
 
 module _ (t : List Entry) (nodes : List TrieNode) (places : List ℕ) (w : IsWhole t nodes places) where
-  -- each front of a name has a node
+  -- each prefix of a name has a node
   front_placed : (q : List ℕ) → is_null q ≡ false → is_front t q ≡ true → is_some (place q (fronts_of t nodes)) ≡ true
   front_placed q e h =
       let f = front_of t q h in
@@ -67,7 +67,7 @@ module _ (t : List Entry) (nodes : List TrieNode) (places : List ℕ) (w : IsWho
       by_place None e k = absurd (cc)
       by_place (Some n) e k = let s = place_stands q (fronts_of t nodes) n e in (n, s.inside, s.is)
 
-  -- a node's bytes are '&' or a front of a name
+  -- a node's bytes are '&' or a prefix of a name
   front_led : (n : ℕ) → n < length (fronts_of t nodes) → (get_or (fronts_of t nodes) n [] ≡ 38 ∷ []) ⊎ (is_front t (get_or (fronts_of t nodes) n []) ≡ true)
   front_led n l =
       let k : n < length nodes = omega (arith, length_fronts t nodes) in
@@ -159,7 +159,7 @@ named_at t q i h =
       own = points_place t q ∙ ap (λ o. option_map (λ i. (entry_at t i).points) o) h;
     }
 
--- a place among the names tells a name
+-- a place among the names gives a name
 pub named_so : (t : List Entry) (q : List ℕ) (o : Option ℕ) → o ≡ place q (names_in t) → (is_some o ≡ is_name t q) × IfSome o (λ i. i < length t) × IfSome o (λ i. (entry_at t i).name ≡ q)
 named_so t q None e = (ap is_some e ∙ sym (name_place t q), tt, tt)
 named_so t q (Some i) e = let m = named_at t q i (sym e) in (ap is_some e ∙ sym (name_place t q), m.inside, m.is)
@@ -169,7 +169,7 @@ pub own_place : (t : List Entry) → AreApart (names_in t) → (i : ℕ) → i <
 own_place t a i l =
     subst (λ q. place q (names_in t) ≡ Some i) (get_or-map (λ (e : Entry). e.name) t i no_entry [] l) (a i (omega (arith, length-map t (λ (e : Entry). e.name))))
 
--- ---- what a trie tells
+-- ---- what a trie gives
 
 module _ (t : List Entry) (nodes : List TrieNode) (places : List ℕ) (w : IsWhole t nodes places) where
   abbrev seen : TableView

@@ -1,4 +1,5 @@
--- The names that JSON gives (HTML Standard, 13.5), or the first fault that keeps it from being a table.
+-- The names that JSON gives (HTML Standard, #named-character-references), or the first fault that keeps it from being a
+-- table.
 use Rattle.std.specs.Prelude.{ℕ, min, Bool, false, not, ◌&&◌, ◌||◌, nat_lt, List, [], ◌∷◌, ◌++◌, length, Option, Some, None, option_map, option_and_then, is_some, Result, Ok, Err, if◌then◌else◌, bytes_eq, count_by, codes}
 use Rattle.std.specs.Str.{is_utf8}
 use Rattle.serde_json.specs.Data.{Data, Items, no_items, item, Members, no_members, member}

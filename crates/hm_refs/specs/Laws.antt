@@ -13,7 +13,7 @@ use Rattle.hm_refs.specs.References.{value_of}
 use Rattle.hm_refs.specs.Tables.{IsTable}
 use Rattle.hm_refs.specs.Json.{json, keys_in, names}
 
--- f is a name that s begins with, with its points and what stands behind it, and no longer name is one
+-- f is a name that s begins with, with its points and what follows it, and no longer name is one
 pub record IsLongest (t : List Entry) (s : List ℕ) (f : Found) : Type 0 where
   pub cut : f.name ++ f.rest ≡ s
   pub own : points_of t f.name ≡ Some f.points
@@ -26,7 +26,7 @@ LongestIsLongest = (t : List Entry) (s : List ℕ) (f : Found) → longest t s �
 abbrev pub NoneIsLongest : Type 0
 NoneIsLongest = (t : List Entry) (s : List ℕ) → longest t s ≡ None → (q r : List ℕ) → q ++ r ≡ s → is_name t q ≡ false
 
--- n gives the code point c, and no lesser number does
+-- n gives the code point c, and no smaller number does
 pub record IsBestNumber (c n : ℕ) : Type 0 where
   pub gives : point_of n ≡ c
   pub least : (m : ℕ) → point_of m ≡ c → n ≤ m
@@ -53,7 +53,7 @@ end_of closed = if closed then 59 ∷ [] else []
 abbrev pub decimal_reference : List ℕ → Bool → List ℕ
 decimal_reference ds closed = codes "&#" ++ ds ++ end_of closed
 
--- a reference by hexadecimal digits behind an 'x' or 'X', likewise
+-- a reference by hexadecimal digits after an 'x' or 'X', with or without its ';'
 abbrev pub hexadecimal_reference : ℕ → List ℕ → Bool → List ℕ
 hexadecimal_reference x ds closed = codes "&#" ++ x ∷ ds ++ end_of closed
 
@@ -61,7 +61,7 @@ hexadecimal_reference x ds closed = codes "&#" ++ x ∷ ds ++ end_of closed
 abbrev pub is_shorter_in_hexadecimal : ℕ → Bool
 is_shorter_in_hexadecimal c = nat_le 1000000 c && nat_le c 1048575
 
--- the decimal digits of n give c, and but for a few code points no reference by number is shorter
+-- the decimal digits of n give c, and except for a few code points no reference by number is shorter
 pub record IsShortestNumber (c n : ℕ) : Type 0 where
   pub gives : Gives 10 (decimal n) c
   pub decimals : (ds : List ℕ) (closed : Bool) → Gives 10 ds c → length (decimal_reference (decimal n) closed) ≤ length (decimal_reference ds closed)

@@ -31,7 +31,7 @@ is_front (e ∷ t) q = if begins q e.name then true else is_front t q
 unfoldable pub child_of : List Entry → List ℕ → ℕ → Option (List ℕ)
 child_of t q c = if is_front t (q ++ c ∷ []) then Some (q ++ c ∷ []) else None
 
--- a name at the front of a text, its points, and what stands behind it
+-- a name at the start of a text, its points, and what follows it
 pub record Found : Type 0 where
   pub name : List ℕ
   pub points : List ℕ
@@ -45,16 +45,16 @@ abbrev pub found_by : List ℕ → List ℕ → Option (List ℕ) → Option Fou
 found_by q s None = None
 found_by q s (Some ps) = Some (record { name = q; points = ps; rest = s })
 
--- q itself at the front of q ++ s, where it is a name
+-- q itself at the start of q ++ s, where it is a name
 unfoldable pub found_here : List Entry → List ℕ → List ℕ → Option Found
 found_here t q s = found_by q s (points_of t q)
 
--- the longest front of q ++ s, no shorter than q, that is a name
+-- the longest prefix of q ++ s, no shorter than q, that is a name
 abbrev pub found : List Entry → List ℕ → List ℕ → Option Found
 found t q [] = found_here t q []
 found t q (c ∷ s) = or_else (found t (q ++ c ∷ []) s) (found_here t q (c ∷ s))
 
--- the longest front of q ++ s, longer than q, that is a name
+-- the longest prefix of q ++ s, longer than q, that is a name
 abbrev pub found_longer : List Entry → List ℕ → List ℕ → Option Found
 found_longer t q [] = None
 found_longer t q (c ∷ s) = found t (q ++ c ∷ []) s
@@ -73,7 +73,7 @@ last_is c (d ∷ e ∷ s) = last_is c (e ∷ s)
 abbrev pub is_closed : List ℕ → Bool
 is_closed n = last_is 59 n
 
--- letters and digits to the end, and maybe a ';' behind them
+-- letters and digits to the end, and maybe a ';' after them
 abbrev pub is_tail : List ℕ → Bool
 is_tail [] = true
 is_tail (c ∷ s) = (is_alnum c && is_tail s) || (c == 59 && is_null s)

@@ -62,7 +62,7 @@ pub record Finds (old new : List TrieNode) (at byte child : ℕ) : Type 0 where
   pub known : IsChildBy old node byte child
   pub same : new ≡ old
 
--- the child was made behind all others
+-- the child was made after all others
 pub record Makes (old new : List TrieNode) (at byte name depth child : ℕ) : Type 0 where
   pub node : TrieNode
   pub is : slice_index_or old at node ≡ node
@@ -83,7 +83,8 @@ pub record IsKin (t : List Entry) (nodes : List TrieNode) (x : TrieNode) : Type 
   pub down : (m : ℕ) (y : TrieNode) → IsAmong x m → slice_index_or nodes m y ≡ y → front_in t y ≡ front_in t x ++ y.byte ∷ []
   pub all : (m : ℕ) (y : TrieNode) (c : ℕ) → m < length nodes → slice_index_or nodes m y ≡ y → front_in t y ≡ front_in t x ++ c ∷ [] → IsAmong x m
 
--- The nodes are apart, each is the root or a front of a name, with all fronts of its own from '&' on, and has its children side by side.
+-- The nodes are apart, each is the root or a prefix of a name, with all of its own prefixes from '&' on, and has its
+-- children side by side.
 pub record IsWeb (t : List Entry) (nodes : List TrieNode) : Type 0 where
   pub some : 0 < length nodes
   pub root : slice_index_or (fronts_of t nodes) 0 [] ≡ 38 ∷ []
@@ -92,7 +93,7 @@ pub record IsWeb (t : List Entry) (nodes : List TrieNode) : Type 0 where
   pub closed : (q : List ℕ) (c : ℕ) → is_null q ≡ false → is_some (place (q ++ c ∷ []) (fronts_of t nodes)) ≡ true → is_some (place q (fronts_of t nodes)) ≡ true
   pub led : (n : ℕ) (x : TrieNode) → n < length nodes → slice_index_or nodes n x ≡ x → (front_in t x ≡ 38 ∷ []) ⊎ (is_front t (front_in t x) ≡ true)
 
--- each node tells which of the first k names ends there
+-- each node says which of the first k names ends there
 abbrev pub HasEnds : List Entry → ℕ → List TrieNode → Type 0
 HasEnds t k nodes = (n : ℕ) (x : TrieNode) → n < length nodes → slice_index_or nodes n x ≡ x → x.ends ≡ place (front_in t x) (names_in (take k t))
 
@@ -111,7 +112,7 @@ pub record AreNames (t : List Entry) : Type 0 where
 
 -- ---- a trie that grows byte by byte of all names
 
--- what stands behind the first byte of the name i
+-- what follows the first byte of the name i
 abbrev pub tail_at : List Entry → ℕ → List ℕ
 tail_at t i = drop 1 (entry_at t i).name
 
@@ -123,7 +124,7 @@ front_to t i d = 38 ∷ take d (tail_at t i)
 abbrev pub place_at : List ℕ → ℕ → ℕ
 place_at places i = slice_index_or places i 0
 
--- a name before the name j has the same d bytes behind '&' as the name i
+-- a name before the name j has the same d bytes after '&' as the name i
 abbrev pub IsMet : List Entry → ℕ → ℕ → ℕ → Type 0
 IsMet t d j i = (h : ℕ) × (h < j) × (front_to t h d ≡ front_to t i d)
 
@@ -131,7 +132,8 @@ IsMet t d j i = (h : ℕ) × (h < j) × (front_to t h d ≡ front_to t i d)
 abbrev pub MayGrow : List Entry → ℕ → ℕ → ℕ → List TrieNode → TrieNode → Type 0
 MayGrow t d j i nodes x = (x.count ≡ 0) ⊎ ((x.first + x.count ≡ length nodes) × IsMet t d j i)
 
--- The trie of all fronts with d bytes behind '&', and with d + 1 of the first j names; for each name the node where it stands.
+-- The trie of all prefixes with d bytes after '&', and with d + 1 of the first j names; for each name the node where it
+-- stands.
 pub record IsSpread (t : List Entry) (d j : ℕ) (nodes : List TrieNode) (places : List ℕ) : Type 0 where
   pub names : AreNames t
   pub web : IsWeb t nodes
@@ -160,7 +162,7 @@ pub record IsPut (t : List Entry) (k : ℕ) (nodes : List TrieNode) (places : Li
 abbrev pub IsWhole : List Entry → List TrieNode → List ℕ → Type 0
 IsWhole t nodes places = IsPut t (length t) nodes places
 
--- With i bytes behind the '&' read, at a node: the longest name is a longer one than these bytes, or the best so far.
+-- With i bytes after the '&' read, at a node: the longest name is a longer one than these bytes, or the best so far.
 pub record IsSought (v : TableView) (text rest : List ℕ) (i node : ℕ) (best : Option ℕ) : Type 0 where
   pub whole : text ≡ 38 ∷ rest
   pub inside : node < length v.fronts

@@ -1,4 +1,4 @@
--- Numbers of numeric character references (HTML Standard, 13.2.5.80).
+-- Numbers of numeric character references (HTML Standard, #numeric-character-reference-end-state).
 use Rattle.std.specs.Prelude.{ℕ, ◌&&◌, ◌||◌, ◌==◌, nat_le, nat_lt, List, [], ◌∷◌, Option, Some, None, if◌then◌else◌}
 
 -- the numbers of C1 controls that stand for another code point

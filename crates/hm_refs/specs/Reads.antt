@@ -1,11 +1,11 @@
--- What a reader of character references answers.
+-- What a reader of character references returns.
 use Rattle.std.specs.Prelude.{◌≡◌, ℕ, ◌-◌, ◌<◌, ◌≤◌, Bool, false, List, length, drop, slice_index, slice_range, Option, Some}
 use Rattle.hm_base.specs.Bytes.{front, behind}
 use Rattle.hm_refs.specs.References as refs
 use Rattle.hm_refs.specs.Tables.{points_list}
 use Rattle.hm_refs.specs.declared.scan.Reference.{Reference}
 
--- the longest front of what begins at from whose bytes pass ends at to
+-- the longest prefix of what begins at from whose bytes pass ends at to
 pub record IsEndOf (p : ℕ → Bool) (s : List ℕ) (from to : ℕ) : Type 0 where
   pub forward : from ≤ to
   pub inside : to ≤ length s
@@ -13,7 +13,7 @@ pub record IsEndOf (p : ℕ → Bool) (s : List ℕ) (from to : ℕ) : Type 0 wh
   pub behind : behind p (drop from s) ≡ drop to s
   pub stops : to < length s → p (slice_index s to) ≡ false
 
--- this reference at the front of the text; its last byte is ASCII
+-- this reference at the start of the text; its last byte is ASCII
 pub record IsReadReference (o : Option refs.Reference) (text : List ℕ) (r : Reference) : Type 0 where
   pub is : o ≡ Some (record { points = points_list r.points; len = r.len })
   pub some : 0 < r.len

@@ -1,4 +1,4 @@
--- Character references (HTML Standard, 13.2.5.72 to 13.2.5.80).
+-- Character references (HTML Standard, #character-reference-state to #numeric-character-reference-end-state).
 use Rattle.std.specs.Prelude.{ℕ, ◌+◌, Bool, not, ◌&&◌, ◌||◌, ◌==◌, List, [], ◌∷◌, length, Option, Some, None, if◌then◌else◌, codes}
 use Rattle.std.specs.Str.Parse.{digits_value}
 use Rattle.hm_base.specs.Bytes.{front, behind, strip, head_is, is_digit, is_hex, is_alnum}
@@ -17,7 +17,7 @@ value_of base ds = digits_value base ds
 abbrev pub is_semicolon : ℕ → Bool
 is_semicolon c = 59 == c
 
--- digits, and a ';' that follows them; so many bytes stand before the digits
+-- digits, and a ';' that follows them; `before` bytes stand before the digits
 abbrev pub numeric : ℕ → ℕ → List ℕ → List ℕ → Option Reference
 numeric before base [] rest = None
 numeric before base (d ∷ ds) rest = Some (record { points = point_of (value_of base (d ∷ ds)) ∷ []; len = before + length (d ∷ ds) + (if head_is is_semicolon rest then 1 else 0) })
@@ -28,7 +28,7 @@ decimal_number s = numeric 2 10 (front is_digit s) (behind is_digit s)
 abbrev pub hexadecimal : List ℕ → Option Reference
 hexadecimal s = numeric 3 16 (front is_hex s) (behind is_hex s)
 
--- the number behind '&#'
+-- the number after '&#'
 abbrev pub hash : List ℕ → Option Reference
 hash [] = None
 hash (c ∷ s) = if 120 == c || 88 == c then hexadecimal s else decimal_number (c ∷ s)
@@ -49,6 +49,6 @@ abbrev pub reference_by : List Entry → Bool → Option (List ℕ) → List ℕ
 reference_by t value (Some s) whole = hash s
 reference_by t value None whole = named value (longest t whole)
 
--- the reference at the front of a text that begins with '&'
+-- the reference at the start of a text that begins with '&'
 unfoldable pub reference : List Entry → Bool → List ℕ → Option Reference
 reference t value s = reference_by t value (strip (codes "&#") s) s

@@ -94,7 +94,7 @@ pub record IsTrie (v : TableView) : Type 0 where
 abbrev pub points_list : Points → List ℕ
 points_list p = p.first ∷ option_to_list p.second
 
--- the name with this number at the front of s
+-- the name with this number at the start of s
 abbrev pub found_at : List Entry → ℕ → List ℕ → Found
 found_at t i s = record { name = (entry_at t i).name; points = (entry_at t i).points; rest = drop (length (entry_at t i).name) s }
 

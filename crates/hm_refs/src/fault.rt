@@ -18,10 +18,12 @@ pub enum TableFault {
     /// The value isn't an object.
     #[error("NotObject")]
     NotObject,
-    /// The key isn't `&`, an ASCII letter, at least one more letter or digit, and at most one `;` at the end, or has more than 64 characters.
+    /// The key isn't `&`, an ASCII letter, at least one more letter or digit, and at most one `;` at the end, or has
+    /// more than 64 characters.
     #[error("BadName {}", .key.text)]
     BadName { key: Word },
-    /// The key's value isn't an object whose `codepoints` is an array of one or two scalar values other than 0, each a whole number without point or exponent.
+    /// The key's value isn't an object whose `codepoints` is an array of one or two scalar values other than 0, each a
+    /// whole number without point or exponent.
     #[error("BadPoints {}", .key.text)]
     BadPoints { key: Word },
     /// More than 4,096 names.

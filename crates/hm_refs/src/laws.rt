@@ -23,13 +23,14 @@ pub fn none_is_best()
     ensures { NoneIsBest }
 {}
 
-/// No decimal reference is shorter than the one with the best number, and no hexadecimal one, but for the code points
-/// from 1,000,000 to 1,048,575.
+/// No decimal reference is shorter than the one with the best number, and no hexadecimal one, except for the code
+/// points from 1,000,000 to 1,048,575.
 pub fn best_is_shortest()
     ensures { BestIsShortest }
 {}
 
-/// For the code points from 1,000,000 to 1,048,575 `x` and five hexadecimal digits are one byte shorter than seven decimal ones.
+/// For the code points from 1,000,000 to 1,048,575 `x` and five hexadecimal digits are one byte shorter than seven
+/// decimal ones.
 pub fn hexadecimal_is_shorter()
     ensures { HexadecimalIsShorter }
 {}

@@ -26,12 +26,12 @@ pub(crate) struct TrieNode {
     pub(crate) byte: u8,
     /// Where its children begin, which stand in the byte order of the names.
     pub(crate) first: u32,
-    /// How many they are.
+    /// How many children it has.
     pub(crate) count: u32,
 }
 
 impl TrieNode {
-    /// Takes one child more, behind those that it has.
+    /// Takes one more child, after those that it has.
     fn adopt(&mut self, child: u32)
         requires { self.old.count < 4294967295 }
         ensures { self.new ≡ adopted self.old child }
@@ -96,7 +96,7 @@ pub(crate) fn behind_first(text: &[u8]) -> &[u8]
     &text[1..]
 }
 
-/// Moves each name that has more than `depth` bytes behind its `&` on to the node of one byte more.
+/// Moves each name that has more than `depth` bytes after its `&` on to the node of one byte more.
 ///
 /// The names are in byte order, so those that stand at one node come one after another, and so do its children.
 fn grow_deeper(
@@ -125,7 +125,7 @@ fn grow_deeper(
     Ok(())
 }
 
-/// Tells each node which name ends there.
+/// Records in each node which name ends there.
 fn mark_ends(names: &[ReferenceName], nodes: &mut [TrieNode], places: &[Node])
     requires { IsPut (entries_of names.now) 0 nodes.old places.now }
     ensures { IsWhole (entries_of names.now) nodes.new places.now }
@@ -135,7 +135,7 @@ fn mark_ends(names: &[ReferenceName], nodes: &mut [TrieNode], places: &[Node])
     }
 }
 
-/// Makes the nodes of the names, and tells the node of each.
+/// Makes the nodes of the names, and returns the node of each.
 pub(crate) fn grow(
     alloc: Global,
     names: &[ReferenceName],

@@ -1,4 +1,4 @@
-//! Numbers of numeric character references (HTML Standard, 13.2.5.80).
+//! Numbers of numeric character references (HTML Standard, #numeric-character-reference-end-state).
 ghost use Rattle.std.specs.Prelude.{◌≡◌};
 ghost use Rattle.hm_refs.specs.Numbers.{best_number, look_back, look_up, point_of, replaced};
 

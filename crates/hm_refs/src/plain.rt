@@ -9,7 +9,7 @@ use crate::nodes::ReferenceName;
 const PLAIN: [u8; 87] =
     *b"ABCDEFGHIJKLMNOPQRSTUVWXYZabcdefghijklmnopqrstuvwxyz0123456789!#$%()*+,-./:;?@[\\]^_{|}~";
 
-/// Tells for each ASCII character whether it is plain, where the table has these names.
+/// Says for each ASCII character whether it is plain, where the table has these names.
 ///
 /// A writer asks this of almost every character, so a table keeps the answers.
 pub(crate) fn plain_flags(names: &[ReferenceName]) -> [bool; 128]

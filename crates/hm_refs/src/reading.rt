@@ -184,7 +184,7 @@ fn is_good_name(name: &[u8]) -> bool
     }
 }
 
-/// Whether a `;` stands at `i`, and nothing behind it.
+/// Whether a `;` stands at `i`, and nothing after it.
 fn is_last_semicolon(text: &[u8], i: usize) -> bool
     requires { i < length text.now }
     ensures { result ≡ ((slice_index text.now i == 59) && (i + 1 == length text.now)) }

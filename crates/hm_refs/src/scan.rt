@@ -72,7 +72,8 @@ fn number(digits: &[u8], base: u32) -> u32
     number
 }
 
-/// The reference whose digits begin at `from`, behind `&#` or `&#x` (13.2.5.76 to 13.2.5.80).
+/// The reference whose digits begin at `from`, after `&#` or `&#x` (#hexadecimal-character-reference-start-state to
+/// #numeric-character-reference-end-state).
 fn numeric_reference(text: &[u8], from: usize, base: u32) -> Option<Reference>
     requires inside { from ≤ length text.now }
     requires low { 2 ≤ base }
@@ -105,7 +106,7 @@ fn semicolon_len(text: &[u8], at: usize) -> usize
     }
 }
 
-/// The reference behind whose `&` a `#` stands (13.2.5.75).
+/// The reference whose `&` is followed by `#` (#numeric-character-reference-state).
 fn hash_reference(text: &[u8]) -> Option<Reference>
     requires { 2 ≤ length text.now }
     ensures { MatchOption result (refs.hash (drop 2 text.now) ≡ None) (IsReadReference (refs.hash (drop 2 text.now)) text.now) }
@@ -117,8 +118,8 @@ fn hash_reference(text: &[u8]) -> Option<Reference>
     }
 }
 
-/// Whether a name at the front of the text isn't a reference (13.2.5.73): it stands in an attribute value and has
-/// no `;`, and `=`, a letter or a digit follows.
+/// Whether a name at the start of the text isn't a reference (#named-character-reference-state). That is so where it
+/// stands in an attribute value and has no `;`, and `=`, a letter or a digit follows.
 fn is_blocked(in_value: bool, name: &[u8], text: &[u8]) -> bool
     requires { length name.now ≤ length text.now }
     ensures { result
@@ -156,7 +157,7 @@ fn begins_with_blocking(rest: &[u8]) -> bool
     }
 }
 
-/// The reference by the longest name that the text begins with (13.2.5.73).
+/// The reference by the longest name that the text begins with (#named-character-reference-state).
 fn named_reference(table: &Table, text: &[u8], in_value: bool) -> Option<Reference>
     ensures { let read = refs.named in_value (longest table.now.entries text.now) in
         MatchOption result (read ≡ None) (IsReadReference read text.now) }
@@ -173,8 +174,8 @@ fn named_reference(table: &Table, text: &[u8], in_value: bool) -> Option<Referen
     })
 }
 
-/// The reference at the front of a text that begins with `&` (13.2.5.72); `in_value` tells that it stands in an
-/// attribute value.
+/// The reference at the start of a text that begins with `&` (#character-reference-state); `in_value` says that it
+/// stands in an attribute value.
 pub fn read_reference(table: &Table, text: &[u8], in_value: bool) -> Option<Reference>
     requires some { 0 < length text.now }
     requires amp { slice_index text.now 0 ≡ 38 }

@@ -1,4 +1,4 @@
-//! The table of names of character references (HTML Standard, 13.5).
+//! The table of names of character references (HTML Standard, #named-character-references).
 ghost use Rattle.std.specs.Prelude.{◌≡◌, ◌≢◌, ℕ, ◌<◌, ◌∷◌, [], List, length, is_some, option_map, Ok, Err, IfOk, IfErr, IfSome};
 ghost use Rattle.hm_refs.specs.Names.{child_of, is_name, longest};
 ghost use Rattle.hm_refs.specs.Tables.{IsGathered, IsNode, IsTable, IsTrie, entry_at, found_at, front_at, places_for, points_list};
@@ -121,7 +121,8 @@ impl Table {
     }
 
     /// Whether the character is plain: a letter, a digit, or a mark that is neither a quote nor `&`, `<`, `=`, `>` or a
-    /// grave accent, and each name whose first code point it is gives no second one and has at least four bytes.
+    /// grave accent. It is plain only if each name whose first code point it is gives no second one and has at least
+    /// four bytes.
     pub fn is_plain(&self, c: char) -> bool
         ensures { result ≡ is_plain self.now.entries c }
     {

@@ -1,4 +1,4 @@
--- Open elements that are kept one behind the other, and the path that they make.
+-- Open elements that are kept one after the other, and the path that they make.
 use Rattle.std.proofs.Common.{◌≡◌, ℕ, zero, suc, ◌+◌, ◌-◌, ◌<◌, ◌≤◌, List, [], ◌∷◌, ◌++◌, length, take, get_or, refl, sym, ap, ◌∙◌, inl, inr, arith}
 use Rattle.std.proofs.lemmas.List.{take_more, take_all, take-take, take-append-le, length-take-le, length_push}
 use Rattle.std.proofs.lemmas.Bool.{cases_eq}

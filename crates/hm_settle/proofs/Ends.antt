@@ -30,7 +30,7 @@ reached_in_svg os n svg path =
       least = path.least;
     }
 
--- so many elements stay where the others pass the test
+-- `left` elements stay where the others pass the test
 pub closes_rest : (q : Element → Bool) (os : List OpenElement) (left : ℕ) → left ≤ length os → path_of (take left os) ≡ behind q (path_of os) → length (front q (path_of os)) + left ≡ length os
 closes_rest q os left most e =
     omega (arith, length-front q (path_of os), length-path_of os, length-path_of (take left os), length-take-le left os most, ap length e)

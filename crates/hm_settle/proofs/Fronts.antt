@@ -1,4 +1,4 @@
--- Which elements close: the longest front that passes a test, found from the innermost element outwards.
+-- Which elements close: the longest prefix that passes a test, found from the innermost element outwards.
 use Rattle.std.proofs.Common.{◌≡◌, ℕ, suc, ◌+◌, ◌-◌, ◌<◌, ◌≤◌, Bool, true, false, not, cond, List, [], ◌∷◌, length, take, get_or, bytes_eq, refl, sym, ◌∙◌, arith}
 use Rattle.std.proofs.lemmas.Bool.{both_ways, and_parts}
 use Rattle.hm_base.specs.Walks.{Element}

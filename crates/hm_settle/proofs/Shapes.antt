@@ -1,4 +1,4 @@
--- The path behind a tag: what closes is the front of the path, and what is made and opens stands on the rest.
+-- The path after a tag: what closes is a prefix of the path, and what is made and opens stands on the rest.
 use Rattle.std.proofs.Common.{◌≡◌, ℕ, Bool, true, false, not, cond, List, [], ◌∷◌, ◌++◌, bytes_eq, refl, sym, ap, subst, append_assoc}
 use Rattle.hm_base.specs.Walks.{Element}
 use Rattle.hm_base.specs.declared.rules.Rule.TheVariants.{TooDeep, WrongParent, BlockInParagraph, Nested, RefusedName, SecondRoot, ForeignName}

@@ -1,4 +1,4 @@
--- What a call that took a tag answers.
+-- What a call that took a tag returns.
 use Rattle.std.specs.Prelude.{◌≡◌, List, [], ◌∷◌, length}
 use Rattle.hm_base.specs.Walks.{Element}
 use Rattle.hm_elements.specs.Names.{tbody, tr, colgroup}
@@ -17,7 +17,7 @@ elements_of SectionAndRow = html_element tr ∷ html_element tbody ∷ []
 elements_of Row = html_element tr ∷ []
 elements_of Colgroup = html_element colgroup ∷ []
 
--- The tag moves the open elements: as many close as is answered, those of the answer are made, and this is the path then.
+-- The tag moves the open elements: as many close as the answer says, those of the answer are made, and this is the path then.
 pub record IsMoved (does : rules.Moves) (answer : Moves) (path : List Element) : Type 0 where
   pub closed : List Element
   pub does_move : does ≡ moves closed (elements_of answer.made) path

@@ -1,4 +1,4 @@
--- What a tag does to the open elements of a body (HTML Standard, 13.2.6.4.7 and following).
+-- What a tag does to the open elements of a body (HTML Standard, #parsing-main-inbody and following).
 use Rattle.std.specs.Prelude.{ℕ, Bool, true, false, not, ◌&&◌, List, [], ◌∷◌, ◌++◌, if◌then◌else◌, bytes_eq}
 use Rattle.hm_base.specs.Walks.{Element}
 use Rattle.hm_base.specs.declared.rules.Rule.{Rule}

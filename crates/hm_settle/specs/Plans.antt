@@ -25,7 +25,7 @@ opened n closed path (Err rule) = refuses rule
 abbrev pub opens_as_svg : List ℕ → List Element → Bool
 opens_as_svg n path = is_in_svg path || bytes_eq n svg
 
--- what a start tag does: so many elements stay, these are made, and the element opens
+-- what a start tag does: `plan.left` elements stay, these are made, and the element opens
 pub record IsStartPlan (os : List OpenElement) (n : List ℕ) (plan : MovePlan) : Type 0 where
   pub closed : List Element
   pub does_move : start_moves n (path_of os) ≡ moves closed (elements_of plan.made) (element n (opens_as_svg n (path_of os)) ∷ (elements_of plan.made ++ path_of (take plan.left os)))
@@ -34,14 +34,14 @@ pub record IsStartPlan (os : List OpenElement) (n : List ℕ) (plan : MovePlan) 
   pub room : plan.left + length (elements_of plan.made) < DEPTH_LIMIT
   pub void : plan.is_void ≡ not (opens_as_svg n (path_of os)) && is_void n
 
--- so many elements stay where those are closed that an end tag implies
+-- `left` elements stay where those are closed that an end tag implies
 pub record IsReached (os : List OpenElement) (n : List ℕ) (left : ℕ) : Type 0 where
   pub closed : List Element
   pub ends : end_moves n (path_of os) ≡ end_on n closed (path_of (take left os)) (is_open n (path_of os))
   pub closes : length closed + left ≡ length os
   pub least : 2 ≤ left
 
--- so many elements stay behind an end tag
+-- `left` elements stay after an end tag
 pub record IsEndPlan (os : List OpenElement) (n : List ℕ) (left : ℕ) : Type 0 where
   pub closed : List Element
   pub does_move : end_moves n (path_of os) ≡ moves closed [] (path_of (take left os))
@@ -58,7 +58,7 @@ abbrev pub IsKindOf : Option ElementName → Kind → Type 0
 IsKindOf None k = Unit {0}
 IsKindOf (Some n) k = k ≡ kind (name_of n)
 
--- an element opens behind the others
+-- an element opens after the others
 pub record IsPushed (old : List OpenElement) (e : Element) (new : List OpenElement) : Type 0 where
   pub last : OpenElement
   pub items : new ≡ old ++ last ∷ []

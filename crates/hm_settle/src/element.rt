@@ -152,7 +152,8 @@ fn bounds(name: Named<'_>, foreign: bool) -> bool
     }
 }
 
-/// Whether an element named `one`, which may not stand in one of its own name, is open at an element that opens where it is or isn't.
+/// Whether an element named `one`, which may not stand in one of its own name, is open at an element that opens where
+/// it is or isn't.
 fn is_open(name: Named<'_>, one: &str, outside: bool) -> bool
     requires one { tables.is_unnested one.now ≡ true }
     ensures { result ≡ (bytes_eq name.entry.name.now one.now || outside) }

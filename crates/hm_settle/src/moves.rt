@@ -10,7 +10,7 @@ use hm_base::{Memory, Rule};
 use hm_elements::{is_cell, is_section, same_name};
 use std::alloc::AllocError;
 
-/// The elements that a start tag makes before its own opens (HTML Standard, 13.2.6.4.9, 13.2.6.4.13).
+/// The elements that a start tag makes before its own opens (HTML Standard, #parsing-main-intable, #parsing-main-intbody).
 #[derive(Clone, Copy, Debug, PartialEq, Eq)]
 pub enum Made {
     Nothing,

@@ -49,7 +49,8 @@ impl Path {
         Ok(Path { elements })
     }
 
-    /// How many elements are open, at most [`hm_base::DEPTH_LIMIT`]. The outermost are `html` and `body`, and the names are UTF-8.
+    /// How many elements are open, at most [`hm_base::DEPTH_LIMIT`]. The outermost are `html` and `body`, and the names
+    /// are UTF-8.
     pub fn len(&self) -> u32
         ensures len { result ≡ length self.now }
         ensures most { result ≤ DEPTH_LIMIT }
@@ -96,11 +97,10 @@ impl Path {
         self.elements[self.elements.len() - 1].marks.text
     }
 
-    /// Takes a start tag of this name (HTML Standard, 13.2.6.4.7 and following, 13.2.6.5): closes the
-    /// elements that yield to it, makes those that it implies, and opens its own, an element of SVG
-    /// where `foreign` is set. A void element closes at once. An `svg` that is to close at once is
-    /// ended by [`Path::end`]. Memory is taken only for a name that stays open; after a fault the path
-    /// is unchanged.
+    /// Takes a start tag of this name (HTML Standard, #parsing-main-inbody and following, #parsing-main-inforeign):
+    /// closes the elements that yield to it, makes those that it implies, and opens its own. That is an element of SVG
+    /// where `foreign` is set. A void element closes at once. An `svg` that is to close at once is ended by
+    /// [`Path::end`]. Memory is taken only for a name that stays open; after a fault the path is unchanged.
     pub fn start(&mut self, name: &str, foreign: bool) -> Result<Moves, SettleFault>
         requires { foreign ≡ (paths.is_in_svg self.old || bytes_eq name.now svg) }
         ensures ok { IfOk result (λ moves. IsStarted (start_moves name.now self.old) moves self.new) }

@@ -160,7 +160,7 @@ fn stands(elements: &[OpenElement], made: Made, tag: Named<'_>) -> bool
     }
 }
 
-/// How many elements stay behind an end tag of this name.
+/// How many elements stay after an end tag of this name.
 pub(crate) fn left_by_end(elements: &[OpenElement], name: &str) -> Result<usize, Rule>
     requires path { IsPath elements.now }
     requires name { name.now ≢ body }

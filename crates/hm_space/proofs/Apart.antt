@@ -1,4 +1,4 @@
--- Texts of a walk that stand apart: what is put behind what came before.
+-- Texts of a walk that stand apart: what is appended to what came before.
 use Rattle.std.proofs.Common.{◌≡◌, ℕ, zero, suc, ◌+◌, Bool, true, false, not, List, [], ◌∷◌, slice_get, Option, Some, None, refl}
 use Rattle.std.proofs.lemmas.Bool.{and_parts}
 use Rattle.hm_base.specs.Bytes.{is_null}
@@ -55,7 +55,7 @@ module _ (f : Rewrite) (w : List Event) (i : ℕ) (v : List Event) (walk : IsWal
   ended : (e : Event) → slice_get w i ≡ Some e → ends_match (path_after [] v) (e ∷ []) ≡ true
   ended e at = rw (copied.path) (ends_match-at [] w i e walk.matched at)
 
-  -- the event that comes may stand behind what was put
+  -- the event that comes may stand after what was put
   pub may_follow-next : (e : Event) → slice_get w i ≡ Some e → may_follow v e ≡ true
   may_follow-next (doctype legacy) at = ended (doctype legacy) at
   may_follow-next (start n foreign attributes) at = ended (start n foreign attributes) at

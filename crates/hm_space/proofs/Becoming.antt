@@ -41,7 +41,7 @@ inside_is_deeper root path (deeper m path' ne i) e =
     let inner : path' ≡ [] = ap outer e in
     inside_is_open root path' i inner
 
--- Behind an end inside a root: either the root has ended, or what is open is inside it still.
+-- After an end inside a root: either the root has ended, or what is open is inside it still.
 module _ (root : List ℕ) (after : List Event → Type 0) (B : List Element → Type 0) where
   pub at_end : (path : List Element) → Inside root path → (n : List ℕ) (foreign : Bool) (w : List Event) → SettledInside root after path (end n foreign ∷ w)
       → (after w → B html_path) → ((path' : List Element) → Inside root path' → SettledInside root after path' w → B path') → B (outer path)

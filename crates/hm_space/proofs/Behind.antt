@@ -1,4 +1,4 @@
--- A text put behind a walk that doesn't end in one, and the room for it.
+-- A text appended to a walk that doesn't end in one, and the room for it.
 use Rattle.std.proofs.Common.{◌≡◌, ℕ, ◌<◌, ◌≤◌, Bool, true, false, not, List, [], ◌∷◌, ◌++◌, length, sym, ap, refl, arith, length-append}
 use Rattle.std.proofs.lemmas.Bool.{and_parts}
 use Rattle.std.proofs.lemmas.List.{append-nil}
@@ -11,7 +11,7 @@ use Rattle.hm_tree.specs.Trees.{HasRoom, last_agrees}
 use Rattle.hm_tree.proofs.TextLemmas.{with_text-push}
 use Rattle.hm_tree.proofs.WalkLemmas.{path_after-push, walk_size-push}
 
--- behind another event any text may stand
+-- after another event any text may stand
 pub last_agrees-other : (w : List Event) (raw : Bool) → ends_in_text w ≡ false → last_agrees w raw ≡ true
 last_agrees-other [] raw h = refl
 last_agrees-other (doctype legacy ∷ []) raw h = refl

@@ -1,4 +1,4 @@
--- The whitespace of one text: the front that stays, and the runs behind it.
+-- The whitespace of one text: the prefix that stays, and the runs after it.
 use Rattle.std.proofs.Common.{◌≡◌, ℕ, zero, suc, ◌+◌, ◌-◌, ◌<◌, ◌≤◌, nat_lt, Bool, true, false, not, ◌&&◌, ◌||◌, ◌==◌, List, [], ◌∷◌, ◌++◌, length, take, drop, get_or, IsUtf8, IsCharBoundary, if◌then◌else◌, sym, ap, ◌∙◌, refl, inl, inr, arith, subst, append_assoc, length-take, length-drop}
 use Rattle.std.proofs.lemmas.Bool.{cases_lt, or_parts}
 use Rattle.std.proofs.lemmas.List.{drop_more, get_or-drop, get_or-take, take_more}
@@ -55,7 +55,7 @@ front_more s after to within stays before =
     let next : spaced after (drop to s) ≡ c ∷ spaced (is_space c) (drop (to + 1) s) = ap (spaced after) (drop_more s to 0 within) ∙ one_stays after c (drop (to + 1) s) stays in
     before ∙ ap (λ t. take to s ++ t) next ∙ sym (append_assoc (take to s) (c ∷ []) (spaced (is_space c) (drop (to + 1) s))) ∙ ap (λ t. t ++ spaced (is_space c) (drop (to + 1) s)) (sym (take_more s to 0 within))
 
--- the front up to a place behind the first byte
+-- the prefix up to a place after the first byte
 steady_front : (s : List ℕ) (n : ℕ) → suc n ≤ length s → changes false (get_or s 0 0) ≡ false → IsSteady s 1 (suc n) → spaced false s ≡ take (suc n) s ++ spaced (is_space (get_or s n 0)) (drop (suc n) s)
 steady_front s zero within first steady = front_more s false 0 (omega (arith, within)) first refl
 steady_front s (suc n) within first steady =
@@ -65,7 +65,7 @@ steady_front s (suc n) within first steady =
     let stays : changes (is_space (get_or s n 0)) (get_or s (suc n) 0) ≡ false = subst (λ j. changes (is_space (get_or s j 0)) (get_or s (suc n) 0) ≡ false) same (steady (suc n) (omega arith) (omega arith)) in
     subst (λ m. spaced false s ≡ take m s ++ spaced (is_space (get_or s (suc n) 0)) (drop m s)) on (front_more s (is_space (get_or s n 0)) (suc n) (omega (arith, within)) stays before)
 
--- so many bytes more
+-- `width` more bytes
 pub steady_more : (s : List ℕ) (at width end : ℕ) → end + 1 ≡ at + width → 0 < at → at + width ≤ length s → IsSteady s 1 at
     → AreSteady (take (end - (at - 1)) (drop (at - 1) s)) (take (at + width - at) (drop at s)) → IsSteady s 1 (at + width)
 steady_more s at width end before some inside h are k low high = by_test (nat_lt k at) refl

@@ -7,7 +7,7 @@ first_event [] = None
 first_event (e ∷ w) = Some e
 
 -- Each event becomes what the rewrite gives for it, from the open elements, the event before it, itself and the event
--- behind it. All of these are those of the walk before the rewrite.
+-- after it. All of these are those of the walk before the rewrite.
 abbrev pub rewritten : (List Element → Option Event → Event → Option Event → List Event) → List Element → Option Event → List Event → List Event
 rewritten f path before [] = []
 rewritten f path before (e ∷ w) = f path before e (first_event w) ++ rewritten f (path_behind path e) (Some e) w

@@ -8,7 +8,7 @@ use Rattle.hm_elements.specs.Paths.{current_name}
 use Rattle.hm_elements.specs.Tables.{is_block, preformatted, space_parents}
 use Rattle.hm_space.specs.Rewritten.{rewritten}
 
--- each longest run of whitespace as one SPACE; after tells that whitespace stands directly before
+-- each longest run of whitespace as one SPACE; `after` says that whitespace stands directly before
 abbrev pub spaced : Bool → List ℕ → List ℕ
 spaced after [] = []
 spaced after (c ∷ s) =
@@ -23,7 +23,7 @@ abbrev pub is_kept : List Element → Bool
 is_kept [] = false
 is_kept (e ∷ path) = keeps_space e || is_kept path
 
--- directly in these elements whitespace alone isn't seen
+-- directly in these elements a text of only whitespace isn't seen
 unfoldable pub hides_space : List Element → Bool
 hides_space [] = false
 hides_space (e ∷ path) = not e.foreign && (is_among e.name space_parents || (bytes_eq e.name noscript && is_name head (current_name path)))

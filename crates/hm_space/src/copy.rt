@@ -7,7 +7,7 @@ ghost use Rattle.hm_tree.specs.Views.{event_of};
 use hm_base::Memory;
 use hm_tree::{EventView, Maker};
 
-/// Puts an event behind what a maker has.
+/// Appends an event to what a maker has.
 pub fn put(maker: &mut Maker, event: &EventView<'_>) -> Result<(), Memory>
     requires room { HasRoom (maker.old ++ event_of event.now ∷ []) }
     requires follows { may_follow maker.old (event_of event.now) ≡ true }

@@ -7,8 +7,8 @@ ghost use Rattle.hm_space.specs.Space.{spaced, without_leading, without_trailing
 
 use hm_base::{Memory, is_space};
 
-// A front of a text that stays as it is where each longest run of whitespace becomes one space. It goes up to byte `to`,
-// where the text ends or whitespace stands that changes; `after` tells whether a space stands directly before.
+// A prefix of a text that stays as it is where each longest run of whitespace becomes one space. It goes up to byte
+// `to`, where the text ends or whitespace begins that changes; `after` says whether a space stands directly before.
 #[derive(Clone, Copy, Debug)]
 pub(crate) struct SpacedFront {
     pub(crate) to: usize,
@@ -40,15 +40,15 @@ fn changes_at(after: bool, byte: u8) -> bool
     is_any_space(byte) & (after | (byte != b' '))
 }
 
-// Whether a byte is whitespace that changes: `after` tells whether whitespace stands directly before.
+// Whether a byte is whitespace that changes: `after` says whether whitespace stands directly before.
 fn changes(after: bool, byte: u8) -> bool
     ensures { result ≡ fronts.changes after byte }
 {
     is_blank(byte) && (after || byte != b' ')
 }
 
-// Whether one of the bytes is whitespace that changes, behind those that stand one place earlier. All are looked at, with no
-// branch between them.
+// Whether one of the bytes in `here` is whitespace that changes; in `earlier` are the bytes one place before them. All
+// are looked at, with no branch between them.
 #[inline(always)]
 fn has_change(earlier: &[u8], here: &[u8]) -> bool
     requires { length earlier.now ≡ length here.now }
@@ -61,7 +61,7 @@ fn has_change(earlier: &[u8], here: &[u8]) -> bool
     found
 }
 
-// Where a front ends behind whose first byte no whitespace changes, by 16 bytes at a time.
+// Where a prefix ends in which no whitespace after the first byte changes. It is found by 16 bytes at a time.
 fn steady_end(bytes: &[u8]) -> usize
     requires { 0 < length bytes.now }
     ensures inside { result ≤ length bytes.now }
@@ -75,7 +75,7 @@ fn steady_end(bytes: &[u8]) -> usize
     at
 }
 
-// A front in which no whitespace changes.
+// A prefix in which no whitespace changes.
 fn steady_front(bytes: &[u8]) -> SpacedFront
     ensures inside { result.to ≤ length bytes.now }
     ensures same { spaced false bytes.now ≡ take result.to bytes.now ++ spaced result.after (drop result.to bytes.now) }
@@ -93,7 +93,7 @@ fn steady_front(bytes: &[u8]) -> SpacedFront
     }
 }
 
-// The longest such front.
+// The longest such prefix.
 pub(crate) fn spaced_front(bytes: &[u8]) -> SpacedFront
     ensures { IsSpacedFront bytes.now result }
 {
@@ -107,7 +107,7 @@ pub(crate) fn spaced_front(bytes: &[u8]) -> SpacedFront
     SpacedFront { to, after }
 }
 
-// The text without the whitespace in front.
+// The text without its leading whitespace.
 fn behind_space(text: &str) -> &str
     ensures same { spaced true text.now ≡ spaced false result.now }
     ensures shorter { length result.now ≤ length text.now }
@@ -138,7 +138,7 @@ pub(crate) fn push_spaced(out: &mut String, text: &str) -> Result<(), Memory>
     }
 }
 
-// Whether a space stands in front.
+// Whether a space stands at the start.
 pub(crate) fn begins_with_space(text: &str) -> bool
     ensures { (edge : Bool) → result ≡ false → text.now ≡ without_leading edge text.now }
 {
@@ -154,7 +154,7 @@ pub(crate) fn ends_with_space(text: &str) -> bool
     !bytes.is_empty() && bytes[bytes.len() - 1] == b' '
 }
 
-// Without a space in front, where `edge` is set.
+// The text without a space at the start, where `edge` is set.
 pub(crate) fn without_leading(text: &str, edge: bool) -> &str
     ensures { result.now ≡ without_leading edge text.now }
 {
@@ -165,7 +165,7 @@ pub(crate) fn without_leading(text: &str, edge: bool) -> &str
     text
 }
 
-// Without a space at the end, where `edge` is set.
+// The text without a space at the end, where `edge` is set.
 pub(crate) fn without_trailing(text: &str, edge: bool) -> &str
     ensures { result.now ≡ without_trailing edge text.now }
 {

@@ -27,9 +27,10 @@ use hm_elements::{is_block, is_space_parent, same_name};
 use hm_tree::{EventView, Maker, Tree};
 use std::alloc::Global;
 
-/// The tree with its whitespace collapsed. In every text but raw ones and those in `pre`, `textarea` and `svg` each longest
-/// run of whitespace becomes one space. Unless this is to be done conservatively, a text that is one space is left out
-/// directly in elements that don't show it, as `ul` and `table`, and any other text loses a space at the edge of a block.
+/// The tree with its whitespace collapsed. In every text but raw ones and those in `pre`, `textarea` and `svg` each
+/// longest run of whitespace becomes one space. Unless `conservative` is set, more is done. A text that is one space is
+/// left out directly in elements that don't show it, such as `ul` and `table`. Any other text loses a space at the edge
+/// of a block.
 pub fn collapse(alloc: Global, tree: &Tree, conservative: bool) -> Result<Tree, Memory>
     ensures ok { IfOk result (λ made. made ≡ collapsed conservative tree.now) }
     ensures settled { Settled tree.now → IfOk result (λ made. Settled made) }
@@ -53,7 +54,7 @@ pub fn collapse(alloc: Global, tree: &Tree, conservative: bool) -> Result<Tree, 
     Ok(maker.finish())
 }
 
-// How many of the open elements keep their whitespace behind an event.
+// How many of the elements that are open after an event keep their whitespace.
 fn kept_behind(kept: u32, event: &EventView<'_>) -> u32
     requires { kept + 1 < 2 ^ 32 }
     ensures { (path : List Element) → ends_match path (event_of event.now ∷ []) ≡ true → kept ≡ kept_count path → result ≡ kept_count (path_behind path (event_of event.now)) }
@@ -84,7 +85,7 @@ fn is_edge_before(tree: &Tree, i: u32) -> bool
     i > 0 && is_edge(&tree.event(i - 1))
 }
 
-// Whether the event behind event `i` is the start or the end of a block.
+// Whether the event after event `i` is the start or the end of a block.
 fn is_edge_behind(tree: &Tree, i: u32) -> bool
     requires { i < length tree.now }
     ensures { result ≡ space.is_edge (slice_get tree.now (i + 1)) }
@@ -93,7 +94,7 @@ fn is_edge_behind(tree: &Tree, i: u32) -> bool
     i + 1 < len && is_edge(&tree.event(i + 1))
 }
 
-// Whether whitespace alone isn't seen as event `i`.
+// Whether a text of only whitespace isn't seen as event `i`.
 fn hides_space(tree: &Tree, i: u32) -> bool
     requires { i < length tree.now }
     ensures { result ≡ space.hides_space (path_after [] (take i tree.now)) }
@@ -209,7 +210,7 @@ fn put_trimmed(maker: &mut Maker, text: &str, tree: &Tree, i: u32) -> Result<(),
     maker.text(text, false)
 }
 
-// A text, as event `i`, without a space behind the edge of a block.
+// A text, as event `i`, without a space after the edge of a block.
 fn front_trimmed<'t>(text: &'t str, tree: &Tree, i: u32) -> &'t str
     requires { i < length tree.now }
     ensures { result.now ≡ without_leading (space.is_edge (event_before tree.now i)) text.now }

@@ -1,4 +1,4 @@
--- What the edge to the system says of its calls, where nothing is told.
+-- What the edge to the system says of its calls, where no content is known.
 use Rattle.std.proofs.Common.{◌≡◌, ◌↔◌, ℕ, List, Bool, true, false, None, refl, IsTrue, IfOk, is_ok}
 use Rattle.std.specs.declared.option.Option.{Option}
 use Rattle.std.specs.declared.result.Result.{Result}

@@ -1,4 +1,4 @@
--- Lemmas on told files, and on what is put into them.
+-- Lemmas on known files, and on what is put into them.
 use Rattle.std.proofs.Common.{◌≡◌, ℕ, ◌⊎◌, inl, inr, List, [], ◌++◌, length, take, Bool, true, false, cond, Some, None, refl, sym, ap, ◌∙◌, arith}
 use Rattle.std.proofs.lemmas.List.{take_all}
 use Rattle.std.specs.declared.option.Option.{Option}
@@ -11,7 +11,7 @@ use Rattle.std.proofs.lemmas.Map.Text.{is_eq-slice_cmp}
 use Rattle.std.proofs.lemmas.Slice.Eq.{bytes_eq-Decides}
 use Rattle.hm_store.specs.Files.{FileMap, content, with_file, with_more, HasFront, PutsFront}
 
--- two maps that answer alike are one
+-- two maps that give the same for every name are the same
 pub same_files : (m n : FileMap) → ((q : List ℕ) → map.get m q ≡ map.get n q) → m ≡ n
 same_files = same_map nat_list_cmp_total (slice_cmp-IsAntisymmetric nat_cmp-IsAntisymmetric)
 
@@ -29,7 +29,7 @@ twice : (b : Bool) {A : Type 0} (x y z : A) → cond b x (cond b y z) ≡ cond b
 twice true x y z = refl
 twice false x y z = refl
 
--- of two insertions under one name the second counts alone
+-- of two insertions under one name only the second counts
 pub insert_twice : (m : FileMap) (name a b : List ℕ) → map.insert (map.insert m name a) name b ≡ map.insert m name b
 insert_twice m name a b = same_files _ _ (λ q.
     get-with (map.insert m name a) name b q
@@ -37,7 +37,7 @@ insert_twice m name a b = same_files _ _ (λ q.
     ∙ twice (bytes_eq q name) (Some b) (Some a) (map.get m q)
     ∙ sym (get-with m name b q))
 
--- bytes put behind an empty file
+-- bytes appended to an empty file
 pub put_first : (old : Option FileMap) (name target bytes : List ℕ) → (IsSome old → target ≡ name) → with_more (with_file old name []) target bytes ≡ with_file old name bytes
 put_first None name target bytes h = refl
 put_first (Some m) name target bytes h =
@@ -51,7 +51,7 @@ front_none old new name bytes e = record { taken = 0; files = e }
 pub front_all : (old new : Option FileMap) (name bytes : List ℕ) → new ≡ with_file old name bytes → HasFront old new name bytes
 front_all old new name bytes e = record { taken = length bytes; files = e ∙ ap (with_file old name) (sym (take_all (length bytes) bytes (omega arith))) }
 
--- a front that was put behind an empty file is a front of it
+-- where a prefix was appended to an empty file, that prefix stands under its name
 pub front_put : (old mid new : Option FileMap) (name target bytes : List ℕ) → mid ≡ with_file old name [] → (IsSome old → target ≡ name) → (new ≡ mid) ⊎ PutsFront mid new target bytes → HasFront old new name bytes
 front_put old mid new name target bytes e h (inl s) = front_none old new name bytes (s ∙ e)
 front_put old mid new name target bytes e h (inr p) = record {

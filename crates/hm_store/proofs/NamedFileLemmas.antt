@@ -151,7 +151,7 @@ pub content_at : (es : Entries) (t : NamedFiles) (i : ℕ) (k : String Global) (
 content_at es t i k v is at h =
     sym (content-files_of es k v h) ∙ ap (content (files_of es)) (sym (name_at-entry es i k v at)) ∙ ap (λ (f : NamedFiles). content f.files (name_at f.names i)) is
 
--- bytes put behind those of the file at a place
+-- bytes appended to those of the file at a place
 pub appended : {S : Type 0} (m : HashMap (String Global) Bytes S) (i : ℕ) (v w : Bytes) (bytes : List ℕ) (t : NamedFiles)
     → named m.entries ≡ t → IsUnique string_eq m → slice_get (values m) i ≡ Some v → w.items ≡ v.items ++ bytes → named (set_value_at m.entries i w) ≡ appended_at t i bytes
 appended m i v w bytes t is unique at more =

@@ -1,4 +1,4 @@
--- A fact that holds anyway holds on one answer too.
+-- A fact that holds in any case holds for one answer too.
 use Rattle.std.specs.declared.result.Result.{Result}
 use Rattle.std.specs.declared.result.Result.TheVariants.{Ok, Err}
 use Rattle.std.specs.Result.{OnOk, OnErr}

@@ -1,4 +1,4 @@
--- What a store tells of its files, and what each call does to that. Names and contents are lists of bytes.
+-- What is known of a store's files, and what each call does to that. Names and contents are lists of bytes.
 use Rattle.std.specs.Prelude.{ℕ, ◌≡◌, ◌<◌, List, [], ◌++◌, length, take, Bool, IsTrue, IsSome, Some, None, MatchResult}
 use Rattle.std.specs.declared.option.Option.{Option}
 use Rattle.std.specs.declared.result.Result.{Result}
@@ -16,33 +16,33 @@ FileMap = map.FinMap (slice_cmp nat_cmp) (List ℕ)
 abbrev pub content : FileMap → List ℕ → List ℕ
 content files name = unwrap_or (map.get files name) []
 
--- the content of a file, where the store tells its files and it is there
+-- the content of a file, where the files are known and it is there
 abbrev pub file_of : Option FileMap → List ℕ → Option (List ℕ)
 file_of told name = option_and_then (λ files. map.get files name) told
 
--- the store tells its files, and none has this name
+-- the files are known, and none has this name
 abbrev pub IsMissing : Option FileMap → List ℕ → Type 0
 IsMissing told name = IsSome told × (file_of told name ≡ None)
 
--- told files, with this content under that name
+-- known files, with this content under that name
 abbrev pub with_file : Option FileMap → List ℕ → List ℕ → Option FileMap
 with_file told name bytes = option_map (λ files. map.insert files name bytes) told
 
--- told files, with these bytes behind what that name has
+-- known files, with these bytes after what that name has
 abbrev pub with_more : Option FileMap → List ℕ → List ℕ → Option FileMap
 with_more told name bytes = option_map (λ files. map.insert files name (content files name ++ bytes)) told
 
--- a front of the bytes stands under that name
+-- a prefix of the bytes stands under that name
 pub record HasFront (old new : Option FileMap) (name bytes : List ℕ) : Type 0 where
   pub taken : ℕ
   pub files : new ≡ with_file old name (take taken bytes)
 
--- a front of the bytes was put behind what that name has
+-- a prefix of the bytes was appended to what that name has
 pub record PutsFront (old new : Option FileMap) (name bytes : List ℕ) : Type 0 where
   pub taken : ℕ
   pub files : new ≡ with_more old name (take taken bytes)
 
--- a front of the bytes was put behind what a sink has
+-- a prefix of the bytes was appended to what a sink has
 pub record AppendsFront (old new : Option (List ℕ)) (bytes : List ℕ) : Type 0 where
   pub taken : ℕ
   pub bytes_are : new ≡ append_known old (take taken bytes)
@@ -56,7 +56,7 @@ pub record Pulls (old new : Option (List ℕ)) (n : ℕ) (into : List ℕ) : Typ
   pub front : old ≡ prepend_known (take n into) new
   pub ended : n ≡ 0 → 0 < length into → IsAtEnd new
 
--- where the content is told, these bytes are its front of at most so many
+-- where the content is known, these bytes are its first `most`, or all where it has fewer
 abbrev pub Takes : Option (List ℕ) → ℕ → List ℕ → Type 0
 Takes None most bytes = Unit {0}
 Takes (Some file) most bytes = bytes ≡ take most file

@@ -47,7 +47,7 @@ left_of s = unwrap_or (rest_of s.files s.reading) []
 abbrev pub target_of : Option (List ℕ) → List ℕ
 target_of writing = unwrap_or writing []
 
--- the files, with these bytes behind the file that is being written
+-- the files, with these bytes appended to the file that is being written
 abbrev pub with_bytes : StoredFiles → List ℕ → FileMap
 with_bytes s bytes =
     let name = target_of s.writing in finmap.insert s.files name (content s.files name ++ bytes)
@@ -58,6 +58,6 @@ opened name (Ok true) = Some (record { name = name; taken = 0 })
 opened name (Ok false) = None
 opened name (Err e) = None
 
--- so many more bytes were taken
+-- `count` more bytes were taken
 abbrev pub advanced : Option FileReading → ℕ → Option FileReading
 advanced reading count = option_map (λ r. record { name = r.name; taken = r.taken + count }) reading

@@ -23,7 +23,7 @@ no_files = record { names = []; files = finmap.empty }
 abbrev pub name_at : List (List ℕ) → ℕ → List ℕ
 name_at names place = slice_index_or names place []
 
--- these bytes stand behind those of the file at a place
+-- these bytes are appended to those of the file at a place
 abbrev pub appended_at : NamedFiles → ℕ → List ℕ → NamedFiles
 appended_at t place bytes =
     let name = name_at t.names place in record t { files = finmap.insert t.files name (content t.files name ++ bytes) }

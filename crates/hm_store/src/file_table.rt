@@ -69,7 +69,7 @@ impl FileTable {
         }
     }
 
-    /// Puts bytes behind the file at a place.
+    /// Appends bytes to the file at a place.
     pub(crate) fn append(&mut self, place: usize, bytes: &[u8]) -> Result<(), Memory>
         requires { place < length self.old.names }
         ensures ok { OnOk result (self.new ≡ appended_at self.old place bytes.now) }
@@ -81,7 +81,7 @@ impl FileTable {
         }
     }
 
-    /// Puts a file, in place of one of that name, and gives its place.
+    /// Puts a file, which replaces one of that name, and returns its place.
     pub(crate) fn set(&mut self, name: &str, bytes: &[u8]) -> Result<usize, Memory>
         ensures files { OnOk result (self.new.files ≡ finmap.insert self.old.files name.now bytes.now) }
         ensures places { OnOk result

@@ -1,4 +1,4 @@
-//! The outside of hminify: stores of files and sinks of bytes, by what they tell.
+//! The outside of hminify: stores of files and sinks of bytes, by what is known of them.
 //!
 //! `Store` and `Sink` are what the program asks of the outside. `load` and `write_file` read and write
 //! a whole file. `MemStore` and `MemSink` keep bytes in memory and fail at listed calls. `FileStore` and

@@ -62,7 +62,7 @@ impl Sink for MemSink {
 
     ghost faults = { λ s. s.calls.faults };
 
-    /// It fails where the call is listed, and else only for want of memory; then the bytes are as before.
+    /// It fails where the call is listed, and otherwise only for lack of memory; the bytes are then as before.
     fn put(&mut self, bytes: &[u8]) -> Result<(), Failed>
         ensures listed { IsTrue (fails_next self.old.calls) → IsErr result }
         ensures ok { OnOk result (self.new ≡ record {

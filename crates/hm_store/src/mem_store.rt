@@ -67,7 +67,7 @@ impl MemStore {
         }
     }
 
-    /// Puts a file, in place of one of that name.
+    /// Puts a file, which replaces one of that name.
     pub fn add(&mut self, name: &str, bytes: &[u8]) -> Result<(), Memory>
         ensures ok { OnOk result (self.new ≡ record self.old {
           files = finmap.insert self.old.files name.now bytes.now;
@@ -94,7 +94,7 @@ impl MemStore {
     }
 }
 
-/// Copies the bytes behind those that were taken to the front of `into`, as many as there is room for: how many.
+/// Copies the bytes after those that were taken to the start of `into`, as many as there is room for, and returns how many.
 fn copy_rest(bytes: &[u8], taken: usize, into: &mut [u8]) -> usize
     ensures count { result ≡ min (length (drop taken bytes.now)) (length into.old) }
     ensures copied { into.new ≡ take result (drop taken bytes.now) ++ drop result into.old }
@@ -147,7 +147,7 @@ impl Store for MemStore {
         }
     }
 
-    /// It fails exactly where the call is listed, and else takes as many bytes as are there and have room.
+    /// It fails exactly where the call is listed, and otherwise takes as many bytes as are there and have room.
     fn pull(&mut self, into: &mut [u8]) -> Result<usize, Failed>
         requires { is_some self.old.reading ≡ true }
         ensures listed { is_err result ≡ fails_next self.old.calls }
@@ -177,7 +177,7 @@ impl Store for MemStore {
         }
     }
 
-    /// It fails where the call is listed, and else only for want of memory; then the files are as before.
+    /// It fails where the call is listed, and otherwise only for lack of memory; the files are then as before.
     fn open_out(&mut self, name: &str) -> Result<(), Failed>
         ensures listed { IsTrue (fails_next self.old.calls) → IsErr result }
         ensures ok { OnOk result (self.new ≡ record self.old {
@@ -204,7 +204,7 @@ impl Store for MemStore {
         }
     }
 
-    /// It fails where the call is listed, and else only for want of memory; then the files are as before.
+    /// It fails where the call is listed, and otherwise only for lack of memory; the files are then as before.
     fn put(&mut self, bytes: &[u8]) -> Result<(), Failed>
         requires { is_some self.old.writing ≡ true }
         ensures listed { IsTrue (fails_next self.old.calls) → IsErr result }

@@ -1,4 +1,4 @@
-//! The trusted edge: files of the system, and a writer. They tell no content.
+//! The trusted edge: files of the system, and a writer. Nothing is known of their contents.
 ghost use Rattle.std.specs.Prelude.{◌≡◌, ◌≢◌, List, [], Bool, true, None, IsTrue, IfOk, IfErr, OnOk, is_ok, is_some};
 ghost use Rattle.std.specs.Io.{ReadsAtMost};
 ghost use Rattle.std.specs.Io.KnownBytes.{Appends, ReadConsumes};

@@ -12,28 +12,28 @@ pub struct Failed;
 
 /// A store of files by name, of which at most one is being read and at most one is being written.
 pub trait Store {
-    // the files, where the store tells them
+    // the files, where they are known
     ghost files: { Self → Option FileMap };
 
     // whether a file is being read
     ghost is_reading: { Self → Bool };
 
-    // its name, where the files are told
+    // its name, where the files are known
     ghost source: { Self → List ℕ };
 
-    // its bytes that are left to read, where the files are told
+    // its bytes that are left to read, where the files are known
     ghost rest: { Self → Option (List ℕ) };
 
     // whether a file is being written
     ghost is_writing: { Self → Bool };
 
-    // its name, where the files are told
+    // its name, where the files are known
     ghost target: { Self → List ℕ };
 
     // how often a call has failed
     ghost faults: { Self → ℕ };
 
-    /// Opens a file for reading, from its front. False says that the store has no such file.
+    /// Opens a file for reading, from its start. False says that the store has no such file.
     fn open_in(&mut self, name: &str) -> Result<bool, Failed>
         ensures same { files self.new ≡ files self.old }
         ensures reads { (is_reading self.new ≡ true) ↔ (result ≡ Ok true) }
@@ -44,7 +44,7 @@ pub trait Store {
         ensures target { target self.new ≡ target self.old }
         ensures cause { HasCause (faults self.old) (faults self.new) result };
 
-    /// Takes the next bytes of the file that is being read: how many were put at the front of `into`.
+    /// Takes the next bytes of the file that is being read, and returns how many were put at the start of `into`.
     fn pull(&mut self, into: &mut [u8]) -> Result<usize, Failed>
         requires { is_reading self.old ≡ true }
         ensures same { files self.new ≡ files self.old }
@@ -69,7 +69,7 @@ pub trait Store {
         ensures source { source self.new ≡ source self.old }
         ensures cause { HasCause (faults self.old) (faults self.new) result };
 
-    /// Puts bytes behind the file that is being written, a front of them where it fails.
+    /// Appends bytes to the file that is being written; where it fails, a prefix of them.
     fn put(&mut self, bytes: &[u8]) -> Result<(), Failed>
         requires { is_writing self.old ≡ true }
         ensures ok { OnOk result
@@ -95,13 +95,13 @@ pub trait Store {
 
 /// A sink of bytes.
 pub trait Sink {
-    // the bytes, where the sink tells them
+    // the bytes, where they are known
     ghost contents: { Self → Option (List ℕ) };
 
     // how often a call has failed
     ghost faults: { Self → ℕ };
 
-    /// Puts bytes behind those that the sink has, a front of them where it fails.
+    /// Appends bytes to those that the sink has; where it fails, a prefix of them.
     fn put(&mut self, bytes: &[u8]) -> Result<(), Failed>
         ensures ok { OnOk result (contents self.new ≡ append_known (contents self.old) bytes.now) }
         ensures err { OnErr result (AppendsFront (contents self.old) (contents self.new) bytes.now) }

@@ -30,8 +30,8 @@ impl From<AllocError> for LoadFault {
 /// The most bytes that one pull takes.
 const PIECE: usize = 65_536;
 
-/// Puts the next bytes of the file that is being read behind `bytes`: whether there were any. They are pulled into a piece that is
-/// used again.
+/// Appends the next bytes of the file that is being read to `bytes`, and returns whether there were any. They are
+/// pulled into a piece that is used again.
 fn pull_more<S: Store>(
     store: &mut S,
     piece: &mut [u8],
@@ -84,7 +84,7 @@ fn pull_all<S: Store>(alloc: Global, store: &mut S, limit: usize) -> Result<Vec<
     Ok(bytes)
 }
 
-/// The bytes of a file, at most one more than `limit`, so that a longer file shows.
+/// The bytes of a file, at most one more than `limit`, so that a longer file is noticed.
 pub fn load<S: Store>(
     alloc: Global,
     store: &mut S,

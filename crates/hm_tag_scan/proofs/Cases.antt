@@ -28,7 +28,7 @@ lower_cases c = by_test (nat_le 65 c && nat_le c 90) refl
     by_test true e = capital (grind arith) (grind arith)
     by_test false e = other (rw e refl)
 
--- a byte that may stand in an attribute's name behind its first one, and in a good one
+-- a byte that may stand in an attribute's name after its first one, and in a good one
 pub record IsPlain (c : ℕ) : Type 0 where
   pub later : is_later_byte c ≡ true
   pub good : is_bad_byte c ≡ false

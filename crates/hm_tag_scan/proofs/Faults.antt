@@ -61,7 +61,7 @@ start_taken t name o g e f = let free : tag_fault name g.attributes ≡ None = a
 end_taken : (name : List ℕ) (o : Option CutTag) (g : CutTag) → o ≡ Some g → fault_by name o ≡ None → end_of name o ≡ taken (end_tag name) g.rest
 end_taken name o g e f = let free : tag_fault name g.attributes ≡ None = ap (fault_by name) (sym e) ∙ f in ap (end_of name) e ∙ rw free refl
 
--- no fault tells that no name is bad and that the attributes are few
+-- where there is no fault, no name is bad and the attributes are few
 free_parts : (name : List ℕ) (written : List Attribute) → tag_fault name written ≡ None → (has_bad_name written ≡ false) × (length written ≤ attribute_limit)
 unfolding tag_fault
 free_parts name written h = parts (not (is_tag_name name)) (has_bad_name written) (nat_lt 256 (length written)) refl h
@@ -72,7 +72,7 @@ free_parts name written h = parts (not (is_tag_name name)) (has_bad_name written
     parts false false true e h = absurd (cc)
     parts false false false e h = (refl, grind arith)
 
--- a tag that was read behind its name, with its name
+-- a tag whose part after its name was read, with its name
 pub whole_is : (t : List Entry) (keeps : Bool) (s : List ℕ) (from name_to : ℕ) (read : places.Tag) (b : TagBody) → IsEndOf is_name_byte s from name_to → IsTagBody t keeps s name_to read.attrs b
     → string_bytes read.name ≡ map lower (slice_range s from name_to) → ((written kept : List Attribute) → IsCollected t written b.collected kept → tag_fault (string_bytes read.name) written ≡ None)
     → IsWhole t keeps s from read (record { slash = b.slash; behind = b.behind })

@@ -11,7 +11,7 @@ use Rattle.hm_tag_scan.specs.Reading.{tag_fault, unless_fault, start_of, end_of,
 use Rattle.hm_tag_scan.specs.Laws.{WhateverFollows}
 use Rattle.hm_tag_scan.proofs.Fronts.{cond_both, cases_list, front_append, behind_append}
 
--- nothing is behind the cut, or it is the same in a longer text, with more behind it
+-- nothing follows the cut, or it is the same in a longer text, with more after it
 abbrev CutGoesOn : List ℕ → Cut → Cut → Type 0
 CutGoesOn y k l = (k.behind ≡ []) ⊎ (l ≡ record k { behind = k.behind ++ y })
 
@@ -62,7 +62,7 @@ attribute_goes_on c s y = elim (cases_list (behind is_later_byte s)) [
       (with_name_goes_on (c ∷ front is_later_byte s) y _ _ (behind_name_goes_on (behind is_later_byte s) y))
 ]
 
--- a tag that has an end is the same in a longer text, with more behind it
+-- a tag that has an end is the same in a longer text, with more after it
 abbrev TagExtends : List ℕ → Option CutTag → Option CutTag → Type 0
 TagExtends y None b = Unit {0}
 TagExtends y (Some g) b = b ≡ Some (record g { rest = g.rest ++ y })

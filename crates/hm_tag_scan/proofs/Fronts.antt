@@ -1,4 +1,4 @@
--- Fronts of texts, and what is behind them.
+-- Prefixes of texts, and what follows them.
 use Rattle.std.proofs.Common.{◌≡◌, ℕ, ◌⊎◌, Bool, true, false, cond, List, [], ◌∷◌, ◌++◌, refl, ap, inl, inr}
 use Rattle.std.proofs.lemmas.Bool.{and_parts}
 use Rattle.hm_base.specs.Bytes.{front, behind, all_pass, head_is}
@@ -13,7 +13,7 @@ pub cases_list : (s : List ℕ) → (s ≡ []) ⊎ ((d : ℕ) × (ds : List ℕ)
 cases_list [] = inl refl
 cases_list (d ∷ ds) = inr (d, ds, refl)
 
--- a front that ends inside a text is the same in a longer text
+-- a prefix that ends inside a text is the same in a longer text
 pub front_append : (p : ℕ → Bool) (s y : List ℕ) (d : ℕ) (ds : List ℕ) → behind p s ≡ d ∷ ds → front p (s ++ y) ≡ front p s
 front_append p [] y d ds e = cc
 front_append p (c ∷ s) y d ds e =
@@ -26,7 +26,7 @@ behind_append p (c ∷ s) y d ds e =
     elim (p c) as (λ b. cond b (behind p s) (c ∷ s) ≡ d ∷ ds → cond b (behind p (s ++ y)) (c ∷ (s ++ y)) ≡ cond b (behind p s) (c ∷ s) ++ y)
     [ true ↦ λ h. behind_append p s y d ds h | false ↦ λ h. refl ] e
 
--- a front that passes, and a rest that doesn't begin so
+-- a prefix that passes, and a rest that doesn't begin so
 pub front_all : (p : ℕ → Bool) (xs s : List ℕ) → all_pass p xs ≡ true → head_is p s ≡ false → front p (xs ++ s) ≡ xs
 front_all p [] [] all stop = refl
 front_all p [] (c ∷ s) all stop = rw stop refl

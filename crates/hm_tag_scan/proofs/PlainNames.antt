@@ -16,7 +16,7 @@ use Rattle.hm_tag_scan.proofs.ValuePlaces.{range_cons}
 
 -- ---- its bytes
 
--- a test that each of them answers so
+-- a test that gives the same for each of them
 for_each_kind : (p : ℕ → Bool) (v : Bool) → ((c : ℕ) → is_small c ≡ true → p c ≡ v) → ((c : ℕ) → is_digit c ≡ true → p c ≡ v) → p 46 ≡ v → p 95 ≡ v → p 58 ≡ v → p 45 ≡ v
     → (c : ℕ) → is_tag_byte c ≡ true → p c ≡ v
 unfolding is_tag_byte
@@ -141,7 +141,7 @@ front_small : (s : List ℕ) → head_is is_small s ≡ true → head_is is_smal
 front_small [] h = h
 front_small (c ∷ s) h = rw (small_stays c h) h
 
--- another test that each byte of a plain name passes, and the byte behind it doesn't
+-- another test that each byte of a plain name passes, and the byte after it doesn't
 module _ (q : ℕ → Bool) (stays : (c : ℕ) → is_tag_byte c ≡ true → q c ≡ true) where
   record SameFront (s : List ℕ) : Type 0 where
     front_is : front q s ≡ front is_tag_byte s

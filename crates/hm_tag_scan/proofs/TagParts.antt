@@ -93,7 +93,7 @@ gap_cut s from at e = elim (cases_lt from at) [ inl h ↦ some h | inr h ↦ non
         ap cut_tag cut ∙ gap_many (slice_range s from m) c (drop at s) both.0 last ∙ gap_one c (drop at s) last
         ∙ rw lt refl
 
--- a tag behind passed bytes
+-- a tag after skipped bytes
 skipped : (k : ℕ) (s : List ℕ) → tag_from k s ≡ cut_tag (drop k s)
 skipped zero s = refl
 skipped (suc k) [] = refl
@@ -128,7 +128,7 @@ no_end_byte : (c : ℕ) → (c ≡ 62 → ⊥) → is_tag_end c ≡ false
 unfolding is_tag_end
 no_end_byte c never = elim (c == 62) as (λ b. (c == 62) ≡ b → b ≡ false) [ true ↦ λ e. absurd (never ((Decides-eqb c 62).0 e)) | false ↦ λ e. refl ] refl
 
--- an attribute at the front
+-- an attribute at the start
 pair_cut : (c : ℕ) (r rest : List ℕ) (a : walks.Attribute) → is_gap_byte c ≡ false → is_tag_end c ≡ false → attribute_at c r ≡ record { attribute = a; rest = rest } → drop (length r - length rest) r ≡ rest
     → cut_tag (c ∷ r) ≡ with_attribute a (cut_tag rest)
 pair_cut c r rest a gap no_end is behind =

@@ -42,7 +42,7 @@ beginning (c ∷ d ∷ r) h = by_test (60 == c) refl h
     by_test true e h = record { second = d; more = r; is = ap (λ x. x ∷ d ∷ r) (sym ((Decides-eqb 60 c).0 e)); some = last h }
     by_test false e h = absurd (cc)
 
--- the bytes of a tag's begin
+-- the bytes that a tag begins with
 pub record Begins (s : List ℕ) (at : ℕ) : Type 0 where
   pub inside : at + 1 < length s
   pub first : get_or s at 0 ≡ 60

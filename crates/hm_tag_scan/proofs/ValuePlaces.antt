@@ -14,7 +14,7 @@ use Rattle.hm_tag_scan.specs.declared.attribute.WrittenAttribute.{WrittenAttribu
 use Rattle.hm_tag_scan.specs.declared.attribute.Value.{Value}
 use Rattle.hm_tag_scan.proofs.Boundaries.{later_ends, unquoted_ends}
 
--- the front up to the first byte that doesn't pass
+-- the prefix up to the first byte that doesn't pass
 front_first : (p : ℕ → Bool) (s : List ℕ) (n : ℕ) → n < length s → ((k : ℕ) → k < n → p (get_or s k 0) ≡ true) → p (get_or s n 0) ≡ false
     → (front p s ≡ take n s) × (behind p s ≡ drop n s)
 front_first p [] n h all stop = absurd (omega arith)
@@ -38,7 +38,7 @@ pub quote_ascii : (q : ℕ) → is_quote q ≡ true → q < 128
 unfolding is_quote
 quote_ascii q h = grind arith
 
--- what a search for a quote tells of the bytes
+-- what a search for a quote says of the bytes
 inside_if : (q c : ℕ) → (is_byte q c ≡ true → ⊥) → is_inside q c ≡ true
 unfolding is_inside
 inside_if q c never = elim (c == q) as (λ b. (c == q) ≡ b → not b ≡ true) [ true ↦ λ e. absurd (never e) | false ↦ λ e. refl ] refl
@@ -106,7 +106,7 @@ quoted_at s from v h is_q e =
     let cut : cut_value (drop from s) ≡ cut_quoted (get_or s from 0) (drop (from + 1) s) = rw (rest_cons s from h) (rw is_q refl) in
     rw cut e
 
--- a value behind '=' and whitespace
+-- a value after '=' and whitespace
 pub assigned_at : (s : List ℕ) (from equals at : ℕ) (v : Value) → IsEndOf is_space s from equals → equals < length s → get_or s equals 0 ≡ 61 → IsEndOf is_space s (equals + 1) at
     → IsCutAt (cut_value (drop at s)) s v → IsCutAt (cut_assigned (drop from s) (behind is_space (drop from s))) s v
 assigned_at s from equals at v e h is f k =

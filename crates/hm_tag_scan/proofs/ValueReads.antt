@@ -17,7 +17,7 @@ use Rattle.hm_refs.proofs.RunEnds.{range_more}
 use Rattle.hm_tag_scan.proofs.ValuePlaces.{take_none}
 use Rattle.hm_refs.proofs.RunEnds.{rest_cons}
 
--- what stands between two places was passed over: it stands for itself
+-- what stands between two places was skipped: it stands for itself
 pub record IsPassed (t : List Entry) (s : List ℕ) (from at : ℕ) : Type 0 where
   pub forward : from ≤ at
   pub inside : at ≤ length s
@@ -37,7 +37,7 @@ other_byte : (t : List Entry) (c : ℕ) (s : List ℕ) → (c == 38) ≡ false �
 unfolding reference_at
 other_byte t c s h = rw h refl
 
--- no '&' in the front
+-- no '&' in the prefix
 other_bytes : (t : List Entry) (s : List ℕ) (n : ℕ) → n ≤ length s → ((k : ℕ) → k < n → (get_or s k 0 == 38) ≡ false) → read_value t s ≡ take n s ++ read_value t (drop n s)
 other_bytes t s zero h none = refl
 other_bytes t [] (suc n) h none = absurd (omega arith)

@@ -39,7 +39,7 @@ no_name_no_later c h = parts (is_name_end c) (c == 61) h
     parts true b h = refl
     parts false b h = absurd (cc)
 
--- whitespace in a tag is passed over
+-- whitespace in a tag is skipped
 pub tag_gap : (g s : List ℕ) → is_blank g ≡ true → cut_tag (g ++ s) ≡ cut_tag s
 unfolding is_tag_end
 tag_gap [] s all = refl
@@ -52,7 +52,7 @@ passed [] [] = refl
 passed [] (c ∷ s) = refl
 passed (x ∷ xs) s = passed xs s
 
--- an attribute, and what is behind it
+-- an attribute, and what follows it
 tag_attribute : (c : ℕ) (xs s : List ℕ) (a : Attribute) → IsPlain c → attribute_at c (xs ++ s) ≡ record { attribute = a; rest = s }
     → cut_tag (c ∷ (xs ++ s)) ≡ with_attribute a (cut_tag s)
 unfolding is_tag_end
@@ -68,7 +68,7 @@ name_cut c ws r all stop = rw (front_all is_later_byte ws r all stop, behind_all
 quoted_cut : (q : ℕ) (v s : List ℕ) → is_inside q q ≡ false → all_pass (is_inside q) v ≡ true → cut_quoted q (v ++ q ∷ s) ≡ record { before = v; behind = s }
 quoted_cut q v s ends all = rw (front_all (is_inside q) v (q ∷ s) all ends, behind_all (is_inside q) v (q ∷ s) all ends) refl
 
--- `=` ends an attribute's name, and so does whitespace in front of it
+-- `=` ends an attribute's name, and so does whitespace before it
 assigned_stops : (left r : List ℕ) → is_blank left ≡ true → head_is is_later_byte (left ++ 61 ∷ r) ≡ false
 assigned_stops [] r blank = unfold is_later_byte is_name_end is_space in refl
 assigned_stops (g ∷ left) r blank = no_name_no_later g (space_no_name g (and_parts (is_space g) (is_blank left) blank).0)
@@ -80,7 +80,7 @@ assigned_cut name left right v left_blank right_blank stop =
     ap (λ r. with_name name (cut_assigned (left ++ 61 ∷ (right ++ v)) r)) equals
     ∙ ap (λ r. with_name name (cut_value r)) (behind_all is_space right v right_blank stop)
 
--- what is written behind an attribute's name, in front of s
+-- what is written after an attribute's name, before s
 value_cut : (name v b s : List ℕ) (w : IsAssigned v b) → head_is is_space (v ++ s) ≡ false → named name (b ++ s) ≡ with_name name (cut_value (v ++ s))
 value_cut name v b s w stop =
     let cut : b ++ s ≡ w.left ++ 61 ∷ (w.right ++ (v ++ s)) = rw w.is (simp append_assoc) in
@@ -137,7 +137,7 @@ unquoted_read : (t : List Entry) (name value b s : List ℕ) (w : IsUnquoted t v
 unquoted_read t name value b s w stop =
     value_cut name w.written b s w.is (unquoted_head w.written s w.good) ∙ ap (with_name name) (unquoted_cut w.written s w.good stop)
 
--- what is written of a value, behind any name and in front of s
+-- what is written of a value, after any name and before s
 record IsValue (t : List Entry) (value b s : List ℕ) : Type 0 where
   written : List ℕ
   cut : (name : List ℕ) → named name (b ++ s) ≡ record { attribute = record { name = name; value = written }; rest = s }
@@ -198,7 +198,7 @@ attributes_stop t before last (a ∷ attributes) b s (form, piece, rest, is, w, 
     let cut : b ++ s ≡ piece ++ (rest ++ s) = rw is (simp append_assoc) in
     rw cut (attribute_stops t before form a piece (rest ++ s) w (and_parts (is_attribute_name a.name) (are_attribute_names attributes) names).0)
 
--- an attribute as it is written, in front of s
+-- an attribute as it is written, before s
 record IsOne (t : List Entry) (a : Attribute) (b s : List ℕ) : Type 0 where
   raw : Attribute
   cut : cut_tag (b ++ s) ≡ with_attribute raw (cut_tag s)
@@ -228,7 +228,7 @@ abbrev pub with_attributes : List Attribute → Option CutTag → Option CutTag
 with_attributes [] o = o
 with_attributes (a ∷ attributes) o = with_attribute a (with_attributes attributes o)
 
--- attributes as they are written, in front of s
+-- attributes as they are written, before s
 pub record AreRead (t : List Entry) (attributes : List Attribute) (b s : List ℕ) : Type 0 where
   pub raws : List Attribute
   pub cut : cut_tag (b ++ s) ≡ with_attributes raws (cut_tag s)

@@ -42,7 +42,7 @@ end_ends_value true [] after h = absurd (cc)
 end_ends_value false [] after h = refl
 end_ends_value slash (g ∷ gap) after h = space_no_unquoted g (and_parts (is_space g) (is_blank gap) (and_parts (is_blank (g ∷ gap)) (not ((slash && true) && false)) h).0).0
 
--- what stands behind the last attribute
+-- what follows the last attribute
 end_stops : (last : Form) (slash : Bool) (gap after : List ℕ) → is_gap (slash && parts_slash last) gap ≡ true → Stops last (gap ++ (tag_end slash ++ after))
 end_stops bare slash gap after h =
     let blank = gap_blank (slash && false) gap h in

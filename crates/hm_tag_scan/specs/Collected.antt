@@ -1,4 +1,4 @@
--- What is read of a tag behind its name.
+-- What is read of a tag after its name.
 use Rattle.std.specs.Prelude.{◌≡◌, ℕ, ◌<◌, ◌≤◌, Bool, true, false, List, [], ◌∷◌, ◌++◌, if◌then◌else◌, drop, length, Some, None, IsCharBoundary}
 use Rattle.hm_base.specs.Walks.{Attribute, has_name}
 use Rattle.hm_refs.specs.Names.{Entry}
@@ -9,7 +9,7 @@ use Rattle.hm_tag_scan.specs.Reading.{attribute_limit, has_bad_name, read_attrib
 use Rattle.hm_tag_scan.specs.declared.collected.Collected.{Collected}
 use Rattle.hm_tag_scan.specs.declared.tag_body.TagBody.{TagBody}
 
--- an attribute put behind those that are there, unless its name is there
+-- an attribute appended to those that are there, unless its name is there
 abbrev pub added : List Attribute → Attribute → List Attribute
 added attributes a = if has_name a.name attributes then attributes else attributes ++ a ∷ []
 

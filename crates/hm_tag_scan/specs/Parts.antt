@@ -1,4 +1,4 @@
--- What comes next in a tag behind its name.
+-- What comes next in a tag after its name.
 use Rattle.std.specs.Prelude.{◌≡◌, ℕ, ◌≤◌, ◌<◌, Bool, List, [], drop, slice_range, Some, None, IsCharBoundary}
 use Rattle.hm_base.specs.Walks as walks
 use Rattle.hm_tag_scan.specs.Tags.{with_attribute, cut_tag}

@@ -32,7 +32,7 @@ pub record IsOrdinaryName (name : List ℕ) : Type 0 where
   pub good : is_bad_name name ≡ false
   pub lowered : map lower name ≡ name
 
--- a cut of the rest of the text: what is before it stands between two places, and what is behind it begins at a third
+-- a cut of the rest of the text: what is before it stands between two places, and what follows it begins at a third
 pub record IsCutAt (k : Cut) (s : List ℕ) (v : Value) : Type 0 where
   pub before : k.before ≡ slice_range s v.from v.to
   pub behind : k.behind ≡ drop v.behind s

@@ -9,7 +9,7 @@ use Rattle.hm_tag_scan.specs.Values.{read_value}
 use Rattle.hm_tag_scan.specs.Tags.{is_inside, is_quote, is_unquoted_byte}
 use Rattle.hm_tag_scan.specs.Reading.{attribute_limit}
 
--- the bytes of a value without quotes: at least one, no quote in front, neither whitespace nor '>'
+-- the bytes of a value without quotes: at least one, no quote at the start, neither whitespace nor '>'
 unfoldable pub is_unquoted : List ℕ → Bool
 is_unquoted [] = false
 is_unquoted (c ∷ s) = not (is_quote c) && all_pass is_unquoted_byte (c ∷ s)

@@ -15,7 +15,7 @@ use Rattle.hm_tag_scan.specs.Tags.{CutTag, cut_tag, is_name_byte}
 abbrev pub attribute_limit : ℕ
 attribute_limit = ATTRIBUTE_LIMIT
 
--- an ASCII capital
+-- an ASCII uppercase letter
 unfoldable pub is_capital : ℕ → Bool
 is_capital c = nat_le 65 c && nat_le c 90
 
@@ -41,7 +41,7 @@ tag_fault name attributes =
     else if nat_lt attribute_limit (length attributes) then Some faults.TooManyAttributes
     else None
 
--- the name in small letters, the value as it is read
+-- the name in lowercase letters, the value as it is read
 abbrev pub read_attribute : List Entry → Attribute → Attribute
 read_attribute t a = record { name = map lower a.name; value = read_value t a.value }
 
@@ -74,11 +74,11 @@ end_of name (Some g) = unless_fault (tag_fault name g.attributes) (end_tag name)
 abbrev pub tag_name : List ℕ → List ℕ
 tag_name s = map lower (front is_name_byte s)
 
--- a start tag behind its '<'
+-- a start tag after its '<'
 unfoldable pub read_start : List Entry → List ℕ → Scanned
 read_start t s = start_of t (tag_name s) (cut_tag (behind is_name_byte s))
 
--- an end tag behind its `</`: its attributes and its '/' are dropped
+-- an end tag after its `</`: its attributes and its '/' are dropped
 unfoldable pub read_end : List ℕ → Scanned
 read_end s = end_of (tag_name s) (cut_tag (behind is_name_byte s))
 

@@ -5,7 +5,7 @@ use Rattle.hm_refs.specs.Tables.{points_list}
 use Rattle.hm_tag_scan.specs.Values.{read_value}
 use Rattle.hm_tag_scan.specs.declared.values.PlacedReference.{PlacedReference}
 
--- The first reference of a value at or behind a place. What is before it stands for itself.
+-- The first reference of a value at or after a place. What is before it stands for itself.
 pub record IsNext (t : List Entry) (s : List ℕ) (from : ℕ) (p : PlacedReference) : Type 0 where
   pub read : read_value t (drop from s) ≡ slice_range s from p.at ++ (encode_utf8_all (points_list p.reference.points) ++ read_value t (drop (p.at + p.reference.len) s))
   pub forward : from ≤ p.at

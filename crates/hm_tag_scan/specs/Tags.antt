@@ -1,4 +1,5 @@
--- The parts of a tag as they are written (HTML Standard, 13.2.5.8 and 13.2.5.32 to 13.2.5.40).
+-- The parts of a tag as they are written (HTML Standard, #tag-name-state and #before-attribute-name-state to
+-- #self-closing-start-tag-state).
 use Rattle.std.specs.Prelude.{ℕ, zero, suc, ◌-◌, Bool, false, not, ◌||◌, ◌==◌, List, [], ◌∷◌, length, drop, Option, Some, None, if◌then◌else◌}
 use Rattle.hm_base.specs.Bytes.{Cut, front, behind, head_is, is_space}
 use Rattle.hm_base.specs.RawText.{is_name_end}
@@ -8,7 +9,7 @@ use Rattle.hm_base.specs.Walks.{Attribute}
 unfoldable pub is_name_byte : ℕ → Bool
 is_name_byte c = not (is_name_end c)
 
--- a byte of an attribute's name behind its first one: one of a tag's name other than '='
+-- a byte of an attribute's name after its first one: one of a tag's name other than '='
 unfoldable pub is_later_byte : ℕ → Bool
 is_later_byte c = not (is_name_end c || c == 61)
 
@@ -23,11 +24,11 @@ is_inside quote c = not (c == quote)
 unfoldable pub is_quote : ℕ → Bool
 is_quote c = c == 34 || c == 39
 
--- the longest front whose bytes pass, and what is behind it
+-- the longest prefix whose bytes pass, and what follows it
 abbrev pub cut_behind : (ℕ → Bool) → List ℕ → Cut
 cut_behind p s = record { before = front p s; behind = behind p s }
 
--- behind a quote: up to the same quote, which belongs to neither part
+-- after a quote: up to the same quote, which belongs to neither part
 abbrev pub cut_quoted : ℕ → List ℕ → Cut
 cut_quoted quote s = record { before = front (is_inside quote) s; behind = drop 1 (behind (is_inside quote) s) }
 
@@ -35,18 +36,18 @@ cut_quoted quote s = record { before = front (is_inside quote) s; behind = drop 
 abbrev pub no_more : Cut
 no_more = record { before = []; behind = [] }
 
--- Behind '=' and whitespace: a value in quotes, or one up to whitespace or '>', which is empty where '>' stands there.
+-- After '=' and whitespace: a value in quotes, or one up to whitespace or '>', which is empty where '>' stands there.
 abbrev pub cut_value : List ℕ → Cut
 cut_value [] = no_more
 cut_value (c ∷ s) = if is_quote c then cut_quoted c s else cut_behind is_unquoted_byte (c ∷ s)
 
--- What is behind an attribute's name is s, and without the whitespace in front of it r: a value where r begins
--- with '=', else an empty one.
+-- s follows an attribute's name, and r is s without its leading whitespace: a value where r begins with '=', else an
+-- empty one.
 abbrev pub cut_assigned : List ℕ → List ℕ → Cut
 cut_assigned s [] = no_more
 cut_assigned s (c ∷ r) = if c == 61 then cut_value (behind is_space r) else record { before = []; behind = s }
 
--- an attribute, name and value as they are written, and what is behind it
+-- an attribute, name and value as they are written, and what follows it
 pub record Written : Type 0 where
   pub attribute : Attribute
   pub rest : List ℕ
@@ -61,7 +62,7 @@ named name s = with_name name (cut_assigned s (behind is_space s))
 unfoldable pub attribute_at : ℕ → List ℕ → Written
 attribute_at c s = named (c ∷ front is_later_byte s) (behind is_later_byte s)
 
--- the attributes of a tag in order, whether a '/' stands directly before its '>', and what is behind it
+-- the attributes of a tag in order, whether a '/' stands directly before its '>', and what follows it
 pub record CutTag : Type 0 where
   pub attributes : List Attribute
   pub slash : Bool
@@ -75,14 +76,14 @@ abbrev pub with_slash : Bool → Option CutTag → Option CutTag
 with_slash slash None = None
 with_slash slash (Some g) = Some (record g { slash = slash || g.slash })
 
--- an attribute that begins in front of s, and what more reads behind it, where it is told how much of s belongs to the attribute
+-- an attribute that begins before s, and what `more` reads after it, given how much of s belongs to the attribute
 abbrev pub attribute_then : List ℕ → Written → (ℕ → Option CutTag) → Option CutTag
 attribute_then s w more = with_attribute w.attribute (more (length s - length w.rest))
 
 unfoldable pub is_tag_end : ℕ → Bool
 is_tag_end c = c == 62
 
--- A tag behind its name, where it has an end. The first skip bytes are passed over.
+-- A tag after its name, where it has an end. The first `skip` bytes are skipped.
 abbrev pub tag_from : ℕ → List ℕ → Option CutTag
 tag_from skip [] = None
 tag_from (suc skip) (c ∷ s) = tag_from skip s

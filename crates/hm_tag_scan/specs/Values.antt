@@ -1,4 +1,5 @@
--- Values of attributes (HTML Standard, 13.2.5.36 to 13.2.5.38 and 13.2.5.72): the character references in them are read.
+-- Values of attributes (HTML Standard, #attribute-value-(double-quoted)-state to #attribute-value-(unquoted)-state and
+-- #character-reference-state): the character references in them are read.
 use Rattle.std.specs.Prelude.{ℕ, zero, suc, pred, ◌==◌, true, List, [], ◌∷◌, ◌++◌, Option, Some, None, if◌then◌else◌, encode_utf8_all}
 use Rattle.hm_refs.specs.Names.{Entry}
 use Rattle.hm_refs.specs.References.{Reference, reference}
@@ -7,12 +8,12 @@ use Rattle.hm_refs.specs.References.{Reference, reference}
 unfoldable pub reference_at : List Entry → ℕ → List ℕ → Option Reference
 reference_at t c s = if c == 38 then reference t true (c ∷ s) else None
 
--- the code points of a reference in UTF-8, or else the byte itself, and what more gives behind that
+-- the code points of a reference in UTF-8, or else the byte itself, and what `more` gives after that
 abbrev pub read_on : Option Reference → ℕ → (ℕ → List ℕ) → List ℕ
 read_on None c more = c ∷ more 0
 read_on (Some r) c more = encode_utf8_all r.points ++ more (pred r.len)
 
--- the bytes that the written ones stand for; the first skip bytes are passed over
+-- the bytes that the written ones stand for; the first `skip` bytes are skipped
 abbrev pub value_from : List Entry → ℕ → List ℕ → List ℕ
 value_from t skip [] = []
 value_from t (suc skip) (c ∷ s) = value_from t skip s

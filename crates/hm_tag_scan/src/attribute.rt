@@ -10,7 +10,7 @@ use crate::names::is_tag_byte;
 use crate::runs::{ByteRun, run_end};
 use memchr::memchr;
 
-/// A value from `from` up to `to`. What is behind it, and behind its quote, begins at `behind`.
+/// A value from `from` up to `to`. What follows it and its quote begins at `behind`.
 #[derive(Clone, Copy)]
 pub(crate) struct Value {
     pub(crate) from: usize,
@@ -18,7 +18,7 @@ pub(crate) struct Value {
     pub(crate) behind: usize,
 }
 
-/// An attribute whose name ends at `name_to`. `plain` tells that its name isn't refused, and is read as it is written.
+/// An attribute whose name ends at `name_to`. `plain` says that its name isn't refused, and is read as it is written.
 #[derive(Clone, Copy)]
 pub(crate) struct WrittenAttribute {
     pub(crate) name_to: usize,
@@ -26,7 +26,7 @@ pub(crate) struct WrittenAttribute {
     pub(crate) value: Value,
 }
 
-/// Where the name of an attribute ends. `plain` tells that it isn't refused, and is read as it is written.
+/// Where the name of an attribute ends. `plain` says that it isn't refused, and is read as it is written.
 #[derive(Clone, Copy)]
 struct NamePart {
     to: usize,
@@ -51,7 +51,7 @@ fn is_quote(byte: u8) -> bool
     byte == b'"' || byte == b'\''
 }
 
-/// The value that begins behind a quote.
+/// The value that begins after a quote.
 fn quoted_value(bytes: &[u8], from: usize, quote: u8) -> Value
     requires utf8 { IsUtf8 bytes.now }
     requires quote { tags.is_quote quote ≡ true }
@@ -73,7 +73,7 @@ fn quoted_value(bytes: &[u8], from: usize, quote: u8) -> Value
     }
 }
 
-/// The value that begins behind `=` and whitespace (13.2.5.35 to 13.2.5.38).
+/// The value that begins after `=` and whitespace (#before-attribute-value-state to #attribute-value-(unquoted)-state).
 fn value_at(bytes: &[u8], from: usize) -> Value
     requires utf8 { IsUtf8 bytes.now }
     requires boundary { IsCharBoundary bytes.now from }
@@ -95,7 +95,7 @@ fn value_at(bytes: &[u8], from: usize) -> Value
     }
 }
 
-/// The value of an attribute whose name ends at `from` (13.2.5.34).
+/// The value of an attribute whose name ends at `from` (#after-attribute-name-state).
 fn assigned_value(bytes: &[u8], from: usize) -> Value
     requires utf8 { IsUtf8 bytes.now }
     requires boundary { IsCharBoundary bytes.now from }
@@ -136,7 +136,7 @@ fn name_part(bytes: &[u8], at: usize) -> NamePart
     }
 }
 
-/// The attribute that begins at `at` (13.2.5.33).
+/// The attribute that begins at `at` (#attribute-name-state).
 pub(crate) fn attribute_at(bytes: &[u8], at: usize) -> WrittenAttribute
     requires utf8 { IsUtf8 bytes.now }
     requires inside { at < length bytes.now }

@@ -37,7 +37,7 @@ fn bytes_begin_tag(bytes: &[u8]) -> bool
     begins_with_letter(&bytes[1..])
 }
 
-/// Whether a tag begins at byte `at` of the text: `<` or `</`, and a letter (13.2.5.6 and 13.2.5.7).
+/// Whether a tag begins at byte `at` of the text: `<` or `</`, and a letter (#tag-open-state and #end-tag-open-state).
 pub fn begins_tag(text: &str, at: u32) -> bool
     requires { at ≤ length text.now }
     ensures { result ≡ reading.begins_tag (drop at text.now) }

@@ -41,7 +41,7 @@ impl Collected {
         self.keeps && !self.has_bad_name && self.count <= ATTRIBUTE_LIMIT
     }
 
-    /// Takes one more attribute, name and value as they are written. `plain` tells that its name isn't refused, and is
+    /// Takes one more attribute, name and value as they are written. `plain` says that its name isn't refused, and is
     /// read as it is written.
     pub(crate) fn take(
         &mut self,
@@ -69,7 +69,7 @@ impl Collected {
     }
 }
 
-/// Whether this name of an attribute isn't read; `plain` tells that it is.
+/// Whether this name of an attribute isn't read; `plain` says that it is.
 fn is_refused(name: &str, plain: bool) -> bool
     requires { plain ≡ true → IsOrdinaryName name.now }
     ensures { result ≡ reading.is_bad_name name.now }

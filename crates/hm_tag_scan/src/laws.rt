@@ -7,12 +7,12 @@ pub fn whatever_follows()
 {}
 
 /// A start tag is read as its name, its attributes and its `/`, however it is written: names in any ASCII case, any
-/// whitespace, values with and without quotes (13.1.2.1 and 13.1.2.3).
+/// whitespace, values with and without quotes (#start-tags and #attributes-2).
 pub fn written_starts_are_read()
     ensures { WrittenStartsAreRead }
 {}
 
-/// An end tag is read as its name, however it is written (13.1.2.2).
+/// An end tag is read as its name, however it is written (#end-tags).
 pub fn written_ends_are_read()
     ensures { WrittenEndsAreRead }
 {}

@@ -8,7 +8,7 @@ ghost use Rattle.hm_tag_scan.specs.Reading as reading;
 use hm_base::Memory;
 use std::alloc::Global;
 
-/// Puts the name with its ASCII capitals as small letters in place of a text.
+/// Puts the name with its ASCII uppercase letters as lowercase letters in place of a text.
 #[tactic(auto, using(crate::proofs::NameReads::lowercase_is))]
 pub(crate) fn put_lowered(text: &mut String, name: &str) -> Result<(), Memory>
     ensures { OnOk result (string_bytes text.new ≡ map lower name.now) }
@@ -19,7 +19,7 @@ pub(crate) fn put_lowered(text: &mut String, name: &str) -> Result<(), Memory>
     Ok(())
 }
 
-/// Puts the name as it is read in place of a text; `plain` tells that it is read as it is written.
+/// Puts the name as it is read in place of a text; `plain` says that it is read as it is written.
 pub(crate) fn put_name(text: &mut String, name: &str, plain: bool) -> Result<(), Memory>
     requires { plain ≡ true → IsPlainName name.now }
     ensures { OnOk result (string_bytes text.new ≡ map lower name.now) }
@@ -32,7 +32,7 @@ pub(crate) fn put_name(text: &mut String, name: &str, plain: bool) -> Result<(),
     Ok(())
 }
 
-/// The name with its ASCII capitals as small letters.
+/// The name with its ASCII uppercase letters as lowercase letters.
 pub(crate) fn lowered(alloc: Global, name: &str) -> Result<String, Memory>
     ensures { IfOk result (λ text. string_bytes text ≡ map lower name.now) }
 {
@@ -41,7 +41,7 @@ pub(crate) fn lowered(alloc: Global, name: &str) -> Result<String, Memory>
     Ok(text)
 }
 
-/// Whether the byte is an ASCII small letter.
+/// Whether the byte is an ASCII lowercase letter.
 #[tactic(auto, unfolding(hm_base::specs::Forms::is_small))]
 pub(crate) fn is_small(byte: u8) -> bool
     ensures { result ≡ forms.is_small byte }
@@ -77,8 +77,8 @@ fn are_tag_bytes(name: &[u8]) -> bool
     true
 }
 
-/// Whether this is a name of an element that is read: a small letter, and small letters, digits, `.`, `_`, `:` and
-/// `-` behind it.
+/// Whether this is a name of an element that is read: a lowercase letter, and lowercase letters, digits, `.`, `_`, `:`
+/// and `-` after it.
 #[tactic(auto, unfolding(hm_base::specs::Forms::is_tag_name))]
 pub(crate) fn is_tag_name(name: &[u8]) -> bool
     ensures { result ≡ forms.is_tag_name name.now }

@@ -1,16 +1,16 @@
-//! The parts of a tag behind its name: attributes and the end.
+//! The parts of a tag after its name: attributes and the end.
 ghost use Rattle.std.specs.Prelude.{◌≡◌, ◌≤◌, ◌<◌, ◌-◌, ◌&&◌, ◌==◌, nat_lt, length, slice_index, IsUtf8, IsCharBoundary};
 ghost use Rattle.hm_tag_scan.specs.Parts.{IsPart};
 
 use crate::attribute::{WrittenAttribute, attribute_at};
 use crate::runs::{ByteRun, run_end};
 
-/// What comes next in a tag, behind whitespace and `/`.
+/// What comes next in a tag, after whitespace and `/`.
 #[derive(Clone, Copy)]
 pub(crate) enum TagPart {
     /// Nothing: the text ends.
     Nothing,
-    /// The tag's `>`, and whether a `/` stands directly before it. What is behind it begins at `behind`.
+    /// The tag's `>`, and whether a `/` stands directly before it. What follows it begins at `behind`.
     TagEnd {
         slash: bool,
         behind: usize,
@@ -30,7 +30,8 @@ fn ends_in_slash(bytes: &[u8], from: usize, at: usize) -> bool
     from < at && bytes[at - 1] == b'/'
 }
 
-/// The part of a tag that comes next (13.2.5.32, 13.2.5.34, 13.2.5.39 and 13.2.5.40).
+/// The part of a tag that comes next (#before-attribute-name-state, #after-attribute-name-state,
+/// #after-attribute-value-(quoted)-state and #self-closing-start-tag-state).
 pub(crate) fn next_part(bytes: &[u8], from: usize) -> TagPart
     requires utf8 { IsUtf8 bytes.now }
     requires boundary { IsCharBoundary bytes.now from }

@@ -21,15 +21,15 @@ use hm_refs::Table;
 use hm_tree::{Lexeme, ScanFault, Tag, Token};
 use std::alloc::Global;
 
-/// What is known of a tag beside its name and its attributes: whether a `/` stands directly before its `>`. What is
-/// behind it begins at `behind`.
+/// What is known of a tag beside its name and its attributes: whether a `/` stands directly before its `>`. What
+/// follows it begins at `behind`.
 #[derive(Clone, Copy)]
 struct Whole {
     slash: bool,
     behind: u32,
 }
 
-/// Whether a name of a tag, in small letters, is one that is read. `plain` tells that it is.
+/// Whether a name of a tag, in lowercase letters, is one that is read. `plain` says that it is.
 fn is_read(name: &str, plain: bool) -> bool
     requires { plain ≡ true → forms.is_tag_name name.now ≡ true }
     ensures { result ≡ forms.is_tag_name name.now }
@@ -37,8 +37,8 @@ fn is_read(name: &str, plain: bool) -> bool
     plain || is_tag_name(name.as_bytes())
 }
 
-/// Why a tag with this name, in small letters, and these attributes is refused; None where it isn't. `plain` tells that
-/// the name is read.
+/// Why a tag with this name, in lowercase letters, and these attributes is refused; None where it isn't. `plain` says
+/// that the name is read.
 fn fault_of(name: &str, plain: bool, collected: &Collected) -> Option<ScanFault>
     requires { plain ≡ true → forms.is_tag_name name.now ≡ true }
     ensures { (t : List Entry) (written kept : List Attribute) → IsCollected t written collected.now kept
@@ -56,14 +56,14 @@ fn fault_of(name: &str, plain: bool, collected: &Collected) -> Option<ScanFault>
     None
 }
 
-/// Where the name of a tag ends. `plain` tells that it is one that is read, and as it is written.
+/// Where the name of a tag ends. `plain` says that it is one that is read, and as it is written.
 #[derive(Clone, Copy)]
 struct NameEnd {
     to: usize,
     plain: bool,
 }
 
-/// Whether a small letter stands at `from`, and at `to` a byte that ends the name of a tag.
+/// Whether a lowercase letter stands at `from`, and at `to` a byte that ends the name of a tag.
 fn is_plain_between(bytes: &[u8], from: usize, to: usize) -> bool
     requires { to ≤ length bytes.now }
     ensures from { result ≡ true → from < to }
@@ -95,8 +95,8 @@ fn name_end(text: &str, from: usize) -> NameEnd
     }
 }
 
-/// Reads the tag whose name begins at `from`, and puts its name, in small letters, and its attributes into `tag`;
-/// `keeps` tells whether its attributes are wanted.
+/// Reads the tag whose name begins at `from`, and puts its name, in lowercase letters, and its attributes into `tag`;
+/// `keeps` says whether its attributes are wanted.
 fn read_whole(
     alloc: Global,
     text: &str,
@@ -165,13 +165,13 @@ fn scan_end(
     Ok((Lexeme::EndTag, whole.behind))
 }
 
-/// Reads the start or end tag that begins at byte `at` of the text (13.2.5.8 and 13.2.5.32 to 13.2.5.40), and tells
-/// where what is behind it begins. Names are in small letters, of attributes with one name the first is kept, and
-/// character references in values are read.
+/// Reads the start or end tag that begins at byte `at` of the text (#tag-name-state and #before-attribute-name-state to
+/// #self-closing-start-tag-state), and returns where what follows it begins. Names are in lowercase letters, of
+/// attributes with one name the first is kept, and character references in values are read.
 ///
-/// `Cut` comes where the text ends before the tag's `>`; else `BadName` where its name isn't a small letter, in any
-/// case, with letters, digits, `.`, `_`, `:` and `-` behind it, or an attribute's name begins with `=` or holds a
-/// quote or `<`; else `TooManyAttributes` where more than 256 attributes are written. End tags are judged alike.
+/// `Cut` comes where the text ends before the tag's `>`. Otherwise `BadName` comes where its name isn't an ASCII letter
+/// with ASCII letters, digits, `.`, `_`, `:` and `-` after it, or an attribute's name begins with `=` or holds a quote
+/// or `<`. Otherwise `TooManyAttributes` comes where more than 256 attributes are written. End tags are judged alike.
 pub fn scan_tag(
     alloc: Global,
     text: &str,

@@ -1,4 +1,4 @@
-//! A tag behind its name.
+//! A tag after its name.
 ghost use Rattle.std.specs.Prelude.{◌^◌, ◌<◌, length, IsCharBoundary, IfOk, IfErr};
 ghost use Rattle.hm_tag_scan.specs.Collected.{HasNoBody, IsTagBody};
 
@@ -8,8 +8,7 @@ use hm_refs::Table;
 use hm_tree::{Attrs, ScanFault};
 use std::alloc::Global;
 
-/// What was seen of a tag's attributes, whether a `/` stands directly before its `>`, and where what is behind it
-/// begins.
+/// What was seen of a tag's attributes, whether a `/` stands directly before its `>`, and where what follows it begins.
 #[derive(Clone, Copy)]
 pub(crate) struct TagBody {
     pub(crate) collected: Collected,
@@ -17,7 +16,7 @@ pub(crate) struct TagBody {
     pub(crate) behind: usize,
 }
 
-/// Reads the tag whose name ends at `from`; `keeps` tells whether its attributes are wanted. They are put into `attrs`,
+/// Reads the tag whose name ends at `from`; `keeps` says whether its attributes are wanted. They are put into `attrs`,
 /// in place of what was there.
 pub(crate) fn read_body(
     alloc: Global,

@@ -16,7 +16,7 @@ pub(crate) struct PlacedReference {
     pub(crate) reference: Reference,
 }
 
-/// The first reference of a value at or behind `from`.
+/// The first reference of a value at or after `from`.
 fn next_reference(table: &Table, bytes: &[u8], from: usize) -> Option<PlacedReference>
     requires utf8 { IsUtf8 bytes.now }
     requires inside { from ≤ length bytes.now }
@@ -42,7 +42,7 @@ pub(crate) fn has_reference(written: &str, table: &Table) -> bool
     next_reference(table, written.as_bytes(), 0).is_some()
 }
 
-/// Puts the code points of a reference behind a text.
+/// Appends the code points of a reference to a text.
 fn push_points(text: &mut String, points: Points) -> Result<(), Memory>
     ensures { OnOk result
         (string_bytes text.new ≡ string_bytes text.old ++ encode_utf8_all (points_list points)) }
@@ -54,7 +54,7 @@ fn push_points(text: &mut String, points: Points) -> Result<(), Memory>
     Ok(())
 }
 
-/// The value that is written so: its character references are read (13.2.5.72).
+/// The value that is written so: its character references are read (#character-reference-state).
 pub(crate) fn read_value(alloc: Global, written: &str, table: &Table) -> Result<String, Memory>
     ensures { IfOk result
         (λ value. string_bytes value ≡ values.read_value table.now.entries written.now) }

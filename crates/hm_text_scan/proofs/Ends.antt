@@ -13,7 +13,7 @@ use Rattle.hm_text_scan.specs.Places.{reference_here, ends_before, is_sign, IsPl
 abbrev pub NoEnd : List Entry → Bool → List ℕ → ℕ → ℕ → Type 0
 NoEnd t rcdata s from to = (k : ℕ) → from ≤ k → k < to → ends_before t rcdata (drop k s) ≡ false
 
--- the front up to the first end
+-- the prefix up to the first end
 front_to : (t : List Entry) (rcdata : Bool) (s : List ℕ) (n : ℕ) → n ≤ length s → ((k : ℕ) → k < n → ends_before t rcdata (drop k s) ≡ false) → (n < length s → ends_before t rcdata (drop n s) ≡ true) → plain_front t rcdata s ≡ take n s
 front_to t rcdata [] zero h none stop = refl
 front_to t rcdata [] (suc n) h none stop = absurd (omega arith)

@@ -5,7 +5,7 @@ use Rattle.hm_refs.specs.Names.{Entry}
 use Rattle.hm_refs.specs.References.{Reference}
 use Rattle.hm_text_scan.specs.Texts.{reference_in, ends_plain, plain_front}
 
--- the reference at the front of these bytes
+-- the reference at the start of these bytes
 abbrev pub reference_here : List Entry → List ℕ → Option Reference
 reference_here t [] = None
 reference_here t (c ∷ s) = reference_in t c s

@@ -9,7 +9,7 @@ ghost use Rattle.hm_text_scan.specs.Texts as texts;
 use hm_refs::{Reference, Table, read_reference};
 use memchr::{memchr, memchr2};
 
-/// Whether the bytes behind a `<` make it the first byte of markup.
+/// Whether the bytes after a `<` make it the first byte of markup.
 #[tactic(auto, unfolding(hm_base::specs::Bytes::is_letter))]
 fn opens_markup(bytes: &[u8]) -> bool
     ensures { result ≡ texts.opens_markup bytes.now }
@@ -25,7 +25,7 @@ fn opens_markup(bytes: &[u8]) -> bool
     }
 }
 
-/// Whether markup begins at the front of the bytes.
+/// Whether markup begins at the start of the bytes.
 #[tactic(auto, unfolding(crate::specs::Texts::begins_markup))]
 pub fn markup_here(bytes: &[u8]) -> bool
     ensures { result ≡ texts.begins_markup bytes.now }
@@ -36,7 +36,7 @@ pub fn markup_here(bytes: &[u8]) -> bool
     }
 }
 
-/// The character reference at the front of the bytes.
+/// The character reference at the start of the bytes.
 pub fn reference_here(table: &Table, bytes: &[u8]) -> Option<Reference>
     requires { 0 < length bytes.now }
     ensures { let read = places.reference_here table.now.entries bytes.now in
@@ -57,7 +57,7 @@ fn ends_plain(table: &Table, bytes: &[u8], rcdata: bool) -> bool
     (!rcdata && markup_here(bytes)) || reference_here(table, bytes).is_some()
 }
 
-/// How far behind a place the next byte stands before which a plain text can end.
+/// How far after a place the next byte is before which a plain text can end.
 fn next_sign(bytes: &[u8], from: usize, rcdata: bool) -> Option<usize>
     requires { from ≤ length bytes.now }
     ensures { IsFirstByte (is_sign rcdata) (drop from bytes.now) result }

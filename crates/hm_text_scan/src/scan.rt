@@ -9,7 +9,7 @@ use hm_refs::Table;
 use hm_tree::Token;
 
 /// Whether markup begins at byte `at` of ordinary text: a tag, a comment, a doctype, a CDATA section, or `</>`, which
-/// stands for nothing (13.2.5.6 and 13.2.5.7).
+/// stands for nothing (#tag-open-state and #end-tag-open-state).
 pub fn begins_markup(text: &str, at: u32) -> bool
     requires { at ≤ length text.now }
     ensures { result ≡ texts.begins_markup (drop at text.now) }
@@ -18,8 +18,9 @@ pub fn begins_markup(text: &str, at: u32) -> bool
 }
 
 /// Reads the piece of text that begins at byte `at`: one character reference, or the longest piece without reference
-/// and markup (13.2.5.1, 13.2.5.2 and 13.2.5.72 to 13.2.5.80). `rcdata` tells that the text is that of a title or a
-/// textarea and ends with it: nothing in it is markup. Answers the token and the place behind it, in bytes of the text.
+/// and markup (#data-state, #rcdata-state and #character-reference-state to #numeric-character-reference-end-state).
+/// `rcdata` says that the text is that of a title or a textarea and ends with it: nothing in it is markup. Returns the
+/// token and the place after it, in bytes of the text.
 pub fn scan_text(text: &str, at: u32, rcdata: bool, table: &Table) -> (Token, u32)
     requires inside { at < length text.now }
     requires boundary { IsCharBoundary text.now at }

@@ -1,4 +1,4 @@
--- Texts stay apart where an event is put behind a walk, or bytes behind the text that stands last.
+-- Texts stay apart where an event is appended to a walk, or bytes to the text that stands last.
 use Rattle.std.proofs.Common.{◌≡◌, ℕ, Bool, true, false, not, ◌&&◌, List, [], ◌∷◌, ◌++◌, ◌∙◌, refl}
 use Rattle.std.proofs.lemmas.Bool.{and_parts, and_from}
 use Rattle.hm_base.specs.Bytes.{is_null}
@@ -32,7 +32,7 @@ neither (text s raw) (end n foreign) some other = some
 neither (comment s) e some other = refl
 neither (end n foreign) e some other = refl
 
--- an event put behind a walk, not both of them texts where they meet
+-- an event appended to a walk, not both of them texts where they meet
 pub are_texts_apart-push : (w : List Event) (e : Event) → are_texts_apart w ≡ true → is_apart e [] ≡ true → ends_in_text w && is_text e ≡ false → are_texts_apart (w ++ e ∷ []) ≡ true
 are_texts_apart-push [] e all one other = rw one refl
 are_texts_apart-push (x ∷ []) e all one other = rw (neither x e ((and_parts (is_apart x []) true all).0) other, one) refl
@@ -86,6 +86,6 @@ are_texts_apart-other w (text s raw) all other = absurd (cc)
 are_texts_apart-other w (comment s) all other = are_texts_apart-push w (comment s) all refl (off (ends_in_text w))
 are_texts_apart-other w (end n foreign) all other = are_texts_apart-push w (end n foreign) all refl (off (ends_in_text w))
 
--- a text that isn't empty, behind what is no text
+-- a text that isn't empty, after what is no text
 pub are_texts_apart-text : (w : List Event) (c : ℕ) (s : List ℕ) (raw : Bool) → are_texts_apart w ≡ true → ends_in_text w ≡ false → are_texts_apart (w ++ text (c ∷ s) raw ∷ []) ≡ true
 are_texts_apart-text w c s raw all ends = are_texts_apart-push w (text (c ∷ s) raw) all refl (rw ends refl)

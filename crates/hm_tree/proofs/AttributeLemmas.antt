@@ -28,7 +28,7 @@ is_false : (b : Bool) → not b ≡ true → b ≡ false
 is_false true h = absurd (cc)
 is_false false h = refl
 
--- names stay distinct where a new one is put behind them
+-- names stay distinct where a new one is appended to them
 pub has_distinct_names-push : (attributes : List Attribute) (a : Attribute) → has_distinct_names attributes ≡ true → has_name a.name attributes ≡ false → has_distinct_names (attributes ++ a ∷ []) ≡ true
 has_distinct_names-push [] a distinct new = refl
 has_distinct_names-push (b ∷ attributes) a distinct new =

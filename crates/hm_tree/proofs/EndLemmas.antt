@@ -56,7 +56,7 @@ module _ (s : List ℕ) (pieces : List AttributePieces) (rows : List EventRow) (
       inside : IsPiece s name
       inside = (part_inside s pieces rows w view k within table r is (parts.Start foreign count name first) part).0
 
-      -- the end of that element can be put behind the table
+      -- the end of that element can be appended to the table
       pub IsTableOf-end : IsTableOf s pieces (rows ++ record { part = parts.End name foreign; parent = Some k } ∷ []) (w ++ end_of (path_after [] w))
       IsTableOf-end =
           rw around.path (IsTableOf-push s [] s pieces [] pieces rows w (record { part = parts.End name foreign; parent = Some k }) (end around.element.name around.element.foreign)

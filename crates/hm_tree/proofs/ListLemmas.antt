@@ -5,7 +5,7 @@ use Rattle.std.proofs.lemmas.Option.{slice_get_within, slice_get_past, slice_get
 use Rattle.std.proofs.lemmas.Bool.{cases_lt}
 use Rattle.std.proofs.lemmas.Slice.Eq.{bytes_eq-Decides}
 
--- fronts that are the same stay so by one more element that both have
+-- prefixes that are the same stay the same with one more element that both have
 pub take_more_alike : {X : Type 0} (xs ys : List X) (i : ℕ) (x : X) → take i xs ≡ take i ys → slice_get xs i ≡ Some x → slice_get ys i ≡ Some x → take (i + 1) xs ≡ take (i + 1) ys
 take_more_alike xs ys i x same at there =
     rw (take_more xs i x (slice_get_within xs i x at), take_more ys i x (slice_get_within ys i x there), get_or_from_slice_get xs i x x at, get_or_from_slice_get ys i x x there, same) refl
@@ -22,13 +22,13 @@ was_true false r e h = absurd (cc)
 pub same_from_ne : (s t : List ℕ) (r : Bool) → r ≡ not (bytes_eq s t) → r ≡ false → s ≡ t
 same_from_ne s t r e h = same_texts s t (was_true (bytes_eq s t) r e h)
 
--- an element of a front stays where it is
+-- an element of a prefix stays where it is
 pub slice_get-append : {X : Type 0} (xs ys : List X) (i : ℕ) → i < length xs → slice_get (xs ++ ys) i ≡ slice_get xs i
 slice_get-append [] ys i h = absurd (omega arith)
 slice_get-append (x ∷ xs) ys zero h = refl
 slice_get-append (x ∷ xs) ys (suc i) h = slice_get-append xs ys i (omega arith)
 
--- the element that is put behind a list
+-- the element that is appended to a list
 pub slice_get_at : {X : Type 0} (xs : List X) (x : X) → slice_get (xs ++ x ∷ []) (length xs) ≡ Some x
 slice_get_at [] x = refl
 slice_get_at (y ∷ xs) x = slice_get_at xs x

@@ -1,4 +1,5 @@
--- The open starts of a walk are the open elements: each index is that of the start, and the starts before it are those open there.
+-- The open starts of a walk are the open elements: each index is that of the start, and the starts before it are those
+-- open there.
 use Rattle.std.proofs.Common.{◌≡◌, ℕ, ◌<◌, ◌≤◌, List, [], ◌∷◌, ◌++◌, length, take, drop, slice_get, Option, Some, None, IsSome, MatchOption, ap, subst, ◌∙◌, refl, arith, append_assoc, length-take}
 use Rattle.std.proofs.lemmas.List.{take-append-le, take-append-drop, take_at, append-nil}
 use Rattle.std.proofs.lemmas.Option.{slice_get_within}

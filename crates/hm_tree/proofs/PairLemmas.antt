@@ -1,4 +1,4 @@
--- Attributes in one text, where one more is put behind them, and where the text is put behind another.
+-- Attributes in one text, where one more is appended to them, and where the text is appended to another.
 use Rattle.std.proofs.Common.{◌≡◌, ℕ, ◌+◌, ◌-◌, ◌<◌, ◌≤◌, ◌&&◌, true, List, [], ◌∷◌, ◌++◌, length, map, take, drop, get_or, slice_get, Some, All, IsUtf8, IsCharBoundary, sym, ap, ◌∙◌, refl, arith, append_assoc, length-append}
 use Rattle.std.proofs.lemmas.Bool.{and_from}
 use Rattle.std.proofs.lemmas.Grind.{flat_map-append}
@@ -43,7 +43,7 @@ attributes_at s pairs i p within at =
 abbrev pub no_pair : Pair
 no_pair = record { from = 0; middle = 0; to = 0 }
 
--- one more attribute, whose name and value are put behind the text
+-- one more attribute, whose name and value are appended to the text
 module _ (s : List ℕ) (pairs : List Pair) (inside : All (HasPair s) pairs) (a : Attribute) (name_utf8 : IsUtf8 a.name) (value_utf8 : IsUtf8 a.value) (p : Pair)
     (from : p.from ≡ length s) (middle : p.middle ≡ length (s ++ a.name)) (to : p.to ≡ length ((s ++ a.name) ++ a.value)) where
   name_to : p.middle ≡ length s + length a.name
@@ -90,7 +90,7 @@ module _ (s : List ℕ) (pairs : List Pair) (inside : All (HasPair s) pairs) (a 
       append_assoc s a.name a.value ∙ ap (λ u. u ++ (a.name ++ a.value)) is
       ∙ sym (ap texts_of attributes_of-more ∙ flat_map-append (λ b. b.name ++ b.value) (attributes_of s pairs) (a ∷ []) ∙ ap (λ u. texts_of (attributes_of s pairs) ++ u) (append-nil (a.name ++ a.value)))
 
--- ---- the text put behind another
+-- ---- the text appended to another
 
 boundary_behind : (s u : List ℕ) (i : ℕ) → IsCharBoundary u i → IsCharBoundary (s ++ u) (length s + i)
 boundary_behind s u i b = (omega (arith, b.0, length-append s u), λ h. rw (get_or-append-add s u i 0) (b.1 (omega (arith, h, length-append s u))))
@@ -109,7 +109,7 @@ module _ (s u : List ℕ) (p q : TextRange) (from : q.from ≡ length s + p.from
       less : (length s + p.to) - (length s + p.from) ≡ p.to - p.from
       less = omega arith
 
--- these pieces show the attributes of the pairs, where their text u was put behind s
+-- these pieces show the attributes of the pairs, where their text u was appended to s
 pub record AreShifted (s u : List ℕ) (pairs : List Pair) (pieces : List AttributePieces) : Type 0 where
   pub inside : All (HasPieces (s ++ u)) pieces
   pub shown : attributes_in (s ++ u) pieces ≡ attributes_of u pairs
@@ -127,7 +127,7 @@ AreShifted-more s u pairs pieces p q h own at =
       shown = map-append (attribute_in (s ++ u)) pieces (q ∷ []) ∙ rw (h.shown, one) (sym (ap (attributes_in u) (map-append pieces_of pairs (p ∷ [])) ∙ map-append (attribute_in u) (map pieces_of pairs) (pieces_of p ∷ [])));
     }
 
--- the attributes of a tag put behind those that are there, as far as the pair at i
+-- the attributes of a tag appended to those that are there, as far as the pair at i
 pub record AreAppended (s u : List ℕ) (before pieces : List AttributePieces) (pairs : List Pair) (i : ℕ) : Type 0 where
   pub kept : before ++ drop (length before) pieces ≡ pieces
   pub shifted : AreShifted s u (take i pairs) (drop (length before) pieces)

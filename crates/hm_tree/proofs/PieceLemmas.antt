@@ -1,4 +1,4 @@
--- Pieces of a text, where more is put behind it.
+-- Pieces of a text, where more is appended to it.
 use Rattle.std.proofs.Common.{◌≡◌, ℕ, ◌+◌, ◌-◌, ◌≤◌, List, ◌++◌, length, take, drop, IsUtf8, IsCharBoundary, sym, ap, subst, ◌∙◌, refl, inl, inr, arith, length-append, length-drop}
 use Rattle.std.proofs.lemmas.Bool.{cases_lt}
 use Rattle.std.proofs.lemmas.List.{get_or_append_left, drop-append-le, take-append-le, drop_at, take_all, take_rest}
@@ -29,7 +29,7 @@ bytes_of-append s more p h =
     let to_within : p.to - p.from ≤ length (drop p.from s) = omega (arith, length-drop p.from s, h.to_boundary.0) in
     ap (take (p.to - p.from)) (drop-append-le p.from s more from_within) ∙ take-append-le (p.to - p.from) (drop p.from s) more to_within
 
--- what is put behind a text is a piece of the whole
+-- what is appended to a text is a piece of the whole
 pub IsPiece-new : (s more : List ℕ) (p : TextRange) → IsUtf8 more → p.from ≡ length s → p.to ≡ length s + length more → IsPiece (s ++ more) p
 IsPiece-new s more p utf8 from to = record {
   ordered = omega arith;
@@ -42,7 +42,7 @@ bytes_of-new s more p from to =
     let whole : length more ≤ p.to - p.from = omega arith in
     ap (take (p.to - p.from)) (drop_at s more p.from (sym from)) ∙ take_all (p.to - p.from) more whole
 
--- a piece at the end of a text, where more is put behind it
+-- a piece at the end of a text, where more is appended to it
 pub IsPiece-longer : (s more : List ℕ) (p q : TextRange) → IsUtf8 more → IsPiece s p → q.from ≡ p.from → q.to ≡ length (s ++ more) → IsPiece (s ++ more) q
 IsPiece-longer s more p q utf8 h from to = record {
   ordered = omega (arith, h.ordered, h.to_boundary.0, length-append s more);

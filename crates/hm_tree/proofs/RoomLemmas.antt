@@ -60,7 +60,7 @@ last_agrees-extended (x ∷ []) more raw = agrees-more x more raw
 last_agrees-extended (x ∷ y ∷ []) more raw = last_agrees-extended (y ∷ []) more raw
 last_agrees-extended (x ∷ y ∷ z ∷ w) more raw = last_agrees-extended (y ∷ z ∷ w) more raw
 
--- whether a text may follow depends on the last event alone
+-- whether a text may follow depends only on the last event
 pub last_agrees-push : (w : List Event) (e : Event) (raw : Bool) → last_agrees (w ++ e ∷ []) raw ≡ agrees e raw
 last_agrees-push [] e raw = refl
 last_agrees-push (x ∷ []) e raw = refl
@@ -101,7 +101,7 @@ length_cut w zero = omega arith
 length_cut [] (suc i) = refl
 length_cut (e ∷ w) (suc i) = omega (arith, length_cut w i)
 
--- each front of a tree's walk has room
+-- each prefix of a tree's walk has room
 pub HasRoom-take : (w : List Event) (i : ℕ) → IsWalk w → HasRoom (take i w)
 HasRoom-take w i walk =
     let closed : path_after (path_after [] (take i w)) (drop i w) ≡ [] = path_cut [] w i ∙ walk.closed in
@@ -117,5 +117,5 @@ length-push w e = omega (arith, ap length (path_after-push [] w e), (length-path
 pub length-text : (w : List Event) (s : List ℕ) (raw : Bool) → length (with_text w s raw) + length (path_after [] (with_text w s raw)) ≤ length w + length (path_after [] w) + 1
 length-text w s raw = omega (arith, length-with_text w s raw, ap length (path_after-with_text [] w s raw))
 
--- for `grind`: room, sizes and the last event behind one more event or text
+-- for `grind`: room, sizes and the last event after one more event or text
 pub ruleset room = (HasRoom-push, HasRoom-text, length-push, length-text, walk_size-push, walk_size-with_text, last_agrees-push, last_agrees-with_text)

@@ -1,4 +1,4 @@
--- Attributes as pieces of a text, where more is put behind the text and behind them.
+-- Attributes as pieces of a text, where more is appended to the text and to them.
 use Rattle.std.proofs.Common.{◌≡◌, ℕ, ◌+◌, ◌-◌, ◌≤◌, zero, suc, Bool, true, false, not, cond, ◌&&◌, List, [], ◌∷◌, ◌++◌, length, take, drop, get_or, slice_get, Some, slice_range, All, bytes_eq, IsUtf8, ap, ◌∙◌, refl, arith, append_assoc, length-append, length-drop}
 use Rattle.std.proofs.lemmas.Bool.{and_parts}
 use Rattle.std.proofs.lemmas.Grind.{flat_map-append}
@@ -13,7 +13,7 @@ use Rattle.hm_tree.specs.Pieces.{HasPieces, IsAppended, IsPiece, attribute_in, a
 use Rattle.hm_tree.specs.declared.pieces.AttributePieces.{AttributePieces}
 use Rattle.hm_tree.proofs.PieceLemmas.{IsPiece-append, IsPiece-new, bytes_of-append, bytes_of-new}
 
--- a part of a list stays where more is put behind the list
+-- a part of a list stays where more is appended to the list
 pub slice_range-append : {X : Type 0} (xs ys : List X) (from to : ℕ) → from ≤ to → to ≤ length xs → slice_range (xs ++ ys) from to ≡ slice_range xs from to
 slice_range-append xs ys from to ordered within =
     let from_within : from ≤ length xs = omega arith in
@@ -23,7 +23,7 @@ slice_range-append xs ys from to ordered within =
 pub All-slice_range : {X : Type 0} (P : X → Type 0) (xs : List X) (from to : ℕ) → All P xs → All P (slice_range xs from to)
 All-slice_range P xs from to h = All-take P (to - from) (drop from xs) (All-drop P from xs h)
 
--- pieces stay pieces where more is put behind the text
+-- pieces stay pieces where more is appended to the text
 pub HasPieces-append : (s more : List ℕ) (pieces : List AttributePieces) → IsUtf8 more → All (HasPieces s) pieces → All (HasPieces (s ++ more)) pieces
 HasPieces-append s more pieces utf8 h k d within =
     (IsPiece-append s more (name_of (get_or pieces k d)) utf8 (h k d within).0, IsPiece-append s more (value_of (get_or pieces k d)) utf8 (h k d within).1)

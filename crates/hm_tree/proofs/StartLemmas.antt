@@ -1,4 +1,4 @@
--- The row of a start, with its name and its attributes put behind a table.
+-- The row of a start, with its name and its attributes appended to a table.
 use Rattle.std.proofs.Common.{◌≡◌, ℕ, ◌+◌, ◌-◌, ◌^◌, ◌<◌, ◌&&◌, Bool, true, List, [], ◌∷◌, ◌++◌, length, drop, slice_range, IsUtf8, Option, sym, ap, ◌∙◌, refl, arith, append_assoc, length-append}
 use Rattle.std.proofs.lemmas.Bool.{and_from}
 use Rattle.std.proofs.lemmas.List.{take_all, length-map}

@@ -36,7 +36,7 @@ event_stays s more pieces extra (parts.Text p raw) h all = rw (bytes_of-append s
 event_stays s more pieces extra (parts.Comment p) h all = rw (bytes_of-append s more p h) refl
 event_stays s more pieces extra (parts.End name foreign) h all = rw (bytes_of-append s more name h) refl
 
--- the events of a table stay, where bytes and attributes are put behind those that it has
+-- the events of a table stay, where bytes and attributes are appended to those that it has
 pub events_of-append : (s more : List ℕ) (pieces extra : List AttributePieces) (rows : List EventRow) → AreInside s (length pieces) rows → All (HasPieces s) pieces → events_of (s ++ more) (pieces ++ extra) rows ≡ events_of s pieces rows
 events_of-append s more pieces extra [] h all = refl
 events_of-append s more pieces extra (r ∷ rows) h all = rw (event_stays s more pieces extra r.part h.0 all, events_of-append s more pieces extra rows h.1 all) refl
@@ -65,7 +65,8 @@ ReachesEnd-last s [] r h = h
 ReachesEnd-last s (q ∷ []) r h = h
 ReachesEnd-last s (q ∷ p ∷ rows) r h = ReachesEnd-last s (p ∷ rows) r h
 
--- Row r for event e can be put behind the rows for events w. The bytes are then t, the last of which are `more`, and the attributes are `kept`, the last of which are `extra`.
+-- Row r for event e can be appended to the rows for events w. The bytes are then t, the last of which are `more`, and
+-- the attributes are `kept`, the last of which are `extra`.
 pub record IsNewRow (more t : List ℕ) (extra kept : List AttributePieces) (w : List Event) (r : EventRow) (e : Event) : Type 0 where
   pub utf8 : IsUtf8 more
   pub event : event_at t kept r.part ≡ e

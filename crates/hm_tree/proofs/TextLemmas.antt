@@ -1,4 +1,4 @@
--- A text put behind a walk: it joins the text that stands last, or stands last itself.
+-- A text appended to a walk: it joins the text that stands last, or stands last itself.
 use Rattle.std.proofs.Common.{◌≡◌, ℕ, ◌+◌, ◌<◌, Bool, true, false, ◌&&◌, List, [], ◌∷◌, ◌++◌, length, ap, ◌∙◌, refl, arith, length-append}
 use Rattle.hm_base.specs.Walks.{Event, doctype, start, text, comment, end, Element, event_size, is_same_element, path_behind, path_after, ends_match, walk_size, with_text}
 use Rattle.hm_tree.specs.Trees.{open_behind, open_after}
@@ -41,7 +41,7 @@ pub with_text-extended : (w : List Event) (s : List ℕ) (raw : Bool) → 0 < le
 with_text-extended w [] raw some h = absurd (omega arith)
 with_text-extended w (c ∷ s) raw some h = joins w c s raw h
 
--- and else it stands last itself
+-- and otherwise it stands last itself
 pub with_text-push : (w : List Event) (s : List ℕ) (raw : Bool) → 0 < length s → ends_in_text w ≡ false → with_text w s raw ≡ w ++ text s raw ∷ []
 with_text-push w [] raw some h = absurd (omega arith)
 with_text-push w (c ∷ s) raw some h = follows w c s raw h
@@ -111,5 +111,5 @@ length-extended (x ∷ y ∷ w) more = omega (arith, length-extended (y ∷ w) m
 pub length-with_new_text : (w : List Event) (s : List ℕ) (raw : Bool) → 0 < length s → ends_in_text w ≡ false → length (with_text w s raw) ≡ length w + 1
 length-with_new_text w s raw some h = omega (arith, ap length (with_text-push w s raw some h), length-append w (text s raw ∷ []))
 
--- for `grind`: what a text that is put behind a walk makes of it
+-- for `grind`: what a text that is appended to a walk makes of it
 pub ruleset texts = (with_text-extended, with_text-push, walk_size-extended, walk_size-push, length-with_new_text)

@@ -11,7 +11,7 @@ pub path_after-push : (path : List Element) (w : List Event) (e : Event) → pat
 path_after-push path [] e = refl
 path_after-push path (x ∷ w) e = path_after-push (path_behind path x) w e
 
--- the path behind event i
+-- the path after event i
 pub path_after-take : (w : List Event) (i : ℕ) (e : Event) → slice_get w i ≡ Some e → path_after [] (take (i + 1) w) ≡ path_behind (path_after [] (take i w)) e
 path_after-take w i e at =
     rw (take_more w i e (slice_get_within w i e at), get_or_from_slice_get w i e e at) (path_after-push [] (take i w) e)

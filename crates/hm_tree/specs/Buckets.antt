@@ -2,7 +2,7 @@
 use Rattle.std.specs.Prelude.{◌≡◌, ℕ, ◌+◌, ◌*◌, ◌%◌, ◌≤◌, List, [], ◌∷◌, get_or, slice_get, Some}
 use Rattle.hm_base.specs.Walks.{Attribute}
 
--- the bucket of a name, from the bucket of what stands in front
+-- the bucket of a name, from the bucket of what comes before
 abbrev pub bucket_after : ℕ → List ℕ → ℕ
 bucket_after n [] = n
 bucket_after n (b ∷ name) = bucket_after ((n * 31 + b) % 8192) name

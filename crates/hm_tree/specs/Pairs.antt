@@ -1,4 +1,4 @@
--- Attributes whose names and values stand in one text, one behind the other.
+-- Attributes whose names and values stand in one text, one after the other.
 use Rattle.std.specs.Prelude.{◌≡◌, ℕ, ◌+◌, ◌^◌, ◌<◌, true, List, length, map, All}
 use Rattle.hm_base.specs.Walks.{Attribute, has_distinct_names}
 use Rattle.hm_tree.specs.Pieces.{HasPieces, attributes_in, texts_of}
@@ -23,7 +23,7 @@ pub record IsAttributeList (s : List ℕ) (pairs : List Pair) : Type 0 where
   pub distinct : has_distinct_names (attributes_of s pairs) ≡ true
   pub count : length pairs < 2 ^ 32
 
--- the pieces of a pair, so many bytes further on
+-- the pieces of a pair, n bytes further on
 pub record IsShifted (n : ℕ) (p : Pair) (q : AttributePieces) : Type 0 where
   pub from : q.from ≡ n + p.from
   pub middle : q.middle ≡ n + p.middle

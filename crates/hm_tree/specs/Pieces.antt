@@ -40,11 +40,11 @@ pub record ArePiecesShown (s : List ℕ) (pieces : List AttributePieces) : Type 
   pub distinct : has_distinct_names (attributes_in s pieces) ≡ true
   pub count : length pieces < 2 ^ 32
 
--- names and values, one behind the other
+-- names and values, one after the other
 abbrev pub texts_of : List Attribute → List ℕ
 texts_of attributes = flat_map (λ a. a.name ++ a.value) attributes
 
--- Attributes were put behind a text s and the attributes in it, so that there are then a text t and these pieces.
+-- Attributes were appended to a text s and the attributes in it, so that there are then a text t and these pieces.
 pub record IsAppended (s : List ℕ) (before : List AttributePieces) (attributes : List Attribute) (t : List ℕ) (pieces : List AttributePieces) : Type 0 where
   pub text : t ≡ s ++ texts_of attributes
   pub kept : before ++ drop (length before) pieces ≡ pieces

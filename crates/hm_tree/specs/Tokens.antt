@@ -46,18 +46,19 @@ BeginsAt place (tokens.Slice from to) = from ≡ place
 BeginsAt place (tokens.Comment from to) = from ≡ place
 BeginsAt place token = Unit {0}
 
--- what is read of the rest of a text: a token and what is behind it, or why there is none
+-- what is read of the rest of a text: a token and what follows it, or why there is none
 pub data Scanned : Type 0 where
   taken : Seen → List ℕ → Scanned
   refused : ScanFault → Scanned
 
--- this token is read, and the bytes behind it begin at this place of the text
+-- this token is read, and the bytes after it begin at this place of the text
 pub record Reads (read : Scanned) (s : List ℕ) (token : Token) (place : ℕ) : Type 0 where
   pub is : read ≡ taken (seen s token) (drop place s)
   pub inside : IsInText s token
   pub boundary : IsCharBoundary s place
 
--- What is read of a longer text: the same token, with more behind it, or the same fault, if it isn't that the text ends.
+-- What is read of a longer text: the same token, with more after it, or the same fault, unless the fault is that the
+-- text ends.
 abbrev pub Extends : List ℕ → Scanned → Scanned → Type 0
 Extends y (taken k rest) b = b ≡ taken k (rest ++ y)
 Extends y (refused faults.Cut) b = Unit {0}

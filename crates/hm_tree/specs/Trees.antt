@@ -27,7 +27,8 @@ abbrev pub are_texts_apart : List Event → Bool
 are_texts_apart [] = true
 are_texts_apart (e ∷ w) = is_apart e w && are_texts_apart w
 
--- With an end for each open element the walk has fewer than 2 ^ 29 events, and it has fewer than 2 ^ 29 bytes of names, values, texts and comments.
+-- With an end for each open element the walk has fewer than 2 ^ 29 events. It has fewer than 2 ^ 29 bytes of names,
+-- values, texts and comments.
 pub record HasRoom (w : List Event) : Type 0 where
   pub events : length w + length (path_after [] w) < 2 ^ 29
   pub bytes : walk_size w < 2 ^ 29
@@ -44,7 +45,8 @@ pub record IsBegun (w : List Event) : Type 0 where
   pub sound : are_sound w ≡ true
   pub room : HasRoom w
 
--- the events of a whole tree: each end ends the innermost open element, none is open at the end, and texts neither are empty nor touch
+-- the events of a whole tree: each end ends the innermost open element, none is open at the end, and texts neither are
+-- empty nor touch
 pub record IsWalk (w : List Event) : Type 0 where
   pub matched : ends_match [] w ≡ true
   pub closed : path_after [] w ≡ []
@@ -72,7 +74,7 @@ last_agrees [] raw = true
 last_agrees (e ∷ []) raw = agrees e raw
 last_agrees (e ∷ x ∷ w) raw = last_agrees (x ∷ w) raw
 
--- the indices of the starts that are open behind event i, innermost first
+-- the indices of the starts that are open after event i, innermost first
 abbrev pub open_behind : List ℕ → ℕ → Event → List ℕ
 open_behind open_starts i (doctype legacy) = open_starts
 open_behind open_starts i (start n foreign attributes) = i ∷ open_starts
@@ -81,12 +83,12 @@ open_behind open_starts i (comment s) = open_starts
 open_behind [] i (end n foreign) = []
 open_behind (k ∷ open_starts) i (end n foreign) = open_starts
 
--- those behind a list of events, the first of which has the index i
+-- those after a list of events, the first of which has the index i
 abbrev pub open_after : List ℕ → ℕ → List Event → List ℕ
 open_after open_starts i [] = open_starts
 open_after open_starts i (e ∷ w) = open_after (open_behind open_starts i e) (i + 1) w
 
--- the innermost start that is open behind the walk
+-- the innermost start that is open after the walk
 abbrev pub innermost : List Event → Option ℕ
 innermost w = slice_get (open_after [] 0 w) 0
 

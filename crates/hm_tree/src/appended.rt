@@ -1,4 +1,4 @@
-//! Attributes put behind the text and the attributes of a table.
+//! Attributes appended to the text and the attributes of a table.
 ghost use Rattle.std.specs.Prelude.{◌≡◌, ◌+◌, ◌^◌, ◌<◌, ◌≤◌, ◌++◌, length, string_bytes, string_len, string_capacity, vec_len, vec_capacity};
 ghost use Rattle.hm_base.specs.Walks.{attributes_size};
 ghost use Rattle.hm_tree.specs.Pairs.{IsShifted};
@@ -33,7 +33,7 @@ fn shown_len(attrs: &AttrsView<'_>) -> usize
     len
 }
 
-// Appends attributes for which there is room, and answers the index of the first.
+// Appends attributes for which there is room, and returns the index of the first.
 pub(crate) fn append_attributes(
     text: &mut String,
     attributes: &mut Vec<AttributePieces>,
@@ -69,7 +69,7 @@ fn append_tag(text: &mut String, attributes: &mut Vec<AttributePieces>, attrs: &
     first
 }
 
-// The pieces of an attribute, so many bytes further on.
+// The pieces of an attribute, `start` bytes further on.
 fn shifted(pair: &Pair, start: u32) -> AttributePieces
     requires ordered { (pair.now.from ≤ pair.now.middle) × (pair.now.middle ≤ pair.now.to) }
     requires places { start + pair.now.to < 2 ^ 32 }

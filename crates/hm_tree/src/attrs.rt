@@ -13,8 +13,8 @@ use std::marker::Model;
 
 /// Names and values in order, each name once. Contracts see the list of them.
 ///
-/// They stand in one text, names and values one behind the other. Above 16 of them a table has the names, so that a
-/// repeated one is found at once.
+/// They stand in one text, names and values one after the other. For more than 16 of them a table has the names, so
+/// that a repeated one is found at once.
 #[derive(Debug, Drop)]
 pub struct Attrs {
     text: String,
@@ -70,7 +70,7 @@ impl Attrs {
         )
     }
 
-    /// All names and values, one behind the other.
+    /// All names and values, one after the other.
     pub(crate) fn text(&self) -> &str
         ensures { result.now ≡ texts_of self.now }
     {

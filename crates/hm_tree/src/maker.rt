@@ -114,7 +114,7 @@ impl Maker {
         Ok(())
     }
 
-    /// Puts a text behind what is there. It joins a text that stands last, and an empty one adds nothing.
+    /// Appends a text to what is there. It joins a text that stands last, and an empty one adds nothing.
     pub fn text(&mut self, text: &str, raw: bool) -> Result<(), Memory>
         requires room { HasRoom (with_text self.old text.now raw) }
         requires same_raw { last_agrees self.old raw ≡ true }

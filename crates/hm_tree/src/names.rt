@@ -9,7 +9,7 @@ use hm_base::Memory;
 use std::alloc::Global;
 use std::marker::Model;
 
-// How many names are gone through one by one. Where there are more, a table has them.
+// How many names are looked at one by one. Where there are more, a table has them.
 const FEW: usize = 16;
 
 // How many buckets a table has: many more than names in a tag that is read, so that few share one.
@@ -44,7 +44,7 @@ impl NameTable {
         })
     }
 
-    // Notes the name of the attribute that stands behind so many others.
+    // Notes the name of the attribute that comes after `count` others.
     fn add(&mut self, name: &str, count: usize)
         ensures { (attributes : List Attribute) (a : Attribute) → length attributes ≡ count → a.name ≡ name.now → HasFirsts self.old attributes → HasFirsts self.new (attributes ++ a ∷ []) }
     {
@@ -54,7 +54,7 @@ impl NameTable {
         }
     }
 
-    // Whether one of the attributes has a name. Those before the first one of its bucket are left out.
+    // Whether one of the attributes has a name. Those before the first one of its bucket are skipped.
     pub(crate) fn has_among(&self, text: &str, pairs: &[Pair], name: &str) -> bool
         requires pieces { All (HasPair text.now) pairs.now }
         requires noted { HasFirsts self.now (attributes_of text.now pairs.now) }
@@ -117,7 +117,7 @@ fn table_of(alloc: Global, text: &str, pairs: &[Pair]) -> Result<NameTable, Memo
     Ok(table)
 }
 
-// Notes the name of one more attribute, behind these.
+// Notes the name of one more attribute, after these.
 pub(crate) fn note(
     alloc: Global,
     table: &mut Option<NameTable>,

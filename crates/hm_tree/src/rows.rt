@@ -1,4 +1,4 @@
-//! The events of a walk in a table: a row for each event, and all texts one behind the other.
+//! The events of a walk in a table: a row for each event, and all texts one after the other.
 ghost use Rattle.std.specs.Prelude.{◌≡◌, ◌+◌, ◌^◌, ◌<◌, ◌≤◌, [], ◌∷◌, ◌++◌, length, slice_get, slice_range, true, Some, OnOk, OnErr};
 ghost use Rattle.hm_base.specs.Walks as walks;
 ghost use Rattle.hm_base.specs.Walks.{start, doctype, comment, event_size, path_after, walk_size, with_text};
@@ -49,7 +49,7 @@ struct EventRow {
     parent: Parent,
 }
 
-// A page has many events and attributes, so their sizes are kept in sight.
+// A page has many events and attributes, so their sizes are checked here.
 const _: () = prove!(size_of::<EventRow>() == 20);
 
 const _: () = prove!(size_of::<AttributePieces>() == 12);
@@ -93,7 +93,7 @@ impl Rows {
         self.rows.len() as u32
     }
 
-    // Gives back the room that isn't needed.
+    // Frees the room that isn't needed.
     pub(crate) fn shrink(&mut self)
         ensures { self.new ≡ self.old }
     {
@@ -102,7 +102,7 @@ impl Rows {
         self.rows.shrink_to_fit();
     }
 
-    // Gives the memory back, in lists that are cut short where they stand before they are let go.
+    // Frees the memory. The lists are cut short in place before they are freed.
     pub(crate) fn release(self) {
         let Rows {
             mut text,
@@ -319,7 +319,7 @@ impl Rows {
     }
 }
 
-// So many of the attributes, from an index on.
+// `count` of the attributes, from the index `first` on.
 fn part_of(attributes: &[AttributePieces], first: u32, count: u16) -> &[AttributePieces]
     requires { first + count ≤ length attributes.now }
     ensures { result.now ≡ slice_range attributes.now first (first + count) }

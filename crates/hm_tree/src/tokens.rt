@@ -7,7 +7,7 @@ use hm_base::{Memory, Points, Word};
 use std::alloc::{AllocError, AllocFailed, Global};
 use thiserror::Error;
 
-/// A token of the tokenization stage, 13.2.5 of the HTML Standard.
+/// A token of the tokenization stage (HTML Standard, #tokenization).
 #[derive(Debug, Drop)]
 pub enum Token {
     Doctype {
@@ -80,7 +80,7 @@ pub enum Lexeme {
 }
 
 impl Lexeme {
-    /// A token, of which a tag's name and attributes are put into `tag`; of any other the place stays as it is.
+    /// A token. The name and attributes of a tag are put into `tag`; for any other token `tag` stays as it is.
     pub fn of(token: Token, tag: &mut Tag) -> Lexeme
         ensures { token_of result tag.new ≡ token }
     {
@@ -101,7 +101,7 @@ impl Lexeme {
         }
     }
 
-    /// The token, of which a tag takes its name and its attributes over.
+    /// The token. A tag takes over the name and the attributes of `tag`.
     pub fn token(self, tag: Tag) -> Token
         ensures { result ≡ token_of self tag }
     {
@@ -131,7 +131,7 @@ pub struct Placed {
 }
 
 impl Placed {
-    /// The token with its bytes, of which a tag takes its name and its attributes over.
+    /// The token with its bytes. A tag takes over the name and the attributes of `tag`.
     pub fn spanned(self, tag: Tag) -> Spanned
         ensures { result ≡ spanned_of self tag }
     {

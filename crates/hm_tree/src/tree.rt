@@ -55,7 +55,7 @@ impl Tree {
         self.rows.len()
     }
 
-    /// Gives the memory back. A large tree is let go in this way before more memory is asked for: what is cut short first
+    /// Frees the memory. A large tree is freed in this way before more memory is asked for. What is first cut short
     /// leaves no large block to the C library's heap, where a long list can't grow in place.
     pub fn release(self) {
         self.rows.release();
@@ -74,7 +74,8 @@ impl Tree {
         requires { i < length self.now }
         ensures value { result ≡ parent_of self.now i }
 
-        // Where no element is open there, none is answered, and else an earlier event, the start of the innermost one.
+        // Where no element is open there, the result is none; otherwise it is an earlier event, the start of the
+        // innermost one.
         ensures element { MatchOption result (path_after [] (take i self.now) ≡ [])
             (λ k. (k < i) × IsStartAt self.now k (path_after [] (take i self.now))) }
     {

@@ -8,7 +8,7 @@ use Rattle.hm_base.proofs.Bytes.{all_pass_first, all_pass_second}
 use Rattle.hm_base.proofs.Lines.{with_lines_pair, with_lines_return, with_lines_last, text_bytes}
 use Rattle.hm_base.proofs.source.SourceText.push_lines.Goals as goal
 
--- a line in front of a CR
+-- a line before a CR
 line_bytes : (rest line behind : List ℕ) → all_pass is_nonzero rest ≡ true → (rest ≡ line ++ 13 ∷ behind) × ((i : ℕ) → i < length line → get_or line i 0 ≢ 13) → all_pass is_text_byte line ≡ true
 line_bytes rest line behind h parts = text_bytes line (all_pass_first is_nonzero line (13 ∷ behind) (rw (sym parts.0) h)) parts.1
 

@@ -20,7 +20,7 @@ pub blank_gap : (gap : List ℕ) → is_blank gap ≡ true → is_gap false gap 
 unfolding is_gap
 blank_gap gap h = rw h refl
 
--- a gap serves where one is needed less
+-- a gap also serves where less is needed
 pub gap_serves : (needed less : Bool) (gap : List ℕ) → (less ≡ true → needed ≡ true) → is_gap needed gap ≡ true → is_gap less gap ≡ true
 gap_serves needed false gap f h = blank_gap gap (gap_blank needed gap h)
 gap_serves true true gap f h = h

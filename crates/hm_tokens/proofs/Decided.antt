@@ -1,4 +1,4 @@
--- A reference is decided by the bytes before the first that can't go on.
+-- A reference is decided by the bytes before the first one that can't go on.
 use Rattle.std.proofs.Common.{◌≡◌, ℕ, ◌+◌, ◌<◌, ◌≤◌, ◌⊎◌, Bool, true, false, cond, not, ◌&&◌, ◌||◌, ◌==◌, List, [], ◌∷◌, ◌++◌, length, Option, Some, None, option_map, refl, inl, inr, ap, ap₂, ◌∙◌, arith}
 use Rattle.std.proofs.lemmas.Bool.{cases_lt}
 use Rattle.hm_base.specs.Bytes.{front, behind, head_is, is_null, is_alnum, is_letter, is_digit_of}

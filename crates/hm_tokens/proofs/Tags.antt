@@ -113,7 +113,7 @@ unfolding is_tag_name
 name_not_empty [] h = absurd (cc)
 name_not_empty (c ∷ n) h = omega arith
 
--- the bytes of a tag behind its '<' or `</`
+-- the bytes of a tag after its '<' or `</`
 record TagBytes (r : List ℕ) (g : CutTag) : Type 0 where
   count : ℕ
   whole : length r ≡ count + length g.rest

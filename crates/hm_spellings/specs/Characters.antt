@@ -130,6 +130,6 @@ pub record SpellsPoints (t : List Entry) (rules : CharacterRules) (spot : Spot) 
   pub means : meant pieces ≡ cs
   pub allowed : AreAllowed t rules spot pieces after
 
--- b spells the characters of a text of the tree, which is UTF-8, where the last list follows b
+-- b spells the characters of a text of the tree, which is UTF-8, where `after` follows b
 abbrev pub SpellsText : List Entry → CharacterRules → Spot → List ℕ → List ℕ → List ℕ → Type 0
 SpellsText t rules spot s b after = SpellsPoints t rules spot (chars s) b after

@@ -1,5 +1,5 @@
--- Which tags may be left out (after HTML Standard, #optional-tags). The rules ask for the element, for what stands around
--- it, and for the event directly before it, where that is an end whose tag was left out.
+-- Which tags may be left out (after HTML Standard, #optional-tags). The rules look at the element, at what stands around
+-- it, and at the event directly before it, where that is an end whose tag was left out.
 use Rattle.std.specs.Prelude.{ℕ, Bool, true, false, not, ◌&&◌, ◌||◌, List, [], ◌∷◌, Option, Some, None, if◌then◌else◌, bytes_eq}
 use Rattle.hm_base.specs.Bytes.{is_space, head_is}
 use Rattle.hm_base.specs.Walks.{Attribute, Event, start, text, end, Element, begins_text, begins_comment, begins_start, begins_end_of}

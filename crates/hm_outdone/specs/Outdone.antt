@@ -21,11 +21,11 @@ serves t s = same_state t s || (may_forget s && same_state t (forgotten s))
 
 -- ---- Among the edges of a unit from one state
 
--- f, which stands before e, dominates it: f serves as well and has no more bytes
+-- f, which stands before e, dominates it: its end serves as well, and it has no more bytes
 abbrev pub outdoes_in_front : Edge → Edge → Bool
 outdoes_in_front e f = serves f.to e.to && nat_le (edge_length f) (edge_length e)
 
--- f, which stands after e, dominates it: f serves as well and has fewer bytes
+-- f, which stands after e, dominates it: its end serves as well, and it has fewer bytes
 abbrev pub outdoes_behind : Edge → Edge → Bool
 outdoes_behind e f = serves f.to e.to && nat_lt (edge_length f) (edge_length e)
 

@@ -22,12 +22,12 @@ pub fn sparse_first_way_is_first()
     ensures { SparseFirstWayIsFirst }
 {}
 
-/// Prices that keep the rules without the edges that are dominated bound every way, from any source.
+/// Prices from any source that keep the rules without the edges that are dominated bound every way.
 pub fn sparse_prices_bound()
     ensures { SparsePricesBound }
 {}
 
-/// Prices that keep the rules without the edges that are dominated, from any source, show that no spelling of a settled tree
+/// Prices from any source that keep the rules without the edges that are dominated show that no spelling of a settled tree
 /// has fewer bytes than the first price.
 pub fn sparse_prices_show()
     ensures { SparsePricesShow }

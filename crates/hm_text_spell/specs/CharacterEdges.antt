@@ -33,7 +33,7 @@ abbrev pub itself_by : Spot → ℕ → Option Pending → List Choice
 itself_by spot c None = []
 itself_by spot c (Some q) = choice (encode_utf8 c) (itself_to spot c q) ∷ []
 
--- 1. as itself, where it may stand and breaks nothing
+-- first as itself, where it may stand and breaks nothing
 unfoldable pub as_itself : List Entry → CharacterRules → Spot → ℕ → Pending → List Choice
 as_itself t rules spot c p = if may_stand rules.ascii spot c then itself_by spot c (run t spot (Some p) (encode_utf8 c)) else []
 
@@ -48,17 +48,17 @@ abbrev pub by_names : (List ℕ → Pending) → List ℕ → List Entry → Lis
 by_names to points [] = []
 by_names to points (e ∷ t) = if bytes_eq e.points points then choice e.name (to e.name) ∷ by_names to points t else by_names to points t
 
--- 2. by the names that give it, and after them by those that give it and the next one
+-- then by the names that give it, and after them by those that give it and the next one
 abbrev pub by_pairs : List Entry → ℕ → Option ℕ → List Choice
 by_pairs t c None = []
 by_pairs t c (Some d) = by_names behind_pair (c ∷ d ∷ []) t
 
--- 3. by the best number, without and with a ';'
+-- then by the best number, without and with a ';'
 abbrev pub by_decimal : Option ℕ → List Choice
 by_decimal None = []
 by_decimal (Some n) = choice (codes "&#" ++ digits.decimal n) decimal ∷ choice (codes "&#" ++ (digits.decimal n ++ codes ";")) nothing ∷ []
 
--- 4. in hexadecimal, where that is shorter
+-- then in hexadecimal, where that is shorter
 abbrev pub by_hexadecimal : ℕ → List Choice
 by_hexadecimal c =
     if nat_le 1000000 c && nat_le c 1048575
@@ -111,7 +111,7 @@ abbrev pub is_outside : Where → Bool
 is_outside outside = true
 is_outside at = false
 
--- 5. and 6. c opens a section, in a text of SVG
+-- last in a section that c opens, in a text of SVG; the section goes on or closes
 abbrev pub opened_sections : Bool → Spot → ℕ → Option ℕ → State → List Edge
 opened_sections ascii spot c next s =
     if is_foreign spot && (is_outside s.at && (not (is_some (half_of s.pending)) && is_writable ascii c)) then section_edges_by next (codes "<![CDATA[") c nothing else []

@@ -20,8 +20,8 @@ use Rattle.hm_ways.proofs.Names.{names_low, tag_name_low}
 abbrev pub element : List ℕ → Bool → Element
 element n foreign = record { name = n; foreign = foreign }
 
--- an element among those around it: its name has no capitals, they hold more than a text, and parts of a table stand in
--- table
+-- An element among those around it: its name has no capitals, they hold more than a text, and parts of a table stand in
+-- table.
 pub record IsPlaced (n : List ℕ) (foreign : Bool) (path : List Element) : Type 0 where
   pub low : map lower n ≡ n
   pub around : is_in_text path ≡ false

@@ -17,7 +17,7 @@ pub fn trees_have_ways()
     ensures spellings { TreesHaveSpellings }
 {}
 
-/// Prices that keep the rules of a certificate, from any source, show that no spelling has fewer bytes than the first price.
+/// Prices from any source that keep the rules of a certificate show that no spelling has fewer bytes than the first price.
 pub fn feasible_prices_show()
     ensures { FeasiblePricesShow }
 {}

@@ -51,8 +51,8 @@ is_single xs = false
 abbrev pub single_follows : Edges → LayerTest
 single_follows es unit states = is_single states && list_all (λ s. is_single (es unit s)) states
 
--- The first layer and the last one are written, and of the others those that don't follow from the next one; k is the
--- number of the layer whose states these are.
+-- The first layer and the last one are written, and of the others those that don't follow from the next one. These states
+-- are those of layer k.
 abbrev pub written_from : Edges → LayerTest → ℕ → List Unit → List State → List ℕ
 written_from es follows k [] states = k ∷ []
 written_from es follows k (unit ∷ units) states =

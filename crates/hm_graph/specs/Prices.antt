@@ -36,7 +36,7 @@ abbrev pub KeepsEdges : Option ℕ → (State → Option ℕ) → List Edge → 
 KeepsEdges price behind [] = Prim.Unit {0}
 KeepsEdges price behind (e ∷ es) = KeepsEdge price (edge_length e) (behind e.to) × KeepsEdges price behind es
 
--- a price for each state, and each keeps the rule at the edges of the unit
+-- a price for each state, and each price keeps the rule at the edges of the unit
 abbrev pub KeepsLayer : Edges → Unit → (State → Option ℕ) → List State → Row → Type 0
 KeepsLayer es unit behind [] [] = Prim.Unit {0}
 KeepsLayer es unit behind [] (q ∷ row) = ⊥
@@ -70,7 +70,7 @@ first_price ((q ∷ row) ∷ rows) = q
 
 -- ---- Written prices, and all that they stand for
 
--- the rows that are written of those of all layers; k is the number of the layer whose states these are
+-- of the rows of all layers those that are written; k is the number of the layer whose states these are
 abbrev pub written_rows : Edges → LayerTest → ℕ → List Unit → List State → List Row → List Row
 written_rows es follows k units states [] = []
 written_rows es follows k [] states (row ∷ rows) = row ∷ []

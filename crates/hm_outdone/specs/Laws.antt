@@ -55,8 +55,8 @@ SparseFirstWayIsFirst = (g : Spelling) → SameFirstWay (edges_of g)
 abbrev pub SparsePricesBound : Type 0
 SparsePricesBound = (g : Spelling) → PricesBound (edges_of g)
 
--- Over a settled tree, without references at plain characters: prices that keep the rules at the edges that are left show
--- that no spelling has fewer bytes than the first of them.
+-- Over a settled tree, without references at plain characters, prices show a bound where they keep the rules at the edges
+-- that are left: no spelling has fewer bytes than the first price.
 abbrev pub SparsePricesShow : Type 0
 SparsePricesShow =
     (t : List Entry) → IsTable t → (r : SpellRules) (w : List Event) → Settled w → (prices : List Row) (n : ℕ)

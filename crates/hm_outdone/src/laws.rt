@@ -27,8 +27,8 @@ pub fn sparse_prices_bound()
     ensures { SparsePricesBound }
 {}
 
-/// Prices from any source that keep the rules without the edges that are dominated show that no spelling of a settled tree
-/// has fewer bytes than the first price.
+/// Prices from any source that keep the rules without the dominated edges show a bound: no spelling of a settled tree has
+/// fewer bytes than the first price.
 pub fn sparse_prices_show()
     ensures { SparsePricesShow }
 {}

@@ -1,5 +1,5 @@
--- Which bytes may stand in a spelling: those of a test that references, bytes above ASCII, sections and what may stand as
--- itself pass.
+-- Which bytes may stand in a spelling: those that pass a test, where references, bytes above ASCII, sections and what may
+-- stand as itself all pass it.
 use Rattle.std.proofs.Common.{◌≡◌, ℕ, Bool, true, false, not, ◌&&◌, ◌==◌, List, [], ◌∷◌, ◌++◌, codes, encode_utf8_all, refl, sym, subst}
 use Rattle.std.proofs.lemmas.Bool.{and_parts, and_from, eqb-true}
 use lib.Utf8.{encode}

@@ -1,6 +1,6 @@
 -- How the characters of a text or of an attribute's value may be spelled (HTML Standard, #attributes-2,
--- #cdata-rcdata-restrictions, #text-2 and #syntax-charref): each as itself or by a character reference, and in an element
--- of SVG also in a CDATA section.
+-- #cdata-rcdata-restrictions, #text-2 and #syntax-charref). Each stands as itself or is a character reference, and in an
+-- element of SVG it may also stand in a CDATA section.
 use Rattle.std.specs.Prelude.{◌≡◌, ℕ, Bool, true, false, not, ◌&&◌, ◌||◌, ◌==◌, nat_lt, List, [], ◌∷◌, ◌++◌, length, Some, is_none, if◌then◌else◌, codes, encode_utf8, encode_utf8_all, chars}
 use Rattle.hm_base.specs.Bytes.{is_space, is_letter, head_is, all_pass, is_null}
 use Rattle.hm_base.specs.Forms.{has_mark}
@@ -73,8 +73,8 @@ stays t spot c s =
 
 -- ---- Pieces
 
--- a piece of a spelled text: a character as itself, a reference (its bytes, and the one or two code points that it
--- gives), or a CDATA section (its code points)
+-- A piece of a spelled text: a character as itself, a reference or a CDATA section. A reference has its bytes, and the one
+-- or two code points that it gives; a section has its code points.
 pub data Piece : Type 0 where
   itself : ℕ → Piece
   reference_to : List ℕ → List ℕ → Piece
@@ -108,8 +108,8 @@ pub record CharacterRules : Type 0 where
   pub ascii : Bool
   pub refers : ℕ → Bool
 
--- the piece is allowed before what follows it: as itself where it is read as itself, a reference where it is read as these
--- code points and has these bytes
+-- The piece is allowed before what follows it. A character stands as itself where it is read as itself; a reference stands
+-- where it is read as these code points and has these bytes.
 abbrev pub IsAllowed : List Entry → CharacterRules → Spot → Piece → List ℕ → Type 0
 IsAllowed t rules spot (itself c) behind = (may_stand rules.ascii spot c ≡ true) × (stays t spot c behind ≡ true)
 IsAllowed t rules spot (reference_to b qs) behind =

@@ -50,8 +50,8 @@ has_none (a ∷ attributes) = false
 unfoldable pub may_omit_start : SpellRules → LeftOut → List ℕ → Bool → List Attribute → List Event → Bool
 may_omit_start r before n foreign attributes w = r.omit && (not foreign && (has_none attributes && (not (bars before n) && start_falls r.frame n w)))
 
--- what follows the end of an element in this parent: the start of an HTML element before which the end tag may be left
--- out, or the end of the parent at which it may be
+-- What follows the end of an element in this parent allows its end tag to be left out: the start of one of certain HTML
+-- elements, or the end of one of certain parents.
 abbrev pub end_goes : List ℕ → List ℕ → List Event → Bool
 end_goes n parent (start m foreign attributes ∷ w) = not foreign && goes_before n m
 end_goes n parent (end m foreign ∷ w) = goes_up n parent

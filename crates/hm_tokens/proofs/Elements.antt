@@ -60,7 +60,7 @@ taken_some n (c ∷ s) h = refl
 
 -- ---- what is read, of an element with such a name
 
--- the end tag stands n bytes on
+-- the end tag stands after n bytes
 pub record EndsAt (name s : List ℕ) (n : ℕ) : Type 0 where
   pub inside : n < length s
   pub begins : begins_end_tag name (drop n s) ≡ true

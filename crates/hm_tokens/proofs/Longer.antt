@@ -25,7 +25,7 @@ use Rattle.hm_tokens.proofs.Elements.{EndsAt, raw_ends_at, script_ends_at}
 
 -- ---- where a text of an element ends
 
--- cut at the same place
+-- a longer text is cut at the same place
 longer_cut : (s y : List ℕ) (n : ℕ) → n < length s → (take n (s ++ y) ≡ take n s) × (drop n (s ++ y) ≡ drop n s ++ y)
 longer_cut s y n inside =
     let long : length (take n s) ≡ n = length-take-le n s (omega arith) in
@@ -48,7 +48,7 @@ script_longer s y n h =
     let found : script_end (take n s ++ drop n s) ≡ Some (length (take n s)) = rw (take-append-drop n s, long) h in
     rw (parted s y n) (first_same (drop n s) (drop n s ++ y) k.begins (begins_longer (codes "script") (drop n s) y k.begins) unescaped (take n s) 0 (length (take n s)) (omega arith) found ∙ ap Some long)
 
--- what is read of it in a longer text
+-- the same piece as read in a longer text
 before_rest_extends : (read : Scanned) (tail y : List ℕ) → Extends y (before_rest read tail) (before_rest read (tail ++ y))
 before_rest_extends (taken k left) tail y = ap (taken k) (sym (append_assoc left tail y))
 before_rest_extends (refused faults.Cut) tail y = tt

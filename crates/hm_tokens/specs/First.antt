@@ -13,8 +13,8 @@ use Rattle.hm_text_scan.specs.Texts.{begins_markup, read_text}
 use Rattle.hm_mark_scan.specs.Comments.{read_comment, begins_cdata, read_cdata}
 use Rattle.hm_mark_scan.specs.Doctypes.{begins_doctype, read_doctype}
 
--- What kind of text is read: ordinary text, text in an element of SVG, the text of title or textarea, that of style or
--- iframe, or that of a script.
+-- What kind of text is read: ordinary text, text in an element of SVG, or the text of one element. That element is title or
+-- textarea, style or iframe, or script.
 pub data Mode : Type 0 where
   ordinary : Mode
   in_svg : Mode

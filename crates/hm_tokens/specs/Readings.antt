@@ -5,8 +5,8 @@ use Rattle.hm_text_scan.specs.Texts.{begins_markup}
 use Rattle.hm_tree.specs.Tokens.{Seen, Scanned, taken, Extends}
 use Rattle.hm_tokens.specs.First.{Mode, ordinary, in_svg, behind_empty_tags, Next, at_end, behind_bytes, first}
 
--- The token that begins here ends by itself: a tag, a comment, a doctype, a CDATA section, and, up to the end tag, the text
--- of an element with raw text or with references alone. Ordinary text ends where something else begins.
+-- The token that begins here ends by itself: a tag, a comment, a doctype or a CDATA section. So does the text of an element
+-- with raw text or with references alone, up to the end tag. Ordinary text ends where something else begins.
 abbrev pub ends_itself : Mode → List ℕ → Bool
 ends_itself ordinary s = begins_markup (behind_empty_tags s).rest
 ends_itself in_svg s = begins_markup (behind_empty_tags s).rest

@@ -4,7 +4,7 @@ ghost use Rattle.hm_tokens.specs.Laws.{TokensAreSmall, TokensAreSound};
 ghost use Rattle.hm_tokens.specs.Readings.{NextTokensExtend, PiecesAreRead, ReadingsFollow, WholePiecesAreRead, WholeReadingsExtend};
 ghost use Rattle.hm_tokens.specs.Written.{CommentsAreNext, DoctypesAreNext, EndsAreNext, RawTextsAreNext, ScriptsAreNext, StartsAreNext, TextEndsAreNext};
 
-/// Each token that is read from the text of a page can stand in a tree that is written and read back: its name is one
+/// Each token that is read from the text of a page can stand in a tree that is written and read back. Its name is one
 /// that is read, its attributes can be written, its text is UTF-8 without zero byte.
 pub fn tokens_are_sound()
     ensures { TokensAreSound }

@@ -1,4 +1,4 @@
--- What bytes that follow give in place of others.
+-- When other bytes may follow in place of these.
 use Rattle.std.proofs.Common.{◌≡◌, ℕ, ◌+◌, ◌≤◌, Bool, true, List, ◌∷◌, ◌++◌, length, Option, Some, None, is_some, refl, sym, ◌∙◌, inl, inr, ◌⊎◌, arith, length-append}
 use Rattle.hm_refs.specs.Names.{Entry}
 use Rattle.hm_refs.specs.Tables.{IsTable}

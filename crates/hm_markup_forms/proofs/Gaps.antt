@@ -1,4 +1,4 @@
--- Gaps: what a needed one gives, and where one serves for another.
+-- Gaps: what a needed gap gives, and which other needs a gap meets.
 use Rattle.std.proofs.Common.{◌≡◌, ℕ, Bool, true, false, not, ◌&&◌, List, [], ◌∷◌, ◌++◌, refl}
 use Rattle.std.proofs.lemmas.Bool.{and_parts}
 use Rattle.hm_base.specs.Bytes.{head_is, is_null, is_space}

@@ -57,7 +57,7 @@ assigned_lines v b after value w =
       is = ap newlines cut ∙ left.is ∙ ap (λ r. left.other ++ 61 ∷ r) right.is ∙ simp append_assoc refl;
     }
 
--- what ends a value still does
+-- what ends a value still ends it
 pub behind_lines : (form : Form) (after : List ℕ) → IsBehind form after → IsBehind form (newlines after)
 behind_lines bare after h = tt
 behind_lines unquoted [] h = absurd (cc)

@@ -17,7 +17,7 @@ pub of_plain : kept_edges (character_edges [] usual in_text 97 None first_state)
 unfolding same_state as_itself may_stand is_writable best_number point_of digits encode
 of_plain = refl
 
--- what leaves less pending is no choice where it is longer, so each way to write '<' is kept
+-- what leaves less pending doesn't dominate where it is longer, so each way to write '<' is kept
 pub of_less_than : kept_edges (character_edges [] usual in_text 60 None first_state) ≡ edge (codes "<") outside less_than ∷ edge (codes "&#60") outside decimal ∷ edge (codes "&#60;") outside nothing ∷ []
 unfolding same_state as_itself may_stand is_writable best_number point_of digits encode
 of_less_than = refl

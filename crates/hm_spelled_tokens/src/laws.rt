@@ -49,8 +49,8 @@ pub fn spelled_element_texts_are_read()
     ensures read { SpelledElementTextsAreRead }
 {}
 
-/// What spells a settled tree is UTF-8 without a zero byte. The text of such a page (#preprocessing-the-input-stream) spells
-/// the tree too: a CR stands in whitespace of tags and doctypes alone.
+/// What spells a settled tree is UTF-8 without a zero byte. The text of such a page (#preprocessing-the-input-stream)
+/// spells the tree too: a CR stands in whitespace of tags and doctypes alone.
 pub fn settled_spellings_are_pages()
     ensures no_return { SpelledPointsHaveNoReturn }
     ensures clean { SettledSpellingsAreClean }

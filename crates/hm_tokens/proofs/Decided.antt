@@ -10,7 +10,7 @@ use Rattle.hm_refs.proofs.Found.{here_none, found_none, child_is, null_append, n
 use Rattle.hm_tokens.specs.Decided.{goes_on, ReferencesAreDecided}
 use Rattle.hm_tokens.proofs.Bools.{or_parts, turned}
 
--- what a byte that can't go on isn't
+-- the tests that a byte that can't go on fails
 record Stops (value : Bool) (d : ℕ) : Type 0 where
   no_alnum : is_alnum d ≡ false
   no_semicolon : (d == 59) ≡ false

@@ -170,7 +170,7 @@ texts_are_read t mode ps after k m h ended =
 
 -- ---- title and textarea
 
--- after one byte the end tag is one byte nearer
+-- where counting begins one lower, the place that is found is one lower
 place_back : (passes : List ℕ → Bool) (i n : ℕ) (s : List ℕ) → place_from passes (suc i) s ≡ Some (suc n) → place_from passes i s ≡ Some n
 place_back passes i n [] h = absurd (cc)
 place_back passes i n (c ∷ s) h = by_test (passes (c ∷ s)) h (place_back passes (suc i) n s)

@@ -17,7 +17,7 @@ root_child [] c h = absurd (cc)
 root_child (x ∷ []) c h = grind (arith)
 root_child (x ∷ y ∷ q) c h = grind (arith)
 
--- at a child no '#' counts
+-- at a child '#' has no special meaning
 behind_child : (t : List Entry) (v : Bool) (q s : List ℕ) (c : ℕ) → is_null q ≡ false → reference_behind t v (q ++ c ∷ []) s ≡ references.named v (found t (q ++ c ∷ []) s)
 unfolding reference_behind
 behind_child t v q [] c h = refl

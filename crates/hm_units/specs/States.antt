@@ -3,7 +3,7 @@ use Rattle.std.specs.Prelude.{ℕ, Bool, true, false, ◌&&◌, List, Option, So
 use Rattle.hm_spellings.specs.Characters.{Spot, unquoted, double, single}
 
 pub data Where : Type 0 where
-  outside : Where  -- of tags
+  outside : Where  -- outside of tags
   loose : Where  -- outside of tags, after an end tag of a table's section or of colgroup that was left out
   self_closed : Where  -- after a start tag of SVG with a '/', which stands for the end tag as well
   behind_name : Where  -- in a tag, after its name or an attribute without value

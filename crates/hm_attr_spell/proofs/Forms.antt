@@ -1,4 +1,4 @@
--- The places behind the forms of attributes.
+-- The places after the forms of attributes.
 use Rattle.std.proofs.Common.{◌≡◌, ℕ, Bool, true, false, cond, List, [], ◌∷◌, ◌++◌, codes, refl}
 use Rattle.hm_base.specs.Bytes.{is_space}
 use Rattle.hm_markup_forms.specs.Gaps.{is_gap}
@@ -9,14 +9,14 @@ use Rattle.hm_spellings.specs.Characters.{is_value}
 use Rattle.hm_units.proofs.ValueEnds.{Closes}
 use Rattle.hm_units.specs.States.{Where, outside, loose, self_closed, behind_name, behind_quoted, behind_unquoted, in_unquoted, in_double, in_single, in_section, value_spot}
 
--- the place behind an attribute of this form
+-- the place after an attribute of this form
 abbrev pub behind_form : Form → Where
 behind_form bare = behind_name
 behind_form unquoted = behind_unquoted
 behind_form double = behind_quoted
 behind_form single = behind_quoted
 
--- the byte in front of an attribute is a gap
+-- the byte before an attribute is a gap
 pub gap_parts : (tight : Bool) (before : Form) → is_gap (parts_attributes tight before) (gap_at tight (behind_form before)) ≡ true
 unfolding is_gap is_space
 gap_parts true bare = refl
@@ -41,7 +41,7 @@ spot_value in_double = refl
 spot_value in_single = refl
 spot_value in_section = refl
 
--- what stands in front of the '/' behind an attribute of this form
+-- what stands before the '/' after an attribute of this form
 abbrev pub slash_gap : Form → List ℕ
 slash_gap bare = []
 slash_gap unquoted = 32 ∷ []

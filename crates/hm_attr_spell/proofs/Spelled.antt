@@ -65,7 +65,7 @@ module _ (g : Spelling) (table : IsTable g.table) (es : UnitEdges) (has : HasTag
 
   -- ---- attributes
 
-  -- the first attribute, and the way behind it
+  -- the first attribute, and the way (path through the layered graph) after it
   record First (before : Form) (a : Attribute) (attributes : List Attribute) (b : List ℕ) (to : State) : Type 0 where
     form : Form
     left : List ℕ

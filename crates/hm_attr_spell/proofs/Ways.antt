@@ -23,8 +23,8 @@ use Rattle.hm_units.proofs.Splits.{join_ways}
 use Rattle.hm_units.proofs.ValueEnds.{attributes_close, Closes, end_closes}
 use Rattle.hm_attr_spell.proofs.Forms.{behind_form, slash_gap, spot_value}
 
--- Where a way stands behind an attribute of this form: in its place, or behind a name with bytes to spare, where an empty
--- value was written in quotes.
+-- Where a way (path through the layered graph) stands after an attribute of this form. It stands in the form's place, or
+-- after a name with bytes to spare, where an empty value was written in quotes.
 abbrev pub Credit : Where → Form → ℕ → Type 0
 Credit at before k = (at ≡ behind_form before) ⊎ ((at ≡ behind_name) × (1 ≤ k))
 
@@ -90,7 +90,7 @@ module _ (g : Spelling) (table : IsTable g.table) (es : UnitEdges) (has : HasTag
 
   -- ---- attributes
 
-  -- the edges of the first attribute in front of those of the others
+  -- the edges of the first attribute, before those of the others
   record FirstFound (form : Form) (a : Attribute) (attributes : List Attribute) (at : Where) (n k : ℕ) : Type 0 where
     next_at : Where
     credit : ℕ

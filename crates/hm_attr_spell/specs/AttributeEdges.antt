@@ -13,7 +13,7 @@ abbrev pub is_behind_quoted : Where → Bool
 is_behind_quoted behind_quoted = true
 is_behind_quoted at = false
 
--- the byte in front of an attribute: a space, but nothing behind a quote where attributes may touch
+-- the byte before an attribute: a space, but nothing after a quote where attributes may touch
 abbrev pub gap_at : Bool → Where → List ℕ
 gap_at tight at = if tight && is_behind_quoted at then [] else 32 ∷ []
 
@@ -21,7 +21,7 @@ gap_at tight at = if tight && is_behind_quoted at then [] else 32 ∷ []
 abbrev pub bare_edges : Bool → List ℕ → State → List Edge
 bare_edges tight n s = edge (gap_at tight s.at ++ n) behind_name nothing ∷ []
 
--- the name of another one, its '=' and what opens its value
+-- the name of any other attribute, its '=' and what opens its value
 abbrev pub opening_edges : Bool → Bool → List ℕ → State → List Edge
 opening_edges tight unquote n s =
     (if unquote then edge (gap_at tight s.at ++ (n ++ codes "=")) in_unquoted nothing ∷ [] else [])
@@ -41,7 +41,7 @@ abbrev pub is_behind_unquoted : Where → Bool
 is_behind_unquoted behind_unquoted = true
 is_behind_unquoted at = false
 
--- '>', and where the tag may close itself `/>`, which stands apart from a value without quotes
+-- '>', and also `/>` where the tag may close itself; `/>` stands apart from a value without quotes
 abbrev pub close_edges : Bool → State → List Edge
 close_edges closes s =
     edge_to (62 ∷ []) first_state

@@ -27,12 +27,12 @@ abbrev pub behind_tag : Bool → State
 behind_tag false = first_state
 behind_tag true = state self_closed nothing
 
--- the names have no capitals, as every tag that was read
+-- the names have no capitals, as in every tag that was read
 abbrev pub AreLow : List Attribute → Type 0
 AreLow [] = Prim.Unit {0}
 AreLow (a ∷ attributes) = (map lower a.name ≡ a.name) × AreLow attributes
 
--- b spells the tag in front of what follows, with a '/' only where the tag may close itself
+-- b spells the tag where `after` follows, with a '/' only where the tag may close itself
 pub record TagSpelled (g : Spelling) (n : List ℕ) (attributes : List Attribute) (closes : Bool) (to : State) (b after : List ℕ) : Type 0 where
   pub slash : Bool
   pub inner : List ℕ

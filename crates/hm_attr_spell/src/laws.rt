@@ -1,7 +1,7 @@
 //! Laws over the edges in a start tag with attributes and its spellings. The functions do nothing.
 ghost use Rattle.hm_attr_spell.specs.Laws.{SpellingsHaveTags, TagsSpell};
 
-/// The bytes along the edges of a start tag with attributes are a spelling of it (13.1.2.1 and 13.1.2.3).
+/// The bytes along the edges of a start tag with attributes are a spelling of it (#start-tags and #attributes-2).
 pub fn tags_spell()
     ensures { TagsSpell }
 {}

@@ -31,7 +31,7 @@ use Rattle.hm_construction.proofs.RawTexts.{IsTag, tag_is_read, TagHere, tag_beh
 
 -- ---- Outcomes
 
--- what was built behind events
+-- what was built after events
 record Behind (es : List Event) (o : Outcome) (w : List Event) : Type 0 where
   rest : List Event
   built_is : o ≡ built rest
@@ -41,7 +41,7 @@ after_built : (es : List Event) (o : Outcome) (w : List Event) → after_events 
 after_built es (built v) w h = record { rest = v; built_is = refl; whole = cc }
 after_built es (refused_by rule at) w h = cc
 
--- a step, and what is built behind it
+-- a step, and what is built after it
 step_settles : (place : ℕ → ℕ) (at : ℕ) (insertion_mode : InsertionMode) (path : List Element) (s : Stepped) (more : Construction → Outcome) (w : List Event) → Leads insertion_mode path s
     → ((next : Construction) (v : List Event) → Good next → more next ≡ built v → SettledAt next.insertion_mode next.path v) → stepped place at s more ≡ built w → SettledAt insertion_mode path w
 step_settles place at insertion_mode path (went es next) more w l behind h =
@@ -75,7 +75,7 @@ token_leads st (tokens.comment s) g a r = comments_lead st.insertion_mode s st s
 
 -- ---- A raw text
 
--- the text stands in front of what begins with no text
+-- the text stands before what begins with no text
 raw_puts : (insertion_mode : InsertionMode) (path : List Element) (s : List ℕ) (w : List Event) → holds_texts insertion_mode ≡ true → RawPiece path s → begins_text w ≡ false → SettledAt insertion_mode path w → SettledAt insertion_mode path (pushes (texts (is_in_raw path) s) w)
 raw_puts insertion_mode path [] w p r alone h = h
 raw_puts insertion_mode path (c ∷ s) w p r alone h = rw (texts_join (is_in_raw path) c s w, r.raw) (by insertion_mode p h)
@@ -105,7 +105,7 @@ raw_settles place at st s more w g r behind h = by (step_bytes s (no_drop st)) (
         let d = behind b.rest b.built_is in
         subst (SettledAt st.insertion_mode st.path) b.whole (raw_puts st.insertion_mode st.path s b.rest (text_mode st.insertion_mode st.path g.shape (in_text st.path r.raw)) r d.1 d.0)
 
--- ---- The end tag behind a raw text
+-- ---- The end tag after a raw text
 
 abbrev BeginsOther : Stepped → Type 0
 BeginsOther (went es next) = (v : List Event) → begins_text (pushes es v) ≡ false
@@ -132,7 +132,7 @@ other_begins : (place : ℕ → ℕ) (at : ℕ) (s : Stepped) (more : Constructi
 other_begins place at (went es next) more w b h = let k = after_built es (more next) w h in subst (λ x. begins_text x ≡ false) k.whole (b k.rest)
 other_begins place at (stops rule n) more w b h = cc
 
--- how the rest of a text is read on behind a token
+-- how the rest of a text is read after a token
 abbrev reads_on : List Entry → (ℕ → ℕ) → ℕ → List ℕ → ℕ → Construction → Outcome
 reads_on t place at s skip next = tree_from t place skip (at + 1) next s
 

@@ -1,4 +1,4 @@
--- Text tokens: each byte is kept, dropped or refused, or the first that isn't whitespace makes body.
+-- Text tokens: each byte is kept, dropped or refused, or the first one that isn't whitespace makes body.
 use Rattle.std.proofs.Common.{◌≡◌, ℕ, ◌+◌, ◌<◌, bytes_eq, codes, inl, inr, Bool, true, false, cond, ◌&&◌, ◌||◌, not, if◌then◌else◌, List, [], ◌∷◌, ◌++◌, refl, ◌∙◌, arith}
 use Rattle.std.proofs.lemmas.Bool.{both_ways, and_parts, and_from, or_cases, not-true}
 use Rattle.std.specs.Str.{is_utf8}
@@ -117,7 +117,7 @@ all_ran (c ∷ s) st keeps = then_ran (no_drop st) c s (kept_byte c (no_drop st)
 pub keeps_in_text : (st : Construction) → is_in_text st.path ≡ true → Keeps st
 keeps_in_text st h c = rw h (ran (λ k. absurd (both_ways (is_in_blank st.path) (text_not_blank st.path h) k)))
 
--- a byte in a insertion mode
+-- a byte in an insertion mode
 abbrev pub kept_in : InsertionMode → ℕ → Construction → Stepped
 kept_in insertion_mode c st =
     if is_in_text st.path then keep_byte c st

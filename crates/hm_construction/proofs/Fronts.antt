@@ -14,7 +14,7 @@ use Rattle.hm_construction.proofs.Standing.{Shape, AllComments, Good, Leads, at_
 use Rattle.hm_construction.proofs.Texts.{text_before_body, texts}
 use Rattle.hm_construction.proofs.Bytes.{no_text_no_raw, space_low, low_behind, low_alone, no_byte_behind, no_byte_first, kept_in, is_body_mode, holds_texts, body_keeps, noscript_keeps, keeps_in_text, ran_puts, good_still, kept_leads}
 
--- ---- A step behind made elements
+-- ---- A step after made elements
 
 behind_twice : (es fs : List Event) (s : Stepped) → behind_events (es ++ fs) s ≡ behind_events es (behind_events fs s)
 behind_twice es fs (went gs st) = ap (λ x. went x st) (append_assoc es fs gs)
@@ -62,7 +62,7 @@ body_no_raw : is_in_raw under_body ≡ false
 unfolding is_raw raw_names is_among
 body_no_raw = refl
 
--- the bytes behind the first of a text
+-- the bytes after the first of a text
 abbrev more_bytes : List ℕ → Construction → Stepped
 more_bytes s next = behind_bytes 1 (step_bytes s next)
 
@@ -102,7 +102,7 @@ space_leads after_html st c s shape b t e zero utf8 l = cc
 no_body_mode : (insertion_mode : InsertionMode) → is_body_mode insertion_mode ≡ false → insertion_mode ≡ in_body → ⊥
 no_body_mode insertion_mode b e = both_ways (is_body_mode insertion_mode) b (rw e refl)
 
--- the first byte of a text, and what is built of the bytes behind it
+-- the first byte of a text, and what is built of the bytes after it
 front_byte : (insertion_mode : InsertionMode) (st : Construction) (c : ℕ) (s : List ℕ) → Shape insertion_mode st.path → AllComments st.behind_body → AllComments st.behind_html → is_body_mode insertion_mode ≡ false → is_in_text st.path ≡ false → is_in_noscript insertion_mode st.path ≡ false → has_byte 0 (c ∷ s) ≡ false → is_utf8 (c ∷ s) ≡ true
     → (is_utf8 s ≡ true → Leads insertion_mode st.path (step_bytes s (no_drop st))) → Leads insertion_mode st.path (then_step (kept_in insertion_mode c (no_drop st)) (more_bytes s))
 front_byte insertion_mode st c s shape inner last b t n zero utf8 more = rw (t, n) (by (is_space c) refl)

@@ -18,7 +18,7 @@ use Rattle.hm_construction.proofs.Ends.{before_tag}
 
 -- ---- What stands in head
 
--- a name of which nothing but the parent is asked in head
+-- a name whose only condition in head is its parent
 abbrev is_plain : List ℕ → Bool
 is_plain n = not (bytes_eq n svg) && (not (closes_p n) && (not (is_unnested n) && (not (is_heading n) && (not (bytes_eq n head) && (not (yields head n) && not (yields noscript n))))))
 

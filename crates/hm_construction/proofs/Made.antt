@@ -15,7 +15,7 @@ use Rattle.hm_elements.proofs.TableFacts.{outer_is_not_deep}
 use Rattle.hm_construction.specs.Steps.{starts}
 use Rattle.hm_construction.proofs.Standing.{BodyPath, inner, no_attributes}
 
--- what is settled behind events is settled with them in front
+-- what is settled after events is settled with them before it
 abbrev pub OpensTo : List Element → List Event → List Element → Type 0
 OpensTo path es path' = (w : List Event) → SettledBody path' w → SettledBody path (pushes es w)
 
@@ -153,7 +153,7 @@ more_parts : (is_among tr part_names ≡ true) × (is_among col part_names ≡ t
 unfolding is_among
 more_parts = (refl, refl)
 
--- what is true of the element on the path to which it comes is true behind the made elements
+-- what is true of the element on the path to which it comes is true after the made elements
 pub record Free (n : List ℕ) (path : List Element) : Type 0 where
   pub kept : head_yields path n ≡ false
   pub no_block : is_block_in_p n path ≡ false

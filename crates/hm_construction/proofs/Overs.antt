@@ -1,4 +1,4 @@
--- The end of a page: what is still open is closed, and the kept comments stand behind body and html.
+-- The end of a page: what is still open is closed, and the kept comments stand after body and html.
 use Rattle.std.proofs.Common.{◌≡◌, ℕ, Bool, true, false, cond, if◌then◌else◌, List, [], ◌∷◌, ◌++◌, map, refl, sym, ap, subst, inl, inr}
 use Rattle.hm_base.specs.Walks.{Event, start, comment, end, Element, pushes}
 use Rattle.hm_base.specs.declared.rules.Rule.TheVariants.{Unclosed}

@@ -71,7 +71,7 @@ record Clean (u s : List ℕ) : Type 0 where
   utf8 : is_utf8 (u ++ s) ≡ true
   nonzero : all_pass is_nonzero s ≡ true
 
--- UTF-8 behind u, without zero byte and CR
+-- UTF-8 after u, without zero byte and CR
 record Lined (u s : List ℕ) : Type 0 where
   utf8 : is_utf8 (u ++ s) ≡ true
   text : all_pass is_text_byte s ≡ true

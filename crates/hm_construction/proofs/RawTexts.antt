@@ -1,4 +1,4 @@
--- A raw text is read as one piece, and behind it stands its end tag.
+-- A raw text is read as one piece, and its end tag follows it.
 use Rattle.std.proofs.Common.{◌≡◌, ℕ, zero, suc, ◌+◌, Bool, true, false, cond, List, [], ◌∷◌, drop, Option, Some, None, refl, codes, arith}
 use Rattle.std.proofs.lemmas.Bool.{both_ways}
 use Rattle.hm_base.specs.Bytes.{strip}
@@ -150,7 +150,7 @@ slice_inside t (c ∷ s) (Some zero) n x rest h = absurd (by (read_tag t (c ∷ 
     by (refused fault) i e = cc
 slice_inside t (c ∷ s) (Some (suc k)) n x rest h = (suc k, (refl, cc))
 
--- behind a raw text its end tag is read
+-- after a raw text its end tag is read
 pub tag_behind : (t : List Entry) (name : List ℕ) (mode : Mode) (s : List ℕ) (n : ℕ) (x rest : List ℕ) → RawMode name mode → first t mode s ≡ behind_bytes n (taken (slice x) rest) → TagHere t mode rest
 unfolding first
 tag_behind t name mode s n x rest (of_script e) h =

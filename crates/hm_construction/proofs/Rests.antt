@@ -1,4 +1,4 @@
--- What is behind a token is the end of the text.
+-- What follows a token is the end of the text.
 use Rattle.std.proofs.Common.{◌≡◌, ℕ, zero, suc, pred, ◌-◌, ◌+◌, ◌<◌, ◌≤◌, Bool, true, false, cond, ◌&&◌, ◌==◌, List, [], ◌∷◌, ◌++◌, length, take, drop, Option, Some, None, refl, sym, ◌∙◌, ap, subst, codes, append_assoc, arith, length-append}
 use Rattle.std.specs.Option.{option_or}
 use Rattle.std.proofs.lemmas.List.{take-append-drop}
@@ -45,7 +45,7 @@ ends_behind p (c ∷ s) = by (p c) (ends_behind p s)
     by true e = ends_more c s (behind p s) e
     by false e = ends_here (c ∷ s)
 
--- what was found behind
+-- a rest that was found is the end of s
 abbrev EndsFound : List ℕ → Option (List ℕ) → Type 0
 EndsFound s None = Unit {0}
 EndsFound s (Some rest) = Ends s rest
@@ -275,7 +275,7 @@ first_ends t (rcdata name) s = unless_end_ends s (read_inside t s (raw_end name 
 first_ends t (raw name) s = unless_end_ends s (read_inside t s (raw_end name s) read_nothing) (inside_ends t s (raw_end name s) read_nothing (nothing_ends s))
 first_ends t script s = unless_end_ends s (read_inside t s (script_end s) read_nothing) (inside_ends t s (script_end s) read_nothing (nothing_ends s))
 
--- a rest is reached by the bytes that are passed over
+-- a rest is reached by the bytes that are skipped
 pub rest_reached : (s rest : List ℕ) → Ends s rest → drop (length s - length rest) s ≡ rest
 rest_reached s rest e =
     let long : length s ≡ length e.0 + length rest = ap length e.1 ∙ length-append e.0 rest in
@@ -307,7 +307,7 @@ one_skipped : (c : ℕ) (s rest : List ℕ) (m : ℕ) → 1 ≤ m → drop m (c 
 one_skipped c s rest zero some h = absurd (omega arith)
 one_skipped c s rest (suc m) some h = h
 
--- the rest behind a token is where the text is read on
+-- the rest after a token is where the text is read on
 pub rest_is : (t : List Entry) (mode : Mode) (c : ℕ) (s : List ℕ) (n : ℕ) (token : Seen) (rest : List ℕ) → SoundNames t → IsMode mode → first t mode (c ∷ s) ≡ behind_bytes n (taken token rest) → drop (pred (length (c ∷ s) - length rest)) s ≡ rest
 rest_is t mode c s n token rest names m h =
     let less = shorter t mode (c ∷ s) n token rest names m h in

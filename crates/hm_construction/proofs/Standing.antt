@@ -1,4 +1,4 @@
--- What is built from a state on is settled at the place of that state: the statement, and how it is put together.
+-- What is built from a state on is settled at the place of that state: the statement, and how it is composed.
 use Rattle.std.proofs.Common.{◌≡◌, ℕ, true, false, ◌⊎◌, List, [], ◌∷◌, ◌++◌, refl, ap}
 use Rattle.std.proofs.lemmas.Bool.{both_ways}
 use Rattle.hm_base.specs.Walks.{Event, start, end, Element, pushed, pushes}
@@ -27,7 +27,7 @@ pub data BodyPath : List Element → Type 0 where
 abbrev pub AtEnd : List Element → Type 0
 AtEnd path = (path ≡ under_body) ⊎ (path ≡ html_element p ∷ under_body)
 
--- the path of a insertion mode
+-- the path of an insertion mode
 abbrev pub Shape : InsertionMode → List Element → Type 0
 Shape initial path = path ≡ []
 Shape before_html path = path ≡ []
@@ -38,7 +38,7 @@ Shape in_body path = BodyPath path
 Shape after_body path = AtEnd path
 Shape after_html path = AtEnd path
 
--- what is built from a insertion mode on is settled there
+-- what is built from an insertion mode on is settled there
 abbrev pub SettledAt : InsertionMode → List Element → List Event → Type 0
 SettledAt initial path w = SettledPage w
 SettledAt before_html path w = SettledBeforeHtml w
@@ -49,7 +49,7 @@ SettledAt in_body path w = SettledBody path w
 SettledAt after_body path w = SettledBody path w
 SettledAt after_html path w = SettledBody path w
 
--- comments that are kept for behind body and html
+-- comments that are kept until body and html are closed
 abbrev pub AllComments : List (List ℕ) → Type 0
 AllComments [] = Unit {0}
 AllComments (s ∷ ss) = CommentAllowed [] s × AllComments ss
@@ -61,7 +61,7 @@ pub record Good (st : Construction) : Type 0 where
   pub last_comments : AllComments st.behind_html
   pub keeps : is_in_raw st.path ≡ true → st.drops_line_feed ≡ false
 
--- what a step makes stands in front of what is settled behind it
+-- what a step makes stands before what is settled after it
 abbrev pub Leads : InsertionMode → List Element → Stepped → Type 0
 Leads insertion_mode path (went es st) = Good st × ((w : List Event) → SettledAt st.insertion_mode st.path w → SettledAt insertion_mode path (pushes es w))
 Leads insertion_mode path (stops rule n) = Unit {0}

@@ -44,7 +44,7 @@ raw_keeps (e ∷ path) h =
 abbrev pub in_body_on : Construction → List Element → Construction
 in_body_on st path = moved (no_drop st) in_body path
 
--- what an element needs that opens on a path of body
+-- what an element that opens on a path of body needs
 pub record Opening (e : Element) (path : List Element) : Type 0 where
   pub no_root : is_html body e.name e.foreign ≡ false
   pub outside : e.foreign ≡ false → is_in_svg path ≡ false
@@ -75,7 +75,7 @@ body_keeps_open : (k : List ℕ) → yields body k ≡ false
 unfolding yields yield_rows is_among
 body_keeps_open k = refl
 
--- closing a front of the path
+-- closing a prefix of the path
 pub front_leads : (q : Element → Bool) (path : List Element) → BodyPath path → q (html_element body) ≡ false → OpensTo path (map end_event (front q path)) (behind q path)
 front_leads q path at_body b w h = by (q (html_element body)) b h
   where

@@ -167,7 +167,7 @@ at_end_is (e ∷ f ∷ g ∷ []) h =
     inr (rw (named_is p e two.0, named_is body f more.0, named_is html g more.1) refl)
 at_end_is (e ∷ f ∷ g ∷ k ∷ path) h = cc
 
--- a insertion mode behind body
+-- an insertion mode after body
 abbrev pub is_behind : InsertionMode → Bool
 is_behind after_body = true
 is_behind after_html = true

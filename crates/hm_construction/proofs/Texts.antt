@@ -1,4 +1,4 @@
--- Texts: what a step keeps of them stands in front of what is settled behind it.
+-- Texts: what a step keeps of them stands before what is settled after it.
 use Rattle.std.proofs.Common.{◌≡◌, ℕ, Bool, true, false, ◌||◌, List, [], ◌∷◌, ◌++◌, refl, sym, ◌∙◌, ap, Some, length}
 use Rattle.std.proofs.lemmas.Bool.{both_ways, and_parts, and_from}
 use Rattle.std.specs.Str.{is_utf8}
@@ -35,7 +35,7 @@ joined_not_null : (s t : List ℕ) → is_null s ≡ false → is_null (s ++ t) 
 joined_not_null [] t a = cc
 joined_not_null (c ∷ s) t a = refl
 
--- ---- A text in front
+-- ---- A text first
 
 -- what is true of a text that is kept
 pub record Piece (path : List Element) (s : List ℕ) : Type 0 where

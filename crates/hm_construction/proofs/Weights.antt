@@ -1,4 +1,4 @@
--- What a step adds to a tree: at most so many events and bytes, however it is built.
+-- What a step adds to a tree: how many events and bytes at most, however it is built.
 use Rattle.std.proofs.Common.{◌≡◌, ℕ, suc, ◌+◌, ◌*◌, ◌≤◌, ◌<◌, Bool, true, false, not, cond, ◌&&◌, ◌||◌, ◌==◌, List, [], ◌∷◌, ◌++◌, length, map, bytes_eq, encode_utf8_all, refl, ap, arith}
 use Rattle.std.proofs.lemmas.List.{length-append}
 use Rattle.hm_base.specs.Bytes.{is_space}
@@ -86,7 +86,7 @@ reach_head_within c d m rule more h after_html st e = omega arith
 
 -- ---- texts
 
--- one byte is one event at most, and is refused at its front
+-- one byte is one event at most, and is refused at its start
 pub keep_within : (c : ℕ) (st : Construction) → Within (load st + 1) (load_size st + 1) 0 (keep_byte c st)
 keep_within c st = (omega arith, omega arith)
 

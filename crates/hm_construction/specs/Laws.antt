@@ -22,7 +22,8 @@ TextsArePlain = (page : List ℕ) → text_fault page ≡ None → IsPlain (map 
 abbrev pub PagesAreSettled : Type 0
 PagesAreSettled = (t : List Entry) (page : List ℕ) (w : List Event) → SoundNames t → page_tree t page ≡ built w → Settled w
 
--- How large a tree can grow: a step adds no more than its token may add and what was still to come, and is refused inside its token.
+-- How large a tree can grow: a step adds no more than its token may add and what was still to come. It is refused inside
+-- its token.
 abbrev pub StepsAreWithin : Type 0
 StepsAreWithin = (st : Construction) (token : Seen) → Within (load st + cost token) (load_size st + size_cost token) (span token) (step st token)
 

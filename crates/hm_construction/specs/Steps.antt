@@ -1,7 +1,7 @@
--- How a tree is built, token by token (HTML Standard, 13.2.6), on pages without repairs.
+-- How a tree is built, token by token (HTML Standard, #tree-construction), on pages without repairs.
 --
--- A step answers the events that it makes and the state then, or the rule that refuses the token. Texts are taken byte by
--- byte: the bytes of a code point above U+007F are none that a rule asks for, and all of them fare like the first.
+-- A step returns the events that it makes and the next state, or the rule that refuses the token. Texts are taken byte by
+-- byte: no rule asks for a byte of a code point above U+007F, and all of these are treated like the first.
 use Rattle.std.specs.Prelude.{ℕ, ◌+◌, Bool, true, false, not, ◌&&◌, ◌||◌, ◌==◌, List, [], ◌∷◌, ◌++◌, map, if◌then◌else◌, bytes_eq, encode_utf8_all}
 use Rattle.hm_base.specs.Bytes.{is_space}
 use Rattle.hm_base.specs.Walks.{Attribute, Event, doctype, start, text, comment, end, Element}
@@ -15,7 +15,7 @@ use Rattle.hm_settle.specs.Moves.{Moves, moves, refuses, start_moves, end_moves,
 use Rattle.hm_tree.specs.Tokens.{Seen}
 use Rattle.hm_tree.specs.Tokens as tokens
 
--- insertion modes, as far as they are told apart
+-- insertion modes, as far as they are distinguished
 pub data InsertionMode : Type 0 where
   initial : InsertionMode
   before_html : InsertionMode
@@ -26,8 +26,8 @@ pub data InsertionMode : Type 0 where
   after_body : InsertionMode
   after_html : InsertionMode
 
--- The insertion mode, the open elements, whether a line feed that comes next is dropped, and the comments behind body and html,
--- which stand in the tree only behind what is still open.
+-- The insertion mode, the open elements, whether a line feed that comes next is dropped, and the comments after body and
+-- html. These stand in the tree only after what is still open.
 pub record Construction : Type 0 where
   pub insertion_mode : InsertionMode
   pub path : List Element
@@ -35,7 +35,7 @@ pub record Construction : Type 0 where
   pub behind_body : List (List ℕ)
   pub behind_html : List (List ℕ)
 
--- the events of a step and the state then, or a rule, with the number of bytes of the token before those that it refuses
+-- the events of a step and the next state, or a rule, with the number of bytes of the token before those that it refuses
 pub data Stepped : Type 0 where
   went : List Event → Construction → Stepped
   stops : Rule → ℕ → Stepped
@@ -124,7 +124,7 @@ no_drop st = record st { drops_line_feed = false }
 unfoldable pub step_byte : ℕ → Construction → Stepped
 step_byte c st = if st.drops_line_feed && c == 10 then went [] (no_drop st) else kept_byte c (no_drop st)
 
--- a step behind n bytes of the same token
+-- a step after n bytes of the same token
 abbrev pub behind_bytes : ℕ → Stepped → Stepped
 behind_bytes n (went es st) = went es st
 behind_bytes n (stops rule k) = stops rule (n + k)
@@ -137,14 +137,14 @@ abbrev pub step_bytes : List ℕ → Construction → Stepped
 step_bytes [] st = went [] st
 step_bytes (c ∷ s) st = then_step (step_byte c st) (λ next. behind_bytes 1 (step_bytes s next))
 
--- what a reference gives is refused at its front
+-- what a reference gives is refused at its start
 abbrev pub at_front : Stepped → Stepped
 at_front (went es st) = went es st
 at_front (stops rule n) = stops rule 0
 
 -- ---- Start tags
 
--- a line feed directly behind the start tags of these is dropped
+-- a line feed directly after the start tags of these is dropped
 abbrev pub drops_behind : List Element → Bool
 drops_behind [] = false
 drops_behind (e ∷ path) = not e.foreign && is_among e.name preformatted
@@ -230,7 +230,7 @@ html_start n attributes slash st =
     else if bytes_eq n body then open_body st.insertion_mode attributes st
     else start_inside st.insertion_mode n attributes slash st
 
--- before the doctype, or behind body
+-- before the doctype, or after body
 abbrev pub is_outside : InsertionMode → Bool
 is_outside initial = true
 is_outside after_body = true
@@ -333,7 +333,7 @@ step st (tokens.comment s) = step_comment st.insertion_mode s (no_drop st)
 
 -- ---- The end of the page
 
--- the ends of the open elements, with the comments behind body before the last of them, and those behind html last
+-- the ends of the open elements, with the comments after body before the last of them, and those after html last
 abbrev pub closing : List Element → List (List ℕ) → List (List ℕ) → List Event
 closing [] inner last = map comment inner ++ map comment last
 closing (e ∷ []) inner last = map comment inner ++ end_event e ∷ map comment last

@@ -16,7 +16,7 @@ pub data Outcome : Type 0 where
   built : List Event → Outcome
   refused_by : Rule → ℕ → Outcome
 
--- events in front of what follows, texts that touch joined
+-- events before what follows; texts that touch are joined
 abbrev pub after_events : List Event → Outcome → Outcome
 after_events es (built w) = built (pushes es w)
 after_events es (refused_by rule at) = refused_by rule at
@@ -36,13 +36,13 @@ stepped place at (stops rule n) more = refused_by rule (place (at + n))
 abbrev pub over : (ℕ → ℕ) → ℕ → Construction → Outcome
 over place at st = stepped place at (step_over st) (λ next. built [])
 
--- the next token is stepped, and more reads on behind it
+-- the next token is stepped, and more reads on after it
 abbrev pub next_step : (ℕ → ℕ) → ℕ → Construction → List ℕ → Next → (ℕ → Construction → Outcome) → Outcome
 next_step place at st s at_end more = over place (at + length s) st
 next_step place at st s (behind_bytes n (refused fault)) more = refused_by (rule_of fault) (place (at + n))
 next_step place at st s (behind_bytes n (taken token rest)) more = stepped place (at + n) (step st token) (more (pred (length s - length rest)))
 
--- the tree of what is left of a text from an index on; the first skip bytes are passed over
+-- the tree of what is left of a text from an index on; the first `skip` bytes are skipped
 abbrev pub tree_from : List Entry → (ℕ → ℕ) → ℕ → ℕ → Construction → List ℕ → Outcome
 tree_from t place skip at st [] = over place at st
 tree_from t place (suc skip) at st (c ∷ s) = tree_from t place skip (at + 1) st s

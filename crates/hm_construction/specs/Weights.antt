@@ -66,7 +66,7 @@ size_cost (tokens.slice s) = length s
 size_cost (tokens.points ps) = length (encode_utf8_all ps)
 size_cost (tokens.comment s) = length s
 
--- behind how many bytes of the token it may be refused
+-- after how many bytes of the token it may be refused
 abbrev pub span : Seen → ℕ
 span (tokens.doctype legacy) = 0
 span (tokens.start_tag n attributes slash) = 0
@@ -75,12 +75,12 @@ span (tokens.slice s) = length s
 span (tokens.points ps) = 0
 span (tokens.comment s) = 0
 
--- The events of a step and what is left behind it are within these bounds; it is refused within so many bytes.
+-- The events of a step and what is left after it are within `a` and `b`; it is refused within `m` bytes.
 abbrev pub Within : ℕ → ℕ → ℕ → Stepped → Type 0
 Within a b m (went es st) = (weight es + load st ≤ a) × (walk_size es + load_size st ≤ b)
 Within a b m (stops rule n) = n ≤ m
 
--- The events that end a page are within these bounds; it is refused at its end.
+-- The events that end a page are within `a` and `b`; it is refused at its end.
 abbrev pub WithinAll : ℕ → ℕ → Stepped → Type 0
 WithinAll a b (went es st) = (weight es ≤ a) × (walk_size es ≤ b)
 WithinAll a b (stops rule n) = n ≡ 0

@@ -72,14 +72,14 @@ plain_stays : (t : List Entry) (spot : Spot) (c : ℕ) (y : List ℕ) → (c == 
 unfolding stays
 plain_stays t spot c y a l = rw (a, l) refl
 
--- a piece spelled anew, in front of y
+-- a piece that is respelled before y
 pub record NewPiece (t : List Entry) (rules : CharacterRules) (plain : ℕ → Bool) (spot : Spot) (q : Piece) (x y : List ℕ) : Type 0 where
   pub new : Piece
   pub points : piece_points new ≡ piece_points q
   pub is_allowed : IsAllowed t (sparing rules plain) spot new y
   pub gives : Gives t (is_value spot) (piece_bytes q ++ x) (piece_bytes new ++ y)
 
--- the pieces spelled anew
+-- the pieces, respelled
 pub record Exchanged (t : List Entry) (rules : CharacterRules) (plain : ℕ → Bool) (spot : Spot) (ps : List Piece) (x y : List ℕ) : Type 0 where
   pub pieces : List Piece
   pub means : meant pieces ≡ meant ps
@@ -108,7 +108,7 @@ module _ (t : List Entry) (table : IsTable t) (rules : CharacterRules) (plain : 
             };
           }
 
-  -- the reference is written again with at most so many bytes
+  -- the reference is written again with at most n bytes
   again_new : (qs b : List ℕ) (n : ℕ) (x y : List ℕ) → head_is (λ c. not (plain c)) qs ≡ true → Refers t spot qs b x → Again t spot qs n y → n + length y ≤ length b + length x → NewPiece t rules plain spot (reference_to b qs) x y
   again_new qs b n x y free r a le = record {
     new = reference_to a.piece qs;

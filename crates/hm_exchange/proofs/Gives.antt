@@ -1,4 +1,4 @@
--- What bytes that follow give in place of others.
+-- When other bytes may follow in place of these.
 use Rattle.std.proofs.Common.{◌≡◌, ℕ, ◌+◌, ◌≤◌, Bool, true, List, ◌∷◌, ◌++◌, length, Option, Some, None, is_some, refl, sym, ◌∙◌, inl, inr, ◌⊎◌, arith, length-append}
 use Rattle.hm_refs.specs.Names.{Entry}
 use Rattle.hm_refs.specs.Tables.{IsTable}
@@ -21,7 +21,7 @@ pub record Gives (t : List Entry) (value : Bool) (x y : List ℕ) : Type 0 where
 pub gives_itself : (t : List Entry) (value : Bool) (x : List ℕ) → Gives t value x x
 gives_itself t value x = record { le = omega arith; good = inl (λ spot p v f h. h) }
 
--- the same bytes in front of both
+-- the same bytes before both
 pub same_keeps : (t : List Entry) → IsTable t → (value : Bool) (s x y : List ℕ) → Keeps t value x y → Keeps t value (s ++ x) (s ++ y)
 same_keeps t k value s x y g spot p v f h = run_law t k spot s y p f ∙ by_run (run t spot (Some p) s) (run_fits t spot s (Some p) f) (sym (run_law t k spot s x p f) ∙ h)
   where

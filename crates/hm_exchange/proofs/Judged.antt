@@ -1,4 +1,4 @@
--- Where '&' and '<' stand as themselves, and what stands behind them where they don't.
+-- Where '&' and '<' stand as themselves, and what follows them where they don't.
 use Rattle.std.proofs.Common.{◌≡◌, ℕ, ◌≤◌, Bool, true, false, cond, ◌&&◌, ◌||◌, ◌==◌, not, List, [], ◌∷◌, ◌++◌, Option, Some, None, refl, sym, ap, ◌∙◌, subst, arith, is_some, is_none, encode_utf8}
 use Rattle.hm_base.specs.Bytes.{head_is, is_alnum, is_digit_of, is_letter}
 use Rattle.hm_refs.specs.Names.{Entry, begins, is_front, is_good, is_name}
@@ -15,7 +15,7 @@ use Rattle.hm_units.specs.Steps.{Fits, ampersand_in_text, ampersand_in_value, go
 use Rattle.hm_units.proofs.Runs.{amp_special, no_child, no_name, onto_none}
 use Rattle.hm_units.proofs.Steps.{step_law}
 
--- whether a character stays is told by what is pending behind it
+-- what is pending after a character says whether it stays
 pub stays_is : (t : List Entry) → IsTable t → (spot : Spot) (c : ℕ) (y : List ℕ) → stays t spot c y ≡ keeps t spot (itself_to spot c nothing) y
 stays_is t k spot c y = sym (and_true (stays t spot c y)) ∙ literal_law t k spot nothing c tt nothing (run_nothing (encode_utf8 c)) y
   where
@@ -41,7 +41,7 @@ judged t spot c y h = by_tests (c == 38) (c == 60) refl refl h
     by_tests false true ha hl e = is_lt (eq_of c 60 hl)
     by_tests false false ha hl e = absurd (cc)
 
--- without a child and a name behind it, nothing is pending
+-- where neither a child nor a name follows, nothing is pending
 step_no_child : (t : List Entry) (spot : Spot) (q : List ℕ) (c : ℕ) → is_front t (q ++ c ∷ []) ≡ false → (35 == c) ≡ false → (is_value spot ≡ true → is_name t q ≡ false) → step t spot (ampersand q) c ≡ Some nothing
 unfolding ampersand_in_value ampersand_in_text onto
 step_no_child t spot q c n h v = by_value (is_value spot) refl
@@ -147,7 +147,7 @@ no_root_child t k d h = by_front (is_front t (38 ∷ d ∷ [])) refl
     by_front false e = refl
     by_front true e = let n = front_name t (38 ∷ d ∷ []) e in absurd (let l = second_letter d n.entry.name n.begins_so (good_entry t k n.entry n.among) in cc)
 
--- what stands directly behind a literal that doesn't stay is no digit and no ';'
+-- what stands directly after a literal that doesn't stay is no digit and no ';'
 pub no_stay : (t : List Entry) → IsTable t → (spot : Spot) (c : ℕ) (y : List ℕ) → stays t spot c y ≡ false → keeps t spot decimal y ≡ true
 unfolding stays
 no_stay t k spot c [] h = refl

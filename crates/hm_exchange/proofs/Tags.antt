@@ -1,4 +1,4 @@
--- Start tags whose values are spelled anew.
+-- Start tags whose values are respelled.
 use Rattle.std.proofs.Common.{◌≡◌, ℕ, ◌+◌, ◌≤◌, Bool, true, ◌&&◌, List, [], ◌∷◌, ◌++◌, length, refl, ap, sym, subst, ◌∙◌, inl, arith, length-append, chars}
 use Rattle.hm_base.specs.Walks.{Attribute}
 use Rattle.hm_markup_forms.specs.Gaps.{is_gap}
@@ -41,7 +41,7 @@ reassigned v w b a = record {
   len = omega (arith, ap length a.is, length-append a.left (61 ∷ (a.right ++ w)), length-append a.left (61 ∷ (a.right ++ v)), length-append a.right w, length-append a.right v);
 }
 
--- a value spelled anew in front of other bytes
+-- a value that is respelled before other bytes
 record ValueNew (g : Spelling) (form : Form) (value b x y : List ℕ) : Type 0 where
   bytes : List ℕ
   spells : SpellsValue (spared g) form value bytes y
@@ -121,7 +121,7 @@ module _ (g : Spelling) (table : IsTable g.table) where
 
 -- ---- tags
 
--- a start tag spelled anew in front of other bytes
+-- a start tag that is respelled before other bytes
 pub record StartNew (g : Spelling) (name : List ℕ) (attributes : List Attribute) (slash : Bool) (b x y : List ℕ) : Type 0 where
   pub inner : List ℕ
   pub spells : SpellsStart (spared g) name attributes slash (60 ∷ inner) y

@@ -1,4 +1,4 @@
--- Texts and values spelled anew.
+-- Texts and values that are respelled.
 use Rattle.std.proofs.Common.{ℕ, List, ◌++◌, refl, ◌∙◌, subst, arith, length-append}
 use Rattle.hm_refs.specs.Names.{Entry}
 use Rattle.hm_refs.specs.Plain.{is_plain}
@@ -9,7 +9,7 @@ use Rattle.hm_exchange.proofs.Exchange.{exchange}
 use Rattle.hm_exchange.proofs.Gives.{Gives, gives_itself}
 use Rattle.hm_exchange.proofs.PlainTests.{plain_test}
 
--- the code points spelled anew in front of y
+-- the code points, respelled before y
 pub record TextNew (t : List Entry) (rules : CharacterRules) (spot : Spot) (cs b x y : List ℕ) : Type 0 where
   pub bytes : List ℕ
   pub spells : SpellsPoints t (sparing rules (is_plain t)) spot cs bytes y

@@ -23,13 +23,13 @@ text_spot path = by_tests (is_in_svg path) (is_rcdata (current path))
     by_tests false true = refl
     by_tests false false = refl
 
--- the events spelled anew
+-- the events, respelled
 record Anew (g : Spelling) (before : Before) (path : List Element) (w : List Event) (b : List ℕ) : Type 0 where
   bytes : List ℕ
   spells : SpellsFrom (spared g) before path w bytes
   gives : Gives g.table false b bytes
 
--- a piece spelled anew in front of y
+-- a piece that is respelled before y
 record PieceNew (g : Spelling) (spells : List ℕ → List ℕ → Type 0) (b x y : List ℕ) : Type 0 where
   bytes : List ℕ
   is : spells bytes y

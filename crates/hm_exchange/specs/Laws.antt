@@ -12,7 +12,7 @@ use Rattle.hm_spellings.specs.Spellings.{Spells, SpellsWhere}
 abbrev pub sparing : CharacterRules → (ℕ → Bool) → CharacterRules
 sparing rules plain = record { ascii = rules.ascii; refers = λ c. not (plain c) }
 
--- a spelling of the code points in front of the same bytes, with no more bytes than b
+-- a spelling of the code points before the same bytes, with no more bytes than b
 pub record HasPlainText (t : List Entry) (rules : CharacterRules) (spot : Spot) (cs b after : List ℕ) : Type 0 where
   pub bytes : List ℕ
   pub spells : SpellsPoints t (sparing rules (is_plain t)) spot cs bytes after

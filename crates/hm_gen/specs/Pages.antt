@@ -1,4 +1,4 @@
--- Generated pages: each is made from a number, with so many blocks.
+-- Generated pages: each is made from a number, with `size` blocks.
 use Rattle.std.specs.Prelude.{ℕ, zero, suc, ◌+◌, ◌*◌, ◌/◌, ◌%◌, ◌^◌, List, [], ◌++◌, codes}
 use Rattle.std.specs.Fmt.{decimal}
 use Rattle.hm_gen.specs.declared.block.Block.{Block}
@@ -6,7 +6,7 @@ use Rattle.hm_gen.specs.declared.block.Block.TheVariants.{Paragraph, Items, Tabl
 
 -- ---- The sequence of a linear congruential generator
 
--- the number behind one of the sequence
+-- the number after x in the sequence
 abbrev pub next : ℕ → ℕ
 next x = (x * 1103515245 + 12345) % 2 ^ 31
 
@@ -46,6 +46,6 @@ lines number (suc k) = lines number k ++ line (chosen (chance number (suc k))) (
 abbrev pub heading : ℕ → List ℕ
 heading number = codes "<!doctype html><title>" ++ (decimal number ++ codes "</title>\n")
 
--- the page of a number, with so many blocks
+-- the page of a number, with `size` blocks
 unfoldable pub page : ℕ → ℕ → List ℕ
 page number size = heading number ++ lines number size

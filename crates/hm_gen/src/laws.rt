@@ -1,7 +1,8 @@
 //! Laws over generated pages. The functions do nothing.
 ghost use Rattle.hm_gen.specs.Laws.{PagesArePlain, PagesAreShort, PagesAreTexts, PagesAreWithinLimit};
 
-/// A generated page is ASCII, without zero byte and CR. So it has a text (HTML Standard, 13.2.3), which is the page itself.
+/// A generated page is ASCII, without zero byte and CR. So it has a text (HTML Standard, #the-input-byte-stream), which is
+/// the page itself.
 pub fn pages_are_texts()
     ensures plain { PagesArePlain }
     ensures texts { PagesAreTexts }

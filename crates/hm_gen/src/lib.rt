@@ -1,4 +1,4 @@
-//! A page from a number, as large as is asked for: what is measured where no page is loaded.
+//! A page that is made from a number, of any size that is asked for: it is measured where no page is loaded.
 #![tactic(auto)]
 
 mod block;

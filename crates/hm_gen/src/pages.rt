@@ -23,7 +23,7 @@ pub fn page_of(alloc: Global, number: u32, size: u32) -> Result<String, Memory>
     Ok(text)
 }
 
-/// The number behind this one in the sequence, that of a linear congruential generator modulo 2^31.
+/// The number after this one in the sequence of a linear congruential generator modulo 2^31.
 fn next(number: u32) -> u32
     ensures { result ≡ next number }
 {

@@ -113,7 +113,7 @@ lines_begin number (suc k) rest e =
     let last : List ℕ = line (chosen (chance number (suc k))) (suc k) in
     subst Ends (sym (append_assoc (lines number k) last rest)) (lines_begin number k (last ++ rest) (line_begins (chosen (chance number (suc k))) (suc k) rest))
 
--- The lines of a page are read from a state in which blocks may begin, in front of what is read from there and in body.
+-- The lines of a page are read from a state in which blocks may begin, before what can be read from there and in body.
 pub lines_grow : (t : List Entry) → IsTable t → (st : Construction) → BeginsLine st → (number size : ℕ) (rest : List ℕ) → size < 2 ^ 32 → Ends rest → Grows t st rest → Grows t (at under_body) rest → Grows t st (lines number size ++ rest)
 lines_grow t k st here number zero rest h e first more = first
 lines_grow t k st here number (suc j) rest h e first more =

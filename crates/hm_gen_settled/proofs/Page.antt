@@ -46,7 +46,7 @@ line_feed_grows : (t : List Entry) → IsTable t → (rest : List ℕ) → Ends 
 unfolding line_feed_piece
 line_feed_grows t k rest e more = text_grows t k at_head at_head (text (10 ∷ []) false ∷ []) (10 ∷ []) rest (line_feed_piece t rest) in_head_begins.mode_is e heading_steps.line_feed more
 
--- behind the number
+-- after the number
 title_closes : (t : List Entry) → IsTable t → (rest : List ℕ) → Ends rest → Grows t at_head rest → Grows t (here in_head (inside title under_head) false) (codes "</title>\n" ++ rest)
 title_closes t k rest e more =
     token_grows t k (rcdata title) (here in_head (inside title under_head) false) at_head (end title false ∷ []) (codes "</title>\n" ++ rest) (tokens.end_tag title) (10 ∷ rest) names.heading.is_name block_modes.in_title
@@ -73,7 +73,7 @@ page_grows t k number size h l =
     let blocks : Grows t at_head (lines number size) = subst (Grows t at_head) (append-nil (lines number size)) (lines_grow t k at_head in_head_begins number size [] l over (head_over t) (body_over t)) in
     heading_grows t k number (lines number size) h e blocks
 
--- of a page that is its own text, what is built from its bytes is built of its text
+-- where a page is its own text, what is built from its bytes is built of its text
 text_built : (t : List Entry) (s : List ℕ) (g : Grows t first_state s) → IsItsText s → tree_of_text t s ≡ built g.tree
 unfolding tree_of_source
 text_built t s g own =

@@ -1,4 +1,4 @@
--- A text without '<' is made of pieces, in front of a tag or at the end.
+-- A text without '<' is made of pieces, before a tag or at the end.
 use Rattle.std.proofs.Common.{◌≡◌, ℕ, zero, suc, ◌+◌, ◌≤◌, Bool, true, false, cond, ◌==◌, List, [], ◌∷◌, ◌++◌, length, Option, Some, None, refl, ap, sym, subst, ◌∙◌, arith, append_assoc, append-nil, length-append}
 use Rattle.hm_base.specs.Bytes.{is_alnum, is_letter, is_digit_of}
 use Rattle.hm_base.specs.Forms.{has_byte, is_byte}
@@ -19,7 +19,7 @@ pub data Ends : List ℕ → Type 0 where
   over : Ends []
   tag : (s : List ℕ) → begins_markup (60 ∷ s) ≡ true → Ends (60 ∷ s)
 
--- the pieces of a text in front of what follows
+-- the pieces of a text before what follows
 pub record InPieces (t : List Entry) (s after : List ℕ) : Type 0 where
   pub pieces : List TextPiece
   pub written : written_so pieces ≡ s

@@ -61,7 +61,7 @@ pub not_first : (t s : State) (states : List State) → same_state t s ≡ false
 not_first t s states e (first zs) = absurd (let k : same_state s s ≡ true = same_self s in cc)
 not_first t s states e (later y zs i) = i
 
--- a row of a function of the states tells it
+-- a row that a function of the states makes gives the values of that function
 pub price_at-map : (f : State → Option ℕ) (states : List State) (s : State) → IsIn s states → price_at states (map f states) s ≡ f s
 price_at-map f [] s i = elim i [ ]
 price_at-map f (t ∷ states) s i =

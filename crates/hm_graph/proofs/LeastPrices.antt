@@ -88,7 +88,7 @@ pub record IsFirst (behind : State → Option ℕ) (n : ℕ) (es : List Edge) (e
 is_first_later : (behind : State → Option ℕ) (n : ℕ) (y : Edge) (es : List Edge) → same_price (over (edge_length y) (behind y.to)) (Some n) ≡ false → (e : Edge) × IsFirst behind n es e → (e : Edge) × IsFirst behind n (y ∷ es) e
 is_first_later behind n y es differs (e, f) = (e, record { found = rw differs f.found; reaches = record { among = later y es f.reaches.among; price = f.reaches.price } })
 
--- where the first one isn't it, a later one is
+-- where it isn't the first edge, it is among the later ones
 not_here : (x : Edge) (behind : State → Option ℕ) (n : ℕ) (y : Edge) (es : List Edge) → same_price (over (edge_length y) (behind y.to)) (Some n) ≡ false → over (edge_length x) (behind x.to) ≡ Some n → IsIn x (y ∷ es) → IsIn x es
 not_here x behind n y es differs e (first zs) = absurd (let k : same_price (over (edge_length x) (behind x.to)) (Some n) ≡ true = rw e (same_price_self (Some n)) in cc)
 not_here x behind n y es differs e (later z zs i) = i
@@ -169,7 +169,7 @@ over_edge p None len n k h = absurd h
 over_edge None (Some b) len n k h = absurd k
 over_edge (Some a) (Some b) len n k h = omega arith
 
--- the price of a state of the first of these layers
+-- the price of a state in the first of these layers
 front_price : List State → List (List (Option ℕ)) → State → Option ℕ
 front_price states [] s = None
 front_price states (row ∷ rows) s = price_at states row s

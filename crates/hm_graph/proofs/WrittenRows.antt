@@ -1,4 +1,4 @@
--- What is left out of the least prices follows from what is written.
+-- The rows of least prices that are left out follow from those that are written.
 use Rattle.std.proofs.Common.{◌≡◌, ℕ, suc, Bool, List, [], ◌∷◌, length, map, Option, Some, true, false, not, ◌&&◌, ◌==◌, cond, refl, subst}
 use Rattle.std.proofs.lemmas.List.{length-map}
 use Rattle.std.proofs.lemmas.Bool.{eq-eqb}
@@ -13,7 +13,7 @@ use Rattle.hm_graph.proofs.LayerStates.{end_behind, price_at-map, best_same, map
 least_width : (edges : Edges) (units : List Unit) (states : List State) → has_width states (map (least edges units) states) ≡ true
 least_width edges units states = eq-eqb (length (map (least edges units) states)) (length states) (length-map states (least edges units))
 
--- a row of least prices follows from the row behind it
+-- a row of least prices follows from the next row
 least_follows : (edges : Edges) (unit : Unit) (units : List Unit) (states : List State)
     → row_over edges unit states (price_at (states_behind edges unit states) (map (least edges units) (states_behind edges unit states))) ≡ map (least edges (unit ∷ units)) states
 least_follows edges unit units states =
@@ -21,7 +21,7 @@ least_follows edges unit units states =
     map_same (λ s. best behind (edges unit s)) (least edges (unit ∷ units)) states
     (λ s i. best_same behind (least edges units) (edges unit s) (λ e j. price_at-map (least edges units) (states_behind edges unit states) e.to (end_behind edges s e unit states i j)))
 
--- the least prices of the layers behind one, with the first of them at hand
+-- the least prices from a layer on, with the first row written out
 least_first : (edges : Edges) (units : List Unit) (states : List State) → (rows : List Row) × (least_prices edges units states ≡ map (least edges units) states ∷ rows)
 least_first edges [] states = ([], refl)
 least_first edges (unit ∷ units) states = (least_prices edges units (states_behind edges unit states), refl)
@@ -34,7 +34,7 @@ followed edges unit units states = by_first (least_first edges units (states_beh
         → followed_by edges unit states (Some (least_prices edges units (states_behind edges unit states))) ≡ Some (least_prices edges (unit ∷ units) states)
     by_first (rows, e) = rw (e, least_follows edges unit units states) refl
 
--- some row is written: that of the last layer at least
+-- some row is written: at least that of the last layer
 pub some_written : (edges : Edges) (follows : LayerTest) (k : ℕ) (units : List Unit) (states : List State)
     → (row : Row) × (rows : List Row) × (written_rows edges follows k units states (least_prices edges units states) ≡ row ∷ rows)
 some_written edges follows k [] states = (map (least edges []) states, [], refl)
@@ -48,7 +48,7 @@ some_written edges follows k (unit ∷ units) states = by_test (not (k == 0) && 
     by_test true w = w
     by_test false w = (map (least edges (unit ∷ units)) states, behind, refl)
 
--- What the written least prices stand for are the least prices.
+-- The written least prices stand for all the least prices.
 pub full_is_least : (edges : Edges) (follows : LayerTest) (k : ℕ) (units : List Unit) (states : List State)
     → full_from edges follows k units states (written_rows edges follows k units states (least_prices edges units states)) ≡ Some (least_prices edges units states)
 full_is_least edges follows k [] states = rw (least_width edges [] states) refl

@@ -31,7 +31,7 @@ LeastPricesBound = (edges : Edges) (units : List Unit) (s : State) (b : List ℕ
 abbrev pub LeastPricesAreReached : Type 0
 LeastPricesAreReached = (edges : Edges) (units : List Unit) (s : State) (n : ℕ) → least edges units s ≡ Some n → Way edges units s (first_way edges units s) × (length (first_way edges units s) ≡ n)
 
--- What the written least prices stand for are the least prices, whatever is left out.
+-- The written least prices stand for all the least prices, whatever is left out.
 abbrev pub WrittenPricesAreWhole : Type 0
 WrittenPricesAreWhole = (edges : Edges) (follows : LayerTest) (units : List Unit)
     → full edges follows units (written_rows edges follows 0 units first_layer (least_prices edges units first_layer)) ≡ Some (least_prices edges units first_layer)

@@ -1,4 +1,4 @@
--- The layers of the graph: the states that may come about between two units, in order of first appearance.
+-- The layers of the graph: the states that may be reached between two units, in order of first appearance.
 use Rattle.std.specs.Prelude.{ℕ, suc, Bool, true, false, not, ◌&&◌, ◌==◌, List, [], ◌∷◌, ◌++◌, if◌then◌else◌}
 use Rattle.std.specs.List.{list_any, list_all}
 use Rattle.hm_graph.specs.Ways.{Edges}
@@ -6,7 +6,7 @@ use Rattle.hm_units.specs.Edges.{Edge}
 use Rattle.hm_units.specs.States.{State, first_state, same_state}
 use Rattle.hm_units.specs.Units.{Unit}
 
--- with a state behind, where it isn't there yet
+-- with a state at the end, where it isn't there yet
 abbrev pub with_state : List State → State → List State
 with_state states s = if list_any (λ t. same_state t s) states then states else states ++ s ∷ []
 
@@ -34,7 +34,8 @@ layers es (unit ∷ units) states = states ∷ layers es units (states_behind es
 
 -- ---- Which layers are written
 
--- A test of a layer by its unit and states: whether its prices follow from those behind it, so that they aren't written.
+-- A test of a layer by its unit and states: whether its prices follow from the next layer's prices, so that they aren't
+-- written.
 abbrev pub LayerTest : Type 0
 LayerTest = Unit → List State → Bool
 
@@ -50,8 +51,8 @@ is_single xs = false
 abbrev pub single_follows : Edges → LayerTest
 single_follows es unit states = is_single states && list_all (λ s. is_single (es unit s)) states
 
--- The first layer and the last one are written, and of the others those that don't follow; k is the number of the layer
--- whose states these are.
+-- The first layer and the last one are written, and of the others those that don't follow from the next one. These states
+-- are those of layer k.
 abbrev pub written_from : Edges → LayerTest → ℕ → List Unit → List State → List ℕ
 written_from es follows k [] states = k ∷ []
 written_from es follows k (unit ∷ units) states =

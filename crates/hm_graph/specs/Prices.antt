@@ -1,4 +1,5 @@
--- Prices for the states of the layers: the least ones, those that show a bound by themselves, and those that are written.
+-- Prices (potentials: the cost to go) for the states of the layers: the least ones, those that show a bound by themselves,
+-- and those that are written.
 use Rattle.std.specs.Prelude.{◌≡◌, ◌≤◌, ℕ, suc, ◌+◌, Bool, not, ◌&&◌, ◌==◌, List, [], ◌∷◌, length, map, Option, Some, None, if◌then◌else◌}
 use Rattle.hm_graph.specs.Layers.{LayerTest, states_behind, first_layer}
 use Rattle.hm_graph.specs.Ways.{Edges, best, least}
@@ -24,8 +25,8 @@ least_prices es (unit ∷ units) states = map (least es (unit ∷ units)) states
 
 -- ---- Prices that show a bound by themselves
 
--- A price keeps the rule at an edge: a number is at most the edge's length and the number behind it, a closed price behind
--- bounds nothing, and a closed price has only closed ones behind.
+-- A price keeps the rule at an edge: a number is at most the edge's length plus the price at the edge's end. A closed price
+-- at the end bounds nothing, and where a price is closed, so is the price at the end.
 abbrev pub KeepsEdge : Option ℕ → ℕ → Option ℕ → Type 0
 KeepsEdge price n None = Prim.Unit {0}
 KeepsEdge None n (Some b) = ⊥
@@ -35,7 +36,7 @@ abbrev pub KeepsEdges : Option ℕ → (State → Option ℕ) → List Edge → 
 KeepsEdges price behind [] = Prim.Unit {0}
 KeepsEdges price behind (e ∷ es) = KeepsEdge price (edge_length e) (behind e.to) × KeepsEdges price behind es
 
--- a price for each state, and each keeps the rule at the edges of the unit
+-- a price for each state, and each price keeps the rule at the edges of the unit
 abbrev pub KeepsLayer : Edges → Unit → (State → Option ℕ) → List State → Row → Type 0
 KeepsLayer es unit behind [] [] = Prim.Unit {0}
 KeepsLayer es unit behind [] (q ∷ row) = ⊥
@@ -69,7 +70,7 @@ first_price ((q ∷ row) ∷ rows) = q
 
 -- ---- Written prices, and all that they stand for
 
--- the rows that are written of those of all layers; k is the number of the layer whose states these are
+-- of the rows of all layers those that are written; k is the number of the layer whose states these are
 abbrev pub written_rows : Edges → LayerTest → ℕ → List Unit → List State → List Row → List Row
 written_rows es follows k units states [] = []
 written_rows es follows k [] states (row ∷ rows) = row ∷ []
@@ -88,13 +89,14 @@ abbrev pub with_row : Row → Option (List Row) → Option (List Row)
 with_row row None = None
 with_row row (Some rows) = Some (row ∷ rows)
 
--- a row that follows from the first of those behind it
+-- a row that follows from the first of the next rows
 abbrev pub followed_by : Edges → Unit → List State → Option (List Row) → Option (List Row)
 followed_by es unit states None = None
 followed_by es unit states (Some []) = None
 followed_by es unit states (Some (next ∷ rows)) = Some (row_over es unit states (price_at (states_behind es unit states) next) ∷ next ∷ rows)
 
--- the rows of all layers from one on, by those that are written; none where these are too few or too many or of another width
+-- the rows of all layers from one on, by those that are written; None where these are too few or too many or of another
+-- width
 abbrev pub full_from : Edges → LayerTest → ℕ → List Unit → List State → List Row → Option (List Row)
 full_from es follows k [] states [] = None
 full_from es follows k [] states (row ∷ []) = if has_width states row then Some (row ∷ []) else None

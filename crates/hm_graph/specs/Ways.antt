@@ -1,4 +1,4 @@
--- Ways through the units of a tree, and the least of them. What is said here is said of any edges.
+-- Ways (paths through the layered graph) over the units of a tree, and the least of them. All of this holds for any edges.
 use Rattle.std.specs.Prelude.{◌≡◌, ℕ, ◌+◌, Bool, true, false, List, [], ◌∷◌, ◌++◌, min, nat_eq, Option, Some, None, if◌then◌else◌}
 use Rattle.std.specs.Option.{option_map}
 use Rattle.hm_refs.specs.Tables.{IsIn}
@@ -15,7 +15,7 @@ abbrev pub Way : Edges → List Unit → State → List ℕ → Type 0
 Way es [] from b = b ≡ []
 Way es (unit ∷ units) from b = (e : Edge) × IsIn e (es unit from) × ((rest : List ℕ) × (b ≡ e.bytes ++ rest) × Way es units e.to rest)
 
--- ---- Prices: a number of bytes up to the end, or none, where there is no way
+-- ---- Prices (potentials: the cost to go): a number of bytes up to the end, or None (closed) where there is no way
 
 -- the lesser price, where a closed one is greater than each number
 abbrev pub lesser : Option ℕ → Option ℕ → Option ℕ
@@ -27,7 +27,7 @@ lesser (Some a) (Some b) = Some (min a b)
 abbrev pub over : ℕ → Option ℕ → Option ℕ
 over n price = option_map (λ q. n + q) price
 
--- the least price over these edges, by the prices of the states behind
+-- the least price over these edges, by the prices of the states that they lead to
 abbrev pub best : (State → Option ℕ) → List Edge → Option ℕ
 best behind [] = None
 best behind (e ∷ es) = lesser (over (edge_length e) (behind e.to)) (best behind es)

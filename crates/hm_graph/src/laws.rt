@@ -6,7 +6,7 @@ pub fn same_states_are_equal()
     ensures { SameStatesAreEqual }
 {}
 
-/// Prices that keep the rules of a certificate bound every way, whoever made them.
+/// Prices from any source that keep the rules of a certificate bound every way.
 pub fn feasible_prices_bound()
     ensures { FeasiblePricesBound }
 {}

@@ -1,4 +1,4 @@
--- Gaps: what a needed one gives, and where one serves for another.
+-- Gaps: what a needed gap gives, and which other needs a gap meets.
 use Rattle.std.proofs.Common.{◌≡◌, ℕ, Bool, true, false, not, ◌&&◌, List, [], ◌∷◌, ◌++◌, refl}
 use Rattle.std.proofs.lemmas.Bool.{and_parts}
 use Rattle.hm_base.specs.Bytes.{head_is, is_null, is_space}
@@ -20,7 +20,7 @@ pub blank_gap : (gap : List ℕ) → is_blank gap ≡ true → is_gap false gap 
 unfolding is_gap
 blank_gap gap h = rw h refl
 
--- a gap serves where one is needed less
+-- a gap also serves where less is needed
 pub gap_serves : (needed less : Bool) (gap : List ℕ) → (less ≡ true → needed ≡ true) → is_gap needed gap ≡ true → is_gap less gap ≡ true
 gap_serves needed false gap f h = blank_gap gap (gap_blank needed gap h)
 gap_serves true true gap f h = h

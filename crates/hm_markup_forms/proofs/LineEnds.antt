@@ -1,4 +1,5 @@
--- What bytes become where each CR LF and each other CR becomes one LF, as the text of a page has them (HTML Standard, 13.2.3.5).
+-- What bytes become where each CR LF and each other CR becomes one LF, as in the text of a page (HTML Standard,
+-- #preprocessing-the-input-stream).
 use Rattle.std.proofs.Common.{◌≡◌, ℕ, ◌+◌, Bool, true, false, not, ◌&&◌, ◌==◌, List, [], ◌∷◌, ◌++◌, map, refl, sym, ap, subst, ◌∙◌, if◌then◌else◌}
 use Rattle.std.proofs.lemmas.Bool.{and_parts, eqb-true}
 use Rattle.hm_base.specs.Bytes.{is_space, lower, all_pass}
@@ -7,7 +8,7 @@ use Rattle.hm_base.specs.Source.{PlacedByte, numbered, without_mark, pairs_joine
 use Rattle.hm_markup_forms.specs.Gaps.{is_gap}
 use Rattle.hm_markup_forms.proofs.Gaps.{gap_blank}
 
--- whether a CR stands directly before is told
+-- with line ends as LF; the Bool says whether a CR stands directly before
 abbrev pub newlines_after : Bool → List ℕ → List ℕ
 newlines_after after [] = []
 newlines_after after (c ∷ s) =
@@ -40,7 +41,7 @@ lines_from n (c ∷ d ∷ s) = by_tests (c == 13) refl (d == 10) refl (lines_fro
 pub text_is_newlines : (page : List ℕ) → without_mark (numbered 0 page) ≡ numbered 0 page → text_of page ≡ newlines page
 text_is_newlines page unmarked = ap (λ (s : List PlacedByte). map byte_of (returns_replaced (pairs_joined s))) unmarked ∙ lines_from 0 page
 
--- a page that begins with another byte than a mark has none
+-- a page that doesn't begin with the first byte of a mark has no mark
 pub unmarked : (c : ℕ) (s : List ℕ) → (c == 0xEF) ≡ false → without_mark (numbered 0 (c ∷ s)) ≡ numbered 0 (c ∷ s)
 unmarked c [] h = refl
 unmarked c (d ∷ []) h = refl
@@ -79,7 +80,7 @@ up_to_return (c ∷ s) = by_test (c == 13) refl (up_to_return s)
     by_test false e (same k) = same (rw e (ap (λ r. c ∷ r) k))
     by_test false e (up_to f x is k) = up_to (c ∷ f) x (ap (λ r. c ∷ r) is) (rw e (ap (λ r. c ∷ r) k))
 
--- bytes that begin with none of a line end, and hold no CR
+-- bytes that don't begin with LF, and hold no CR
 pub record IsInLine (s : List ℕ) : Type 0 where
   pub first : ℕ
   pub more : List ℕ
@@ -87,7 +88,7 @@ pub record IsInLine (s : List ℕ) : Type 0 where
   pub no_feed : (first == 10) ≡ false
   pub plain : all_pass is_no_return (first ∷ more) ≡ true
 
--- a byte isn't one that has no other small letter and fails where the small letter passes
+-- c isn't d, where d is its own small letter and fails a test that the small letter of c passes
 lower_differs : (p : ℕ → Bool) (c d : ℕ) → lower d ≡ d → p d ≡ false → p (lower c) ≡ true → (c == d) ≡ false
 lower_differs p c d stays fails passes = by_test (c == d) refl
   where
@@ -126,7 +127,7 @@ lowered_in_line p (d ∷ s) c w e feed return all =
       plain = lowered_plain p (d ∷ s) return here;
     }
 
--- ---- whitespace in front of such bytes
+-- ---- whitespace before such bytes
 
 some_gap : (needed : Bool) (c : ℕ) (gap : List ℕ) → is_space c ≡ true → is_blank gap ≡ true → is_gap needed (c ∷ gap) ≡ true
 unfolding is_gap
@@ -137,7 +138,7 @@ feed_is_space : is_space 10 ≡ true
 unfolding is_space
 feed_is_space = refl
 
--- whitespace in front of a byte that is no line end
+-- whitespace before a byte that is no line end
 record HasSpaces (after : Bool) (ws : List ℕ) (d : ℕ) (s : List ℕ) : Type 0 where
   other : List ℕ
   blank : is_blank other ≡ true
@@ -155,7 +156,7 @@ spaces_lines (c ∷ ws) after d s blank feed return =
     by_tests false e true f space one two = record { other = 10 ∷ one.other; blank = rw (feed_is_space, one.blank) refl; is = rw (e, f) (ap (λ r. 10 ∷ r) one.is) }
     by_tests false e false f space one two = record { other = c ∷ two.other; blank = rw (space, two.blank) refl; is = rw (e, f) (ap (λ r. c ∷ r) two.is) }
 
--- a gap in front of a piece inside a line
+-- a gap before a piece inside a line
 pub record HasGap (needed : Bool) (gap piece s : List ℕ) : Type 0 where
   pub other : List ℕ
   pub gap_is : is_gap needed other ≡ true

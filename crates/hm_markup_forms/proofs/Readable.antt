@@ -21,7 +21,7 @@ IsBehind unquoted after = head_is ends_value after ≡ true
 IsBehind double after = Unit {0}
 IsBehind single after = Unit {0}
 
--- Where a value of these attributes is written by the one relation in a tag, it is by the other.
+-- In a tag, a value of these attributes that is written by the first relation is written by the second too.
 abbrev pub ValuesCarry : Writes → Writes → List Attribute → Type 0
 ValuesCarry writes reads attributes = (form : Form) (a : Attribute) (b after : List ℕ) → Contains attributes a → IsBehind form after → writes form a.value b after → reads form a.value b after
 
@@ -48,7 +48,7 @@ closing_behind unquoted slash gap after h = closing_ends slash gap after h
 closing_behind double slash gap after h = tt
 closing_behind single slash gap after h = tt
 
--- what follows what stands in front of attributes
+-- what follows the form before attributes
 pub attributes_behind : (writes : Writes) (touching : Bool) (before last : Form) (attributes : List Attribute) (b after : List ℕ)
     → WritesAttributes writes touching before last attributes b after → IsBehind last after → IsBehind before (b ++ after)
 attributes_behind writes touching before last [] b after w behind = rw (w.1, ← w.0) behind
@@ -85,7 +85,7 @@ attributes_are_readable writes reads touching before last (a ∷ attributes) b a
       attributes_are_readable writes reads touching form last attributes rest after more behind ws,
     )
 
--- a start tag that is written by the one relation is one by the other, and its attributes may touch
+-- a start tag that is written by the first relation is one by the second too, where attributes may touch
 pub start_is_readable : (writes reads : Writes) (touching : Bool) (name : List ℕ) (attributes : List Attribute) (slash : Bool) (b after : List ℕ)
     → ValuesCarry writes reads attributes → WritesStart writes touching name attributes slash b after → WritesStart reads true name attributes slash b after
 start_is_readable writes reads touching name attributes slash b after carry w = record {

@@ -11,7 +11,7 @@ use Rattle.hm_markup_forms.proofs.Gaps.{gap_blank, blank_gap}
 use Rattle.hm_markup_forms.proofs.LineEnds.{newlines, newlines_after, is_no_return, newlines_plain, IsInLine, lowered_plain, lowered_in_line, gap_lines}
 use Rattle.hm_markup_forms.proofs.Readable.{ends_value, IsBehind, closing_behind, attributes_behind}
 
--- b, written in front of after, with its line ends as LF, in front of after with its own
+-- with line ends as LF in b and in after, b is still written before after
 pub record HasLines (W : List ℕ → List ℕ → Type 0) (b after : List ℕ) : Type 0 where
   pub other : List ℕ
   pub written : W other (newlines after)
@@ -57,7 +57,7 @@ assigned_lines v b after value w =
       is = ap newlines cut ∙ left.is ∙ ap (λ r. left.other ++ 61 ∷ r) right.is ∙ simp append_assoc refl;
     }
 
--- what ends a value still does
+-- what ends a value still ends it
 pub behind_lines : (form : Form) (after : List ℕ) → IsBehind form after → IsBehind form (newlines after)
 behind_lines bare after h = tt
 behind_lines unquoted [] h = absurd (cc)

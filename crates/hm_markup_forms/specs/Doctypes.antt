@@ -1,6 +1,7 @@
--- How a doctype may be written (HTML Standard, 13.1.1).
+-- How a doctype may be written (HTML Standard, #the-doctype).
 --
--- Whether whitespace has to stand between its words is told: a reader takes `<!doctypehtml>` too, who writes keeps words apart.
+-- A parameter says whether whitespace has to stand between its words: a reader takes `<!doctypehtml>` too, a writer keeps
+-- words apart.
 use Rattle.std.specs.Prelude.{◌≡◌, ◌⊎◌, ℕ, Bool, true, false, List, ◌++◌, codes}
 use Rattle.hm_base.specs.Forms.{is_blank}
 use Rattle.hm_markup_forms.specs.Gaps.{is_gap, IsWord}
@@ -17,7 +18,7 @@ pub record IsPlainDoctype (apart : Bool) (b : List ℕ) : Type 0 where
   pub name_is : IsWord (codes "html") name
   pub tail_is : is_blank tail ≡ true
 
--- behind `html` whitespace, `system`, a gap, the identifier in quotes, whitespace or none, `>`
+-- after `html` whitespace, `system`, a gap, the identifier in quotes, whitespace or none, `>`
 pub record IsLegacyDoctype (apart : Bool) (b : List ℕ) : Type 0 where
   pub word : List ℕ
   pub gap : List ℕ

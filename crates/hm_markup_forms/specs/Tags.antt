@@ -1,8 +1,8 @@
--- How a tag may be written (HTML Standard, 13.1.2.1 to 13.1.2.3): its name and the names of its attributes in any ASCII
--- case, whitespace of any kind, attributes with and without quotes.
+-- How a tag may be written (HTML Standard, #start-tags to #attributes-2): its name and the names of its attributes in any
+-- ASCII case, whitespace of any kind, attributes with and without quotes.
 --
--- How a value is written in a form is told by a relation: what can be read is one, the written rules are another. Each
--- piece is judged in front of the bytes that follow it.
+-- A relation says how a value is written in a form: what can be read is one, the written rules are another. Each piece is
+-- judged together with the bytes that follow it.
 use Rattle.std.specs.Prelude.{◌≡◌, ℕ, Bool, true, false, not, ◌&&◌, List, [], ◌∷◌, ◌++◌, map}
 use Rattle.hm_base.specs.Bytes.{lower}
 use Rattle.hm_base.specs.Forms.{is_blank}
@@ -16,11 +16,11 @@ pub data Form : Type 0 where
   double : Form
   single : Form
 
--- how a value may be written in a form, with its '=', behind the attribute's name and in front of what follows
+-- how a value may be written in a form, with its '=', after the attribute's name and before what follows
 abbrev pub Writes : Type 1
 Writes = Form → List ℕ → List ℕ → List ℕ → Type 0
 
--- v behind '=', each of them behind whitespace or none
+-- v after '=', with whitespace or none before each of them
 pub record IsAssigned (v b : List ℕ) : Type 0 where
   pub left : List ℕ
   pub right : List ℕ
@@ -28,8 +28,8 @@ pub record IsAssigned (v b : List ℕ) : Type 0 where
   pub left_blank : is_blank left ≡ true
   pub right_blank : is_blank right ≡ true
 
--- Whether whitespace has to stand between an attribute of this form and the next one: behind a quote only where
--- attributes may not touch.
+-- Whether whitespace has to stand between an attribute of this form and the next one: after a quote only where attributes
+-- may not touch.
 abbrev pub parts_attributes : Bool → Form → Bool
 parts_attributes touching bare = true
 parts_attributes touching unquoted = true
@@ -43,7 +43,7 @@ parts_slash unquoted = true
 parts_slash double = false
 parts_slash single = false
 
--- b writes an attribute in this form, behind one of the form before or behind the tag's name, which counts as bare
+-- b writes an attribute in this form, after one of the form before or after the tag's name, which counts as bare
 pub record WritesAttribute (writes : Writes) (touching : Bool) (before form : Form) (a : Attribute) (b after : List ℕ) : Type 0 where
   pub gap : List ℕ
   pub name : List ℕ
@@ -53,7 +53,7 @@ pub record WritesAttribute (writes : Writes) (touching : Bool) (before form : Fo
   pub lowered : map lower name ≡ a.name
   pub assigned : writes form a.value value after
 
--- b writes these attributes behind one of the form before; the last one, or else what is before, has the form last
+-- b writes these attributes after one of the form before; the last one, or else what is before, has the form last
 abbrev pub WritesAttributes : Writes → Bool → Form → Form → List Attribute → List ℕ → List ℕ → Type 0
 WritesAttributes writes touching before last [] b after = (last ≡ before) × (b ≡ [])
 WritesAttributes writes touching before last (a ∷ attributes) b after =

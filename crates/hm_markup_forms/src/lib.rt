@@ -1,2 +1,2 @@
-//! How a doctype and a tag may be written, whoever asks: a reader of what there is, or the written rules.
+//! How a doctype and a tag may be written, for a reader of existing pages and for the written rules.
 #![tactic(auto)]

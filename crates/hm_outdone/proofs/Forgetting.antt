@@ -22,7 +22,7 @@ use Rattle.hm_units.specs.Units.{Unit, fixed, start_tag, tag_name, bare_attribut
 
 -- ---- Lists whose elements have better ones in another list
 
--- one of them stands in that relation to x
+-- one of them stands in the relation R to x
 abbrev pub HasBetter : {A : Type 0} → (A → A → Type 0) → List A → A → Type 0
 HasBetter R ys x = (y : _) × IsIn y ys × R y x
 
@@ -49,7 +49,7 @@ join_bettered R xs ys vs ws h k x i = by_part (in_append x xs vs i)
     by_part (inl j) = in_front (h x j)
     by_part (inr j) = in_back (k x j)
 
--- where there are more, or some under a test
+-- in lists that a test chooses
 test_bettered : {A : Type 0} (R : A → A → Type 0) (b : Bool) (xs ys vs ws : List A) → AreBettered R xs ys → AreBettered R vs ws → AreBettered R (cond b xs vs) (cond b ys ws)
 test_bettered R true xs ys vs ws h k = h
 test_bettered R false xs ys vs ws h k = k

@@ -1,4 +1,4 @@
--- Without the edges that are outdone the least prices and the first way are the same.
+-- Without the edges that are dominated (outdone) the least prices and the first way are the same.
 use Rattle.std.proofs.Common.{◌≡◌, ◌≤◌, ℕ, suc, Bool, true, false, cond, ◌||◌, List, [], ◌∷◌, ◌++◌, length, nat_lt, nat_le, ◌&&◌, Option, Some, None, refl, sym, ap, ◌∙◌, subst, arith}
 use Rattle.std.specs.List.{list_any}
 use Rattle.std.proofs.lemmas.Bool.{and_parts, eqb-true}
@@ -41,7 +41,7 @@ closed_at_least n (Some m) e = absurd (cc)
 number_at_least : (n : ℕ) (p : Option ℕ) → p ≡ Some n → AtLeast n p
 number_at_least n p e = subst (AtLeast n) (sym e) (omega arith)
 
--- the lesser of a number and a price that is at least it
+-- the lesser of a number and a price that is at least that number
 lesser_first : (n : ℕ) (p q : Option ℕ) → p ≡ Some n → AtLeast n q → lesser p q ≡ Some n
 lesser_first n p None e h = rw e refl
 lesser_first n p (Some m) e h = rw e (ap Some (omega arith))
@@ -50,7 +50,7 @@ lesser_second : (n : ℕ) (p q : Option ℕ) → AtLeast (suc n) p → q ≡ Som
 lesser_second n None q h e = e
 lesser_second n (Some m) q h e = rw e (ap Some (omega arith))
 
--- where the first isn't the number, it is greater and the second one is the number
+-- where the first price isn't the number, it is greater and the second price is the number
 greater : (n : ℕ) (p q : Option ℕ) → same_price p (Some n) ≡ false → lesser p q ≡ Some n → AtLeast (suc n) p × (q ≡ Some n)
 greater n None q d e = (tt, e)
 greater n (Some a) None d e = absurd (let k : same_price (Some a) (Some n) ≡ true = subst (λ p. same_price p (Some n) ≡ true) (sym e) (same_price_self (Some n)) in cc)
@@ -97,7 +97,7 @@ same_price_is None (Some b) e = absurd (cc)
 same_price_is (Some a) None e = absurd (cc)
 same_price_is (Some a) (Some b) e = ap Some (eqb-true a b e)
 
--- an edge over which the least price comes isn't outdone by one in front, where all those have greater prices
+-- an edge over which the least price comes isn't dominated by an earlier one, where all earlier ones have greater prices
 not_in_front : (f : State → Option ℕ) → Favours f → (n : ℕ) (e : Edge) (before : List Edge) → price f e ≡ Some n → ((x : Edge) → IsIn x before → AtLeast (suc n) (price f x)) → list_any (outdoes_in_front e) before ≡ false
 not_in_front f favours n e before is more = none_passes (outdoes_in_front e) before (λ x i h. fails x (more x i) h)
   where
@@ -108,7 +108,7 @@ not_in_front f favours n e before is more = none_passes (outdoes_in_front e) bef
         (over_at_least (edge_length x) (edge_length e) (suc n) (f x.to) (f e.to) (le_of (edge_length x) (edge_length e) parts.1) (favours x.to e.to parts.0) k)
         in omega (arith, z)
 
--- nor by one behind
+-- nor by a later one
 not_behind : (f : State → Option ℕ) → Favours f → (n : ℕ) (e : Edge) (es : List Edge) → price f e ≡ Some n → AtLeast n (best f es) → list_any (outdoes_behind e) es ≡ false
 not_behind f favours n e es is least = none_passes (outdoes_behind e) es (λ x i h. fails x (price_in f n x es least i) h)
   where
@@ -143,7 +143,7 @@ here f favours n e before es is least more =
     subst (λ ks. SameChoice f n ks (e ∷ es)) (sym kept)
     (record { least = lesser_first n (price f e) (best f (kept_behind (e ∷ before) es)) is (kept_at_least f n (e ∷ before) es least); edge = rw same refl })
 
--- where it isn't the first, the choice is made behind
+-- where it isn't the first edge, the choice is made among the later ones
 behind : (f : State → Option ℕ) (n : ℕ) (e : Edge) (b : Bool) (kept es : List Edge) → same_price (price f e) (Some n) ≡ false → AtLeast (suc n) (price f e) → SameChoice f n kept es → SameChoice f n (cond b kept (e ∷ kept)) (e ∷ es)
 behind f n e true kept es differs more c = record { least = c.least; edge = rw differs c.edge }
 behind f n e false kept es differs more c = record { least = lesser_second n (price f e) (best f kept) more c.least; edge = rw differs c.edge }
@@ -176,7 +176,7 @@ same_best f favours es = by_price (best f es) refl
 
 -- ---- Over all units
 
--- where forgetting loses nothing, a state that serves has no greater least price
+-- where forgetting loses nothing, a state that serves for another has no greater least price
 favours_least : (es : Edges) → LosesNothing es → (units : List Unit) → Favours (least es units)
 favours_least es loses units t s h n k = by_test (same_state t s) refl h
   where

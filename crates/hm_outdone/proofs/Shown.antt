@@ -1,4 +1,4 @@
--- Prices that keep the rules without the edges that are outdone show that no spelling is shorter.
+-- Prices that keep the rules without the edges that are dominated (outdone) show that no spelling is shorter.
 use Rattle.std.proofs.Common.{arith}
 use Rattle.hm_exchange.proofs.Trees.{spellings_spare_plain}
 use Rattle.hm_graph.specs.UnitEdges.{edges_of}

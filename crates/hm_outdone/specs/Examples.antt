@@ -17,7 +17,7 @@ pub of_plain : kept_edges (character_edges [] usual in_text 97 None first_state)
 unfolding same_state as_itself may_stand is_writable best_number point_of digits encode
 of_plain = refl
 
--- what leaves less pending is no choice where it is longer, so each way to write '<' is kept
+-- what leaves less pending doesn't dominate where it is longer, so each way to write '<' is kept
 pub of_less_than : kept_edges (character_edges [] usual in_text 60 None first_state) ≡ edge (codes "<") outside less_than ∷ edge (codes "&#60") outside decimal ∷ edge (codes "&#60;") outside nothing ∷ []
 unfolding same_state as_itself may_stand is_writable best_number point_of digits encode
 of_less_than = refl
@@ -27,7 +27,8 @@ pub of_pair : kept_edges (character_edges two usual in_text 120 (Some 0x338) fir
 unfolding same_state as_itself may_stand is_writable best_number point_of digits encode behind_pair
 of_pair = refl
 
--- with nothing pending a start tag that may be left out is left out; behind a number without ';' the tag is kept as well, since it ends the number
+-- With nothing pending a start tag that may be left out is left out. After a number without ';' the tag is kept as well,
+-- since it ends the number.
 pub of_start_tag : kept_edges (start_edges (codes "p") true false false first_state) ≡ edge [] outside nothing ∷ []
 unfolding same_state
 of_start_tag = refl
@@ -55,7 +56,7 @@ pub first_of_equals : kept_edges (edge (codes "&a;") outside nothing ∷ edge (c
 unfolding same_state
 first_of_equals = refl
 
--- one with as many bytes that leaves something pending is kept in front of one with nothing pending, and not behind it
+-- one with as many bytes that leaves something pending is kept before one with nothing pending, and not after it
 pub kept_in_front : kept_edges (edge (codes "&ab") outside decimal ∷ edge (codes "&b;") outside nothing ∷ []) ≡ edge (codes "&ab") outside decimal ∷ edge (codes "&b;") outside nothing ∷ []
 unfolding same_state
 kept_in_front = refl

@@ -7,7 +7,7 @@ use Rattle.hm_graph.specs.Ways.{Edges}
 use Rattle.hm_outdone.specs.Outdone.{forced_follows, kept_edges}
 use Rattle.hm_units.specs.Edges.{Edge}
 
--- which edges of a state are in the graph: all of them, or those that no other one outdoes
+-- which edges of a state are in the graph: all of them, or those that no other one dominates
 abbrev pub kept_by : Format → List Edge → List Edge
 kept_by One es = es
 kept_by Two es = es

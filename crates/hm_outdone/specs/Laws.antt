@@ -1,4 +1,4 @@
--- What is true of the graph without the edges that are outdone.
+-- What is true of the graph without the edges that are dominated (outdone).
 use Rattle.std.specs.Prelude.{◌≡◌, ◌≤◌, ℕ, true, List, length, Some}
 use Rattle.hm_base.specs.Walks.{Event}
 use Rattle.hm_base.specs.declared.plain.SpellRules.{SpellRules}
@@ -15,7 +15,7 @@ use Rattle.hm_units.specs.States.{State, first_state}
 use Rattle.hm_units.specs.Units.{Unit, units_of}
 use Rattle.hm_ways.specs.Laws.{sparing_plain}
 
--- a way with no more bytes than b
+-- a way (path through the layered graph) with no more bytes than b
 pub record HasWayOver (es : Edges) (units : List Unit) (s : State) (b : List ℕ) : Type 0 where
   pub bytes : List ℕ
   pub way : Way es units s bytes
@@ -29,7 +29,7 @@ LosesNothing es = (units : List Unit) (s : State) (b : List ℕ) → may_forget 
 abbrev pub ForgettingIsNoLoss : Type 0
 ForgettingIsNoLoss = (g : Spelling) → LosesNothing (edges_of g)
 
--- ---- Without the edges that are outdone
+-- ---- Without the edges that are dominated
 
 abbrev pub SameLeast : Edges → Type 0
 SameLeast es = (units : List Unit) (s : State) → least (sparse es) units s ≡ least es units s
@@ -37,7 +37,7 @@ SameLeast es = (units : List Unit) (s : State) → least (sparse es) units s ≡
 abbrev pub SameFirstWay : Edges → Type 0
 SameFirstWay es = (units : List Unit) (s : State) (n : ℕ) → least es units s ≡ Some n → first_way (sparse es) units s ≡ first_way es units s
 
--- prices that keep the rules at the edges that are left bound every way, also over edges that are outdone
+-- prices that keep the rules at the edges that are left bound every way, also over edges that are dominated
 abbrev pub PricesBound : Edges → Type 0
 PricesBound es = (units : List Unit) (prices : List Row) (n : ℕ) (b : List ℕ) → Feasible (sparse es) units prices → first_price prices ≡ Some n → Way es units first_state b → n ≤ length b
 
@@ -55,8 +55,8 @@ SparseFirstWayIsFirst = (g : Spelling) → SameFirstWay (edges_of g)
 abbrev pub SparsePricesBound : Type 0
 SparsePricesBound = (g : Spelling) → PricesBound (edges_of g)
 
--- Over a settled tree, without references at plain characters: prices that keep the rules at the edges that are left show that no
--- spelling has fewer bytes than the first of them.
+-- Over a settled tree, without references at plain characters, prices show a bound where they keep the rules at the edges
+-- that are left: no spelling has fewer bytes than the first price.
 abbrev pub SparsePricesShow : Type 0
 SparsePricesShow =
     (t : List Entry) → IsTable t → (r : SpellRules) (w : List Event) → Settled w → (prices : List Row) (n : ℕ)

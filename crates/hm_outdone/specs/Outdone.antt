@@ -1,4 +1,4 @@
--- The graph of sparse certificates: the edges of each state without those that another one outdoes.
+-- The graph of sparse certificates: the edges of each state without those that another one dominates (outdoes).
 use Rattle.std.specs.Prelude.{Bool, not, ◌&&◌, ◌||◌, nat_lt, nat_le, List, [], ◌∷◌, if◌then◌else◌, is_some}
 use Rattle.std.specs.List.{list_any, list_all}
 use Rattle.hm_graph.specs.Layers.{LayerTest, is_single}
@@ -21,15 +21,15 @@ serves t s = same_state t s || (may_forget s && same_state t (forgotten s))
 
 -- ---- Among the edges of a unit from one state
 
--- f, which stands in front of e, outdoes it: it has no more bytes
+-- f, which stands before e, dominates it: its end serves as well, and it has no more bytes
 abbrev pub outdoes_in_front : Edge → Edge → Bool
 outdoes_in_front e f = serves f.to e.to && nat_le (edge_length f) (edge_length e)
 
--- f, which stands behind e, outdoes it: it has fewer bytes
+-- f, which stands after e, dominates it: its end serves as well, and it has fewer bytes
 abbrev pub outdoes_behind : Edge → Edge → Bool
 outdoes_behind e f = serves f.to e.to && nat_lt (edge_length f) (edge_length e)
 
--- the edges that no other one outdoes, in their order; before are those in front, in any order
+-- the edges that no other one dominates, in their order; `before` holds the earlier ones, in any order
 abbrev pub kept_behind : List Edge → List Edge → List Edge
 kept_behind before [] = []
 kept_behind before (e ∷ es) =

@@ -6,29 +6,29 @@ pub fn forgetting_is_no_loss()
     ensures { ForgettingIsNoLoss }
 {}
 
-/// Over any edges where forgetting is no loss, those that are outdone change neither prices nor the first way, and prices that
-/// keep the rules without them bound every way.
+/// Over any edges where forgetting is no loss, those that are dominated (outdone) change neither prices nor the first way.
+/// Prices that keep the rules without them bound every way.
 pub fn outdone_edges_are_needless()
     ensures { OutdoneEdgesAreNeedless }
 {}
 
-/// The least prices are the same without the edges that are outdone.
+/// The least prices are the same without the edges that are dominated.
 pub fn sparse_least_is_least()
     ensures { SparseLeastIsLeast }
 {}
 
-/// The first way is the same without the edges that are outdone.
+/// The first way is the same without the edges that are dominated.
 pub fn sparse_first_way_is_first()
     ensures { SparseFirstWayIsFirst }
 {}
 
-/// Prices that keep the rules without the edges that are outdone bound every way, whoever made them.
+/// Prices from any source that keep the rules without the edges that are dominated bound every way.
 pub fn sparse_prices_bound()
     ensures { SparsePricesBound }
 {}
 
-/// Prices that keep the rules without the edges that are outdone show, whoever made them, that no spelling of a settled tree has
-/// fewer bytes than the first.
+/// Prices from any source that keep the rules without the dominated edges show a bound: no spelling of a settled tree has
+/// fewer bytes than the first price.
 pub fn sparse_prices_show()
     ensures { SparsePricesShow }
 {}

@@ -1,4 +1,4 @@
-//! The graph of sparse certificates: without the edges that another one outdoes. Laws alone.
+//! The graph of sparse certificates: without the edges that another one dominates (outdoes). Laws alone.
 #![tactic(auto)]
 
 pub mod laws;

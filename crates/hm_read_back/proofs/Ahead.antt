@@ -1,4 +1,5 @@
--- What is next in a spelling: a hidden tag is one that what is next makes anyhow, and a text is read with what follows it.
+-- What is next in a spelling: a hidden tag is one whose element what is next makes anyway, and a text is read with what
+-- follows it.
 use Rattle.std.proofs.Common.{◌≡◌, ℕ, ◌+◌, true, false, List, [], ◌∷◌, ◌++◌, map, refl, sym, ◌∙◌, ap, subst, encode_utf8_all, append_assoc}
 use Rattle.std.proofs.lemmas.Bool.{and_parts}
 use Rattle.hm_base.specs.Walks.{Event, pushes}
@@ -30,7 +31,7 @@ pub data Ahead : Type 0 where
   point : ℕ → Ahead
   finish : Ahead
 
--- ordinary text at the front, up to where a text ends
+-- ordinary text at the start, up to where a text ends
 pub record TextFront (t : List Entry) (b text : List ℕ) : Type 0 where
   pub pieces : List TextPiece
   pub rest : List ℕ
@@ -124,7 +125,7 @@ texts_hidden t place st next es c x names m m' agree (k ∷ ks) at s rest texts 
         let same : d ≡ c = cc in
         token_hidden t place at s n k left st next es names m m' h (token_agrees st next es c y k is (rw same at b) agree)
 
--- Where two states agree at what is first, the one makes es, and then what the other makes.
+-- Where two states agree at what is first, the first state makes es, and then what the second one makes.
 pub hidden : (t : List Entry) → Sound t → (b : List ℕ) (x : Ahead) (st next : Construction) (es : List Event) → mode_of st.path ≡ ordinary → mode_of next.path ≡ ordinary → Begins t b x → Agree st es next x → (place : ℕ → ℕ) (at : ℕ) → tree_from t place 0 at st b ≡ after_events es (tree_from t place 0 at next b)
 hidden t sound b (tag k) st next es m m' h agree place at = token_hidden t place at b 0 k h.0 st next es sound.names m m' h.1.1 agree
 hidden t sound b (point c) st next es m m' h agree place at =
@@ -133,7 +134,7 @@ hidden t sound b (point c) st next es m m' h agree place at =
     rw f.whole (texts_hidden t place st next es c h.0 sound.names m m' agree r.tokens at (written_so f.pieces ++ f.rest) f.rest r.texts (r.joined ∙ f.means) r.reads)
 hidden t sound b finish st next es m m' h agree place at = rw h (agree place at)
 
--- So what the other builds stands behind es.
+-- So what the second one builds stands after es.
 pub unseen : (t : List Entry) → Sound t → (b : List ℕ) (x : Ahead) (st next : Construction) (es : List Event) (w : List Event) → mode_of st.path ≡ ordinary → mode_of next.path ≡ ordinary → Begins t b x → Agree st es next x → Builds t next b w → Builds t st b (pushes es w)
 unseen t sound b x st next es w m m' h agree more place at = hidden t sound b x st next es m m' h agree place at ∙ ap (after_events es) (more place at)
 
@@ -165,7 +166,7 @@ pieces_append t [] qs after a b = b
 pieces_append t (literal c ∷ ps) qs after a b = (rw (follow_on ps qs after) a.0, pieces_append t ps qs after a.1 b)
 pieces_append t (referred s cs ∷ ps) qs after a b = (rw (follow_on ps qs after) a.0, pieces_append t ps qs after a.1 b)
 
--- what a run behind another one makes, where the second alone builds w
+-- what a run after another one makes, where the second alone builds w
 joined_build : (t : List Entry) (place : ℕ → ℕ) (later later' : ℕ) (rest : List ℕ) (es : List Event) (whole part : Outcome) (w : List Event) (r : Run) → Reached whole (λ q. tree_from t place 0 later q rest) (behind_run es r) → Reached part (λ q. tree_from t place 0 later' q rest) r → part ≡ built w → whole ≡ built (pushes es w)
 joined_build t place later later' rest es whole part w (ran fs next) h k e = by (tree_from t place 0 later' next rest) refl (sym k ∙ e)
   where
@@ -176,7 +177,7 @@ joined_build t place later later' rest es whole part w (ran fs next) h k e = by 
     by (refused_by rule n) at is = cc
 joined_build t place later later' rest es whole part w halted h k e = let no : refused_by k.0 k.1 ≡ built w = sym k.2 ∙ e in cc
 
--- A text in front of what may begin with a text too: tokens may take something of both.
+-- A text before what may begin with a text too: tokens may take something of both.
 pub text_before_front : (t : List Entry) → Sound t → (P : Construction → Type 0) → Reads P ordinary → (ps : List TextPiece) (b rest text : List ℕ) (st next : Construction) (es : List Event) (w : List Event) → P st → P next
     → b ≡ written_so ps ++ rest → ArePieces t false ps rest → TextFront t rest text → run_bytes (meant ps) st ≡ ran es next → Builds t next rest w → Builds t st b (pushes es w)
 text_before_front t sound P reads ps b rest text st next es w p p' whole allowed f runs more place at =
@@ -194,7 +195,7 @@ text_before_front t sound P reads ps b rest text st next es w p p' whole allowed
     ∙ joined_build t place on.0 off.0 f.rest es (tree_from t place 0 at st (written_so all ++ f.rest)) (tree_from t place 0 at next (written_so f.pieces ++ f.rest)) w (run_bytes (meant f.pieces) next) here there
     (ap (tree_from t place 0 at next) (sym f.whole) ∙ more place at)
 
--- A text in front of what may begin with a text is one text, up to where that ends.
+-- A text before what may begin with a text is one text, up to where that ends.
 pub text_first : (t : List Entry) (ps : List TextPiece) (b rest text : List ℕ) → b ≡ written_so ps ++ rest → ArePieces t false ps rest → TextFront t rest text → TextFront t b (meant ps ++ text)
 text_first t ps b rest text whole allowed f = record {
   pieces = ps ++ f.pieces;

@@ -1,4 +1,4 @@
--- Behind the end of body: comments, the end of html, comments, and the end of the page; a p may still be fresh.
+-- After the end of body: comments, the end of html, comments, and the end of the page; a p may still be open.
 use Rattle.std.proofs.Common.{◌≡◌, ℕ, Bool, true, false, List, [], ◌∷◌, ◌++◌, map, refl, sym, ◌∙◌, ap}
 use Rattle.std.proofs.lemmas.Bool.{both_ways}
 use Rattle.hm_base.specs.Walks.{Event, doctype, start, text, comment, end, Element, pushes, begins_comment}
@@ -26,11 +26,11 @@ abbrev pub p_ended : Bool → List Event → List Event
 p_ended false w = w
 p_ended true w = end p false ∷ w
 
--- a state behind body, with the comments that are kept
+-- a state after body, with the comments that are kept
 abbrev pub left : InsertionMode → Bool → List (List ℕ) → List (List ℕ) → Construction
 left mode loose inner last = record { insertion_mode = mode; path = end_path loose; drops_line_feed = false; behind_body = inner; behind_html = last }
 
--- what such a state still has to make, in front of what follows
+-- what such a state still has to make, before what follows
 abbrev pub owed : Bool → List (List ℕ) → List Event → List Event
 owed loose inner w = p_ended loose (end body false ∷ (map comment inner ++ w))
 
@@ -76,7 +76,7 @@ unfolding step step_end holds_text is_raw raw_names is_rcdata rcdata_names is_am
 ends_body false drops = refl
 ends_body true drops = refl
 
--- ---- Behind html
+-- ---- After html
 
 pub outer_law : (g : Spelling) → Sound g.table → PiecesAreNext g → (w : List Event) (b : List ℕ) (before : Before) (loose : Bool) (inner last : List (List ℕ)) → SettledLast w → SpellsFrom g before [] w b
     → Builds g.table (left after_html loose inner last) b (owed loose inner (end html false ∷ (map comment last ++ w)))
@@ -93,7 +93,7 @@ outer_law g sound next (end n foreign ∷ w) b before loose inner last settled s
 
 -- ---- The end of html
 
--- only the end of the page is behind an omitted `</html>`
+-- only the end of the page follows an omitted `</html>`
 over_is : (g : Spelling) (w : List Event) (b : List ℕ) (before : Before) → SettledLast w → begins_comment w ≡ false → SpellsFrom g before [] w b → b ≡ []
 over_is g [] b before settled h e = e
 over_is g (comment s ∷ w) b before settled h sp = cc
@@ -127,7 +127,7 @@ html_end g sound next EndForm.written w piece rest b before loose inner settled 
     rw e (written g.table ordinary (left after_body loose inner []) (left after_html loose inner []) [] _ _ 0 (tokens.end_tag html) rest sound.names tt (end_mode loose) (next.ends ordinary html piece rest refl frame_names.0 sp.1).1 (ends_html loose inner)
     (outer_law g sound next w rest (behind_end html EndForm.written) loose inner [] settled more))
 
--- ---- Behind body
+-- ---- After body
 
 pub inner_law : (g : Spelling) → Sound g.table → PiecesAreNext g → (w : List Event) (b : List ℕ) (before : Before) (loose : Bool) (inner : List (List ℕ)) → SettledBehindBody w → is_self_closing before ≡ false → SpellsFrom g before html_path w b
     → Builds g.table (left after_body loose inner []) b (owed loose inner w)

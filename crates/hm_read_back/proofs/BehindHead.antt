@@ -1,4 +1,4 @@
--- Behind the end of head: whitespace and comments, and body, with its start tag or without.
+-- After the end of head: whitespace and comments, and body, with its start tag or without.
 use Rattle.std.proofs.Common.{◌≡◌, ℕ, Bool, true, false, not, ◌&&◌, ◌||◌, List, [], ◌∷◌, ◌++◌, bytes_eq, refl, sym, ◌∙◌, ap, subst}
 use Rattle.std.proofs.lemmas.Bool.{and_parts, not-true, both_ways, false_from_ne_true}
 use Rattle.hm_base.specs.Bytes.{is_space, head_is, all_pass}

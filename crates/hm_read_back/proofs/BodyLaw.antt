@@ -40,7 +40,7 @@ use Rattle.hm_read_back.proofs.BodyTexts.{svg_mode, svg_no_text, plain_path, bod
 abbrev pub BodyLaw : Spelling → List Event → Type 0
 BodyLaw g w = (path : List Element) (b : List ℕ) (before : Before) → Inside path → SettledBody path w → is_self_closing before ≡ false → SpellsFrom g before path w b → Builds g.table (here in_body path (flag before path)) b w
 
--- of the events, and of all that stand behind each of them
+-- for the events, and for what follows each of them
 abbrev pub BodyLaws : Spelling → List Event → Type 0
 BodyLaws g [] = BodyLaw g []
 BodyLaws g (e ∷ w) = BodyLaw g (e ∷ w) × BodyLaws g w
@@ -134,7 +134,7 @@ pub parent_no_text : (n : List ℕ) (foreign : Bool) (path : List Element) (w : 
 parent_no_text n foreign path w (inl (inside, s)) = (svg_no_text path inside).0
 parent_no_text n foreign path w (inr (out, a)) = no_text_name path (stands_in n path a.stands).1.0.no_text
 
--- how an element goes on behind its start tag, by whether it ends at once
+-- how an element goes on after its start tag, by whether it ends at once
 record GoesOn (n : List ℕ) (foreign slash : Bool) (path : List Element) (w : List Event) (before : Before) : Type 0 where
   stays : closes_at_once slash (element n foreign ∷ path) ≡ false → before ≡ opening
   ends : closes_at_once slash (element n foreign ∷ path) ≡ true → (begins_end w ≡ true) × (has_no_end_tag before n foreign ≡ true)

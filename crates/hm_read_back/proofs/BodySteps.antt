@@ -1,4 +1,4 @@
--- Tags in body: what one does where its element stands, and where the tag before it was left out.
+-- Tags in body: what a tag does where its element stands, and where the tag before it was left out.
 use Rattle.std.proofs.Common.{◌≡◌, ℕ, Bool, true, false, cond, not, ◌&&◌, ◌||◌, List, [], ◌∷◌, ◌++◌, map, bytes_eq, refl, sym, ◌∙◌, ap, inl, inr}
 use Rattle.std.proofs.lemmas.Bool.{and_parts, not-true, both_ways, false_from_ne_true}
 use Rattle.hm_base.specs.Forms.{is_tag_name}
@@ -131,7 +131,7 @@ pub comment_steps : (path : List Element) (drops : Bool) (s : List ℕ) → step
 unfolding step
 comment_steps path drops s = refl
 
--- ---- Behind an end tag that was left out
+-- ---- After an end tag that was left out
 
 -- the tag closes or ends the element n
 abbrev pub Closes : List ℕ → Ahead → Type 0

@@ -170,7 +170,7 @@ not_rcdata n h = by (is_raw n) (is_rcdata n) h
     by true b k = cc
     by false b k = k
 
--- An ordinary text in front of what follows it, in any state that keeps its bytes.
+-- An ordinary text before what follows it, in any state that keeps its bytes.
 pub plain_text : (g : Spelling) → Sound g.table → PiecesAreNext g → (mode : InsertionMode) (path : List Element) (s piece rest : List ℕ) (before : Before) (w : List Event) → is_in_svg path ≡ false → is_in_text path ≡ false → TextAllowed path s false w
     → TextSp g before path s false piece rest → Fronted g.table rest → run_bytes s (here mode path false) ≡ ran (texts (is_in_raw path) s) (here mode path false) → Builds g.table (here mode path false) rest w → Builds g.table (here mode path (flag before path)) (piece ++ rest) (text s false ∷ w)
 plain_text g sound next mode path s piece rest before w out t a sp front kept more =

@@ -1,4 +1,4 @@
--- What is first behind a tag that was left out in body, and behind a text.
+-- What is first after a tag that was left out in body, and after a text.
 use Rattle.std.proofs.Common.{◌≡◌, ℕ, Bool, true, false, not, ◌&&◌, List, [], ◌∷◌, ◌++◌, bytes_eq, refl, sym, ap, subst, inl, inr, Some}
 use Rattle.std.proofs.lemmas.Bool.{and_parts, both_ways, false_from_ne_true}
 use Rattle.hm_base.specs.Forms.{is_tag_name}
@@ -216,7 +216,7 @@ up_case g next w n d path b piece rest EndForm.omitted s out stands up within e 
     up_of (comment t ∷ w) goes h = cc
     up_of (end m foreign ∷ w) goes h = goes
 
--- What is first behind the end tag of n that was left out closes n, but at the end of body.
+-- What is first after the end tag of n that was left out closes n, except at the end of body.
 pub closes_first : (g : Spelling) → PiecesAreNext g → (w : List Event) (n : List ℕ) (path : List Element) (b : List ℕ) → Inside path → is_in_svg path ≡ false → stands_on n path ≡ true → SettledBody path w
     → end_goes n (current path) w ≡ true → (begins_end w ≡ true → bytes_eq (current path) body ≡ false) → SpellsFrom g (end_omitted n) path w b → First g.table (Closes n) b
 closes_first g next [] n path b ins out stands settled goes inside sp = cc

@@ -21,7 +21,7 @@ use Rattle.hm_read_back.proofs.Behind.{not_absent}
 use Rattle.hm_read_back.proofs.BodySteps.{Inside, at_body, inner, Stands, stands_in, element_no_root}
 use Rattle.hm_read_back.proofs.Closing.{html_part, start_name, falls_child, child_first, falls_goes, closes_first, ends_inner, ends_body, body_end_first}
 
--- an end of body behind an element whose end tag was left out, or not
+-- an end of body after an element whose end tag was left out, or something else
 pub data AtEnd (path : List Element) (w : List Event) : Type 0 where
   body_ends : (m : List ℕ) (foreign : Bool) (rest : List Event) → path ≡ under_body → w ≡ end m foreign ∷ rest → AtEnd path w
   goes_on : (begins_end w ≡ true → bytes_eq (current path) body ≡ false) → AtEnd path w
@@ -79,7 +79,7 @@ end_follows g next w d path before b piece rest EndForm.omitted s ins out settle
     let goes = falls_goes d.name (current path) w (element_no_root d path s out) falls in
     rw (e, sp.0) (omitted_follows g next w d path rest s ins out settled goes more (at_end path w ins (s.outside out)))
 
--- Behind an ordinary text, and wherever no text begins.
+-- After an ordinary text, and wherever no text begins.
 pub text_follows : (g : Spelling) → PiecesAreNext g → (w : List Event) (path : List Element) (before : Before) (b : List ℕ) → Inside path → is_in_svg path ≡ false → SettledBody path w → begins_text w ≡ false → is_self_closing before ≡ false → SpellsFrom g before path w b → Fronted g.table b
 text_follows g next [] path before b ins out settled alone fresh sp = absurd settled
 text_follows g next (doctype legacy ∷ w) path before b ins out settled alone fresh sp = absurd settled

@@ -16,7 +16,7 @@ use Rattle.hm_construction.specs.Steps.{InsertionMode, Construction, under_html,
 use Rattle.hm_construction.specs.Trees.{mode_of}
 use Rattle.hm_read_back.proofs.Ahead.{Ahead, Begins}
 
--- a state with no comment behind body or html
+-- a state with no comment after body or html
 abbrev pub here : InsertionMode → List Element → Bool → Construction
 here mode path drops = record { insertion_mode = mode; path = path; drops_line_feed = drops; behind_body = []; behind_html = [] }
 

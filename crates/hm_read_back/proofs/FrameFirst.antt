@@ -1,4 +1,4 @@
--- What may be first behind a tag of html, head or body that was left out, and that it makes the element anyhow.
+-- What may be first after a tag of html, head or body that was left out, and that it makes the element anyway.
 use Rattle.std.proofs.Common.{◌≡◌, ℕ, Bool, true, false, cond, List, [], ◌∷◌, refl}
 use Rattle.hm_base.specs.Bytes.{is_space}
 use Rattle.hm_base.specs.Walks.{Attribute, Event, start, end}
@@ -14,30 +14,30 @@ use Rattle.hm_read_back.proofs.Behind.{end_html, ended}
 use Rattle.hm_read_back.proofs.BodySteps.{NoRoot}
 use Rattle.hm_read_back.proofs.Closing.{BodyEndFirst, end_body, behind}
 
--- an element that isn't taken into head, nor refused behind it
+-- an element that isn't taken into head, nor refused after it
 pub record BodyChild (n : List ℕ) : Type 0 where
   pub root : NoRoot n
   pub no_metadata : is_metadata n ≡ false
   pub not_in_head : stands_on n under_head ≡ false
 
--- behind an omitted `<body>`
+-- after an omitted `<body>`
 pub data BodyFirst : Ahead → Type 0 where
   start_child : (n : List ℕ) (attributes : List Attribute) (slash : Bool) → BodyChild n → BodyFirst (tag (tokens.start_tag n attributes slash))
   visible : (c : ℕ) → is_space c ≡ false → BodyFirst (point c)
   body_ended : {x : Ahead} → BodyEndFirst x → BodyFirst x
 
--- behind an omitted `</head>`
+-- after an omitted `</head>`
 pub data BehindHeadFirst : Ahead → Type 0 where
   start_body : (attributes : List Attribute) (slash : Bool) → BehindHeadFirst (tag (tokens.start_tag body attributes slash))
   body_left_out : {x : Ahead} → BodyFirst x → BehindHeadFirst x
 
--- behind an omitted `<head>`
+-- after an omitted `<head>`
 pub data HeadFirst : Ahead → Type 0 where
   head_child : (n : List ℕ) (attributes : List Attribute) (slash : Bool) → NoRoot n → HeadFirst (tag (tokens.start_tag n attributes slash))
   end_head : HeadFirst (tag (tokens.end_tag head))
   behind_head : {x : Ahead} → BehindHeadFirst x → HeadFirst x
 
--- behind an omitted `<html>`
+-- after an omitted `<html>`
 pub data BeforeHeadFirst : Ahead → Type 0 where
   start_head : (attributes : List Attribute) (slash : Bool) → BeforeHeadFirst (tag (tokens.start_tag head attributes slash))
   head_left_out : {x : Ahead} → HeadFirst x → BeforeHeadFirst x

@@ -1,4 +1,5 @@
--- Each piece of a spelling is the next token or text, whatever follows it: what the laws of this crate cite, at one table and rules.
+-- Each piece of a spelling is the next token or text, whatever follows it. The laws of this crate cite this, for one table
+-- and one set of rules.
 use Rattle.std.proofs.Common.{◌≡◌, ℕ, Bool, true, false, ◌||◌, ◌==◌, List, [], ◌∷◌, ◌++◌, map, codes, refl, ◌∙◌, ap, append_assoc, Some, eq-eqb}
 use Rattle.std.proofs.lemmas.Bool.{and_parts}
 use Rattle.std.specs.Str.{is_utf8}

@@ -28,7 +28,7 @@ Builds t st b w = (place : ℕ → ℕ) (at : ℕ) → tree_from t place 0 at st
 
 -- ---- One token
 
--- the place behind bytes that are passed over
+-- the place after bytes that are skipped
 abbrev passed : ℕ → ℕ → List ℕ → ℕ
 passed skip at [] = at
 passed (suc skip) at (c ∷ s) = passed skip (at + 1) s
@@ -40,7 +40,7 @@ passed_over t place (suc skip) at st [] = refl
 passed_over t place (suc skip) at st (c ∷ s) = passed_over t place skip (at + 1) st s
 passed_over t place zero at st (c ∷ s) = refl
 
--- a state that reads in the mode steps the token, and reads on behind it
+-- a state that reads in the mode steps the token, and reads on after it
 abbrev pub StepsToken : List Entry → (ℕ → ℕ) → ℕ → Mode → List ℕ → ℕ → Seen → List ℕ → ℕ → Type 0
 StepsToken t place at mode s n token rest later = (st : Construction) → mode_of st.path ≡ mode → tree_from t place 0 at st s ≡ stepped place (at + n) (step st token) (λ next. tree_from t place 0 later next rest)
 
@@ -63,7 +63,7 @@ token_steps t place at mode (c ∷ s) n token rest names m h = (passed skip (at 
         ap (λ x. next_step place at st (c ∷ s) x (λ k next. tree_from t place k (at + 1) next s)) (ap (λ m'. first t m' (c ∷ s)) e ∙ h)
         ∙ same_step place (at + n) (step st token) (λ next. tree_from t place skip (at + 1) next s) (λ next. tree_from t place 0 (passed skip (at + 1) s) next rest) on
 
--- ---- Places tell nothing of a page that isn't refused
+-- ---- Places make no difference for a page that isn't refused
 
 after_is_built : (es : List Event) (o o' : Outcome) (w : List Event) → ((v : List Event) → o ≡ built v → o' ≡ built v) → after_events es o ≡ built w → after_events es o' ≡ built w
 after_is_built es (built v) o' w same h = ap (after_events es) (same v refl) ∙ h

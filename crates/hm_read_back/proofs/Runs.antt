@@ -14,7 +14,7 @@ use Rattle.hm_construction.specs.Steps.{Construction, Stepped, went, stops, behi
 use Rattle.hm_construction.specs.Trees.{Outcome, refused_by, after_events, mode_of, stepped, tree_from}
 use Rattle.hm_read_back.proofs.Reading.{after_none, after_after, token_steps}
 
--- events and the state behind them, or a refusal
+-- events and the state after them, or a refusal
 pub data Run : Type 0 where
   ran : List Event → Construction → Run
   halted : Run
@@ -67,9 +67,9 @@ run_append (c ∷ x) y st = by (run_of (step_byte c st)) (run_append x y)
     by (ran es next) more = ap (behind_run es) (more next) ∙ sym (then_later es (run_bytes x next) (run_bytes y))
     by halted more = refl
 
--- ---- Trees behind a run
+-- ---- Trees after a run
 
--- the tree is what a run makes, with the tree behind it; or a refusal
+-- the tree is what a run makes, with the tree after it; or a refusal
 abbrev pub Reached : Outcome → (Construction → Outcome) → Run → Type 0
 Reached tree more (ran es st) = tree ≡ after_events es (more st)
 Reached tree more halted = (rule : Rule) × (at : ℕ) × (tree ≡ refused_by rule at)
@@ -139,7 +139,7 @@ pub record Reads (P : Construction → Type 0) (mode : Mode) : Type 0 where
   pub mode_is : (st : Construction) → P st → mode_of st.path ≡ mode
   pub keeps : Keeps P
 
--- A text that is read in pieces, up to rest: its bytes are stepped, and rest is read behind them.
+-- A text that is read in pieces, up to rest: its bytes are stepped, and rest is read after them.
 abbrev pub ReachesRest : List Entry → (ℕ → ℕ) → ℕ → (Construction → Type 0) → List ℕ → List ℕ → List ℕ → Type 0
 ReachesRest t place at P s rest x = (later : ℕ) × ((st : Construction) → P st → Reached (tree_from t place 0 at st s) (λ next. tree_from t place 0 later next rest) (run_bytes x st))
 

@@ -59,7 +59,7 @@ text_names n h =
 pub in_text_is : (d : Element) (path : List Element) → is_in_text (d ∷ path) ≡ true → (d.foreign ≡ false) × (holds_text d.name ≡ true)
 in_text_is d path h = let two = and_parts (not d.foreign) (holds_text d.name) h in (not-true d.foreign two.0, two.1)
 
--- ---- The end tag behind the text
+-- ---- The end tag after the text
 
 element_ends : (g : Spelling) → PiecesAreNext g → (w : List Event) (d : Element) (path : List Element) (before : Before) (b piece rest : List ℕ) (form : EndForm) → is_in_text (d ∷ path) ≡ true → is_tag_name d.name ≡ true → is_self_closing before ≡ false
     → b ≡ piece ++ rest → EndSp g before d.name d.foreign path w form piece → begins_end_tag d.name b ≡ true
@@ -158,7 +158,7 @@ rcdata_law g sound next mode d path s piece rest before w t r a ends sp more =
     rw (sym (one_text s false w a.not_empty a.alone))
     (text_alone g.table sound.names (On (d ∷ path)) (rcdata d.name) m reads (text_as_read before (d ∷ path) s) (piece ++ rest) rest (here mode (d ∷ path) (flag before (d ∷ path))) (here mode (d ∷ path) false) (texts false s) w refl is run more)
 
--- The text of an element that holds one text, in front of its end tag.
+-- The text of an element that holds one text, before its end tag.
 pub element_text : (g : Spelling) → Sound g.table → PiecesAreNext g → (mode : InsertionMode) (d : Element) (path : List Element) (s piece rest : List ℕ) (raw : Bool) (before : Before) (w : List Event) → is_in_text (d ∷ path) ≡ true → TextAllowed (d ∷ path) s raw w → begins_end_tag d.name rest ≡ true
     → TextSp g before (d ∷ path) s raw piece rest → Builds g.table (here mode (d ∷ path) false) rest w → Builds g.table (here mode (d ∷ path) (flag before (d ∷ path))) (piece ++ rest) (text s raw ∷ w)
 element_text g sound next mode d path s piece rest true before w t a ends sp more = rw sp (raw_law g sound mode d path s rest before w t (sym a.kind) a ends more)

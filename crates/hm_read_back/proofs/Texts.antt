@@ -1,4 +1,4 @@
--- Texts where they stand: each byte is kept, but for a line feed that is dropped.
+-- Texts where they stand: each byte is kept, except a line feed that is dropped.
 use Rattle.std.proofs.Common.{◌≡◌, ℕ, Bool, true, false, cond, ◌&&◌, ◌==◌, List, [], ◌∷◌, ◌++◌, refl, ◌∙◌, ap, chars, encode_utf8_all, arith, if◌then◌else◌}
 use lib.Utf8.{encode}
 use Rattle.std.proofs.lemmas.Bool.{and_parts, both_ways, false_from_ne_true}
@@ -92,7 +92,7 @@ not_dropped : (mode : InsertionMode) (path : List Element) (c : ℕ) → c == 10
 unfolding step_byte
 not_dropped mode path c h = rw h refl
 
--- a text as it is read runs like the text itself where nothing is dropped
+-- a text as it is read runs as the text itself does where nothing is dropped
 pub run_read : (mode : InsertionMode) (path : List Element) (drops : Bool) (s : List ℕ) → is_null s ≡ false → run_bytes (if drops && head_is is_line_feed s then 10 ∷ s else s) (here mode path drops) ≡ run_bytes s (here mode path false)
 run_read mode path drops [] h = cc
 run_read mode path false (c ∷ s) h = refl
@@ -119,7 +119,7 @@ body_byte path c h space = rw h (by (is_space c) (is_in_blank path) space)
     by false true e = let bad : false ≡ true = e refl in cc
     by false false e = refl
 
--- whitespace in head, and behind it
+-- whitespace in head, and after it
 pub head_space : (path : List Element) (c : ℕ) → is_in_text path ≡ false → is_space c ≡ true → step_byte c (here in_head path false) ≡ went (text (c ∷ []) (is_in_raw path) ∷ []) (here in_head path false)
 unfolding step_byte
 head_space path c h space = rw (h, space) refl

@@ -14,7 +14,7 @@ use Rattle.hm_construction.specs.Trees.{built, tree_of_text, page_tree}
 abbrev pub SpellingsAreReadBack : Type 0
 SpellingsAreReadBack = (refers : ℕ → Bool) (t : List Entry) (r : SpellRules) (w : List Event) (b : List ℕ) → IsTable t → Settled w → SpellsWhere refers t r w b → page_tree t b ≡ built w
 
--- The text of such a page is read so by itself.
+-- The text of such a page is itself read so.
 abbrev pub TextsAreReadBack : Type 0
 TextsAreReadBack = (refers : ℕ → Bool) (t : List Entry) (r : SpellRules) (w : List Event) (b : List ℕ) → IsTable t → Settled w → SpellsWhere refers t r w b → tree_of_text t b ≡ built w
 

@@ -1,14 +1,14 @@
 //! Laws of trees that are read back. The functions do nothing.
 ghost use Rattle.hm_read_back.specs.Laws.{RewrittenIsReadBack, SpellingsAreReadBack, TextsAreReadBack};
 
-/// Every spelling of a settled tree is a page whose tree it is: with tags left out (HTML Standard, 13.1.2.4), references,
-/// attributes with and without quotes, and line ends in tags of any kind.
+/// Every spelling of a settled tree is a page whose tree it is. Tags may be left out (HTML Standard, #optional-tags);
+/// references, attributes with and without quotes, and line ends of any kind in tags are all read.
 pub fn spellings_are_read_back()
     ensures texts { TextsAreReadBack }
     ensures pages { SpellingsAreReadBack }
 {}
 
-/// So it is with the tree of every page, whatever the options ask for: such a tree is settled.
+/// The same holds for the tree of every page, whatever the options ask for: such a tree is settled.
 pub fn rewritten_trees_are_read_back()
     ensures { RewrittenIsReadBack }
 {}

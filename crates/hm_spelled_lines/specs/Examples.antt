@@ -21,7 +21,7 @@ use Rattle.hm_spellings.specs.Tags.{Spelling}
 abbrev spelling : Spelling
 spelling = record { table = []; rules = record { omit = true; unquote = true; tight = false; ascii = false; frame = false }; refers = everywhere }
 
--- the tree behind the start of body, and whole
+-- the tree after the start of body, and the whole tree
 abbrev body_tree : List Event
 body_tree = start (codes "p") false [] ∷ text (97 ∷ 13 ∷ 98 ∷ []) false ∷ end (codes "p") false ∷ end (codes "body") false ∷ end (codes "html") false ∷ []
 

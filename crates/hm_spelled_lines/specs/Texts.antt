@@ -14,8 +14,8 @@ use Rattle.hm_tokens.specs.Laws.{IsPlain}
 abbrev pub SpelledPagesBeginWithMarkup : Type 0
 SpelledPagesBeginWithMarkup = (g : Spelling) (w : List Event) (page : List ℕ) → Settled w → SpellsFrom g other [] w page → head_is (is_byte 60) page ≡ true
 
--- The page has a text, and no mark in front of it. The text is UTF-8 without zero byte and CR, it spells the tree, in no
--- more bytes, and as a page it is its own text.
+-- The page has a text, and no mark before it. The text is UTF-8 without zero byte and CR. It spells the tree in no more
+-- bytes, and as a page it is its own text.
 pub record HasSpelledText (g : Spelling) (w : List Event) (page : List ℕ) : Type 0 where
   pub sound : text_fault page ≡ None
   pub no_mark : without_mark (numbered 0 page) ≡ numbered 0 page

@@ -2,7 +2,8 @@
 ghost use Rattle.hm_spelled_lines.specs.Texts.{SpelledPagesBeginWithMarkup, SpelledPagesHaveSpelledTexts};
 
 /// A page that spells a settled tree has a text, without zero byte and CR, and the text spells the tree too, in no more
-/// bytes: a CR stands in whitespace of tags and doctypes alone, where a line feed serves as well (13.2.3.5).
+/// bytes. A CR stands in whitespace of tags and doctypes alone, where a line feed does as well
+/// (#preprocessing-the-input-stream).
 pub fn spelled_pages_have_spelled_texts()
     ensures begin { SpelledPagesBeginWithMarkup }
     ensures text { SpelledPagesHaveSpelledTexts }

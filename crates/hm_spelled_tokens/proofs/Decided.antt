@@ -1,4 +1,4 @@
--- Pieces that are allowed in front of one byte that cuts them are allowed in front of another.
+-- Pieces that are allowed before one byte that cuts them are allowed before another.
 use Rattle.std.proofs.Common.{◌≡◌, ℕ, true, false, List, [], ◌∷◌, ◌++◌, refl, ap, sym, subst, ◌∙◌, append_assoc}
 use Rattle.hm_base.specs.Bytes.{head_is, is_letter, is_alnum, is_digit_of}
 use Rattle.hm_markup_forms.proofs.LineEnds.{newlines, UpToReturn, same, up_to, up_to_return}
@@ -12,12 +12,12 @@ use Rattle.hm_spelled_tokens.specs.Values.{closes, SpelledValuesAreDecided}
 use Rattle.hm_spelled_tokens.proofs.ReferencePieces.{Refers, amp_piece}
 use Rattle.hm_spelled_tokens.proofs.ValueBytes.{closes_cuts, closes_value}
 
--- a byte that neither goes on in a reference nor opens markup behind a '<'
+-- a byte that neither goes on in a reference nor opens markup after a '<'
 pub record Cuts (spot : Spot) (d : ℕ) : Type 0 where
   pub stops : goes_on (is_value spot) d ≡ false
   pub no_opening : opens spot d ≡ false
 
--- f and one such byte follow, whatever is behind it
+-- f and one such byte follow, whatever comes after it
 module _ (t : List Entry) (table : IsTable t) (rules : CharacterRules) (spot : Spot) (f : List ℕ) (d e : ℕ) (x y : List ℕ) (cuts : Cuts spot d) (cuts' : Cuts spot e) where
   same_reference : (s : List ℕ) → reference t (is_value spot) (38 ∷ (s ++ d ∷ x)) ≡ reference t (is_value spot) (38 ∷ (s ++ e ∷ y))
   same_reference s = references_are_decided t (is_value spot) s d x table cuts.stops ∙ sym (references_are_decided t (is_value spot) s e y table cuts'.stops)
@@ -49,7 +49,7 @@ module _ (t : List Entry) (table : IsTable t) (rules : CharacterRules) (spot : S
       ((begins, subst (λ w. Refers t spot qs b w) (append_assoc (spelled ps) f (e ∷ y)) r'), same_allowed ps g)
   same_allowed (section cs ∷ ps) (s, g) = (s, same_allowed ps g)
 
--- ---- values, in front of what ends them
+-- ---- values, before what ends them
 
 closing_cuts : (spot : Spot) (d : ℕ) → closes spot d ≡ true → Cuts spot d
 closing_cuts spot d h = record { stops = rw (closes_value spot d h) (closes_cuts spot d h); no_opening = by_spot spot (closes_value spot d h) }
@@ -93,6 +93,6 @@ allowed_lines t rules spot ps after k g = by_return (up_to_return after)
     by_return (same e) = subst (AreAllowed t rules spot ps) (sym e) g
     by_return (up_to f x is e) = subst (AreAllowed t rules spot ps) (sym e) (same_allowed t k rules spot f 13 10 x _ (return_cuts spot) (feed_cuts spot) ps (subst (AreAllowed t rules spot ps) is g))
 
--- Code points are spelled in front of what follows as where each line end of it is a line feed.
+-- Code points are spelled before what follows just as where each line end of it is a line feed.
 pub points_lines : (t : List Entry) (rules : CharacterRules) (spot : Spot) (cs b after : List ℕ) → IsTable t → SpellsPoints t rules spot cs b after → SpellsPoints t rules spot cs b (newlines after)
 points_lines t rules spot cs b after k s = record { pieces = s.pieces; whole = s.whole; means = s.means; allowed = allowed_lines t rules spot s.pieces after k s.allowed }

@@ -1,4 +1,4 @@
--- Spelled texts and values hold no CR, and values are spelled so with other line ends behind them too.
+-- Spelled texts and values hold no CR, and values are spelled so with other line ends after them too.
 use Rattle.std.proofs.Common.{◌≡◌, ℕ, Bool, true, false, not, ◌==◌, List, [], ◌∷◌, ◌++◌, refl, sym, subst, arith, chars}
 use Rattle.std.specs.Str.{is_utf8}
 use Rattle.std.proofs.lemmas.Bool.{and_parts, and_from}

@@ -96,7 +96,7 @@ digits_few base (c ∷ s) h d =
     let both = and_parts (is_digit_of base c) (all_pass (is_digit_of base) s) d in
     and_from (is_reference_byte c) (all_pass is_reference_byte s) (digit_few base c h both.0) (digits_few base s h both.1)
 
--- these bytes stand before the digits, behind '&'
+-- these bytes stand before the digits, after '&'
 number_few : (before : List ℕ) (base : ℕ) (s : List ℕ) (r : Reference) → base ≤ 16 → all_pass is_reference_byte before ≡ true
     → numeric (suc (length before)) base (front (is_digit_of base) s) (behind (is_digit_of base) s) ≡ Some r → TakesFew (38 ∷ (before ++ s)) r
 number_few before base s r low few h =

@@ -1,4 +1,4 @@
--- A reference that is a piece of a spelling: its bytes, whatever is behind them.
+-- A reference that is a piece of a spelling: its bytes, whatever follows them.
 use Rattle.std.proofs.Common.{◌≡◌, ℕ, true, List, [], ◌∷◌, ◌++◌, length, Some, refl, arith}
 use Rattle.hm_base.specs.Bytes.{all_pass}
 use Rattle.hm_refs.specs.Names.{Entry}
@@ -8,7 +8,7 @@ use Rattle.hm_spellings.specs.Characters.{Spot, is_value}
 use Rattle.hm_spelled_tokens.specs.References.{is_reference_byte, TakesFew}
 use Rattle.hm_spelled_tokens.proofs.ReferenceBytes.{references_take_few_bytes}
 
--- b is a reference that gives these code points, in front of what is behind
+-- b is a reference that gives these code points, before what follows
 abbrev pub Refers : List Entry → Spot → List ℕ → List ℕ → List ℕ → Type 0
 Refers t spot qs b behind = reference t (is_value spot) (b ++ behind) ≡ Some (record { points = qs; len = length b })
 
@@ -17,7 +17,7 @@ pub record AmpPiece (b : List ℕ) : Type 0 where
   pub is : b ≡ 38 ∷ inner
   pub few : all_pass is_reference_byte inner ≡ true
 
--- a front that is as long as another one is that one
+-- a prefix that is as long as another one is that one
 same_front : (b x inner rest : List ℕ) → b ++ x ≡ inner ++ rest → length b ≡ length inner → b ≡ inner
 same_front [] x [] rest e l = refl
 same_front [] x (i ∷ inner) rest e l = absurd (omega arith)

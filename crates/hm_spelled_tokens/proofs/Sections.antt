@@ -35,7 +35,7 @@ encode_high c g = encode_passes high c (λ d h. grind arith) (grind arith)
 some_bytes : (c : ℕ) → 1 ≤ length (encode c)
 some_bytes c = let l = length-encode c in let b = len_utf8_bounds c in omega (arith, l, b.0)
 
--- a mark isn't found in front of bytes above ASCII
+-- a mark isn't found before bytes above ASCII
 none_high : (a : ℕ) (m ds s : List ℕ) → low a ≡ true → 1 ≤ length ds → all_pass high ds ≡ true → is_found (strip (a ∷ m) (ds ++ s)) ≡ false
 none_high a m [] s h some all = absurd (omega arith)
 none_high a m (d ∷ ds) s h some all = rw (not_same a d h (and_parts (high d) (all_pass high ds) all).0) refl

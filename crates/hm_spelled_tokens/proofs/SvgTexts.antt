@@ -32,7 +32,7 @@ record Run (t : List Entry) (b after text : List ℕ) : Type 0 where
   reads : IsReadAs t in_svg (rest ++ after) after rest_text
 
 module _ (t : List Entry) (table : IsTable t) (after : List ℕ) where
-  -- a run is read, and then what is behind it
+  -- a run is read, and then what follows it
   run_read : (b text : List ℕ) → Run t b after text → IsReadAs t in_svg (b ++ after) after text
   run_read b text r =
       let front = texts_are_read t in_svg r.pieces.pieces (r.rest ++ after) table refl r.pieces.good r.ended in
@@ -85,7 +85,7 @@ module _ (t : List Entry) (table : IsTable t) (after : List ℕ) where
     reads = r.reads;
   }
 
-  -- a section, in front of what follows it
+  -- a section, with what follows it
   section_shape : (s b : List ℕ) → ((codes "<![CDATA[" ++ (s ++ codes "]]>")) ++ b) ++ after ≡ codes "<![CDATA[" ++ (s ++ (codes "]]>" ++ (b ++ after)))
   section_shape s b = ap (λ x. codes "<![CDATA[" ++ x) (append_assoc (s ++ codes "]]>") b after ∙ append_assoc s (codes "]]>") (b ++ after))
 

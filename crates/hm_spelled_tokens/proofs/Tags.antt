@@ -42,7 +42,7 @@ attributes_read attributes a = record { names = names_same attributes a.names; d
 
 -- ---- values
 
--- the byte behind a value without quotes
+-- the byte after a value without quotes
 pub record Closed (after : List ℕ) : Type 0 where
   pub first : ℕ
   pub more : List ℕ

@@ -147,7 +147,7 @@ here_read t spot in_rcdata qs b x k s r =
     let r'' = subst (λ v. reference t v ((38 ∷ a.inner) ++ x) ≡ Some (record { points = qs; len = length (38 ∷ a.inner) })) s.no_value r' in
     subst (λ w. reference_here t (w ++ x) ≡ Some (record { points = qs; len = length w })) (sym a.is) r''
 
--- one more piece in front, as itself or a reference
+-- one more piece before the others, as itself or a reference
 pub with_itself : (t : List Entry) (spot : Spot) (in_rcdata : Bool) (c : ℕ) (s b after : List ℕ) → IsTextSpot spot in_rcdata → stays t spot c (b ++ after) ≡ true → InPieces t in_rcdata s b after
     → InPieces t in_rcdata (encode c ++ s) (encode c ++ b) after
 with_itself t spot in_rcdata c s b after k h more =
@@ -197,7 +197,7 @@ meant_join [] qs = refl
 meant_join (literal c ∷ ps) qs = ap (λ x. c ∷ x) (meant_join ps qs)
 meant_join (referred b cs ∷ ps) qs = ap (λ x. encode_utf8_all cs ++ x) (meant_join ps qs) ∙ sym (append_assoc (encode_utf8_all cs) (meant ps) (meant qs))
 
--- what stands behind pieces, put together either way
+-- what follows pieces, put together either way
 behind_same : (ps qs : List TextPiece) (after : List ℕ) → written_so ps ++ (written_so qs ++ after) ≡ written_so (ps ++ qs) ++ after
 behind_same ps qs after = sym (append_assoc (written_so ps) (written_so qs) after) ∙ ap (λ x. x ++ after) (sym (written_join ps qs))
 

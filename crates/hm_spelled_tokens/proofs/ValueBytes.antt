@@ -58,7 +58,7 @@ pub all_unquoted : (s : List ℕ) → all_pass is_bare s ≡ true → all_pass i
 all_unquoted [] h = refl
 all_unquoted (c ∷ s) h = let both = and_parts (is_bare c) (all_pass is_bare s) h in and_from (is_unquoted_byte c) (all_pass is_unquoted_byte s) (bare_unquoted c both.0) (all_unquoted s both.1)
 
--- ---- the byte behind a value
+-- ---- the byte after a value
 
 cut_by : (x d : ℕ) → goes_on true x ≡ false → (d == x) ≡ true → goes_on true d ≡ false
 cut_by x d never e = subst (λ c. goes_on true c ≡ false) (sym (eqb-true d x e)) never

@@ -1,4 +1,4 @@
--- Pieces of a value in front of the byte that ends it are read as their code points.
+-- Pieces of a value before the byte that ends it are read as their code points.
 use Rattle.std.proofs.Common.{◌≡◌, ℕ, suc, Bool, true, false, cond, not, ◌&&◌, ◌==◌, List, [], ◌∷◌, ◌++◌, length, Option, Some, None, is_none, refl, ap, sym, subst, ◌∙◌, arith, append_assoc, encode_utf8_all}
 use Rattle.std.proofs.lemmas.Bool.{eqb-true}
 use Rattle.std.proofs.lemmas.Str.{encodes-append, encode_ascii}
@@ -49,7 +49,7 @@ no_section double v f = cc
 no_section single v f = cc
 
 module _ (t : List Entry) (table : IsTable t) (rules : CharacterRules) (spot : Spot) (in_value : is_value spot ≡ true) (d : ℕ) (y : List ℕ) (cuts : goes_on true d ≡ false) where
-  -- what is behind the closing byte tells nothing
+  -- what follows the closing byte makes no difference
   decided : (s : List ℕ) → reference t (is_value spot) (38 ∷ (s ++ d ∷ y)) ≡ reference t true (38 ∷ s)
   decided s = ap (λ b. reference t b (38 ∷ (s ++ d ∷ y))) in_value ∙ references_are_decided t true s d y table cuts
 

@@ -1,4 +1,4 @@
--- A value that is spelled in front of the byte that ends it is read back.
+-- A value that is spelled before the byte that ends it is read back.
 use Rattle.std.proofs.Common.{◌≡◌, ℕ, Bool, true, List, ◌∷◌, ap, sym, subst, ◌∙◌, chars, encode_utf8_all}
 use Rattle.std.specs.Str.{is_utf8}
 use Rattle.std.proofs.lemmas.Str.{encodes-chars, IsUtf8-from_is_utf8}

@@ -1,5 +1,5 @@
--- Which bytes may stand in a spelling: those of a test that references, bytes above ASCII, sections and what may stand as
--- itself pass.
+-- Which bytes may stand in a spelling: those that pass a test, where references, bytes above ASCII, sections and what may
+-- stand as itself all pass it.
 use Rattle.std.proofs.Common.{◌≡◌, ℕ, Bool, true, false, not, ◌&&◌, ◌==◌, List, [], ◌∷◌, ◌++◌, codes, encode_utf8_all, refl, sym, subst}
 use Rattle.std.proofs.lemmas.Bool.{and_parts, and_from, eqb-true}
 use lib.Utf8.{encode}
@@ -35,7 +35,7 @@ reference_pass t spot p qs b behind k amp few r =
     let m = amp_piece t spot qs b behind k r in
     subst (λ x. all_pass p x ≡ true) (sym m.is) (and_from (p 38) (all_pass p m.inner) amp (few_pass p m.inner few m.few))
 
--- the bytes of characters pass that pass themselves
+-- the bytes of characters that pass themselves pass
 pub encodes_pass : (p : ℕ → Bool) (cs : List ℕ) → PassesHigh p → all_pass p cs ≡ true → all_pass p (encode_utf8_all cs) ≡ true
 encodes_pass p [] high h = refl
 encodes_pass p (c ∷ cs) high h = let both = and_parts (p c) (all_pass p cs) h in pass_both p (encode c) (encode_utf8_all cs) (encode_passes p c high both.0) (encodes_pass p cs high both.1)

@@ -24,6 +24,6 @@ pub record IsClean (b : List ℕ) : Type 0 where
 abbrev pub SettledSpellingsAreClean : Type 0
 SettledSpellingsAreClean = (g : Spelling) (w : List Event) (b : List ℕ) → IsTable g.table → Settled w → SpellsFrom g other [] w b → IsClean b
 
--- So it has a text as the bytes of a page have one, and the text spells the tree as well: each line end is a line feed there.
+-- So it has a text, as the bytes of a page do. The text spells the tree as well: each line end is a line feed there.
 abbrev pub SettledSpellingsHaveText : Type 0
 SettledSpellingsHaveText = (g : Spelling) (w : List Event) (b : List ℕ) → IsTable g.table → Settled w → SpellsFrom g other [] w b → (text_fault b ≡ None) × SpellsFrom g other [] w (text_of b)

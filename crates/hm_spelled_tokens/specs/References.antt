@@ -5,11 +5,11 @@ use Rattle.hm_refs.specs.Names.{Entry}
 use Rattle.hm_refs.specs.References.{Reference, reference}
 use Rattle.hm_refs.specs.Tables.{IsTable}
 
--- a byte of a reference behind its '&': a letter, a digit, '#' or ';'
+-- a byte of a reference after its '&': a letter, a digit, '#' or ';'
 unfoldable pub is_reference_byte : ℕ → Bool
 is_reference_byte c = is_alnum c || (c == 35 || c == 59)
 
--- the reference at the front of s has '&' and such bytes
+-- the reference at the start of s has '&' and such bytes
 pub record TakesFew (s : List ℕ) (r : Reference) : Type 0 where
   pub inner : List ℕ
   pub rest : List ℕ

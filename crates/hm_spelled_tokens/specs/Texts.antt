@@ -16,7 +16,7 @@ use Rattle.hm_tokens.specs.First.{Mode, in_svg}
 use Rattle.hm_tokens.specs.Laws.{reads_markup}
 use Rattle.hm_tokens.specs.Decided.{TextPiece, written_so, meant, ArePieces, ends_text, IsReadAs}
 
--- b stands in pieces, which are meant as this text in front of what follows
+-- b stands in pieces that mean this text, where `after` follows b
 pub record InPieces (t : List Entry) (in_rcdata : Bool) (s b after : List ℕ) : Type 0 where
   pub pieces : List TextPiece
   pub written : written_so pieces ≡ b
@@ -39,7 +39,7 @@ abbrev pub SpelledPointsAreInPieces : Type 0
 SpelledPointsAreInPieces = (t : List Entry) (rules : CharacterRules) (in_rcdata : Bool) (cs b after : List ℕ)
     → IsTable t → SpellsPoints t rules (text_spot in_rcdata) cs b after → InPieces t in_rcdata (encode_utf8_all cs) b after
 
--- Code points that are spelled in an element of SVG, with CDATA sections or without, are read in front of what ends a text.
+-- Code points that are spelled in an element of SVG, with CDATA sections or without, are read before what ends a text.
 abbrev pub SpelledSvgPointsAreRead : Type 0
 SpelledSvgPointsAreRead = (t : List Entry) (rules : CharacterRules) (cs b after : List ℕ)
     → IsTable t → ends_text t after ≡ true → SpellsPoints t rules spots.foreign cs b after → IsReadAs t in_svg (b ++ after) after (encode_utf8_all cs)
@@ -51,16 +51,16 @@ SpelledPointsEndThere = (t : List Entry) (rules : CharacterRules) (name cs b aft
 
 -- ---- texts of a tree
 
--- the text as it is read: with the line feed in front that is dropped behind the start tag of pre or textarea
+-- the text as it is read: first the line feed that is dropped after the start tag of pre or textarea, where there is one
 abbrev pub text_as_read : Before → List Element → List ℕ → List ℕ
 text_as_read before path s = if wants_line_feed before path (chars s) then 10 ∷ s else s
 
--- a text that isn't raw, in an HTML element, in front of anything
+-- a text that isn't raw, in an HTML element, whatever follows
 abbrev pub SpelledTextsAreInPieces : Type 0
 SpelledTextsAreInPieces = (g : Spelling) (before : Before) (path : List Element) (s b after : List ℕ)
     → IsTable g.table → is_utf8 s ≡ true → is_in_svg path ≡ false → TextSp g before path s false b after → InPieces g.table (is_rcdata (current path)) (text_as_read before path s) b after
 
--- in an element that is neither title nor textarea, in front of what ends a text
+-- in an element that is neither title nor textarea, before what ends a text
 abbrev pub SpelledTextsAreRead : Type 0
 SpelledTextsAreRead = (g : Spelling) (mode : Mode) (before : Before) (path : List Element) (s b after : List ℕ)
     → IsTable g.table → is_utf8 s ≡ true → reads_markup mode ≡ true → is_in_svg path ≡ false → is_rcdata (current path) ≡ false
@@ -71,7 +71,7 @@ abbrev pub SpelledSvgTextsAreRead : Type 0
 SpelledSvgTextsAreRead = (g : Spelling) (before : Before) (path : List Element) (s b after : List ℕ)
     → IsTable g.table → is_utf8 s ≡ true → is_in_svg path ≡ true → ends_text g.table after ≡ true → TextSp g before path s false b after → IsReadAs g.table in_svg (b ++ after) after s
 
--- in title and textarea, in front of the end tag
+-- in title and textarea, before the end tag
 abbrev pub SpelledElementTextsAreRead : Type 0
 SpelledElementTextsAreRead = (g : Spelling) (before : Before) (path : List Element) (s b after : List ℕ)
     → IsTable g.table → is_utf8 s ≡ true → is_in_svg path ≡ false → is_rcdata (current path) ≡ true → begins_end_tag (current path) after ≡ true

@@ -1,5 +1,6 @@
--- How the characters of a text or of an attribute's value may be spelled (HTML Standard, 13.1.2.3, 13.1.2.5, 13.1.3 and 13.1.4):
--- each as itself or by a character reference, and in an element of SVG also in a CDATA section.
+-- How the characters of a text or of an attribute's value may be spelled (HTML Standard, #attributes-2,
+-- #cdata-rcdata-restrictions, #text-2 and #syntax-charref). Each stands as itself or is a character reference, and in an
+-- element of SVG it may also stand in a CDATA section.
 use Rattle.std.specs.Prelude.{◌≡◌, ℕ, Bool, true, false, not, ◌&&◌, ◌||◌, ◌==◌, nat_lt, List, [], ◌∷◌, ◌++◌, length, Some, is_none, if◌then◌else◌, codes, encode_utf8, encode_utf8_all, chars}
 use Rattle.hm_base.specs.Bytes.{is_space, is_letter, head_is, all_pass, is_null}
 use Rattle.hm_base.specs.Forms.{has_mark}
@@ -59,11 +60,11 @@ may_stand_in single c = not (c == 39)
 unfoldable pub is_writable : Bool → ℕ → Bool
 is_writable ascii c = not (c == 13) && (not ascii || (nat_lt c 128 || is_none (best_number c)))
 
--- whether c may stand as itself, as far as c alone tells
+-- whether c may stand as itself, as far as c alone decides
 unfoldable pub may_stand : Bool → Spot → ℕ → Bool
 may_stand ascii spot c = is_writable ascii c && may_stand_in spot c
 
--- whether c is read as itself in front of these bytes: '&' begins no reference there, and '<' no markup
+-- whether c is read as itself before these bytes: '&' begins no reference there, and '<' no markup
 unfoldable pub stays : List Entry → Spot → ℕ → List ℕ → Bool
 stays t spot c s =
     if c == 38 then is_none (reference t (is_value spot) (38 ∷ s))
@@ -72,8 +73,8 @@ stays t spot c s =
 
 -- ---- Pieces
 
--- a piece of a spelled text: a character as itself, a reference (its bytes, and the one or two code points that it
--- gives), or a CDATA section (its code points)
+-- A piece of a spelled text: a character as itself, a reference or a CDATA section. A reference has its bytes, and the one
+-- or two code points that it gives; a section has its code points.
 pub data Piece : Type 0 where
   itself : ℕ → Piece
   reference_to : List ℕ → List ℕ → Piece
@@ -107,28 +108,28 @@ pub record CharacterRules : Type 0 where
   pub ascii : Bool
   pub refers : ℕ → Bool
 
--- the piece is allowed in front of what is behind it: as itself where it is read as itself, a reference where it is read
--- as these code points and has these bytes
+-- The piece is allowed before what follows it. A character stands as itself where it is read as itself; a reference stands
+-- where it is read as these code points and has these bytes.
 abbrev pub IsAllowed : List Entry → CharacterRules → Spot → Piece → List ℕ → Type 0
 IsAllowed t rules spot (itself c) behind = (may_stand rules.ascii spot c ≡ true) × (stays t spot c behind ≡ true)
 IsAllowed t rules spot (reference_to b qs) behind =
     (head_is rules.refers qs ≡ true) × (reference t (is_value spot) (b ++ behind) ≡ Some (record { points = qs; len = length b }))
 IsAllowed t rules spot (section cs) behind = (is_foreign spot ≡ true) × (is_section rules.ascii cs ≡ true)
 
--- each piece is allowed in front of the pieces behind it and of what follows them all
+-- each piece is allowed before the pieces after it and what follows them all
 abbrev pub AreAllowed : List Entry → CharacterRules → Spot → List Piece → List ℕ → Type 0
 AreAllowed t rules spot [] after = Unit {0}
 AreAllowed t rules spot (p ∷ ps) after = IsAllowed t rules spot p (spelled ps ++ after) × AreAllowed t rules spot ps after
 
 -- ---- Texts
 
--- b spells these code points in front of what follows
+-- b spells these code points, where `after` follows b
 pub record SpellsPoints (t : List Entry) (rules : CharacterRules) (spot : Spot) (cs b after : List ℕ) : Type 0 where
   pub pieces : List Piece
   pub whole : spelled pieces ≡ b
   pub means : meant pieces ≡ cs
   pub allowed : AreAllowed t rules spot pieces after
 
--- b spells the characters of a text of the tree, which is UTF-8, in front of what follows
+-- b spells the characters of a text of the tree, which is UTF-8, where `after` follows b
 abbrev pub SpellsText : List Entry → CharacterRules → Spot → List ℕ → List ℕ → List ℕ → Type 0
 SpellsText t rules spot s b after = SpellsPoints t rules spot (chars s) b after

@@ -1,4 +1,4 @@
--- The definitions on examples: above all the rules that a reader doesn't notice, since what breaks them is read as well.
+-- The definitions on examples: above all the rules that a reader doesn't notice, since what breaks them is read too.
 use Rattle.std.specs.Prelude.{◌≡◌, true, false, List, [], ◌∷◌, codes, refl}
 use lib.Utf8.{encode}
 use Rattle.hm_base.specs.Bytes.{is_letter, is_space, is_alnum, is_digit_of}
@@ -13,7 +13,7 @@ few = record { name = codes "&ab;"; points = 120 ∷ 0x338 ∷ [] } ∷ record {
 abbrev pub usual : CharacterRules
 usual = record { ascii = false; refers = λ c. true }
 
--- ---- a CR never stands as itself: it would be read as a line feed (13.2.3.5)
+-- ---- a CR never stands as itself: it would be read as a line feed (#preprocessing-the-input-stream)
 
 pub return_in_text : may_stand false text 13 ≡ false
 unfolding may_stand is_writable
@@ -31,7 +31,7 @@ pub line_feed_in_section : is_section false (97 ∷ 10 ∷ []) ≡ true
 unfolding is_section is_writable
 line_feed_in_section = refl
 
--- ---- '=', '<' and the grave accent stand in no value without quotes (13.1.2.3), but in quotes
+-- ---- '=', '<' and the grave accent stand in no value without quotes (#attributes-2), but in quotes
 
 pub equals_unquoted : may_stand false unquoted 61 ≡ false
 unfolding may_stand is_writable is_barred is_space
@@ -53,7 +53,7 @@ pub equals_in_quotes : may_stand false single 61 ≡ true
 unfolding may_stand is_writable
 equals_in_quotes = refl
 
--- ---- under the rule `ascii` no character above U+007F stands as itself that a number gives
+-- ---- under the rule `ascii` no character above U+007F that a number gives stands as itself
 
 pub euro_under_ascii : may_stand true text 0x20AC ≡ false
 unfolding may_stand is_writable best_number
@@ -63,7 +63,7 @@ pub euro_without : may_stand false text 0x20AC ≡ true
 unfolding may_stand is_writable
 euro_without = refl
 
--- no number gives this one: that of its own gives the euro sign (13.2.5.80)
+-- no number gives this one: its own number gives the euro sign (#numeric-character-reference-end-state)
 pub control_under_ascii : may_stand true text 0x80 ≡ true
 unfolding may_stand is_writable best_number point_of
 control_under_ascii = refl
@@ -108,7 +108,7 @@ pub paired : SpellsPoints few usual double (120 ∷ 0x338 ∷ []) (codes "&ab;")
 unfolding reference found_here is_blocked
 paired = record { pieces = reference_to (codes "&ab;") (120 ∷ 0x338 ∷ []) ∷ []; whole = refl; means = refl; allowed = ((refl, refl), tt) }
 
--- in SVG a section, and behind it what stands as itself
+-- in SVG a section, and after it what stands as itself
 pub sectioned : SpellsPoints few usual foreign (60 ∷ 97 ∷ 98 ∷ []) (codes "<![CDATA[<a]]>b") (codes "</text>")
 unfolding may_stand is_writable is_section stays encode
 sectioned = record { pieces = section (60 ∷ 97 ∷ []) ∷ itself 98 ∷ []; whole = refl; means = refl; allowed = ((refl, refl), ((refl, refl), tt)) }

@@ -1,5 +1,5 @@
--- Which tags may be left out (after HTML Standard, 13.1.2.4). The rules ask for the element, for what stands around it, and
--- for the event directly before it, where that is an end whose tag was left out.
+-- Which tags may be left out (after HTML Standard, #optional-tags). The rules look at the element, at what stands around
+-- it, and at the event directly before it, where that is an end whose tag was left out.
 use Rattle.std.specs.Prelude.{ℕ, Bool, true, false, not, ◌&&◌, ◌||◌, List, [], ◌∷◌, Option, Some, None, if◌then◌else◌, bytes_eq}
 use Rattle.hm_base.specs.Bytes.{is_space, head_is}
 use Rattle.hm_base.specs.Walks.{Attribute, Event, start, text, end, Element, begins_text, begins_comment, begins_start, begins_end_of}
@@ -46,24 +46,24 @@ abbrev pub has_none : List Attribute → Bool
 has_none [] = true
 has_none (a ∷ attributes) = false
 
--- The start tag of an element may be left out; w is what stands behind it.
+-- The start tag of an element may be left out; w is what follows it.
 unfoldable pub may_omit_start : SpellRules → LeftOut → List ℕ → Bool → List Attribute → List Event → Bool
 may_omit_start r before n foreign attributes w = r.omit && (not foreign && (has_none attributes && (not (bars before n) && start_falls r.frame n w)))
 
--- what stands behind the end of an element in this parent: the start of an HTML element before which the end tag may be
--- left out, or the end of the parent at which it may be
+-- What follows the end of an element in this parent allows its end tag to be left out: the start of one of certain HTML
+-- elements, or the end of one of certain parents.
 abbrev pub end_goes : List ℕ → List ℕ → List Event → Bool
 end_goes n parent (start m foreign attributes ∷ w) = not foreign && goes_before n m
 end_goes n parent (end m foreign ∷ w) = goes_up n parent
 end_goes n parent w = false
 
--- The end tag of an HTML element may be left out, by its parent and by what stands behind it.
+-- The end tag of an HTML element may be left out, by its parent and by what follows it.
 unfoldable pub end_falls : List ℕ → List ℕ → List Event → Bool
 end_falls n parent w =
     if bytes_eq n html || bytes_eq n body then not (begins_comment w)
     else if bytes_eq n head then not (begins_text w) && not (begins_comment w)
     else end_goes n parent w
 
--- The end tag of an element may be left out; path is that of its parent, w what stands behind it.
+-- The end tag of an element may be left out; path is that of its parent, w is what follows it.
 unfoldable pub may_omit_end : SpellRules → List ℕ → Bool → List Element → List Event → Bool
 may_omit_end r n foreign path w = r.omit && (not foreign && end_falls n (current path) w)

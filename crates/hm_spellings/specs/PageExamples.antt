@@ -1,4 +1,4 @@
--- Trees of small pages and spellings of them, by computing. The terms tell how each piece is spelled.
+-- Trees of small pages and spellings of them, by computing. The terms say how each piece is spelled.
 use Rattle.std.specs.Prelude.{⊤, true, false, List, [], ◌∷◌, codes, refl}
 use Rattle.std.specs.Str.{chars}
 use lib.Utf8.{encode}

@@ -1,4 +1,4 @@
--- Every spelling of a tree: one piece of bytes for each event, judged in front of the bytes that follow it.
+-- Every spelling of a tree: one piece of bytes for each event, judged together with the bytes that follow it.
 use Rattle.std.specs.Prelude.{◌≡◌, ◌≤◌, ℕ, Bool, true, false, not, ◌&&◌, ◌||◌, ◌==◌, List, [], ◌∷◌, ◌++◌, length, Some, None, if◌then◌else◌, codes, chars}
 use Rattle.hm_base.specs.Bytes.{head_is}
 use Rattle.hm_base.specs.Walks.{Attribute, Event, doctype, start, text, comment, end, Element, begins_end}
@@ -30,7 +30,7 @@ left_out_before before = None
 abbrev pub spot_of : List Element → Spot
 spot_of path = if is_in_svg path then spots.foreign else if is_rcdata (current path) then spots.rcdata else spots.text
 
--- a line feed that comes first in these elements isn't read (HTML Standard, 13.1.2.5)
+-- a line feed that comes first in these elements isn't read (HTML Standard, #element-restrictions)
 unfoldable pub drops_first_line_feed : List Element → Bool
 drops_first_line_feed path = not (is_in_svg path) && is_among (current path) preformatted
 
@@ -41,7 +41,7 @@ abbrev pub is_opening : Before → Bool
 is_opening opening = true
 is_opening before = false
 
--- a text that comes first in such an element and begins with a line feed gets one more in front
+-- a text that comes first in such an element and begins with a line feed gets one more line feed before it
 abbrev pub wants_line_feed : Before → List Element → List ℕ → Bool
 wants_line_feed before path cs = is_opening before && (drops_first_line_feed path && head_is is_line_feed cs)
 
@@ -86,7 +86,7 @@ abbrev pub is_self_closing : Before → Bool
 is_self_closing self_closing = true
 is_self_closing before = false
 
--- void elements have no end tag, and those that their start tag closes
+-- void elements have no end tag, nor do those that their start tag closes
 abbrev pub has_no_end_tag : Before → List ℕ → Bool → Bool
 has_no_end_tag before n foreign = is_self_closing before || (not foreign && is_void n)
 
@@ -101,7 +101,7 @@ behind_end n form = other
 
 -- ---- Trees
 
--- b spells the events that are left, behind what is before and with these elements open
+-- b spells the events that are left, after what is before and with these elements open
 abbrev pub SpellsFrom : Spelling → Before → List Element → List Event → List ℕ → Type 0
 SpellsFrom g before path [] b = b ≡ []
 SpellsFrom g before path (doctype legacy ∷ w) b = (piece rest : List ℕ) × (b ≡ piece ++ rest) × SpellsDoctype legacy piece × SpellsFrom g other path w rest

@@ -18,7 +18,7 @@ pub record Spelling : Type 0 where
 abbrev pub character_rules : Spelling → CharacterRules
 character_rules g = record { ascii = g.rules.ascii; refers = g.refers }
 
--- a value without quotes: only under the rule `unquote`, and not an empty one
+-- a value without quotes: only under the rule `unquote`, and not empty
 pub record IsBareValue (g : Spelling) (value b after : List ℕ) : Type 0 where
   pub written : List ℕ
   pub is : IsAssigned written b
@@ -32,14 +32,14 @@ pub record IsQuotedValue (g : Spelling) (spot : spots.Spot) (quote : ℕ) (value
   pub is : IsAssigned (quote ∷ (written ++ quote ∷ [])) b
   pub spells : SpellsText g.table (character_rules g) spot value written (quote ∷ after)
 
--- b spells a value in this form, with its '=', in front of what follows
+-- b spells a value in this form, with its '=', where `after` follows b
 abbrev pub SpellsValue : Spelling → Form → List ℕ → List ℕ → List ℕ → Type 0
 SpellsValue g bare value b after = (value ≡ []) × (b ≡ [])
 SpellsValue g unquoted value b after = IsBareValue g value b after
 SpellsValue g double value b after = IsQuotedValue g spots.double 34 value b after
 SpellsValue g single value b after = IsQuotedValue g spots.single 39 value b after
 
--- b spells a start tag in front of what follows; attributes touch only under the rule `tight`, and only behind a quote
+-- b spells a start tag, where `after` follows b; attributes touch only under the rule `tight`, and only after a quote
 abbrev pub SpellsStart : Spelling → List ℕ → List Attribute → Bool → List ℕ → List ℕ → Type 0
 SpellsStart g name attributes slash b after = WritesStart (SpellsValue g) g.rules.tight name attributes slash b after
 

@@ -29,7 +29,7 @@ option_in_datalist : may_omit_end usual option false (html_element (codes "datal
 unfolding on_literals
 option_in_datalist = refl
 
--- the start tag of tbody behind a section whose end tag was left out
+-- the start tag of tbody after a section whose end tag was left out
 two_sections : may_omit_start usual (Some (codes "thead")) tbody false [] (start (codes "tr") false [] ∷ []) ≡ false
 unfolding on_literals
 two_sections = refl
@@ -44,7 +44,7 @@ comment_in_head : may_omit_start usual None head false [] (comment (codes "x") �
 unfolding on_literals
 comment_in_head = refl
 
--- the end tag of body before a comment behind it, which would be a child of body
+-- the end tag of body before a comment after it, which would be a child of body
 comment_behind_body : may_omit_end usual body false (html_element html ∷ []) (comment (codes "x") ∷ []) ≡ false
 unfolding on_literals
 comment_behind_body = refl
@@ -73,7 +73,7 @@ equals_unquoted : may_stand false spots.unquoted 61 ≡ false
 unfolding on_literals
 equals_unquoted = refl
 
--- '/' directly behind a value without quotes
+-- '/' directly after a value without quotes
 slash_behind_value : is_gap (parts_slash unquoted) [] ≡ false
 unfolding on_literals
 slash_behind_value = refl

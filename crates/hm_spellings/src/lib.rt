@@ -1,2 +1,2 @@
-//! Every way to write a tree: the relation that "shortest" compares with.
+//! Every way to write a tree: the relation that "shortest" refers to.
 #![tactic(auto)]

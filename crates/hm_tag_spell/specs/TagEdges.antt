@@ -21,7 +21,7 @@ start_bytes n = codes "<" ++ (n ++ codes ">")
 abbrev pub end_bytes : List ℕ → List ℕ
 end_bytes n = codes "</" ++ (n ++ codes ">")
 
--- A start tag: nothing, where it may be left out; the tag; the tag with a '/'. Behind a loose end a firm one isn't left out.
+-- A start tag: nothing, where it may be left out; the tag; the tag with a '/'. After a loose end a firm one isn't left out.
 abbrev pub start_edges : List ℕ → Bool → Bool → Bool → State → List Edge
 start_edges n omits firm closes s =
     (if omits && not (firm && is_loose s.at) then edge_to [] (state (unloosed s.at) s.pending) ∷ [] else [])
@@ -36,7 +36,7 @@ abbrev pub behind_left_out : Bool → State → State
 behind_left_out true s = state loose nothing
 behind_left_out false s = s
 
--- An end tag: nothing, behind a start tag that closed itself; else nothing, where it may be left out, and the tag.
+-- An end tag: nothing, after a start tag that closed itself; else nothing, where it may be left out, and the tag.
 abbrev pub end_edges : List ℕ → Bool → Bool → State → List Edge
 end_edges n omits loosens s =
     if is_self_closed s.at then edge_to [] first_state ∷ []

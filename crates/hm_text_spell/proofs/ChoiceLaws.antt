@@ -25,7 +25,7 @@ pub record WritesOne (t : List Entry) (rules : CharacterRules) (spot : Spot) (c 
   pub writes : (x : List ℕ) → keeps t spot e.to x ≡ true → Itself t rules spot c e.bytes x ⊎ (rules.refers c ≡ true) × Refers t spot (c ∷ []) e.bytes x
   pub before : (x : List ℕ) → keeps t spot e.to x ≡ true → keeps t spot p (e.bytes ++ x) ≡ true
 
--- a choice that writes two points, the second of which another choice passes over
+-- a choice that writes two points, the second of which another choice skips
 pub record WritesTwo (t : List Entry) (rules : CharacterRules) (spot : Spot) (c d : ℕ) (p : Pending) (e : Choice) : Type 0 where
   pub left : Option (List ℕ)
   pub to_is : e.to ≡ half left
@@ -238,7 +238,7 @@ name_for t k spot c piece x n = record {
   short = omega arith;
 }
 
--- where what is pending is kept by a reference, '&' breaks nothing
+-- where a reference keeps what is pending, '&' breaks nothing
 pub takes_amp : (t : List Entry) → IsTable t → (spot : Spot) (p : Pending) → Fits t spot p → (points piece x : List ℕ) → Refers t spot points piece x → keeps t spot p (piece ++ x) ≡ true → is_some (step t spot p 38) ≡ true
 takes_amp t k spot p f points piece x r h = by_step (step t spot p 38) (sym (step_law t k spot p 38 (r.inner ++ x) f) ∙ subst (λ w. keeps t spot p (w ++ x) ≡ true) r.bytes h)
   where

@@ -28,7 +28,7 @@ module _ (t : List Entry) (table : IsTable t) (rules : CharacterRules) (kind : T
     from_outside : EndsOutside cs
     from_inside : at ≡ outside → (p : Pending) (b : List ℕ) → is_null cs ≡ false → Way t rules kind cs (state in_section p) b to → Ends
 
-  -- with the first code point passed over
+  -- with the first code point skipped
   abbrev Skipped : List ℕ → Type 0
   Skipped [] = Unit {0}
   Skipped (d ∷ cs) = EndsOutside cs

@@ -1,4 +1,4 @@
--- What is pending behind a character as itself.
+-- What is pending after a character as itself.
 use Rattle.std.proofs.Common.{◌≡◌, ℕ, ◌<◌, Bool, true, false, cond, ◌&&◌, ◌==◌, not, List, [], ◌∷◌, Option, Some, None, refl, sym, ap, ◌∙◌, subst, arith, is_none, encode_utf8}
 use Rattle.std.proofs.lemmas.Str.{encode_ascii}
 use Rattle.hm_base.specs.Bytes.{head_is}
@@ -39,7 +39,7 @@ opens_value double (c ∷ x) h = refl
 opens_value single [] h = refl
 opens_value single (c ∷ x) h = refl
 
--- what is pending behind a literal tells of what it was before, and whether the literal stays
+-- what is pending after a literal is kept exactly where the literal stays and what its bytes left pending is kept
 pub literal_law : (t : List Entry) → IsTable t → (spot : Spot) (p : Pending) (c : ℕ) → Fits t spot p → (q : Pending) → run t spot (Some p) (encode_utf8 c) ≡ Some q
     → (x : List ℕ) → (stays t spot c x && keeps t spot q x) ≡ keeps t spot (itself_to spot c q) x
 unfolding stays

@@ -31,7 +31,7 @@ letter_no_hash b h = by_test (35 == b) refl
     by_test false e = refl
     by_test true e = let l = subst (λ c. is_letter c ≡ true) (sym (eq_of 35 b e)) h in let n = letter_hash in absurd (cc)
 
--- a name's own bytes: '&', and no '#' behind it
+-- a name's own bytes: '&', and no '#' after it
 pub record Shape (m : List ℕ) : Type 0 where
   pub second : ℕ
   pub more : List ℕ
@@ -64,7 +64,7 @@ pub closed_longer : (t : List Entry) → IsTable t → (m x : List ℕ) → is_g
 closed_longer t k m x g h = let e = ends_so m h in
     subst (λ w. found_longer t w x ≡ None) (sym e.is) (semicolon_longer t k e.begin x (begin_some m e.begin g e.is))
 
--- the state behind a name keeps it exactly where nothing longer is found and nothing blocks it
+-- the state after a name keeps it exactly where nothing longer is found and nothing blocks it
 pub name_kept : (t : List Entry) → IsTable t → (spot : Spot) (m ps x : List ℕ) → is_good m ≡ true → keeps t spot (behind_name m) x ≡ true
     → (found_longer t m x ≡ None) × (is_blocked (is_value spot) (record { name = m; points = ps; rest = x }) ≡ false)
 unfolding behind_name is_blocked

@@ -1,4 +1,4 @@
--- CDATA sections: what is pending in one tells where `]]>` would stand.
+-- CDATA sections: what is pending in one says where `]]>` would stand.
 use Rattle.std.proofs.Common.{◌≡◌, ℕ, Bool, true, false, cond, ◌||◌, ◌==◌, List, [], ◌∷◌, ◌++◌, codes, refl, sym, subst, arith}
 use Rattle.hm_base.specs.Forms.{has_mark}
 use Rattle.hm_refs.proofs.Bools.{eq_of}

@@ -19,7 +19,7 @@ use Rattle.hm_text_spell.proofs.In.{only}
 use Rattle.hm_text_spell.proofs.Pieces.{Itself, Refers}
 use Rattle.hm_text_spell.proofs.Sections.{brackets, foreign_text, mark_step, outside_at, place_open, unended}
 
--- a piece in front
+-- one more piece before the others
 add_piece : (t : List Entry) (rules : CharacterRules) (kind : TextKind) (at : Where) (q : Piece) (cs b rest after : List ℕ) → IsAllowed t rules (spot_at kind at) q (rest ++ after) → b ≡ piece_bytes q ++ rest
     → SpellsPoints t rules (spot_at kind at) cs rest after → SpellsPoints t rules (spot_at kind at) (piece_points q ++ cs) b after
 add_piece t rules kind at q cs b rest after a is s = record {
@@ -48,7 +48,7 @@ record Inside (t : List Entry) (rules : CharacterRules) (kind : TextKind) (at : 
   whole : b ≡ encode_utf8_all points ++ (codes "]]>" ++ rest)
   later : Behind t rules kind at to after others nothing rest
 
--- the same behind these bytes
+-- the same after the bytes of `front`
 record InsideBehind (t : List Entry) (rules : CharacterRules) (kind : TextKind) (at : Where) (to : State) (after front cs : List ℕ) (p : Pending) (b : List ℕ) : Type 0 where
   tail : List ℕ
   is : b ≡ front ++ tail
@@ -65,7 +65,7 @@ module _ (t : List Entry) (table : IsTable t) (rules : CharacterRules) (kind : T
     from_outside : AllOutside cs
     from_inside : AllInside cs
 
-  -- with the first code point passed over
+  -- with the first code point skipped
   abbrev Skipped : List ℕ → Type 0
   Skipped [] = Unit {0}
   Skipped (d ∷ cs) = AllOutside cs
@@ -156,7 +156,7 @@ module _ (t : List Entry) (table : IsTable t) (rules : CharacterRules) (kind : T
   unfolding is_section
   good_section points some written unmarked = rw (some, written, unmarked) refl
 
-  -- a section in front
+  -- a section before the others
   opened : (c : ℕ) (cs : List ℕ) (p : Pending) (b : List ℕ) → is_foreign (spot_at kind at) ≡ true → Fits t (spot_at kind at) p → InsideBehind t rules kind at to after (codes "<![CDATA[") (c ∷ cs) nothing b → Behind t rules kind at to after (c ∷ cs) p b
   opened c cs p b here f m =
       let i = m.inside in

@@ -27,7 +27,7 @@ record Found (t : List Entry) (rules : CharacterRules) (kind : TextKind) (at : W
   fits : Fits t (spot_at kind at) end
   short : length bytes ≤ n
 
--- edges of a section's code points behind the first, whose edge is e
+-- edges of a section's code points after the first one, whose edge is `by`
 record Through (t : List Entry) (rules : CharacterRules) (kind : TextKind) (front : List ℕ) (c : ℕ) (cs : List ℕ) (p : Pending) (b : List ℕ) (to : State) : Type 0 where
   by : Edge
   among : IsIn by (section_edges_by (next_of cs) front c p)

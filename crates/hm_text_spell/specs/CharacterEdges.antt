@@ -25,7 +25,7 @@ pub record Choice : Type 0 where
 abbrev pub choice : List ℕ → Pending → Choice
 choice b p = record { bytes = b; to = p }
 
--- what is pending behind a character as itself, where its bytes leave q
+-- what is pending after a character as itself, where its bytes leave q
 abbrev pub itself_to : Spot → ℕ → Pending → Pending
 itself_to spot c q = if c == 38 then ampersand (38 ∷ []) else if c == 60 && not (is_value spot) then less_than else q
 
@@ -33,7 +33,7 @@ abbrev pub itself_by : Spot → ℕ → Option Pending → List Choice
 itself_by spot c None = []
 itself_by spot c (Some q) = choice (encode_utf8 c) (itself_to spot c q) ∷ []
 
--- 1. as itself, where it may stand and breaks nothing
+-- first as itself, where it may stand and breaks nothing
 unfoldable pub as_itself : List Entry → CharacterRules → Spot → ℕ → Pending → List Choice
 as_itself t rules spot c p = if may_stand rules.ascii spot c then itself_by spot c (run t spot (Some p) (encode_utf8 c)) else []
 
@@ -48,17 +48,17 @@ abbrev pub by_names : (List ℕ → Pending) → List ℕ → List Entry → Lis
 by_names to points [] = []
 by_names to points (e ∷ t) = if bytes_eq e.points points then choice e.name (to e.name) ∷ by_names to points t else by_names to points t
 
--- 2. by the names that give it, and behind them by those that give it and the next one
+-- then by the names that give it, and after them by those that give it and the next one
 abbrev pub by_pairs : List Entry → ℕ → Option ℕ → List Choice
 by_pairs t c None = []
 by_pairs t c (Some d) = by_names behind_pair (c ∷ d ∷ []) t
 
--- 3. by the best number, without and with a ';'
+-- then by the best number, without and with a ';'
 abbrev pub by_decimal : Option ℕ → List Choice
 by_decimal None = []
 by_decimal (Some n) = choice (codes "&#" ++ digits.decimal n) decimal ∷ choice (codes "&#" ++ (digits.decimal n ++ codes ";")) nothing ∷ []
 
--- 4. in hexadecimal, where that is shorter
+-- then in hexadecimal, where that is shorter
 abbrev pub by_hexadecimal : ℕ → List Choice
 by_hexadecimal c =
     if nat_le 1000000 c && nat_le c 1048575
@@ -82,13 +82,13 @@ abbrev pub choices_by : Option (Option (List ℕ)) → List Entry → CharacterR
 choices_by (Some left) t rules spot c next p = choice [] (behind_half left) ∷ []
 choices_by None t rules spot c next p = as_itself t rules spot c p ++ (if is_some (step t spot p 38) && rules.refers c then by_references t c next else [])
 
--- the ways to write c outside of sections; next is the code point behind it in the same text
+-- the ways to write c outside of sections; next is the code point after it in the same text
 abbrev pub choices : List Entry → CharacterRules → Spot → ℕ → Option ℕ → Pending → List Choice
 choices t rules spot c next p = choices_by (half_of p) t rules spot c next p
 
 -- ---- Sections
 
--- what is pending behind c in a section
+-- what is pending after c in a section
 abbrev pub in_section_behind : ℕ → Pending → Pending
 in_section_behind c nothing = if c == 93 then one_bracket else nothing
 in_section_behind c p = if c == 93 then two_brackets else nothing
@@ -98,7 +98,7 @@ abbrev pub closes_section : ℕ → Pending → Bool
 closes_section c two_brackets = c == 62
 closes_section c p = false
 
--- before a section is open it is opened
+-- `front` opens the section where it isn't open yet
 abbrev pub section_edges_by : Option ℕ → List ℕ → ℕ → Pending → List Edge
 section_edges_by None front c p = edge_to (front ++ (encode_utf8 c ++ codes "]]>")) first_state ∷ []
 section_edges_by (Some d) front c p = edge (front ++ encode_utf8 c) in_section (in_section_behind c p) ∷ edge_to (front ++ (encode_utf8 c ++ codes "]]>")) first_state ∷ []
@@ -111,7 +111,7 @@ abbrev pub is_outside : Where → Bool
 is_outside outside = true
 is_outside at = false
 
--- 5. and 6. c opens a section, in a text of SVG
+-- last in a section that c opens, in a text of SVG; the section goes on or closes
 abbrev pub opened_sections : Bool → Spot → ℕ → Option ℕ → State → List Edge
 opened_sections ascii spot c next s =
     if is_foreign spot && (is_outside s.at && (not (is_some (half_of s.pending)) && is_writable ascii c)) then section_edges_by next (codes "<![CDATA[") c nothing else []

@@ -28,7 +28,7 @@ pub of_ampersand : character_edges seven usual in_text 38 (Some 120) first_state
 unfolding as_itself may_stand is_writable best_number point_of digits encode behind_name
 of_ampersand = refl
 
--- a name that gives x and the code point behind it, which is due then
+-- a name that gives x and the code point after it, which is due then
 pub of_pair : character_edges two usual in_text 120 (Some 0x338) first_state ≡ edge (codes "x") outside nothing ∷ edge (codes "&ab;") outside (half None) ∷ edge (codes "&#120") outside decimal ∷ edge (codes "&#120;") outside nothing ∷ []
 unfolding as_itself may_stand is_writable best_number point_of digits encode behind_pair
 of_pair = refl
@@ -47,7 +47,7 @@ pub of_section : character_edges [] usual in_foreign 60 (Some 97) first_state
 unfolding as_itself may_stand is_writable best_number point_of digits encode
 of_section = refl
 
--- brackets are kept in mind, and behind two of them '>' has no place in the section
+-- brackets are pending, and after two of them '>' has no place in the section
 pub of_bracket : character_edges [] usual in_foreign 93 (Some 62) (state in_section one_bracket) ≡ edge (codes "]") in_section two_brackets ∷ edge (codes "]]]>") outside nothing ∷ []
 unfolding is_writable encode
 of_bracket = refl

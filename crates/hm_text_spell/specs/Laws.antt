@@ -44,7 +44,7 @@ WaysEnd =
     (t : List Entry) → IsTable t → (rules : CharacterRules) (es : UnitEdges) → HasCharacterEdges t rules es
     → (kind : TextKind) (cs : List ℕ) (from to : State) (b : List ℕ) → MayStand t kind from → WayTo es (character_units kind cs) from b to → IsEnd t kind from to
 
--- b spells the code points in front of what follows and keeps what was pending, and the text ends in the same place
+-- b spells the code points where `after` follows and keeps what was pending, and the text ends in the same place
 pub record Spelled (t : List Entry) (rules : CharacterRules) (kind : TextKind) (cs : List ℕ) (from to : State) (b after : List ℕ) : Type 0 where
   pub spells : SpellsPoints t rules (spot_at kind from.at) cs b after
   pub kept : keeps_at t kind from (b ++ after) ≡ true

@@ -1,7 +1,7 @@
 //! Laws over the edges of characters and their spellings. The functions do nothing.
 ghost use Rattle.hm_text_spell.specs.Laws.{SpellingsHaveWays, WaysEnd, WaysSpell};
 
-/// The bytes along the edges of the characters of a text or a value are a spelling (13.1.2.3 to 13.1.4).
+/// The bytes along the edges of the characters of a text or a value are a spelling (#attributes-2 to #syntax-charref).
 pub fn ways_spell()
     ensures { WaysSpell }
 {}

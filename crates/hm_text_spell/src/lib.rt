@@ -1,4 +1,4 @@
-//! The edges of a character: the ways to write it behind what is pending.
+//! The edges of a character: the ways to write it after what is pending.
 #![tactic(auto)]
 
 pub mod laws;

@@ -154,7 +154,7 @@ unfolding AllSound
 sound_utf8 [] h = refl
 sound_utf8 (a ∷ attributes) h = rw (h.0.name_utf8, h.0.value_utf8, sound_utf8 attributes h.1) refl
 
--- ---- of the attributes with one name the first
+-- ---- the first of the attributes with one name
 
 without_itself : (n : List ℕ) (attributes : List Attribute) → has_name n (without_name n attributes) ≡ false
 without_itself n [] = refl

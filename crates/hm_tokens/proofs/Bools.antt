@@ -1,4 +1,4 @@
--- Bools, and small facts on lists and bytes.
+-- Small facts about Bools, lists and bytes.
 use Rattle.std.proofs.Common.{◌≡◌, ℕ, Bool, true, false, ◌||◌, ◌==◌, List, ◌∷◌, Option, Some, None, is_some, refl, arith}
 
 pub or_parts : (a b : Bool) → a || b ≡ false → (a ≡ false) × (b ≡ false)

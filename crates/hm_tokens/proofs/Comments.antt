@@ -20,7 +20,7 @@ use Rattle.hm_tokens.proofs.Bools.{or_parts, same_parts}
 
 -- ---- the form of a comment's text
 
--- no mark with a byte that the text doesn't hold
+-- a mark with a byte that the text doesn't hold isn't in the text
 mark_missing : (d : ℕ) (mark x : List ℕ) → has_byte d mark ≡ true → has_byte d x ≡ false → begins mark x ≡ false
 mark_missing d [] x h none = absurd (cc)
 mark_missing d (c ∷ p) [] h none = refl

@@ -1,4 +1,4 @@
--- A reference is decided by the bytes before the first that can't go on.
+-- A reference is decided by the bytes before the first one that can't go on.
 use Rattle.std.proofs.Common.{◌≡◌, ℕ, ◌+◌, ◌<◌, ◌≤◌, ◌⊎◌, Bool, true, false, cond, not, ◌&&◌, ◌||◌, ◌==◌, List, [], ◌∷◌, ◌++◌, length, Option, Some, None, option_map, refl, inl, inr, ap, ap₂, ◌∙◌, arith}
 use Rattle.std.proofs.lemmas.Bool.{cases_lt}
 use Rattle.hm_base.specs.Bytes.{front, behind, head_is, is_null, is_alnum, is_letter, is_digit_of}
@@ -10,7 +10,7 @@ use Rattle.hm_refs.proofs.Found.{here_none, found_none, child_is, null_append, n
 use Rattle.hm_tokens.specs.Decided.{goes_on, ReferencesAreDecided}
 use Rattle.hm_tokens.proofs.Bools.{or_parts, turned}
 
--- what a byte that can't go on isn't
+-- the tests that a byte that can't go on fails
 record Stops (value : Bool) (d : ℕ) : Type 0 where
   no_alnum : is_alnum d ≡ false
   no_semicolon : (d == 59) ≡ false

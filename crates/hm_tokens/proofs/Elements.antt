@@ -47,7 +47,7 @@ pub end_tag_begins : (name : List ℕ) → is_tag_name name ≡ true → begins_
 unfolding begins_end_tag lower is_name_end is_space
 end_tag_begins name h = rw (strip_itself name (codes ">") (name_bytes name h)) refl
 
--- ---- the whole text and the end tag behind it
+-- ---- the whole text and the end tag after it
 
 cut_plain : (s text tail name : List ℕ) → s ≡ text ++ tail → EndTagHere name tail → IsPlain s → IsPlain text × IsPlain tail
 cut_plain s text tail name e k h =
@@ -60,7 +60,7 @@ taken_some n (c ∷ s) h = refl
 
 -- ---- what is read, of an element with such a name
 
--- the end tag stands n bytes on
+-- the end tag stands after n bytes
 pub record EndsAt (name s : List ℕ) (n : ℕ) : Type 0 where
   pub inside : n < length s
   pub begins : begins_end_tag name (drop n s) ≡ true
@@ -81,7 +81,7 @@ pub script_is_name : is_tag_name (codes "script") ≡ true
 unfolding is_tag_name is_tag_byte is_small is_digit_of
 script_is_name = refl
 
--- the text alone, in front of the shortest end tag
+-- the text alone, before the shortest end tag
 pub raw_whole : (name s : List ℕ) (n : ℕ) → is_tag_name name ≡ true → raw_end name s ≡ Some n → raw_end name (take n s ++ settled.end_tag name) ≡ Some (length (take n s))
 raw_whole name s n good h =
     let k = raw_ends_at name s n h in

@@ -21,7 +21,7 @@ use Rattle.hm_tokens.proofs.Doctypes.{doctype_sound, doctype_takes}
 use Rattle.hm_tokens.proofs.Texts.{piece, piece_sound, piece_takes}
 use Rattle.hm_tokens.proofs.Elements.{raw_ends_at, script_ends_at, script_is_name, raw_whole, script_whole, inside, whole_sound, whole_takes, references_sound, references_take}
 
--- ---- `</>` at the front
+-- ---- `</>` at the start
 
 pub record EmptyTags (s : List ℕ) (k : Behind) : Type 0 where
   pub written : List ℕ
@@ -92,7 +92,7 @@ here_takes t foreign s token rest names some h = by_test (begins_markup s) refl 
     by_test true e h = markup_takes t foreign s token rest names e h
     by_test false e h = piece_takes t false s token rest (piece t false s token rest names some (rw e refl) h)
 
--- what is read behind empty tags
+-- what is read after empty tags
 record HereRead (t : List Entry) (foreign : Bool) (k : Behind) (n : ℕ) (token : Seen) (rest : List ℕ) : Type 0 where
   some : is_null k.rest ≡ false
   count : k.count ≡ n

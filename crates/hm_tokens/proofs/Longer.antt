@@ -25,7 +25,7 @@ use Rattle.hm_tokens.proofs.Elements.{EndsAt, raw_ends_at, script_ends_at}
 
 -- ---- where a text of an element ends
 
--- cut at the same place
+-- a longer text is cut at the same place
 longer_cut : (s y : List ℕ) (n : ℕ) → n < length s → (take n (s ++ y) ≡ take n s) × (drop n (s ++ y) ≡ drop n s ++ y)
 longer_cut s y n inside =
     let long : length (take n s) ≡ n = length-take-le n s (omega arith) in
@@ -48,7 +48,7 @@ script_longer s y n h =
     let found : script_end (take n s ++ drop n s) ≡ Some (length (take n s)) = rw (take-append-drop n s, long) h in
     rw (parted s y n) (first_same (drop n s) (drop n s ++ y) k.begins (begins_longer (codes "script") (drop n s) y k.begins) unescaped (take n s) 0 (length (take n s)) (omega arith) found ∙ ap Some long)
 
--- what is read of it in a longer text
+-- the same piece as read in a longer text
 before_rest_extends : (read : Scanned) (tail y : List ℕ) → Extends y (before_rest read tail) (before_rest read (tail ++ y))
 before_rest_extends (taken k left) tail y = ap (taken k) (sym (append_assoc left tail y))
 before_rest_extends (refused faults.Cut) tail y = tt
@@ -88,7 +88,7 @@ markup_longer (c ∷ d ∷ []) y h =
     by_tests false false false false h = absurd (cc)
 markup_longer (c ∷ d ∷ e ∷ s) y h = h
 
--- a '/' behind '<' isn't the last byte
+-- a '/' after '<' isn't the last byte
 no_last_slash : (c d : ℕ) → begins_markup (c ∷ d ∷ []) ≡ true → (d == 47) ≡ false
 unfolding begins_markup is_letter
 no_last_slash c d h = by_test (d == 47) refl
@@ -128,7 +128,7 @@ tag_longer (c ∷ d ∷ e ∷ s) y h = either (60 == c) (47 == d)
     either true false = refl
     either false b = refl
 
--- ---- a longer text that begins otherwise: then its front has no '>'
+-- ---- a longer text that begins otherwise: then the shorter one has no '>'
 
 -- it begins with a word only when it is longer
 unfinished : (w s y : List ℕ) → is_found (strip_word w s) ≡ false → is_found (strip_word w (s ++ y)) ≡ true → (rest : List ℕ) × (map lower s ++ rest ≡ w)
@@ -275,7 +275,7 @@ markup_extends t foreign s y begins =
 here_extends : (t : List Entry) (foreign : Bool) (s y : List ℕ) → begins_markup s ≡ true → Extends y (read_here t foreign s) (read_here t foreign (s ++ y))
 here_extends t foreign s y begins = rw (begins, markup_longer s y begins) (markup_extends t foreign s y begins)
 
--- ---- `</>` at the front of a longer text
+-- ---- `</>` at the start of a longer text
 
 abbrev pub longer_behind : List ℕ → Behind → Behind
 longer_behind y k = record { count = k.count; rest = k.rest ++ y }

@@ -68,7 +68,7 @@ byte_cut d (c ∷ s) k h = by_test (d == c) refl (cut_at (d ∷ []) s) refl h (�
         let m = more j f in
         subst (ByteCut d (c ∷ s)) is (record { is = ap (λ x. c ∷ x) m.is; none = or_from (c == d) (has_byte d j.before) (other e) m.none })
 
--- ---- a part of a text with ASCII bytes before it, between and behind it
+-- ---- a part of a text with ASCII bytes before and after it
 
 pub record IsCut (s : List ℕ) (k : Cut) : Type 0 where
   pub mark : List ℕ

@@ -1,4 +1,4 @@
--- Parts of a text, and what is put together of texts.
+-- Parts of a text, and what is put together from texts.
 use Rattle.std.proofs.Common.{◌≡◌, ℕ, ◌<◌, ◌⊎◌, Bool, true, false, cond, not, ◌==◌, List, [], ◌∷◌, ◌++◌, length, get_or, refl, ap, subst, ◌∙◌, inl, inr, arith, length-append, append-nil}
 use Rattle.std.specs.Str.{is_utf8}
 use Rattle.std.proofs.lemmas.Bool.{and_parts, or_from, not-true}
@@ -32,7 +32,7 @@ first_byte : (xs ys : List ℕ) (c : ℕ) → get_or (xs ++ c ∷ ys) (length xs
 first_byte [] ys c = refl
 first_byte (x ∷ xs) ys c = first_byte xs ys c
 
--- in front of an ASCII byte
+-- before an ASCII byte
 pub utf8_before : (xs ys : List ℕ) (c : ℕ) → c < 128 → is_utf8 (xs ++ c ∷ ys) ≡ true → is_utf8 xs ≡ true
 utf8_before xs ys c low h =
     let u = IsUtf8-from_is_utf8 (xs ++ c ∷ ys) h in
@@ -47,7 +47,7 @@ utf8_from xs ys c low h =
     let at = IsCharBoundary-before_ascii (xs ++ c ∷ ys) (length xs) long (rw (first_byte xs ys c) low) in
     is_utf8-from_IsUtf8 (c ∷ ys) (rw (drop_at xs (c ∷ ys) (length xs) refl) at (IsUtf8-drop (xs ++ c ∷ ys) (length xs) u at))
 
--- behind an ASCII byte
+-- after an ASCII byte
 pub utf8_behind : (ys : List ℕ) (c : ℕ) → c < 128 → is_utf8 (c ∷ ys) ≡ true → is_utf8 ys ≡ true
 utf8_behind ys c low h =
     let u = IsUtf8-from_is_utf8 (c ∷ ys) h in
@@ -70,14 +70,14 @@ plain_from xs ys c low h = record { bytes = pass_right is_text_byte xs (c ∷ ys
 pub plain_behind : (ys : List ℕ) (c : ℕ) → c < 128 → IsPlain (c ∷ ys) → IsPlain ys
 plain_behind ys c low h = record { bytes = pass_right is_text_byte (c ∷ []) ys h.bytes; utf8 = utf8_behind ys c low h.utf8 }
 
--- behind ASCII bytes
+-- after ASCII bytes
 pub plain_behind_all : (p : ℕ → Bool) (xs ys : List ℕ) → ((c : ℕ) → p c ≡ true → c < 128) → all_pass p xs ≡ true → IsPlain (xs ++ ys) → IsPlain ys
 plain_behind_all p [] ys low all h = h
 plain_behind_all p (x ∷ xs) ys low all h =
     let both = and_parts (p x) (all_pass p xs) all in
     plain_behind_all p xs ys low both.1 (plain_behind (xs ++ ys) x (low x both.0) h)
 
--- ---- fronts whose bytes pass a test
+-- ---- prefixes whose bytes pass a test
 
 pub front_and_behind : (p : ℕ → Bool) (s : List ℕ) → s ≡ front p s ++ behind p s
 front_and_behind p [] = refl
@@ -96,7 +96,7 @@ behind_fails p (c ∷ s) ds d e = by_test (p c) refl e (behind_fails p s ds d)
     by_test true f e more = more e
     by_test false f e more = let same : c ≡ d = cc in subst (λ k. p k ≡ false) same f
 
--- a front that is cut before a byte that fails, where every byte that fails is ASCII
+-- a prefix that is cut before a byte that fails, where every byte that fails is ASCII
 pub record Parts (p : ℕ → Bool) (s : List ℕ) : Type 0 where
   pub front_plain : IsPlain (front p s)
   pub behind_plain : IsPlain (behind p s)
@@ -114,7 +114,7 @@ plain_parts p s low h = by_rest (behind p s) refl
         let below = low d (behind_fails p s ds d e) in
         record { front_plain = plain_before (front p s) ds d below h'; behind_plain = rw e (plain_from (front p s) ds d below h') }
 
--- behind a front of ASCII bytes
+-- after a prefix of ASCII bytes
 pub plain_behind_front : (p : ℕ → Bool) (s : List ℕ) → ((c : ℕ) → p c ≡ true → c < 128) → IsPlain s → IsPlain (behind p s)
 plain_behind_front p s low h = plain_behind_all p (front p s) (behind p s) low (front_passes p s) (subst IsPlain (front_and_behind p s) h)
 

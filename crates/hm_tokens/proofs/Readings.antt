@@ -13,7 +13,7 @@ ends_longer (rcdata name) s y h = refl
 ends_longer (raw name) s y h = refl
 ends_longer script s y h = refl
 
--- the same token, with more behind it
+-- the same token, with more after it
 token_longer : (t : List Entry) (mode : Mode) (s y : List ℕ) (n : ℕ) (token : Seen) (left : List ℕ) → ends_itself mode s ≡ true → first t mode s ≡ behind_bytes n (taken token left)
     → first t mode (s ++ y) ≡ behind_bytes n (taken token (left ++ y))
 token_longer t mode s y n token left ends h =

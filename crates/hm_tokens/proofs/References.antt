@@ -28,7 +28,7 @@ pub low_ascii : (c : ℕ) → c < 128 → is_ascii c ≡ true
 unfolding is_ascii
 low_ascii c h = grind arith
 
--- r stands at the front of s
+-- r stands at the start of s
 pub record GoodReference (s : List ℕ) (r : Reference) : Type 0 where
   pub written : List ℕ
   pub rest : List ℕ
@@ -68,7 +68,7 @@ number_is_point n = by_test ((n == 0) || (nat_le 0xD800 n && nat_le n 0xDFFF) ||
     by_test true e = refl
     by_test false e = by_look (look_up n replaced) refl (itself_point n e)
 
--- so many bytes stand before the digits
+-- the bytes in `before` stand before the digits
 number_good : (before : List ℕ) (base : ℕ) (s : List ℕ) (r : Reference) → base ≤ 16 → 2 ≤ length before → all_pass is_ascii before ≡ true
     → numeric (length before) base (front (is_digit_of base) s) (behind (is_digit_of base) s) ≡ Some r → GoodReference (before ++ s) r
 number_good before base s r low some ascii h =

@@ -44,7 +44,7 @@ equals_low c k low h = let same : c ≡ k = eqb-true c k h in omega arith
 
 -- ---- sizes
 
--- rest stands at the end of s, and at least so many bytes before it
+-- rest stands at the end of s, and at least `size` bytes before it
 pub record Fits (s : List ℕ) (size : ℕ) (rest : List ℕ) : Type 0 where
   pub before : List ℕ
   pub is : s ≡ before ++ rest
@@ -117,7 +117,7 @@ attribute_fits c s =
     fits_same (c ∷ s) ((c ∷ front is_later_byte s) ++ r) _ k.behind (ap (λ x. c ∷ x) (front_and_behind is_later_byte s))
     (fits_more (c ∷ front is_later_byte s) r (length k.before) k.behind f)
 
--- ---- a whole tag behind its name
+-- ---- a whole tag after its name
 
 -- an attribute stands before rest, with a byte for each of its own
 abbrev TagFits : List ℕ → Option CutTag → Type 0
@@ -154,7 +154,7 @@ fits_tail c s size rest some f = by_before f.before f.is f.room
     by_before [] e room = absurd (omega arith)
     by_before (x ∷ xs) e room = record { before = xs; is = same_tail c x s (xs ++ rest) e; room = omega arith }
 
--- the first k bytes of s are passed over
+-- the first k bytes of s are skipped
 tag_fits : (k : ℕ) (s : List ℕ) → TagFits (drop k s) (tag_from k s)
 tag_fits zero [] = tt
 tag_fits (suc k) [] = tt
@@ -219,7 +219,7 @@ abbrev pub AllGood : List Attribute → Type 0
 AllGood [] = Unit {0}
 AllGood (a ∷ attributes) = GoodAttribute a × AllGood attributes
 
--- a front and the byte before it
+-- a prefix and the byte before it
 plain_named : (c : ℕ) (s : List ℕ) → IsPlain (c ∷ s) → IsPlain (c ∷ front is_later_byte s) × IsPlain (behind is_later_byte s)
 plain_named c s h = by_rest (behind is_later_byte s) refl
   where

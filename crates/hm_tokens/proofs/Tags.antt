@@ -23,7 +23,7 @@ use Rattle.hm_tokens.proofs.Attributes.{attributes_allowed, attributes_small}
 
 -- ---- why a tag isn't refused
 
--- the tag whose name begins r
+-- the tag whose name stands at the start of r
 pub record Accepted (r : List ℕ) (g : CutTag) : Type 0 where
   pub cut : cut_tag (behind is_name_byte r) ≡ Some g
   pub named : is_tag_name (tag_name r) ≡ true
@@ -113,7 +113,7 @@ unfolding is_tag_name
 name_not_empty [] h = absurd (cc)
 name_not_empty (c ∷ n) h = omega arith
 
--- the bytes of a tag behind its '<' or `</`
+-- the bytes of a tag after its '<' or `</`
 record TagBytes (r : List ℕ) (g : CutTag) : Type 0 where
   count : ℕ
   whole : length r ≡ count + length g.rest

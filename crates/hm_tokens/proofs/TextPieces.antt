@@ -1,4 +1,4 @@
--- Pieces of text are decided by the first byte behind them.
+-- Pieces of text are decided by the first byte after them.
 use Rattle.std.proofs.Common.{◌≡◌, ℕ, ◌≤◌, Bool, true, false, cond, not, ◌&&◌, ◌||◌, ◌==◌, List, [], ◌∷◌, ◌++◌, length, Some, None, is_some, refl, ap, ap₂, sym, ◌∙◌, arith, append_assoc, append-nil}
 use Rattle.std.proofs.lemmas.Bool.{eqb-true, not-true}
 use Rattle.hm_base.specs.Bytes.{is_null, is_letter, is_alnum}

@@ -38,7 +38,7 @@ record TextRead (t : List Entry) (closed : Bool) (s rest text : List ℕ) : Type
   texts : are_texts tokens ≡ true
   joined : texts_of tokens ≡ text
 
--- a byte that stands for itself, and the plain text behind it
+-- a byte that stands for itself, and the plain text after it
 plain_first : (t : List Entry) (closed : Bool) (c : ℕ) (s : List ℕ) → ends_plain t closed c s ≡ false
     → read_text t closed (c ∷ s) ≡ taken (slice (c ∷ plain_front t closed s)) (drop (length (plain_front t closed s)) s)
 unfolding read_text
@@ -87,7 +87,7 @@ literal_read t closed c s after text ended h more = by_front (plain_front t clos
           joined = ap (λ x. c ∷ x) (subst (λ x. texts_of (x ∷ ks) ≡ text) (sym token) joined);
         }
 
--- a reference, and what is behind it
+-- a reference, and what follows it
 text_by : (t : List Entry) (closed : Bool) (s : List ℕ) → read_text t closed s ≡ read_by (reference_here t s) t closed s
 unfolding read_text
 text_by t closed [] = refl
@@ -170,7 +170,7 @@ texts_are_read t mode ps after k m h ended =
 
 -- ---- title and textarea
 
--- the end tag stands as much nearer as was read
+-- where counting begins one lower, the place that is found is one lower
 place_back : (passes : List ℕ → Bool) (i n : ℕ) (s : List ℕ) → place_from passes (suc i) s ≡ Some (suc n) → place_from passes i s ≡ Some n
 place_back passes i n [] h = absurd (cc)
 place_back passes i n (c ∷ s) h = by_test (passes (c ∷ s)) h (place_back passes (suc i) n s)

@@ -42,7 +42,7 @@ at_amp t value c s r names h = by_test (c == 38) refl h
         record { amp = same; good = subst (λ d. GoodReference (d ∷ s) r) (sym same) (reference_good t value s r names (rw same at k)) }
     by_test false e k = absurd (cc)
 
--- what is behind its first byte
+-- what follows its first byte
 pub behind_reference : (c : ℕ) (s : List ℕ) (r : Reference) (g : GoodReference (c ∷ s) r) → drop (pred r.len) s ≡ g.rest
 behind_reference c s r g = by_written g.written g.is g.len g.long
   where
@@ -53,7 +53,7 @@ behind_reference c s r g = by_written g.written g.is g.len g.long
         let at : pred r.len ≡ length xs = ap pred n in
         rw (at, tail) (drop_at xs g.rest (length xs) refl)
 
--- ---- values; the first k bytes are passed over
+-- ---- values; the first k bytes are skipped
 
 value_utf8 : (t : List Entry) → SoundNames t → (k : ℕ) (s p : List ℕ) → is_utf8 (p ++ drop k s) ≡ true → is_utf8 (p ++ value_from t k s) ≡ true
 unfolding reference_at

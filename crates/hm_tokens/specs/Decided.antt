@@ -15,11 +15,11 @@ use Rattle.hm_tokens.specs.Readings.{ReadStep, ReadsAs}
 
 -- ---- references
 
--- a byte that may belong to a reference behind its '&', or keep a name from being one
+-- a byte that may belong to a reference after its '&', or keep a name from being one
 unfoldable pub goes_on : Bool → ℕ → Bool
 goes_on value c = is_alnum c || (c == 59 || (c == 35 || (value && c == 61)))
 
--- A reference is decided by the bytes before the first that can't go on: there it is as at the end.
+-- A reference is decided by the bytes before the first one that can't go on: it is read there as at the end.
 abbrev pub ReferencesAreDecided : Type 0
 ReferencesAreDecided = (t : List Entry) (value : Bool) (s : List ℕ) (d : ℕ) (y : List ℕ)
     → IsTable t → goes_on value d ≡ false → reference t value (38 ∷ (s ++ d ∷ y)) ≡ reference t value (38 ∷ s)
@@ -42,24 +42,24 @@ meant [] = []
 meant (literal c ∷ ps) = c ∷ meant ps
 meant (referred b qs ∷ ps) = encode_utf8_all qs ++ meant ps
 
--- Each piece is what it is meant to be in front of what follows it: where a byte stands for itself neither a reference
--- begins nor, where it may, markup; and a reference has these bytes and these code points.
+-- Each piece is what it is meant to be, with what follows it. Where a byte stands for itself no reference begins, and no
+-- markup where markup may begin. A reference has these bytes and these code points.
 abbrev pub ArePieces : List Entry → Bool → List TextPiece → List ℕ → Type 0
 ArePieces t rcdata [] after = Unit {0}
 ArePieces t rcdata (literal c ∷ ps) after = (ends_plain t rcdata c (written_so ps ++ after) ≡ false) × ArePieces t rcdata ps after
 ArePieces t rcdata (referred b qs ∷ ps) after = (reference_here t (b ++ (written_so ps ++ after)) ≡ Some (record { points = qs; len = length b })) × ArePieces t rcdata ps after
 
--- the first byte can neither go on in a reference nor open markup behind a '<'
+-- the first byte can neither go on in a reference nor open markup after a '<'
 abbrev pub cuts_text : List ℕ → Bool
 cuts_text [] = false
 cuts_text (d ∷ y) = not (goes_on false d || (d == 33 || (d == 47 || d == 63)))
 
--- Pieces that are meant so in front of one such byte are meant so in front of each, and at the end.
+-- Pieces that mean this before one such byte mean it before each, and at the end.
 abbrev pub TextsAreDecided : Type 0
 TextsAreDecided = (t : List Entry) (rcdata : Bool) (ps : List TextPiece) (x y : List ℕ)
     → IsTable t → cuts_text x ≡ true → cuts_text y ≡ true → ArePieces t rcdata ps x → ArePieces t rcdata ps y × ArePieces t rcdata ps []
 
--- In title and textarea, where no markup begins, what is meant so at the end is meant so in front of each such byte.
+-- In title and textarea, where no markup begins, pieces that mean this at the end mean it before each such byte.
 abbrev pub EndsAreDecided : Type 0
 EndsAreDecided = (t : List Entry) (ps : List TextPiece) (y : List ℕ) → IsTable t → cuts_text y ≡ true → ArePieces t true ps [] → ArePieces t true ps y
 

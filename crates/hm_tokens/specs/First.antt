@@ -1,4 +1,4 @@
--- The next token of the rest of a text (HTML Standard, 13.2.5), by cuts of that rest.
+-- The next token of the rest of a text (HTML Standard, #tokenization), by cuts of that rest.
 use Rattle.std.specs.Prelude.{ℕ, zero, suc, ◌+◌, Bool, true, false, ◌&&◌, ◌==◌, List, ◌∷◌, ◌++◌, take, drop, Option, Some, None, if◌then◌else◌}
 use Rattle.hm_base.specs.Bytes.{is_null}
 use Rattle.hm_base.specs.RawText.{raw_end, script_end}
@@ -13,8 +13,8 @@ use Rattle.hm_text_scan.specs.Texts.{begins_markup, read_text}
 use Rattle.hm_mark_scan.specs.Comments.{read_comment, begins_cdata, read_cdata}
 use Rattle.hm_mark_scan.specs.Doctypes.{begins_doctype, read_doctype}
 
--- What kind of text is read: ordinary text, text in an element of SVG, the text of title or textarea, that of style or
--- iframe, or that of a script.
+-- What kind of text is read: ordinary text, text in an element of SVG, or the text of one element. That element is title or
+-- textarea, style or iframe, or script.
 pub data Mode : Type 0 where
   ordinary : Mode
   in_svg : Mode
@@ -22,7 +22,7 @@ pub data Mode : Type 0 where
   raw : List ℕ → Mode  -- the element's name
   script : Mode
 
--- the end, or a token or a fault behind so many bytes that stand for nothing
+-- the end, or a token or a fault after a number of bytes that stand for nothing
 pub data Next : Type 0 where
   at_end : Next
   behind_bytes : ℕ → Scanned → Next
@@ -40,7 +40,7 @@ read_markup t foreign s =
 abbrev pub read_here : List Entry → Bool → List ℕ → Scanned
 read_here t foreign s = if begins_markup s then read_markup t foreign s else read_text t false s
 
--- the bytes behind `</>`, once or repeated, at the front; and how many they are
+-- what follows `</>`, once or repeated, at the start of a text; and how many bytes are skipped
 pub record Behind : Type 0 where
   pub count : ℕ
   pub rest : List ℕ
@@ -61,12 +61,12 @@ next_here t foreign k = if is_null k.rest then at_end else behind_bytes k.count 
 
 -- ---- the text of one element, up to its end tag
 
--- a piece of a text in which nothing but references is read, with what is behind the whole text behind it
+-- a piece of a text in which nothing but references is read, followed by what follows the whole text
 abbrev pub before_rest : Scanned → List ℕ → Scanned
 before_rest (taken token s) rest = taken token (s ++ rest)
 before_rest (refused fault) rest = refused fault
 
--- the end tag is so many bytes on, and more reads the text before it
+-- the Option gives the number of bytes before the end tag, and more reads the text before it
 abbrev pub read_inside : List Entry → List ℕ → Option ℕ → (List ℕ → List ℕ → Scanned) → Scanned
 read_inside t s None more = refused faults.Cut
 read_inside t s (Some zero) more = read_tag t s
@@ -90,9 +90,9 @@ first t (rcdata name) s = unless_end s (read_inside t s (raw_end name s) (read_r
 first t (raw name) s = unless_end s (read_inside t s (raw_end name s) read_nothing)
 first t script s = unless_end s (read_inside t s (script_end s) read_nothing)
 
--- ---- What a fault is called
+-- ---- The rule of a fault
 
--- the rule of a fault of a scan (want of memory is none of a text)
+-- the rule of a fault of a scan (too little memory is no fault of a text)
 abbrev pub rule_of : ScanFault → Rule
 rule_of faults.Cut = rules.Cut
 rule_of faults.BadName = rules.BadName

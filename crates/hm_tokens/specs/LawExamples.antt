@@ -45,7 +45,7 @@ a_letter_does_not : cuts_text (codes "a") ≡ false
 unfolding goes_on is_alnum is_letter is_digit_of
 a_letter_does_not = refl
 
--- `&copy=<` in front of a tag
+-- `&copy=<` before a tag
 pieces_in_front_of_a_tag : ArePieces copy false (referred (codes "&copy") (169 ∷ []) ∷ literal 61 ∷ literal 60 ∷ []) (codes "<b>")
 unfolding begins_markup is_letter reference_in reference found_here is_blocked
 pieces_in_front_of_a_tag = (refl, (refl, (refl, tt)))

@@ -90,7 +90,7 @@ SoundToken mode (slice s) = IsText mode s
 SoundToken mode (points ps) = IsReference mode ps
 SoundToken mode (comment s) = IsComment mode s
 
--- Each token that is read from the text of a page is sound, and what is behind it can be read on.
+-- Each token that is read from the text of a page is sound, and what follows it can be read on.
 abbrev pub TokensAreSound : Type 0
 TokensAreSound = (t : List Entry) (mode : Mode) (s : List ℕ) (n : ℕ) (token : Seen) (rest : List ℕ)
     → SoundNames t → IsMode mode → IsPlain s → first t mode s ≡ behind_bytes n (taken token rest)
@@ -116,7 +116,7 @@ least_size (slice s) = 1
 least_size (points ps) = 3
 least_size (comment s) = 3
 
--- what a token stands for has at most so many bytes for each byte of it
+-- the most bytes that a token stands for, per byte that it is read from
 abbrev pub growth : Seen → ℕ
 growth (doctype legacy) = 3
 growth (start_tag name attributes slash) = 3
@@ -125,14 +125,15 @@ growth (slice s) = 1
 growth (points ps) = 3
 growth (comment s) = 3
 
--- the token stands behind n bytes of s, and rest behind it
+-- the token stands after n bytes of s, and rest after the token
 pub record TakesBytes (s : List ℕ) (n : ℕ) (token : Seen) (rest : List ℕ) : Type 0 where
   pub count : ℕ  -- the bytes of the token
   pub whole : length s ≡ n + count + length rest
   pub size : token_size token ≤ growth token * count
   pub least : least_size token ≤ count
 
--- Each token stands for at most three times the bytes that it is read from, text as it is written for no more than those.
+-- Each token stands for at most three times the bytes that it is read from. Text as it is written stands for no more than
+-- those.
 abbrev pub TokensAreSmall : Type 0
 TokensAreSmall = (t : List Entry) (mode : Mode) (s : List ℕ) (n : ℕ) (token : Seen) (rest : List ℕ)
     → SoundNames t → IsMode mode → first t mode s ≡ behind_bytes n (taken token rest) → TakesBytes s n token rest

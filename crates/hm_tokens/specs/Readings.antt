@@ -5,8 +5,8 @@ use Rattle.hm_text_scan.specs.Texts.{begins_markup}
 use Rattle.hm_tree.specs.Tokens.{Seen, Scanned, taken, Extends}
 use Rattle.hm_tokens.specs.First.{Mode, ordinary, in_svg, behind_empty_tags, Next, at_end, behind_bytes, first}
 
--- The token that begins here ends by itself: a tag, a comment, a doctype, a CDATA section, and, up to the end tag, the text
--- of an element with raw text or with references alone. Ordinary text ends where something else begins.
+-- The token that begins here ends by itself: a tag, a comment, a doctype or a CDATA section. So does the text of an element
+-- with raw text or with references alone, up to the end tag. Ordinary text ends where something else begins.
 abbrev pub ends_itself : Mode → List ℕ → Bool
 ends_itself ordinary s = begins_markup (behind_empty_tags s).rest
 ends_itself in_svg s = begins_markup (behind_empty_tags s).rest
@@ -41,7 +41,7 @@ ReadsWhole t (k ∷ ks) s rest =
 abbrev pub WholeReadingsExtend : Type 0
 WholeReadingsExtend = (t : List Entry) (ks : List ReadStep) (s y rest : List ℕ) → ReadsWhole t ks s rest → ReadsWhole t ks (s ++ y) (rest ++ y) × ReadsAs t ks (s ++ y) (rest ++ y)
 
--- What is read behind tokens is read behind them.
+-- Where ks are read and then js from what is left, ks and js are read one after another.
 abbrev pub ReadingsFollow : Type 0
 ReadingsFollow = (t : List Entry) (ks js : List ReadStep) (s left rest : List ℕ) → ReadsAs t ks s left → ReadsAs t js left rest → ReadsAs t (ks ++ js) s rest
 
@@ -58,12 +58,12 @@ abbrev pub all_steps : List ReadPiece → List ReadStep
 all_steps [] = []
 all_steps (p ∷ ps) = p.steps ++ all_steps ps
 
--- each piece is read as its tokens, in front of what follows it
+-- each piece is read as its tokens, with what follows it
 abbrev pub EachIsRead : List Entry → List ReadPiece → List ℕ → Type 0
 EachIsRead t [] after = Unit {0}
 EachIsRead t (p ∷ ps) after = ReadsAs t p.steps (p.bytes ++ (all_bytes ps ++ after)) (all_bytes ps ++ after) × EachIsRead t ps after
 
--- Then the text that is put together of the pieces is read as the tokens of all of them.
+-- Then the text that is put together from the pieces is read as the tokens of all of them.
 abbrev pub PiecesAreRead : Type 0
 PiecesAreRead = (t : List Entry) (ps : List ReadPiece) (after : List ℕ) → EachIsRead t ps after → ReadsAs t (all_steps ps) (all_bytes ps ++ after) after
 

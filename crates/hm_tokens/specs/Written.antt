@@ -13,7 +13,7 @@ use Rattle.hm_tree.specs.Tokens.{Seen, doctype, start_tag, end_tag, slice, comme
 use Rattle.hm_tokens.specs.First.{Mode, rcdata, raw, script, behind_bytes, first}
 use Rattle.hm_tokens.specs.Laws.{reads_markup}
 
--- the token begins with the first byte, and rest is behind it
+-- the token begins with the first byte, and rest follows it
 abbrev pub IsNext : List Entry → Mode → List ℕ → Seen → List ℕ → Type 0
 IsNext t mode s token rest = first t mode s ≡ behind_bytes 0 (taken token rest)
 
@@ -35,7 +35,7 @@ IsTextOf (raw name) n = name ≡ n
 IsTextOf script n = codes "script" ≡ n
 IsTextOf mode n = ⊥
 
--- the end tag of an element with text, behind the text
+-- the end tag of an element with text, after the text
 abbrev pub TextEndsAreNext : Type 0
 TextEndsAreNext = (t : List Entry) (mode : Mode) (name b after : List ℕ) → IsTextOf mode name → is_tag_name name ≡ true → WritesEnd name b → IsNext t mode (b ++ after) (end_tag name) after
 

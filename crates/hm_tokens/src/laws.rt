@@ -4,7 +4,7 @@ ghost use Rattle.hm_tokens.specs.Laws.{TokensAreSmall, TokensAreSound};
 ghost use Rattle.hm_tokens.specs.Readings.{NextTokensExtend, PiecesAreRead, ReadingsFollow, WholePiecesAreRead, WholeReadingsExtend};
 ghost use Rattle.hm_tokens.specs.Written.{CommentsAreNext, DoctypesAreNext, EndsAreNext, RawTextsAreNext, ScriptsAreNext, StartsAreNext, TextEndsAreNext};
 
-/// Each token that is read from the text of a page can stand in a tree that is written and read back: its name is one
+/// Each token that is read from the text of a page can stand in a tree that is written and read back. Its name is one
 /// that is read, its attributes can be written, its text is UTF-8 without zero byte.
 pub fn tokens_are_sound()
     ensures { TokensAreSound }
@@ -21,14 +21,14 @@ pub fn tokens_extend()
     ensures readings { WholeReadingsExtend }
 {}
 
-/// What is put together of written pieces is read piece by piece.
+/// What is put together from written pieces is read piece by piece.
 pub fn written_pieces_are_read()
     ensures follow { ReadingsFollow }
     ensures pieces { PiecesAreRead }
     ensures whole { WholePiecesAreRead }
 {}
 
-/// Whether a reference or a text stands as it is meant is decided by the bytes before the first that can't go on.
+/// Whether a reference or a text stands as it is meant is decided by the bytes before the first one that can't go on.
 pub fn text_is_decided()
     ensures references { ReferencesAreDecided }
     ensures texts { TextsAreDecided }
@@ -42,7 +42,7 @@ pub fn written_texts_are_read()
     ensures element_texts { ElementTextsAreRead }
 {}
 
-/// Written tags, comments and doctypes are the next token, whatever follows them (13.2.5.6 to 13.2.5.68).
+/// Written tags, comments and doctypes are the next token, whatever follows them (#tag-open-state to #bogus-doctype-state).
 pub fn written_markup_is_next()
     ensures starts { StartsAreNext }
     ensures ends { EndsAreNext }
@@ -50,7 +50,8 @@ pub fn written_markup_is_next()
     ensures doctypes { DoctypesAreNext }
 {}
 
-/// So are the text of `style`, `iframe` and `script` up to its end tag, and the end tag behind a text (13.2.5.9 to 13.2.5.31).
+/// So are the text of `style`, `iframe` and `script` up to its end tag, and the end tag after a text
+/// (#rcdata-less-than-sign-state to #script-data-double-escape-end-state).
 pub fn written_elements_are_next()
     ensures raw_texts { RawTextsAreNext }
     ensures scripts { ScriptsAreNext }

@@ -1,4 +1,4 @@
--- The byte behind a text or a value.
+-- The byte after a text or a value.
 use Rattle.std.proofs.Common.{◌≡◌, ℕ, Bool, true, false, cond, ◌&&◌, nat_lt, not, List, [], ◌∷◌, ◌++◌, Some, None, refl, ◌∙◌, arith}
 use Rattle.std.specs.Char.{digit_value}
 use Rattle.hm_base.specs.Bytes.{is_alnum, is_digit_of, is_letter}

@@ -1,4 +1,4 @@
--- The reference at an '&', by what is behind it.
+-- The reference at an '&', by what follows it.
 use Rattle.std.proofs.Common.{◌≡◌, ℕ, Bool, true, false, cond, ◌==◌, List, [], ◌∷◌, Some, None, refl}
 use Rattle.hm_refs.specs.Names.{Entry, found, found_here}
 use Rattle.hm_refs.specs.References as references

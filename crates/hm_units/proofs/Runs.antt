@@ -1,4 +1,4 @@
--- Bytes taken as a whole, and the bytes '&' and '<' behind what is pending.
+-- Bytes taken as a whole, and the bytes '&' and '<' after what is pending.
 use Rattle.std.proofs.Common.{◌≡◌, ℕ, Bool, true, false, cond, ◌&&◌, ◌||◌, ◌==◌, List, [], ◌∷◌, ◌++◌, Option, Some, None, refl, ◌∙◌, inl, inr}
 use Rattle.hm_base.specs.Bytes.{is_alnum, is_digit, is_digit_of, is_hex, is_letter, is_null}
 use Rattle.hm_refs.specs.Names.{Entry, is_front, is_name}

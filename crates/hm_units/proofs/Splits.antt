@@ -1,4 +1,4 @@
--- Ways over joined units.
+-- Ways (paths through the layered graph) over joined units.
 use Rattle.std.proofs.Common.{◌≡◌, ℕ, List, [], ◌∷◌, ◌++◌, refl, sym, ap, ◌∙◌, subst, append_assoc}
 use Rattle.hm_units.specs.States.{State}
 use Rattle.hm_units.specs.Units.{Unit}

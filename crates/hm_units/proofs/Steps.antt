@@ -17,13 +17,13 @@ root_child [] c h = absurd (cc)
 root_child (x ∷ []) c h = grind (arith)
 root_child (x ∷ y ∷ q) c h = grind (arith)
 
--- at a child no '#' counts
+-- at a child '#' has no special meaning
 behind_child : (t : List Entry) (v : Bool) (q s : List ℕ) (c : ℕ) → is_null q ≡ false → reference_behind t v (q ++ c ∷ []) s ≡ references.named v (found t (q ++ c ∷ []) s)
 unfolding reference_behind
 behind_child t v q [] c h = refl
 behind_child t v q (d ∷ s) c h = rw (root_child q c h) refl
 
--- what is read behind a child, or behind no child
+-- what is read after a child, or after no child
 onto_law : (t : List Entry) (spot : Spot) (q s : List ℕ) (c : ℕ) → is_null q ≡ false → keeps_after t spot (onto ampersand t q c) s ≡ is_none (references.named (is_value spot) (found t (q ++ c ∷ []) s))
 unfolding onto
 onto_law t spot q s c h = by_front (is_front t (q ++ c ∷ [])) refl
@@ -88,7 +88,7 @@ not_alnum c h = by_test (61 == c) (is_alnum c) h
     by_test true b k = absurd (cc)
     by_test false b k = k
 
--- what may follow a name, and blocks nothing, begins no longer name but by ';'
+-- what may follow a name, and blocks nothing, begins no longer name, except by ';'
 ends_name : (t : List Entry) → IsTable t → (q : List ℕ) (c : ℕ) → is_null q ≡ false → blocks c ≡ false → (is_front t (q ++ c ∷ []) ≡ false) ⊎ ((c ≡ 59) × (is_name t (q ++ c ∷ []) ≡ true))
 ends_name t k q c h b = by_front (is_front t (q ++ c ∷ [])) refl
   where
@@ -149,7 +149,7 @@ unless_law : (t : List Entry) (spot : Spot) (s : List ℕ) (b : Bool) → not b 
 unless_law t spot s true = refl
 unless_law t spot s false = refl
 
--- "&#" is a reference exactly with a digit behind
+-- "&#" is a reference exactly where a digit follows
 hash_law : (t : List Entry) (spot : Spot) (s : List ℕ) (c : ℕ) → is_none (references.hash (c ∷ s)) ≡ keeps_after t spot (step t spot hash c) s
 hash_law t spot s c = by_tests (120 == c || 88 == c) (is_digit c)
   where
@@ -165,7 +165,8 @@ hash_x_law t spot s c = by_tests (is_hex c)
     by_tests true = refl
     by_tests false = refl
 
--- a byte behind keeps what is pending exactly where it doesn't break it and the bytes behind it keep what is then pending
+-- One more byte keeps what is pending exactly where it doesn't break it, and where the bytes after it keep what is then
+-- pending.
 none_passes : (t : List Entry) (spot : Spot) (s : List ℕ) → false ≡ passes t spot None s
 none_passes t spot [] = refl
 none_passes t spot (c ∷ s) = refl

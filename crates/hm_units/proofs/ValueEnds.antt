@@ -1,4 +1,4 @@
--- What stands behind a value without quotes closes it.
+-- What follows a value without quotes closes it.
 use Rattle.std.proofs.Common.{◌≡◌, ℕ, Bool, true, false, ◌&&◌, ◌||◌, ◌==◌, List, [], ◌∷◌, ◌++◌, refl, sym, ap, ◌∙◌, subst, append_assoc}
 use Rattle.hm_base.specs.Bytes.{is_space}
 use Rattle.hm_base.specs.Forms.{is_blank}
@@ -54,7 +54,7 @@ pub blank_closes : (gap s : List ℕ) → is_blank gap ≡ true → Closes s →
 blank_closes [] s h c = c
 blank_closes (d ∷ gap) s h c = record { byte = d; rest = gap ++ s; is = refl; among = space_is d (and_left (is_space d) (is_blank gap) h) }
 
--- behind a value without quotes the tag's end closes it
+-- after a value without quotes the tag's end closes it
 pub end_closes : (slash : Bool) (gap x : List ℕ) → is_gap (slash && true) gap ≡ true → Closes (gap ++ (tag_end slash ++ x))
 end_closes true gap x h = gap_closes gap (tag_end true ++ x) h
 end_closes false gap x h = blank_closes gap (62 ∷ x) (gap_blank false gap h) (record { byte = 62; rest = x; is = refl; among = later 34 _ (later 39 _ (first _)) })

@@ -1,4 +1,4 @@
--- What is pending: what the bytes that follow break, and what they keep; and which start tags may close themselves. On examples.
+-- What is pending, on examples: what the bytes that follow break and keep; and which start tags may close themselves.
 use Rattle.std.specs.Prelude.{◌≡◌, true, false, Some, [], ◌∷◌, codes, refl}
 use Rattle.hm_base.specs.Bytes.{is_alnum, is_digit_of, is_letter}
 use Rattle.hm_base.specs.Walks.{end}
@@ -18,7 +18,7 @@ pub kept_by_comma : passes seven text (Some (named (codes "&not"))) (codes "in,"
 unfolding named_in_text onto is_name
 kept_by_comma = refl
 
--- in a value a '&' stands as itself in front of `noti"`, and not in front of `not"`
+-- in a value a '&' stands as itself before `noti"`, and not before `not"`
 pub stands_before_letters : passes seven double (Some (ampersand (codes "&"))) (codes "noti\"") ≡ true
 unfolding ampersand_in_value onto is_name is_root is_alnum is_letter is_digit_of
 stands_before_letters = refl

@@ -1,4 +1,4 @@
--- What a step and the byte behind a text or a value tell of what is pending.
+-- What a step and the byte after a text or a value say about what is pending.
 use Rattle.std.specs.Prelude.{◌≡◌, ℕ, true, false, List, [], ◌∷◌, Some}
 use Rattle.hm_refs.specs.Names.{Entry}
 use Rattle.hm_refs.specs.Tables.{IsIn, IsTable}
@@ -10,7 +10,7 @@ use Rattle.hm_units.specs.Steps.{keeps, passes, may_end, Fits}
 abbrev pub StepsTell : Type 0
 StepsTell = (t : List Entry) → IsTable t → (spot : Spot) (s : List ℕ) (p : Pending) → Fits t spot p → keeps t spot p s ≡ passes t spot (Some p) s
 
--- the bytes that may stand directly behind a value: quotes, '>' and whitespace
+-- the bytes that may stand directly after a value: quotes, '>' and whitespace
 abbrev pub closing_bytes : List ℕ
 closing_bytes = 34 ∷ 39 ∷ 62 ∷ 9 ∷ 10 ∷ 12 ∷ 13 ∷ 32 ∷ []
 

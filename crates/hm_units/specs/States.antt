@@ -3,31 +3,31 @@ use Rattle.std.specs.Prelude.{ℕ, Bool, true, false, ◌&&◌, List, Option, So
 use Rattle.hm_spellings.specs.Characters.{Spot, unquoted, double, single}
 
 pub data Where : Type 0 where
-  outside : Where  -- of tags
-  loose : Where  -- outside of tags, behind an end tag of a table's section or of colgroup that was left out
-  self_closed : Where  -- behind a start tag of SVG with a '/', which stands for the end tag as well
-  behind_name : Where  -- in a tag, behind its name or an attribute without value
-  behind_unquoted : Where  -- in a tag, behind a value without quotes
-  behind_quoted : Where  -- in a tag, behind a value in quotes
+  outside : Where  -- outside of tags
+  loose : Where  -- outside of tags, after an end tag of a table's section or of colgroup that was left out
+  self_closed : Where  -- after a start tag of SVG with a '/', which stands for the end tag as well
+  behind_name : Where  -- in a tag, after its name or an attribute without value
+  behind_unquoted : Where  -- in a tag, after a value without quotes
+  behind_quoted : Where  -- in a tag, after a value in quotes
   in_unquoted : Where  -- in a value without quotes
   in_double : Where  -- in a value in double quotes
   in_single : Where  -- in a value in single quotes
   in_section : Where  -- in a CDATA section
 
--- What the bytes that were written may become together with those that follow. A place in the names of references is the
--- bytes that lead to it, the '&' included.
+-- What the bytes that were written may become together with those that follow. A place in the names of references is given
+-- by the bytes that lead to it, the '&' included.
 pub data Pending : Type 0 where
   nothing : Pending
-  less_than : Pending  -- behind a '<' that stands as itself
-  hash : Pending  -- behind `&#`, with the '&' as itself
-  hash_x : Pending  -- behind `&#x`, with the '&' as itself
-  decimal : Pending  -- behind a decimal reference without ';'
-  hexadecimal : Pending  -- behind a hexadecimal reference without ';'
-  ampersand : List ℕ → Pending  -- behind these bytes, with the '&' as itself
-  named : List ℕ → Pending  -- behind these bytes, which begin with a name without ';'
-  half : Option (List ℕ) → Pending  -- behind a name for two code points, the second of which is due; the name, where it has no ';'
-  one_bracket : Pending  -- behind `]` in a section
-  two_brackets : Pending  -- behind `]]` in a section
+  less_than : Pending  -- after a '<' that stands as itself
+  hash : Pending  -- after `&#`, with the '&' as itself
+  hash_x : Pending  -- after `&#x`, with the '&' as itself
+  decimal : Pending  -- after a decimal reference without ';'
+  hexadecimal : Pending  -- after a hexadecimal reference without ';'
+  ampersand : List ℕ → Pending  -- after these bytes, with the '&' as itself
+  named : List ℕ → Pending  -- after these bytes, which begin with a name without ';'
+  half : Option (List ℕ) → Pending  -- after a name for two code points, the second of which is due; the name, where it has no ';'
+  one_bracket : Pending  -- after `]` in a section
+  two_brackets : Pending  -- after `]]` in a section
 
 pub record State : Type 0 where
   pub at : Where

@@ -22,7 +22,7 @@ is_root q = bytes_eq q (38 ∷ [])
 abbrev pub is_hash : ℕ → Bool
 is_hash c = 35 == c
 
--- onto the bytes with one more, where a name begins so
+-- what is pending with one more byte: a state of this kind where a name begins with the bytes, else nothing
 unfoldable pub onto : (List ℕ → Pending) → List Entry → List ℕ → ℕ → Option Pending
 onto kind t q c = if is_front t (q ++ c ∷ []) then Some (kind (q ++ c ∷ [])) else Some nothing
 
@@ -48,7 +48,7 @@ named_in_value t q c = if blocks c || (is_semicolon c && is_front t (q ++ c ∷ 
 abbrev pub unless : Bool → Pending → Option Pending
 unless b p = if b then None else Some p
 
--- what is pending behind a byte more; None where the byte makes something else of what was written
+-- what is pending after one more byte; None where the byte makes something else of what was written
 abbrev pub step : List Entry → Spot → Pending → ℕ → Option Pending
 step t spot nothing c = Some nothing
 step t spot less_than c = unless (opens spot c) nothing
@@ -76,7 +76,7 @@ may_end t spot (half left) = false
 may_end t spot one_bracket = false
 may_end t spot two_brackets = false
 
--- what is pending behind these bytes, where they break nothing
+-- what is pending after these bytes, where they break nothing
 abbrev pub run : List Entry → Spot → Option Pending → List ℕ → Option Pending
 run t spot None s = None
 run t spot (Some p) [] = Some p
@@ -84,12 +84,12 @@ run t spot (Some p) (c ∷ s) = run t spot (step t spot p c) s
 
 -- ---- What it means
 
--- the reference at the front of q ++ s, where q was written with its '&' as itself
+-- the reference at the start of q ++ s, where q was written with its '&' as itself
 unfoldable pub reference_behind : List Entry → Bool → List ℕ → List ℕ → Option Reference
 reference_behind t value q [] = references.named value (found t q [])
 reference_behind t value q (c ∷ s) = if is_root q && is_hash c then references.hash s else references.named value (found t q (c ∷ s))
 
--- whether the bytes that follow leave what was written what it was meant to be
+-- whether, with the bytes that follow, what was written still means what it was meant to
 abbrev pub keeps : List Entry → Spot → Pending → List ℕ → Bool
 keeps t spot nothing s = true
 keeps t spot less_than s = not (head_is (opens spot) s)
@@ -109,7 +109,7 @@ passes t spot None s = false
 passes t spot (Some p) [] = may_end t spot p
 passes t spot (Some p) (c ∷ s) = passes t spot (step t spot p c) s
 
--- a literal '&' and what is behind it, which is no reference so far
+-- a literal '&' and what follows it, which is no reference so far
 pub record IsOpen (t : List Entry) (value : Bool) (q : List ℕ) : Type 0 where
   pub some : is_null q ≡ false
   pub in_text : value ≡ false → is_name t q ≡ false

@@ -1,4 +1,4 @@
--- The units of a tree, in the order in which they are spelled. All that edges ask of the tree stands in the units.
+-- The units of a tree, in the order in which they are spelled. All that edges need to know of the tree stands in the units.
 use Rattle.std.specs.Prelude.{ℕ, Bool, true, false, not, ◌&&◌, ◌||◌, List, [], ◌∷◌, ◌++◌, Option, Some, None, if◌then◌else◌, codes, bytes_eq, chars}
 use Rattle.hm_base.specs.Walks.{Attribute, Event, doctype, start, text, comment, end, Element, begins_end}
 use Rattle.hm_base.specs.declared.plain.SpellRules.{SpellRules}
@@ -18,11 +18,11 @@ pub data TextKind : Type 0 where
 
 pub data Unit : Type 0 where
   fixed : List ℕ → Unit  -- bytes without a choice
-  start_tag : List ℕ → Bool → Bool → Bool → Unit  -- name, whether it may be left out, but not behind a loose end, whether it may close itself
+  start_tag : List ℕ → Bool → Bool → Bool → Unit  -- name; whether it may be left out; whether not after a loose end; whether it may close itself
   tag_name : List ℕ → Unit  -- '<' and the name of a tag with attributes
   bare_attribute : List ℕ → Unit  -- an attribute with an empty value
-  attribute_name : List ℕ → Unit  -- the name of another one, its '=' and what opens the value
-  character : TextKind → ℕ → Option ℕ → Unit  -- a code point, and the one behind it in the same text
+  attribute_name : List ℕ → Unit  -- the name of any other attribute, its '=' and what opens the value
+  character : TextKind → ℕ → Option ℕ → Unit  -- a code point, and the one after it in the same text
   attribute_end : Unit  -- what closes a value
   tag_close : Bool → Unit  -- '>', and whether the tag may close itself
   end_tag : List ℕ → Bool → Bool → Unit  -- name, whether it may be left out, and whether that leaves the end loose
@@ -51,7 +51,7 @@ attribute_units (a ∷ attributes) = value_units a.name a.value ++ attribute_uni
 abbrev pub Previous : Type 0
 Previous = Option Event
 
--- Behind an end of that kind, whose tag was left out, the start tag isn't left out as well.
+-- After an end that bars it and whose tag was left out, the start tag isn't left out as well.
 abbrev pub is_firm : Previous → List ℕ → Bool
 is_firm (Some (end m foreign)) n = not foreign && bars_start m n
 is_firm previous n = false
@@ -64,7 +64,7 @@ abbrev pub start_units : SpellRules → Previous → List ℕ → Bool → List 
 start_units r previous n foreign [] w = start_tag n (r.omit && (not foreign && start_falls r.frame n w)) (is_firm previous n) (may_close_itself foreign w) ∷ []
 start_units r previous n foreign (a ∷ attributes) w = tag_name n ∷ (attribute_units (a ∷ attributes) ++ tag_close (may_close_itself foreign w) ∷ [])
 
--- Where the end tag of a section of a table or of colgroup is left out, that is kept in mind.
+-- Where the end tag of a section of a table or of colgroup is left out, the state records it.
 abbrev pub is_loose_end : List ℕ → Bool
 is_loose_end n = is_section n || bytes_eq n colgroup
 
@@ -95,7 +95,7 @@ abbrev pub doctype_bytes : Bool → List ℕ
 doctype_bytes false = codes "<!doctype html>"
 doctype_bytes true = codes "<!doctype html SYSTEM \"about:legacy-compat\">"
 
--- the units of the events that are left, behind the previous one and with these elements open
+-- the units of the events that are left, after the previous one and with these elements open
 abbrev pub units_from : SpellRules → Previous → List Element → List Event → List Unit
 units_from r previous path [] = []
 units_from r previous path (doctype legacy ∷ w) = fixed (doctype_bytes legacy) ∷ units_from r (Some (doctype legacy)) path w

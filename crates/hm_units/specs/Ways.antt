@@ -1,4 +1,4 @@
--- Ways over some units, from a state to a state.
+-- Ways (paths through the layered graph) over some units, from a state to a state.
 use Rattle.std.specs.Prelude.{◌≡◌, ℕ, List, [], ◌∷◌, ◌++◌}
 use Rattle.hm_refs.specs.Tables.{IsIn}
 use Rattle.hm_units.specs.Edges.{Edge}

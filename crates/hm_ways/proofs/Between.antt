@@ -17,7 +17,7 @@ use Rattle.hm_ways.proofs.Order.{element, EndFits}
 use Rattle.hm_ways.proofs.Spots.{fits_over, text_spot}
 use Rattle.hm_ways.proofs.Tables.{bars_nothing, begins_tag, IsOpenName, loose_goes, table_not_void, table_stays, void_plain}
 
--- where a way may stand in front of these events
+-- where a way (path through the layered graph) may stand before these events
 pub data Place (path : List Element) (w : List Event) (at : Where) : Type 0 where
   at_outside : at ≡ outside → Place path w at
   at_loose : at ≡ loose → current path ≡ table → begins_tag w ≡ true → Place path w at
@@ -50,7 +50,7 @@ moved t a b p f = fits_over t (spot_of a) (spot_of b) p (text_spot a ∙ sym (te
 not_closed : (at : Where) → at ≡ outside → is_self_closed at ≡ true → ⊥
 not_closed at e h = let k : is_self_closed outside ≡ true = subst (λ a. is_self_closed a ≡ true) e h in cc
 
--- behind what is written nothing is pending
+-- after what is written nothing is pending
 pub fresh : (t : List Entry) (before : Before) (previous : Previous) (path : List Element) (w : List Event) → is_opening before ≡ is_behind_start previous → is_self_closing before ≡ false → left_out_before before ≡ None → Agrees t before previous path outside nothing w
 fresh t before previous path w o s l = record {
   place = at_outside refl;
@@ -189,7 +189,7 @@ end_loosened t path n w f l falls = record {
   barred = λ m. sym (and_true (bars_start n m));
 }
 
--- in front of a text the place is outside of all
+-- before a text the place is outside of all
 pub text_outside : (path : List Element) (w : List Event) (s : List ℕ) (raw : Bool) (at : Where) → Place path (text s raw ∷ w) at → at ≡ outside
 text_outside path w s raw at (at_outside e) = e
 text_outside path w s raw at (at_loose e k b) = absurd (cc)

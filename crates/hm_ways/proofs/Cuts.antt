@@ -1,4 +1,4 @@
--- Ways cut behind some of their units, and put together.
+-- Ways (paths through the layered graph) that are cut after some of their units, and joined.
 use Rattle.std.proofs.Common.{◌≡◌, ℕ, List, [], ◌∷◌, ◌++◌, refl, sym, ap, ◌∙◌, subst, append_assoc}
 use Rattle.hm_graph.specs.Ways.{Edges, Way}
 use Rattle.hm_units.specs.States.{State}

@@ -1,4 +1,5 @@
--- A tree has a way: every tag is written, and a character stands as itself or is a reference by its number.
+-- A tree has a way (path through the layered graph): every tag is written, and a character stands as itself or is a
+-- reference by its number.
 use Rattle.std.proofs.Common.{◌≡◌, ℕ, Bool, true, false, cond, not, ◌&&◌, ◌||◌, ◌==◌, nat_lt, List, [], ◌∷◌, ◌++◌, Option, Some, None, is_none, is_some, codes, chars, encode_utf8, refl, sym, ap, ◌∙◌, subst}
 use Rattle.std.specs.Fmt as digits
 use Rattle.std.proofs.lemmas.Bool.{eqb-true, false_from_ne_true}
@@ -94,7 +95,7 @@ run_nothing : (t : List Entry) (spot : Spot) (s : List ℕ) → run t spot (Some
 run_nothing t spot [] = refl
 run_nothing t spot (c ∷ s) = run_nothing t spot s
 
--- a choice behind which nothing is pending
+-- a choice after which nothing is pending
 record Calm (t : List Entry) (rules : CharacterRules) (spot : Spot) (c : ℕ) (next : Option ℕ) : Type 0 where
   bytes : List ℕ
   among : IsIn (choice bytes nothing) (choices t rules spot c next nothing)
@@ -160,7 +161,7 @@ module _ (g : Spelling) where
 
   -- ---- tags
 
-  -- a state behind attributes
+  -- a state after attributes
   record Attributed (attributes : List Attribute) (from : State) : Type 0 where
     to : State
     over : Over g (attribute_units attributes) from to

@@ -1,4 +1,4 @@
--- A line feed that isn't read is the shortest as itself.
+-- A line feed that isn't read is shortest as itself.
 use Rattle.std.proofs.Common.{◌≡◌, ℕ, suc, ◌≤◌, Bool, true, false, cond, not, ◌&&◌, List, [], ◌∷◌, ◌++◌, length, encode_utf8, refl, sym, ap, ◌∙◌, inl, inr, ◌⊎◌, arith, length-append}
 use Rattle.std.proofs.lemmas.Bool.{and_parts, both_ways, eqb-true, not-true}
 use Rattle.std.proofs.lemmas.Str.{encode_ascii}
@@ -18,7 +18,7 @@ use Rattle.hm_text_spell.proofs.Reading.{IsName, IsNumber, name_shape, reference
 use Rattle.hm_text_spell.proofs.ReferenceStarts.{OneOrTwo, one_point, points_few, refers_of, two_points}
 use Rattle.hm_ways.proofs.Texts.{with_feed}
 
--- what is left behind a line feed
+-- what is left after a line feed
 pub record Fed (t : List Entry) (rules : CharacterRules) (spot : Spot) (cs b after : List ℕ) : Type 0 where
   pub bytes : List ℕ
   pub spells : SpellsPoints t rules spot cs bytes after

@@ -1,4 +1,4 @@
--- Each spelling has a way with no more bytes, event by event.
+-- Each spelling has a way (path through the layered graph) with no more bytes, event by event.
 use Rattle.std.proofs.Common.{◌≡◌, ℕ, ◌≤◌, Bool, true, false, cond, not, ◌&&◌, List, [], ◌∷◌, ◌++◌, length, Some, None, codes, refl, sym, ap, ◌∙◌, subst, arith, length-append}
 use Rattle.std.proofs.lemmas.Bool.{both_ways, or_parts, or_right}
 use Rattle.hm_attr_spell.proofs.Ways.{spellings_have_tags}
@@ -40,7 +40,7 @@ abbrev More : Spelling → List Event → Type 0
 More g w = (before : Before) (previous : Previous) (path : List Element) (at : Where) (p : Pending) (b : List ℕ) → Agrees g.table before previous path at p w → InOrder path w → SpellsFrom g before path w b → keeps g.table (spot_of path) p b ≡ true
     → Found g previous path (state at p) w b
 
--- an edge in front of a way
+-- an edge before a way
 record Through (g : Spelling) (unit : Unit) (units : List Unit) (from : State) (b : List ℕ) : Type 0 where
   bytes : List ℕ
   way : Way (edges_of g) (unit ∷ units) from bytes
@@ -181,7 +181,7 @@ module _ (g : Spelling) (table : IsTable g.table) where
       with_end w n foreign previous path (state at p) b v
       (through (end_tag n (may_omit_end g.rules n foreign (outer path) w) (is_loose_end n)) (units_from g.rules (Some (end n foreign)) (outer path) w) (state at p) first_state [] m.bytes b [] b (into_closed n (may_omit_end g.rules n foreign (outer path) w) (is_loose_end n) (state at p) c) (omega arith) refl m.way m.short)
 
-  -- the way behind an end tag that is left out
+  -- the way after an end tag that is left out
   record Behind (n : List ℕ) (path : List Element) (to : State) (w : List Event) (b : List ℕ) : Type 0 where
     bytes : List ℕ
     way : Way (edges_of g) (units_from g.rules (Some (end n false)) (outer path) w) to bytes

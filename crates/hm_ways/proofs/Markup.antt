@@ -100,7 +100,7 @@ end_markup g m path n foreign w b here f (forms.omitted, piece, rest, is, s, mor
     (subst (λ x. end_falls x (current (outer path)) w ≡ true) (sym (top_name n foreign path f) ∙ here) (leaves_end g.rules n foreign (outer path) w s.2).falls))
 end_markup g m path n foreign w b here f (forms.written, piece, rest, is, s, more) = markup_front b piece rest is (_, s.1.is)
 
--- what stands in a table behind an end tag that was left out begins with '<'
+-- what stands in a table after an end tag that was left out begins with '<'
 pub table_markup : (g : Spelling) (m : List ℕ) (path : List Element) (w : List Event) (b : List ℕ) → current path ≡ table → begins_tag w ≡ true → InOrder path w → SpellsFrom g (end_omitted m) path w b → IsMarkup b
 table_markup g m path [] b here h o s = absurd (cc)
 table_markup g m path (doctype legacy ∷ w) b here h o s = absurd (cc)

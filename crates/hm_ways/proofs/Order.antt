@@ -1,4 +1,4 @@
--- What ways ask of the events of a walk; settled walks have it.
+-- What ways (paths through the layered graph) need from the events of a walk; settled walks have it.
 use Rattle.std.proofs.Common.{◌≡◌, ℕ, Bool, true, false, cond, not, List, [], ◌∷◌, map, bytes_eq, refl, sym, ap, ◌∙◌, subst, inl, inr, ◌⊎◌, Option, Some, None}
 use Rattle.std.proofs.lemmas.Bool.{and_parts, both_ways, not-true, or_cases}
 use Rattle.hm_attr_spell.specs.Laws.{AreLow}
@@ -20,7 +20,8 @@ use Rattle.hm_ways.proofs.Names.{names_low, tag_name_low}
 abbrev pub element : List ℕ → Bool → Element
 element n foreign = record { name = n; foreign = foreign }
 
--- an element in those around it: its name has no capitals, they hold more than a text, and parts of a table stand in table
+-- An element among those around it: its name has no capitals, they hold more than a text, and parts of a table stand in
+-- table.
 pub record IsPlaced (n : List ℕ) (foreign : Bool) (path : List Element) : Type 0 where
   pub low : map lower n ≡ n
   pub around : is_in_text path ≡ false

@@ -1,4 +1,4 @@
--- The bytes of each way are a spelling, event by event.
+-- The bytes of each way (path through the layered graph) are a spelling, event by event.
 use Rattle.std.proofs.Common.{◌≡◌, ℕ, Bool, true, false, cond, not, ◌&&◌, List, [], ◌∷◌, ◌++◌, Some, None, codes, refl, sym, ap, ◌∙◌, subst, append_assoc}
 use Rattle.std.proofs.lemmas.Bool.{and_parts, or_left, or_right}
 use Rattle.hm_attr_spell.proofs.Spelled.{tags_spell}

@@ -46,7 +46,7 @@ keeps_over t a b (half left) s e h = refl
 keeps_over t a b one_bracket s e h = refl
 keeps_over t a b two_brackets s e h = refl
 
--- at the end of all nothing that is pending in a text breaks
+-- at the end of all, nothing that is pending in a text is broken
 pub end_keeps : (t : List Entry) (spot : Spot) (p : Pending) → is_value spot ≡ false → Fits t spot p → keeps t spot p [] ≡ true
 end_keeps t spot p v f = end_law t spot p f ∙ by_state p f
   where
@@ -101,7 +101,7 @@ top_no_rcdata : is_rcdata [] ≡ false
 unfolding is_rcdata rcdata_names is_among
 top_no_rcdata = refl
 
--- in what holds more than a text what is pending is kept by the same bytes everywhere
+-- where an element holds more than a text, the same bytes keep what is pending
 keeps_text : (t : List Entry) (path : List Element) (p : Pending) (s : List ℕ) → is_in_text path ≡ false → keeps t (spot_of path) p s ≡ keeps t text p s
 keeps_text t path p s h = by_path path h
   where

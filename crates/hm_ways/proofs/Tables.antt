@@ -17,7 +17,7 @@ begins_tag w = begins_start w || begins_end w
 
 -- ---- starts that are left out
 
--- html, head or body, or one that goes before a child
+-- html, head or body, or an element that goes before a child
 start_left_out : (frame : Bool) (n : List ℕ) (w : List Event) → start_falls frame n w ≡ true → (is_root n ≡ true) ⊎ (begins_child_of n w ≡ true)
 unfolding start_falls is_root roots is_among
 start_left_out frame n w h = by_names (bytes_eq n html) (bytes_eq n head) (bytes_eq n body) _ _ _ (begins_child_of n w) refl refl refl h
@@ -85,7 +85,7 @@ goes_tag n parent (comment s ∷ w) h = absurd (cc)
 goes_tag n parent (start m foreign attributes ∷ w) h = refl
 goes_tag n parent (end m foreign ∷ w) h = refl
 
--- behind an end of a section or of colgroup that is left out a tag follows
+-- after an end of a section or of colgroup that is left out a tag follows
 pub loose_goes : (n parent : List ℕ) (w : List Event) → is_loose_end n ≡ true → end_falls n parent w ≡ true → begins_tag w ≡ true
 unfolding end_falls
 loose_goes n parent w l h = goes_tag n parent w (rw (other_name n html l frame_names.0, other_name n body l frame_names.1, other_name n head l frame_names.2) at h)
@@ -163,7 +163,7 @@ bars_nothing n m h = by_tests (is_section n) (bytes_eq n colgroup) (bytes_eq m t
     by_tests false false false true k = refl
     by_tests false false false false k = refl
 
--- ---- a start behind one that is left out
+-- ---- a start after one that is left out
 
 no_child : (w : List Event) → (begins_child_of col w ≡ false) × (begins_child_of tr w ≡ false)
 unfolding start_goes_before start_rows is_among

@@ -71,7 +71,7 @@ feed_stays : (t : List Entry) (spot : Spot) (behind : List ℕ) → stays t spot
 unfolding stays
 feed_stays t spot behind = refl
 
--- a line feed as itself in front
+-- a line feed as itself before the others
 pub with_feed : (t : List Entry) (rules : CharacterRules) (spot : Spot) (cs b after : List ℕ) → is_value spot ≡ false → SpellsPoints t rules spot cs b after → SpellsPoints t rules spot (10 ∷ cs) (10 ∷ b) after
 with_feed t rules spot cs b after v s = record {
   pieces = itself 10 ∷ s.pieces;
@@ -107,7 +107,7 @@ module _ (g : Spelling) (table : IsTable g.table) where
         subst (λ spot. keeps g.table spot p (b ++ after) ≡ true) (kind_spot path) s.kept,
       )
 
-  -- the same with a line feed in front that isn't read
+  -- the same with a line feed at the start that isn't read
   abbrev FeedWay : List Element → List ℕ → Pending → List ℕ → State → Bool → Type 0
   FeedWay path cs p b to v = WayTo (edges_of g) (cond v (fixed (10 ∷ []) ∷ []) [] ++ character_units (kind_of path) cs) (state outside p) b to
 

@@ -1,4 +1,4 @@
--- Between the ways of the graph and the spellings of a tree, over its events.
+-- Between the ways (paths) through the layered graph and the spellings of a tree, over its events.
 use Rattle.std.specs.Prelude.{◌≡◌, ℕ, ◌≤◌, Bool, true, false, ◌==◌, List, [], length, Some}
 use Rattle.hm_base.specs.Walks.{Event}
 use Rattle.hm_base.specs.declared.plain.SpellRules.{SpellRules}

@@ -17,7 +17,7 @@ pub fn trees_have_ways()
     ensures spellings { TreesHaveSpellings }
 {}
 
-/// Prices that keep the rules of a certificate show, whoever made them, that no spelling has fewer bytes than the first.
+/// Prices from any source that keep the rules of a certificate show that no spelling has fewer bytes than the first price.
 pub fn feasible_prices_show()
     ensures { FeasiblePricesShow }
 {}

@@ -1,5 +1,5 @@
-//! Ways through the graph of spellings and the spellings of a tree: each way is a spelling, and each spelling has a way with
-//! no more bytes. Laws alone.
+//! Ways (paths) through the layered graph and the spellings of a tree: each way is a spelling, and each spelling has a way
+//! with no more bytes. Laws alone.
 #![tactic(auto)]
 
 pub mod laws;

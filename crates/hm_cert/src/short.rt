@@ -1,4 +1,4 @@
-//! Lines of prices of few digits, judged from their front and read from their end.
+//! Lines of prices of few digits, checked from their start and read from their end.
 ghost use Rattle.std.specs.Prelude.{◌≡◌, ◌<◌, length, map, reverse, IfOk, IfSome};
 ghost use Rattle.hm_cert.specs.Layout.{told};
 ghost use Rattle.hm_cert.specs.Short.{AreDigits, IsBackTo, IsLastPrice, IsShortLine, IsShortRow, IsShortWord};
@@ -20,7 +20,7 @@ fn count_digits(text: &[u8]) -> usize
     text.len()
 }
 
-/// The length of a closed price in bytes, where a text begins with one and something is behind.
+/// The length of a closed price in bytes, where a text begins with one and something follows.
 fn closed_word(text: &[u8]) -> Option<usize>
     ensures { IfSome result (IsShortWord text.now) }
 {
@@ -30,8 +30,8 @@ fn closed_word(text: &[u8]) -> Option<usize>
     }
 }
 
-/// The length of a price in bytes, where a text begins with one, it is closed or has at most 18 digits, and something is
-/// behind.
+/// The length of a price in bytes, where a text begins with one, it is closed or has at most 18 digits, and something
+/// follows.
 fn short_word(text: &[u8]) -> Option<usize>
     ensures { IfSome result (IsShortWord text.now) }
 {
@@ -48,7 +48,7 @@ fn short_word(text: &[u8]) -> Option<usize>
     Some(len)
 }
 
-/// The length of a price with these first digits, where a text begins with one and something is behind.
+/// The length of a price with these first digits, where a text begins with one and something follows.
 fn word_with(known: &LeadingDigits<'_>, text: &[u8]) -> Option<usize>
     ensures { IfSome result (IsShortWord text.now) }
 {
@@ -153,7 +153,7 @@ fn back_price_like<'a>(text: &'a [u8], known: &mut LeadingDigits<'a>) -> Option<
     Some((price, at))
 }
 
-/// Turns a row round. Most have at most three prices.
+/// Reverses a row. Most have at most three prices.
 fn turn(row: &mut Vec<u64>)
     ensures { row.new.items ≡ reverse row.old.items }
 {

@@ -18,7 +18,7 @@ use hm_refs::Table;
 use std::alloc::Global;
 use std::marker::Model;
 
-/// The steps so far, by their numbers, and the number of the list behind them.
+/// The steps so far, by their numbers, and the number of the list after them.
 #[derive(Drop)]
 pub(crate) struct GraphBuilder<'t> {
     met: Met<'t>,
@@ -81,7 +81,7 @@ impl<'t> GraphBuilder<'t> {
         Ok(number)
     }
 
-    /// Adds the step of a character, behind which the next one stands in the same text, and gives its number.
+    /// Adds the step of a character, after which the next one stands in the same text, and gives its number.
     #[inline(always)]
     fn add_in_front(&mut self, kind: TextKind, c: char, next: char) -> Result<u32, Memory>
         ensures adds { OnOk result (AddsSteps self.old self.new (units.character (kind_of kind) c (Some next) ∷ [])) }
@@ -111,7 +111,7 @@ impl<'t> GraphBuilder<'t> {
         Ok(to.number)
     }
 
-    /// Adds the step of a character by the one behind it in the same text, where there is one, and gives its number.
+    /// Adds the step of a character by the one after it in the same text, where there is one, and gives its number.
     #[inline(always)]
     pub(crate) fn add_character(
         &mut self,

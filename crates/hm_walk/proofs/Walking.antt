@@ -27,7 +27,7 @@ goes_on g S C from mid left old between new one more = record {
   comes = λ units text h. one.comes units text (more.comes units text h);
 }
 
--- with more units behind
+-- with more units after them
 pub goes_front : {W : Type 0} (g : GraphView) (S : ℕ → W → Type 0) (C : List Unit → ℕ → W → List ℕ → Type 0) (us more : List Unit) (old new : Walk W) → Goes g S C us [] old new → Goes g S C (us ++ more) more old new
 goes_front g S C us more old new one = record {
   count = omega (arith, one.count, length-append us more);

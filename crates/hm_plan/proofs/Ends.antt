@@ -30,7 +30,7 @@ ends_turned xs front behind long f b =
     ∙ (λ i. (kept i ++ front) ++ none i) ∙ append-nil ((behind ++ take (n - 16) (drop 8 xs)) ++ front)
     ∙ (λ i. (behind_is i ++ take (n - 16) (drop 8 xs)) ++ f i)
 
--- so many bytes at each end are turned already, and those between them are left
+-- `done` bytes at each end are reversed already, and those between them are left
 pub record IsTurning (first now : List ℕ) (done : ℕ) : Type 0 where
   pub len : length now ≡ length first
   pub half : done + done ≤ length first

@@ -29,7 +29,7 @@ pub record EndsAs (e : Ending) (ended : Status) (old new : Option FileMap) (sink
   pub files : new ≡ after_writes old e.writes
   pub sink : sink_new ≡ append_known sink_old e.line
 
--- a line was put, and the status is the one that goes with it; or the sink has failed, and a front of the line was put
+-- a line was put, and the status is the one that goes with it; or the sink has failed, and a prefix of the line was put
 abbrev pub Puts : (faults_old faults_new : ℕ) (sink_old sink_new : Option (List ℕ)) (line : List ℕ) (said ended : Status) → Type 0
 Puts faults_old faults_new sink_old sink_new line said ended =
     ((ended ≡ said) × (sink_new ≡ append_known sink_old line))

@@ -76,8 +76,8 @@ impl KeptDigits {
     }
 }
 
-/// The digits of two hundreds that prices had lately. Prices that are written one after another mostly differ in their
-/// last two digits alone, and those of a row have seldom more than two hundreds.
+/// The digits of two hundreds that recent prices had. Prices that are written one after another mostly differ only in
+/// their last two digits. Those of a row rarely have more than two hundreds.
 #[derive(Clone, Copy)]
 pub(crate) struct Hundreds {
     latest: KeptDigits,
@@ -94,8 +94,8 @@ impl Hundreds {
         }
     }
 
-    /// Puts a space and a price, from its end, at the start of a line, and returns how many bytes they have, where it
-    /// is at least 100 and below 10^9. Its hundreds are kept.
+    /// Puts a space and a price, from its end, at the start of a line, where the price is at least 100 and below 10^9.
+    /// Returns how many bytes they have. The hundreds of the price are kept.
     #[inline(always)]
     pub(crate) fn put(&mut self, line: &mut [u8], price: u64) -> Option<usize>
         requires { 16 ≤ length line.old }

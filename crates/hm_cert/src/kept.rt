@@ -12,8 +12,8 @@ use memchr::memrchr;
 use std::alloc::Global;
 use std::marker::Model;
 
-/// The prices of each layer that a certificate writes, in bytes, read from its lines when they are asked for. Contracts see the
-/// list of rows, each the list of its prices, in which a closed one is None.
+/// The prices of each layer that a certificate writes, in bytes, read from its lines when they are needed. Contracts
+/// see the list of rows, each the list of its prices, in which a closed one is None.
 #[derive(Drop)]
 pub struct WrittenRows<'a> {
     lines: &'a [u8],

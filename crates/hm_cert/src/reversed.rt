@@ -152,8 +152,8 @@ fn put_line_reversed(out: &mut Vec<u8>, row: &[u64]) -> Result<(), Memory>
     put_row(out, row, b'\n')
 }
 
-/// Puts the line of a row, the last byte first, at the start of a line, and returns how many bytes it has, where each
-/// price is at least 100 and below 10^9.
+/// Puts the line of a row, the last byte first, at the start of a line, where each price is at least 100 and below
+/// 10^9. Returns how many bytes it has.
 #[inline(always)]
 fn put_prices(line: &mut [u8], hundreds: &mut Hundreds, row: &[u64]) -> Option<usize>
     requires some { 0 < length row.now }

@@ -61,7 +61,8 @@ fn word_with(known: &LeadingDigits<'_>, text: &[u8]) -> Option<usize>
     }
 }
 
-/// As `short_word`, where the first digits of a price are known: it often has them too. Otherwise its own take their place.
+/// As `short_word`, where the first digits of some price are known: this one often has them too. Otherwise its own take
+/// their place.
 fn short_word_like<'a>(text: &'a [u8], known: &mut LeadingDigits<'a>) -> Option<usize>
     ensures { IfSome result (IsShortWord text.now) }
 {
@@ -139,7 +140,8 @@ fn price_with(known: &LeadingDigits<'_>, text: &[u8]) -> Option<(u64, usize)>
     Some((number, at))
 }
 
-/// As `back_price`, where the first digits of a price are known: it often has them too. Otherwise its own take their place.
+/// As `back_price`, where the first digits of some price are known: this one often has them too. Otherwise its own take
+/// their place.
 fn back_price_like<'a>(text: &'a [u8], known: &mut LeadingDigits<'a>) -> Option<(u64, usize)>
     ensures { IfSome result (λ found. IsLastPrice text.now found.1 found.0) }
 {
@@ -165,8 +167,8 @@ fn turn(row: &mut Vec<u64>)
     }
 }
 
-/// Reads the row whose line ends at a place into a list, in place of what is there, a closed price as `CLOSED`, and gives
-/// where the line begins, where each price is closed or has at most 18 digits.
+/// Reads the row whose line ends at a place into a list, in place of what is there, a closed price as `CLOSED`, where
+/// each price is closed or has at most 18 digits. Gives where the line begins.
 pub(crate) fn short_row_before<'a>(
     text: &'a [u8],
     end: usize,

@@ -67,7 +67,7 @@ fn unloosed(at: Where) -> Where
     }
 }
 
-/// Whether a start tag that may be left out is: not after a loose end, where it is firm.
+/// Whether a start tag that may be left out is left out: not after a loose end, where it is firm.
 fn may_fall(omits: bool, firm: bool, at: Where) -> bool
     ensures { result ≡ (omits && not (firm && tags.is_loose (where_of at))) }
 {
@@ -177,7 +177,7 @@ fn add_bare_edges(into: &mut Vec<Edge>, tight: bool, from: State) -> Result<(), 
     )
 }
 
-/// The name of another one, its `=` and what opens its value.
+/// The name of an attribute whose value isn't empty, its `=` and what opens the value.
 fn add_opening_edges(
     into: &mut Vec<Edge>,
     tight: bool,

@@ -32,7 +32,7 @@ pub enum Unit {
     BareAttribute {
         len: u32,
     },
-    /// The name of another one, its `=` and what opens the value.
+    /// The name of an attribute whose value isn't empty, its `=` and what opens the value.
     AttributeName {
         len: u32,
     },

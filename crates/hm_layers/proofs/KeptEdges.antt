@@ -26,7 +26,7 @@ means_same v s t false own has is same = by_test (same_state (state_of v s) (sta
     by_test false e = refl
     by_test true e = same (like_states v s t own has e)
 
--- an answer with `||` and `&&`, by the tests that were asked
+-- an answer with `||` and `&&`, by the tests that were made
 pub first_holds : (x a b c : Bool) → x ≡ a → x ≡ true → x ≡ (a || (b && c))
 first_holds x a b c is holds = let k : a ≡ true = sym is ∙ holds in rw k holds
 

@@ -128,8 +128,8 @@ impl<'t> GraphBuilder<'t> {
         }
     }
 
-    /// Adds the steps of characters that a text begins with, as far as they are known to lead to one place, and gives how many
-    /// they are and where they lead. All are of ASCII and have the same step.
+    /// Adds the steps of characters that a text begins with, as far as they are known to lead to one place. Gives how
+    /// many they are and where they lead. All are of ASCII and have the same step.
     #[inline(always)]
     pub(crate) fn add_alike(&mut self, kind: TextKind, text: &str) -> Result<Alike, Memory>
         ensures adds { IfOk result (λ alike. AddsFront self.old self.new (kind_of kind) (chars text.now) (chars (drop alike.count text.now))) }

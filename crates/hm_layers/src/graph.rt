@@ -40,8 +40,8 @@ pub struct Passed {
     pub len: u64,
 }
 
-/// The length in bytes of each hop of a step, where no state changes its place, there are `width` states, and a
-/// certificate of this format leaves out the layer before it.
+/// The length in bytes of each hop of a step, where no state changes its place, there are `width` states, and the layer
+/// before it is left out in this format.
 #[inline(always)]
 fn still_over(step: &Step, format: Format, width: usize) -> Option<u64>
     ensures still { IfSome result (λ len. AreStill len step.now) }

@@ -47,8 +47,8 @@ judged_at_end k row last =
     if length row == last then record { right = true; why = option_map high_why (high_at_end k 0 row) }
     else record { right = false; why = Some (WrongWidth k (length row) last) }
 
--- The rows after the first ones stand for the prices from layer k on, of which those of layer k are at hand, and the
--- first of them above its bound is found.
+-- The rows after the first ones stand for the prices from layer k on, of which those of layer k are at hand. The first
+-- of these prices above its bound is found.
 pub record ArePriced (format : Format) (g : GraphView) (rows : List Row) (k : ℕ) (s : Sweep) : Type 0 where
   pub more : List Row
   pub full : full_rows format k g.last (drop k g.steps) (drop s.at.row rows) ≡ Some (map told s.behind.items ∷ more)

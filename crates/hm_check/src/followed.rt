@@ -138,7 +138,7 @@ fn behind_comment<'o>(text: &'o [u8], comment: &str) -> Option<&'o [u8]>
     behind(end, b"-->")
 }
 
-/// What follows that which a unit has of its own, where the text begins with it.
+/// What follows the bytes that a unit has of its own, where the text begins with it.
 #[inline(always)]
 fn behind_own<'o>(text: &'o [u8], own: Own) -> Option<&'o [u8]>
     ensures { IfSome result (λ rest. text.now ≡ own_text own.entry ++ rest.now) }
@@ -186,7 +186,7 @@ fn behind_tag_name<'o>(text: &'o [u8], own: Own) -> Option<&'o [u8]>
     behind_own(behind_byte(text, b'<')?, own)
 }
 
-/// What follows that which opens a value, where the text begins with it.
+/// What follows the bytes that open a value, where the text begins with it.
 #[inline(always)]
 fn behind_opening(text: &[u8], form: Form) -> Option<&[u8]>
     ensures { IfSome result (λ rest. text.now ≡ with_opening form [] ++ rest.now) }
@@ -292,8 +292,8 @@ fn may_open(text: &[u8], at: usize, form: Form) -> bool {
     }
 }
 
-/// Whether a text may begin with the bytes of a piece. Of the forms of an attribute, those that open its value
-/// otherwise than the text does are skipped before its name is compared.
+/// Whether a text may begin with the bytes of a piece. Of the forms of an attribute, those that open its value in
+/// another way than the text does are skipped before its name is compared.
 #[inline(always)]
 fn may_begin(text: &[u8], piece: Piece, own: Own) -> bool {
     match (piece, own) {

@@ -109,8 +109,8 @@ pub record HasShown (command : Command) (options : TreeOptions) (old new : Optio
 
 -- ---- measure
 
--- The table's names give the tree of the page that is made, and the line says how many bytes the page has, how many the tree
--- written shortest, and how many layers its graph.
+-- The table's names give the tree of the page that is made. The line says how many bytes the page has, how many the
+-- tree written shortest, and how many layers its graph.
 pub record HasMeasured (command : Command) (number size : ℕ) (options : TreeOptions) (writing : Writing) (old new : Option FileMap) (sink_old sink_new : Option (List ℕ)) (seen : Contents) : Type 0 where
   pub table : List Entry
   pub tree : List Event

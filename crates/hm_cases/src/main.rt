@@ -1,4 +1,4 @@
-//! Runs each case of `cases.txt` in memory, prints each that ends otherwise than wanted, and last how many there are.
+//! Runs each case of `cases.txt` in memory, prints each that doesn't end as wanted, and last how many there are.
 //!
 //! The form of the file is described in `compare/README.md`.
 #![tactic(auto)]

@@ -167,8 +167,8 @@ fn turn(row: &mut Vec<u64>)
     }
 }
 
-/// Reads the row whose line ends at a place into a list, in place of what is there, a closed price as `CLOSED`, where
-/// each price is closed or has at most 18 digits. Gives where the line begins.
+/// Reads the row whose line ends at a place into a list, in place of what is there, a closed price as `CLOSED`. Gives
+/// where the line begins, where each price is closed or has at most 18 digits.
 pub(crate) fn short_row_before<'a>(
     text: &'a [u8],
     end: usize,

@@ -40,7 +40,7 @@ pub struct Passed {
     pub len: u64,
 }
 
-/// The length in bytes of each hop of a step, where no state changes its place, there are `width` states, and the layer
+/// The length in bytes of each hop, where no state changes its place over a step of `width` states, and the layer
 /// before it is left out in this format.
 #[inline(always)]
 fn still_over(step: &Step, format: Format, width: usize) -> Option<u64>

@@ -44,7 +44,7 @@ fn holds(store: &MemStore, name: &str, wanted: &Option<Vec<u8>>) -> bool {
 }
 
 impl Case {
-    /// A case of which nothing is told yet.
+    /// A case of which nothing is known yet.
     pub fn new(alloc: Global) -> Self {
         Case {
             name: String::new(alloc),

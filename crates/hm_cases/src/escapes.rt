@@ -19,7 +19,7 @@ fn digit(byte: u8) -> u8 {
     }
 }
 
-/// The byte that one more byte of the text makes, if any, and what is begun behind it.
+/// The byte that one more byte of the text makes, if any, and what is begun after it.
 fn step(begun: Begun, byte: u8) -> (Option<u8>, Begun) {
     match begun {
         Begun::Nothing if byte == b'\\' => (None, Begun::Backslash),

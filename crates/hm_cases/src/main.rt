@@ -1,6 +1,6 @@
-//! Runs each case of `cases.txt` in memory, prints each that ends otherwise than wanted, and last how many there are.
+//! Runs each case of `cases.txt` in memory, prints each that doesn't end as wanted, and last how many there are.
 //!
-//! The form of the file is told in `compare/README.md`.
+//! The form of the file is described in `compare/README.md`.
 #![tactic(auto)]
 
 mod case;

@@ -20,7 +20,7 @@ use Rattle.hm_cert.specs.Words.{HasNumberForm}
 use Rattle.hm_cert.proofs.PriceTexts.{digit_is, digit_range, own, told_number}
 use Rattle.hm_cert.proofs.Written.{free_row}
 
--- ---- One digit more in front
+-- ---- One more digit before
 
 spread_more : (n v p x : ℕ) → (n * 10 + v) * p + x ≡ n * (p * 10) + (v * p + x)
 spread_more n v p x = grind arith
@@ -38,7 +38,7 @@ value_after n (d ∷ digits) =
 front_digit : (d : ℕ) (digits : List ℕ) → digits_value 10 (d ∷ digits) ≡ digit_value d * 10 ^ length digits + digits_value 10 digits
 front_digit d digits = front_zero d digits ∙ value_after (digit_value d) digits
 
--- the digits behind a place, their number and the next power of 10
+-- the digits after a place, their number and the next power of 10
 pub record IsBehind (text : List ℕ) (at number power : ℕ) : Type 0 where
   pub back : IsBackTo text at number
   pub next : power ≡ 10 ^ (length text - at)
@@ -122,7 +122,7 @@ last_word text part front at price inside cut last =
 
 -- ---- The prices of a line
 
--- a text has prices between two places, each behind a space; those that were read are the last ones first
+-- a text has prices between two places, each after a space; those that were read are listed with the last one first
 pub record AreBehind (text : List ℕ) (front end : ℕ) (numbers : List ℕ) : Type 0 where
   pub within : front ≤ end
   pub prices : ArePrices (map told (reverse numbers))
@@ -143,7 +143,7 @@ range_parts text at front end low high =
     ap (λ n. take n (drop at text)) sum ∙ take-add (front - at) (end - front) (drop at text)
     ∙ ap (λ x. slice_range text at front ++ take (end - front) x) (drop-drop (front - at) at text ∙ ap (λ n. drop n text) there)
 
--- from one price more on
+-- from one more price on
 price_front : (text part : List ℕ) (front end at price : ℕ) (numbers : List ℕ) → end < length text → part ≡ take front text → AreBehind text front end numbers → IsLastPrice part at price
     → (at ≤ front) × (slice_range text at end ≡ price_text (told price) ++ more_prices (map told (reverse numbers)))
 price_front text part front end at price numbers inside cut h last =

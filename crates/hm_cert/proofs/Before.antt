@@ -1,4 +1,4 @@
--- Rows in the lines of a certificate that was read: that there are so many, and the one in front of a place.
+-- Rows in the lines of a certificate that was read: how many there are, and the row before a place.
 use Rattle.std.proofs.Common.{◌≡◌, ◌+◌, ◌-◌, ◌<◌, ◌≤◌, ℕ, zero, suc, Bool, true, false, cond, List, [], ◌∷◌, ◌++◌, get_or, length, take, drop, map, refl, sym, ap, ◌∙◌, subst, append_assoc, arith, length-append}
 use Rattle.std.specs.Prelude.{Some, None, Result, Ok, Err, slice_range, nat_lt, Option, IfSome}
 use Rattle.std.proofs.Math.Seq.{drop-append_seam, take-append_seam, get_or-append_seam}
@@ -43,7 +43,7 @@ row_at [] k h l = absurd (omega arith)
 row_at (row ∷ rows) zero h l = (h.0, h.1)
 row_at (row ∷ rows) (suc k) h l = row_at rows k h.2 (omega arith)
 
--- the lines in front of a row, its own, and those behind
+-- the lines before a row, its own, and those after it
 cut_lines : (rows : List Row) (k : ℕ) → k < length rows → row_lines rows ≡ row_lines (take k rows) ++ (row_text (get_or rows k []) ++ 10 ∷ row_lines (drop (suc k) rows))
 cut_lines [] k l = absurd (omega arith)
 cut_lines (row ∷ rows) zero l = append_assoc (row_text row) (10 ∷ []) (row_lines rows)
@@ -51,7 +51,7 @@ cut_lines (row ∷ rows) (suc k) l =
     ap (λ x. row_line row ++ x) (cut_lines rows k (omega arith))
     ∙ sym (append_assoc (row_line row) (row_lines (take k rows)) (row_text (get_or rows k []) ++ 10 ∷ row_lines (drop (suc k) rows)))
 
--- so many bytes are in front of the row behind
+-- the bytes before the next row: those before this one, its own, and a line feed
 front_more : (rows : List Row) (k : ℕ) → k < length rows → length (row_lines (take (suc k) rows)) ≡ length (row_lines (take k rows)) + length (row_text (get_or rows k [])) + 1
 front_more [] k l = absurd (omega arith)
 front_more (row ∷ rows) zero l = omega (arith, length-append (row_line row) [], length-append (row_text row) (10 ∷ []))
@@ -89,7 +89,7 @@ free_at mark [] j h l e = absurd (omega arith)
 free_at mark (b ∷ text) zero h l e = let p = free_parts b mark (is_free mark text) h in absurd (grind (arith, p.0, e))
 free_at mark (b ∷ text) (suc j) h l e = free_at mark text j (free_parts b mark (is_free mark text) h).1 (omega arith) e
 
--- where a line begins, by what is in front of it
+-- where a line begins, by what is before it
 line_found : (before line more : List ℕ) (end at : ℕ) → end ≡ length before + length line → ((j : ℕ) → j + 1 ≡ length before → get_or before j 0 ≡ 10) → is_free 10 line ≡ true
     → IsLineStart (before ++ (line ++ 10 ∷ more)) end at → at ≡ length before
 line_found before line more end at e ends free h = by_low (nat_lt at (length before)) refl
@@ -124,9 +124,9 @@ row_is : (row : Row) (numbers line : List ℕ) (good : Bool) → 0 < length row 
 row_is row numbers line true some prices e h = let back = ap line_row e ∙ line_back row some prices in cc
 row_is row numbers line false some prices e h = let back = ap line_row e ∙ line_back row some prices in absurd (cc)
 
--- ---- The row in front of a place
+-- ---- The row before a place
 
--- A place behind a row, the rows of a text, and where the line of the row in front begins.
+-- A place after a row, the rows of a text, and where the line of the row before it begins.
 pub record IsBefore (rows : List Row) (place : RowPlace) (at : ℕ) (line : List ℕ) : Type 0 where
   pub row : (numbers : List ℕ) (good : Bool) → line_row line ≡ cond good (Some (map told numbers)) None → map told numbers ≡ get_or rows (place.row - 1) []
   pub front : at ≡ length (row_lines (take (place.row - 1) rows))
@@ -166,13 +166,13 @@ is_before text rows place at line lines written is some start cut = by_row place
           front = found ∙ ap (λ n. length (row_lines (take n rows))) (sym front);
         }
 
--- behind all rows
+-- after all rows
 pub end_place : (text : List ℕ) (rows : List Row) → row_lines rows ≡ text → length text ≡ length (row_lines (take (length rows) rows))
 end_place text rows lines = ap length (sym lines) ∙ ap (λ r. length (row_lines r)) (sym (take_all (length rows) rows (omega arith)))
 
 -- ---- Rows that are counted
 
--- so many rows are in front of those that are left
+-- `count` rows are before those that are left
 pub record AreDone (all left : Result (List Row) ℕ) (count : ℕ) : Type 0 where
   pub rows : List Row
   pub counted : count ≡ length rows

@@ -1,4 +1,4 @@
--- Rows of prices below a bound, with so many bytes more for each.
+-- Rows of prices below a bound, and a length that is added to each price.
 use Rattle.std.proofs.Common.{◌≡◌, ◌+◌, ◌<◌, ℕ, zero, suc, List, [], ◌∷◌, ◌++◌, get_or, length, take, drop, set, map, sym, ap, ◌∙◌, subst, arith}
 use Rattle.std.specs.Prelude.{Option, None}
 use Rattle.std.proofs.lemmas.List.{drop-drop, drop-set-lt, get_or-drop, get_or-map, map-append, take_more, take_more_set}
@@ -11,7 +11,7 @@ below_in [] bound k h = tt
 below_in (price ∷ row) bound zero h = h.0
 below_in (price ∷ row) bound (suc k) h = below_in row bound k h.1
 
--- a price that stands where it stood
+-- a price that is unchanged
 stands : (row old : List ℕ) (i : ℕ) → drop i row ≡ drop i old → get_or row i 0 ≡ get_or old i 0
 stands row old i same =
     let here : i + 0 ≡ i = omega arith in
@@ -21,7 +21,7 @@ pub stands_below : (row old : List ℕ) (bound i : ℕ) → i < length old → d
 stands_below row old bound i inside same h =
     subst (IsBelow bound) (get_or-map told old i 0 None inside ∙ ap told (sym (stands row old i same))) (below_in (map told old) bound i h)
 
--- one price more was raised
+-- one more price was raised
 pub one_raised : (row old : List ℕ) (i sum : ℕ) (f : Option ℕ → Option ℕ) → i < length row → i < length old → told sum ≡ f (told (get_or row i 0)) → map told (take i row) ≡ map f (map told (take i old)) → drop i row ≡ drop i old
     → map told (take (i + 1) (set row i sum)) ≡ map f (map told (take (i + 1) old))
 one_raised row old i sum f inside within is done same =

@@ -13,7 +13,7 @@ use Rattle.hm_cert.proofs.Texts.{cut_at, turned_digit, turned_number, turned_pai
 
 -- ---- The digits of a number
 
--- a number below 10^9 has at most seven digits in front of the last two
+-- a number below 10^9 has at most seven digits before the last two
 few_digits : (number : ℕ) → number < 10 ^ 9 → length (decimal (number / 100)) ≤ 7
 few_digits number low = length-decimal-le 7 (number / 100) (omega arith) (omega (arith, low)) (omega (arith, low))
 
@@ -23,7 +23,7 @@ digit_fits number len rest text low small size is =
     let sum : length (take len text ++ reverse (decimal rest)) ≡ length (take len text) + length (reverse (decimal rest)) = length-append (take len text) (reverse (decimal rest)) in
     omega (arith, ap length is, sum, length-take len text, size, length-reverse (decimal rest), length-reverse (decimal (number / 100)), decimal_nonempty rest small, few_digits number low)
 
--- one digit more
+-- one more digit
 pub digit_more : (text all : List ℕ) (len rest : ℕ) → 10 ≤ rest → rest < 2 ^ 64 → len < length text → take len text ++ reverse (decimal rest) ≡ all
     → take (len + 1) (set text len (48 + rest % 10)) ++ reverse (decimal (rest / 10)) ≡ all
 digit_more text all len rest some low inside is =
@@ -72,7 +72,7 @@ near base price len text h has =
     ∙ turned_pair price (omega (arith, h.some, has.low)) (omega (arith, has.high, h.small))
     ∙ (λ i. (48 + last i % 10) ∷ (48 + last i / 10) ∷ reverse (decimal (same i)))
 
--- a price of kept hundreds in the front of a line
+-- a price of kept hundreds at the start of a line
 pub put_is : (base price len : ℕ) (text line : List ℕ) → IsKept base text len → length text ≡ 16 → HasHundreds base price → 16 ≤ length line
     → IsPut (set (set (text ++ drop 16 line) 1 (48 + (price - base) % 10)) 2 (48 + (price - base) / 10)) price len
 put_is base price len text line h size has room =
@@ -97,7 +97,7 @@ put_is base price len text line h size has room =
 
 -- ---- Rows
 
--- one price more
+-- one more price
 pub ahead_step : (row : List ℕ) (k : ℕ) → k < length row → reverse (ahead (map told (drop k row))) ≡ reverse (ahead (map told (drop (k + 1) row))) ++ 32 ∷ reverse (price_text (told (get_or row k 0)))
 ahead_step row k h =
     let price : List ℕ = price_text (told (get_or row k 0)) in
@@ -107,7 +107,7 @@ ahead_step row k h =
     ∙ ap (λ x. x ++ reverse price) (reverse-append (32 ∷ []) rest)
     ∙ append_assoc (reverse rest) (32 ∷ []) (reverse price)
 
--- prices with a space behind each are those with a space between, and one behind
+-- prices with a space after each are those with a space between, and one at the end
 pub ahead_text : (row : List (Option ℕ)) → 0 < length row → ahead row ≡ row_text row ++ 32 ∷ []
 ahead_text [] h = absurd (omega (arith, h))
 ahead_text (price ∷ []) h = refl
@@ -118,7 +118,7 @@ ahead_text (price ∷ next ∷ row) h =
 pub turned_ahead : (row : List (Option ℕ)) → 0 < length row → reverse (ahead row) ≡ 32 ∷ reverse (row_text row)
 turned_ahead row h = ap reverse (ahead_text row h) ∙ reverse-append (row_text row) (32 ∷ [])
 
--- one price more in a line
+-- one more price in a line
 pub price_put : (row line part more : List ℕ) (at len k j : ℕ) → at ≤ length line → suc j ≡ k → j < length row → take at line ≡ reverse (ahead (map told (drop k row))) → IsPut part (get_or row j 0) len
     → take (at + len) (take at line ++ (part ++ more)) ≡ reverse (ahead (map told (drop j row)))
 price_put row line part more at len k j inside next has front h =
@@ -142,7 +142,7 @@ line_put row line at k some last is =
     let text : take at line ≡ 32 ∷ reverse (row_text (map told row)) = is ∙ ap (λ n. reverse (ahead (map told (drop n row)))) none ∙ turned_ahead (map told row) (omega (arith, some, many)) in
     take-set-lt at line 0 10 (omega (arith, ap length text, length-take at line)) ∙ ap (λ l. set l 0 10) text
 
--- a line in the room behind others
+-- a line in the room after others
 pub line_added : (row old mid whole line more rest : List ℕ) (start len all : ℕ) → whole ≡ mid → take start mid ≡ old → start ≤ length mid → len ≤ length line → start + len ≤ all → take len line ≡ 10 ∷ reverse (row_text (map told row))
     → take (start + len) (take all ((take start whole ++ (line ++ more)) ++ rest)) ≡ old ++ reverse (row_line (map told row))
 line_added row old mid whole line more rest start len all same front inside within fits is =

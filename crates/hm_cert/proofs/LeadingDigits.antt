@@ -14,7 +14,7 @@ use Rattle.hm_cert.specs.Leading.{IsLeading, WritesPair, BeginsWith}
 use Rattle.hm_cert.specs.Short.{IsShortWord, IsLastPrice}
 use Rattle.hm_cert.proofs.PriceTexts.{own, digits_of_decimal, told_number}
 
--- ---- Two digits more
+-- ---- Two more digits
 
 one_digit : (n f a : ℕ) → n ≡ f * 10 + a → 0 < f → n < 2 ^ 63 → a ≤ 9 → decimal n ≡ decimal f ++ (48 + a) ∷ []
 one_digit n f a e some small digit =

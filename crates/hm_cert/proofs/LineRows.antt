@@ -7,11 +7,11 @@ use Rattle.hm_cert.specs.Certificate.{Row}
 use Rattle.hm_cert.specs.Reading.{pieces, word_price, line_row, line_format, line_rules, and_row, with_row, rows_in, given, given_lines, behind_rules}
 use Rattle.hm_cert.proofs.Pieces.{one_piece}
 
--- prices in front of a row
+-- prices before a row
 abbrev pub behind : Row → Option Row → Option Row
 behind done row = option_map (λ more. done ++ more) row
 
--- one price more in front of the rest of a line
+-- one more price before the rest of a line
 pub price_more : (done : Row) (line word more : List ℕ) (price : Option ℕ) → pieces 32 line ≡ word ∷ pieces 32 more → word_price word ≡ Some price → behind (done ++ price ∷ []) (line_row more) ≡ behind done (line_row line)
 price_more done line word more price cut is = rw (cut, is) (by_case (line_row more))
   where
@@ -26,7 +26,7 @@ price_last done line price cut is = rw (cut, is) refl
 pub no_price_more : (done : Row) (line word : List ℕ) (words : List (List ℕ)) → pieces 32 line ≡ word ∷ words → word_price word ≡ None → behind done (line_row line) ≡ None
 no_price_more done line word words cut is = rw (cut, is) refl
 
--- the first line of a text, and the lines behind
+-- the first line of a text, and the lines after it
 pub rows_step : (number : ℕ) (text line more : List ℕ) → pieces 10 text ≡ line ∷ pieces 10 more → rows_in number text ≡ with_row number (line_row line) (rows_in (number + 1) more)
 rows_step number text line more cut =
     let next = one_piece 10 more in
@@ -63,7 +63,7 @@ no_second text line more format cut is ends = rw (cut, ends, is) refl
 pub by_second : (text line more second rest : List ℕ) (format : Format) → pieces 10 text ≡ line ∷ pieces 10 more → line_format line ≡ Some format → pieces 10 more ≡ second ∷ pieces 10 rest → given text ≡ behind_rules format (pieces 10 rest) (line_rules second)
 by_second text line more second rest format cut is again = let next = one_piece 10 rest in rw (cut, again, is, next.1.1) refl
 
--- rows in front of those that are left
+-- rows before those that are left
 abbrev pub rows_behind : List Row → Result (List Row) ℕ → Result (List Row) ℕ
 rows_behind done (Ok rows) = Ok (done ++ rows)
 rows_behind done (Err bad) = Err bad

@@ -68,7 +68,7 @@ told_number n h =
     let other : (n == 18446744073709551615) ≡ false = false_from_ne_true _ (λ e. omega (arith, (Decides-eqb n 18446744073709551615).0 e)) in
     rw other refl
 
--- a word that hasn't the form of a number is no price, but for `-`
+-- a word without the form of a number is no price, except `-`
 pub no_form : (word : List ℕ) → (word ≡ 45 ∷ [] → ⊥) → (HasNumberForm word → ⊥) → word_price word ≡ None
 no_form word not_dash other = no_price word none
   where

@@ -10,7 +10,7 @@ use Rattle.hm_base.specs.declared.plain.SpellRules.{SpellRules}
 use Rattle.hm_cert.specs.Certificate.{flag_text, rules_text}
 use Rattle.hm_cert.specs.Reading.{pieces, line_rules, words_rules}
 
--- what the library's test of a front tells
+-- what the library's test of a prefix says
 pub strip_is : (word text : List ℕ) → strip word text ≡ cond (starts_with nat_eq text word) (Some (drop (length word) text)) None
 strip_is [] text = refl
 strip_is (c ∷ word) [] = refl
@@ -40,7 +40,7 @@ flag_back word text = by_case (strip (32 ∷ word) text) refl
     by_case None e = refl
     by_case (Some rest) e = stripped (32 ∷ word) text rest e
 
--- what is left of a text behind `rules`, flag by flag
+-- what is left of a text after `rules`, flag by flag
 abbrev pub left1 : List ℕ → List ℕ
 left1 text = left (codes " omit") text
 
@@ -147,7 +147,7 @@ flags_left line text h left = by_case (line_rules line) refl
         let same : text ≡ (rules_back rules).text = cc in
         absurd (left (ap left5 same ∙ (rules_back rules).flags))
 
--- what the reader has taken of a line: the flags in turn, and what is left behind each
+-- what the reader has taken of a line: the flags in turn, and what is left after each
 pub record Taken (line text : List ℕ) (rules : SpellRules) (rest1 rest2 rest3 rest4 rest5 : List ℕ) : Type 0 where
   pub front : Some text ≡ strip (codes "rules") line
   pub omit : rules.omit ≡ is_there (codes " omit") text

@@ -1,4 +1,4 @@
--- Lines of prices of few digits, from the front.
+-- Lines of prices of few digits, from the start.
 use Rattle.std.proofs.Common.{◌≡◌, ◌+◌, ◌^◌, ◌<◌, ◌≤◌, ℕ, true, List, [], ◌∷◌, ◌++◌, get_or, length, take, drop, refl, sym, ap, ◌∙◌, append_assoc, arith, length-append, length-drop, length-take}
 use Rattle.std.specs.Prelude.{Option, Some}
 use Rattle.std.specs.Char.{is_ascii_digit}
@@ -38,12 +38,12 @@ short_number text len h form few inside =
 
 -- ---- The words of a line
 
--- prices, each in front of a space
+-- prices, each before a space
 abbrev pub front_text : Row → List ℕ
 front_text [] = []
 front_text (price ∷ row) = price_text price ++ 32 ∷ front_text row
 
--- a text begins with prices up to a place, each in front of a space
+-- a text begins with prices up to a place, each before a space
 pub record AreShort (text : List ℕ) (at : ℕ) : Type 0 where
   pub within : at ≤ length text
   pub row : Row
@@ -66,7 +66,7 @@ front_last [] price = refl
 front_last (p ∷ []) price = sym (append_assoc (price_text p) (32 ∷ []) (price_text price))
 front_last (p ∷ q ∷ row) price = ap (λ x. price_text p ++ 32 ∷ x) (front_last (q ∷ row) price) ∙ sym (append_assoc (price_text p) (32 ∷ front_text (q ∷ row)) (price_text price))
 
--- up to one byte behind the next word
+-- up to one byte after the next word
 word_more : (text rest : List ℕ) (at len byte : ℕ) (h : IsShortWord rest len) → rest ≡ drop at text → get_or text (at + len) 0 ≡ byte → take (at + len + 1) text ≡ take at text ++ (price_text h.price ++ byte ∷ [])
 word_more text rest at len byte h is e =
     let sum : at + len + 1 ≡ at + (len + 1) = omega arith in

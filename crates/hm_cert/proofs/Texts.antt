@@ -1,4 +1,4 @@
--- Lines of prices, from the front and from the end.
+-- Lines of prices, from the start and from the end.
 use Rattle.std.proofs.Common.{◌≡◌, ◌+◌, ◌-◌, ◌<◌, ◌≤◌, ◌^◌, ◌/◌, ◌%◌, drop-cons, ℕ, List, [], ◌∷◌, ◌++◌, length, get_or, take, drop, length-take, length-drop, map, reverse, refl, sym, ap, ◌∙◌, add-one, append_assoc, arith}
 use Rattle.std.specs.Prelude.{Option, slice_range}
 use Rattle.std.specs.Fmt.{decimal}
@@ -15,11 +15,11 @@ row_text_cons price (next ∷ row) = ap (λ xs. price_text price ++ 32 ∷ xs) (
 pub cut_at : {A : Type 0} (xs : List A) (k : ℕ) (d : A) → k < length xs → drop k xs ≡ get_or xs k d ∷ drop (k + 1) xs
 cut_at xs k d h = rw add-one (drop-cons xs k d h)
 
--- one price more of those behind a space
+-- one more of the prices after a space
 pub more_step : (row : List ℕ) (k : ℕ) → k < length row → more_prices (map told (drop k row)) ≡ 32 ∷ (price_text (told (get_or row k 0)) ++ more_prices (map told (drop (k + 1) row)))
 more_step row k h = ap (λ xs. more_prices (map told xs)) (cut_at row k 0 h)
 
--- one line more
+-- one more line
 pub lines_step : (rows : List (List (Option ℕ))) (k : ℕ) (row : List ℕ) (out after : List ℕ) → k < length rows → map told row ≡ get_or rows k [] → after ≡ out ++ row_line (map told row) → after ++ row_lines (drop (k + 1) rows) ≡ out ++ row_lines (drop k rows)
 lines_step rows k row out after h e f =
     let cut : drop k rows ≡ get_or rows k [] ∷ drop (k + 1) rows = cut_at rows k [] h in
@@ -28,11 +28,11 @@ lines_step rows k row out after h e f =
     ∙ ap (λ x. out ++ (row_line x ++ row_lines (drop (k + 1) rows))) e
     ∙ ap (λ x. out ++ row_lines x) (sym cut)
 
--- one byte more in front, turned round
+-- one more byte at the start, reversed
 pub turned_step : (bytes : List ℕ) (k : ℕ) → k < length bytes → reverse (drop k bytes) ≡ reverse (drop (k + 1) bytes) ++ get_or bytes k 0 ∷ []
 turned_step bytes k h = ap reverse (cut_at bytes k 0 h) ∙ reverse-append (get_or bytes k 0 ∷ []) (drop (k + 1) bytes)
 
--- one price more in front, turned round
+-- one more price at the start, reversed
 pub turned_more : (row : List ℕ) (k : ℕ) → k < length row → reverse (more_prices (map told (drop k row))) ≡ reverse (more_prices (map told (drop (k + 1) row))) ++ (reverse (price_text (told (get_or row k 0))) ++ 32 ∷ [])
 turned_more row k h =
     let price : List ℕ = price_text (told (get_or row k 0)) in
@@ -68,7 +68,7 @@ pub row_parts : (row : List ℕ) → 1 ≤ length row → row_text (map told row
 row_parts [] h = absurd (omega arith)
 row_parts (number ∷ row) h = row_text_cons (told number) (map told row) ∙ ap (λ x. price_text (told number) ++ more_prices (map told x)) (sym (take_all (length (number ∷ row) - 1) row (omega arith)))
 
--- a row, turned round
+-- a row, reversed
 pub turned_row : (row : List ℕ) → 1 ≤ length row → reverse (row_text (map told row)) ≡ reverse (more_prices (map told (take (length row - 1) (drop 1 row)))) ++ reverse (price_text (told (get_or row 0 0)))
 turned_row row h = ap reverse (row_parts row h) ∙ reverse-append (price_text (told (get_or row 0 0))) (more_prices (map told (take (length row - 1) (drop 1 row))))
 
@@ -90,7 +90,7 @@ turned_part a b h =
     ∙ reverse-append (32 ∷ row_text (map told a)) (more_prices (map told b))
     ∙ ap (λ x. reverse (more_prices (map told b)) ++ x) (reverse-append (32 ∷ []) (row_text (map told a)))
 
--- one part more
+-- one more part
 pub part_put : (row before out after : List ℕ) (start end mark first : ℕ) → start < end → end ≤ length row
     → out ++ mark ∷ [] ≡ before ++ first ∷ reverse (more_prices (map told (drop end row)))
     → after ≡ out ++ mark ∷ reverse (row_text (map told (slice_range row start end)))

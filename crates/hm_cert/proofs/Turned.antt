@@ -1,4 +1,4 @@
--- Short rows that are turned round.
+-- Short rows that are reversed.
 use Rattle.std.proofs.Common.{◌≡◌, ◌-◌, ◌<◌, ◌≤◌, ℕ, List, [], ◌∷◌, length, reverse, refl, arith}
 use Rattle.std.specs.List.{swap}
 

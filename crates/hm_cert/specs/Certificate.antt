@@ -1,4 +1,5 @@
--- The text of a certificate: its format, the rules that it is about, and a line of prices for each layer that is written.
+-- The text of a certificate: its format, the rules that it is about, and a line of prices (potentials: the cost to go)
+-- for each layer that is written.
 use Rattle.std.specs.Prelude.{ℕ, ◌^◌, ◌<◌, Bool, true, false, List, [], ◌∷◌, ◌++◌, Option, Some, None, ⊤, codes, length, map}
 use Rattle.std.specs.Fmt.{decimal}
 use Rattle.std.specs.List.{join_with_byte}
@@ -19,7 +20,7 @@ price_text (Some n) = decimal n
 abbrev pub row_text : Row → List ℕ
 row_text row = join_with_byte 32 (map price_text row)
 
--- prices, each behind a space
+-- prices, each after a space
 abbrev pub more_prices : Row → List ℕ
 more_prices [] = []
 more_prices (price ∷ row) = 32 ∷ (price_text price ++ more_prices row)
@@ -36,7 +37,7 @@ format_text One = codes "html-cert 1"
 format_text Two = codes "html-cert 2"
 format_text Three = codes "html-cert 3"
 
--- a word behind a space, where it is set
+-- a word after a space, where it is set
 abbrev pub flag_text : Bool → List ℕ → List ℕ
 flag_text false word = []
 flag_text true word = 32 ∷ word

@@ -116,7 +116,7 @@ rules_out_of_order = refl
 pub space_behind : given (line (codes "html-cert 1") (line (codes "rules ") [])) ≡ Err 2
 space_behind = refl
 
--- what lines behind a head without rules give
+-- what lines after a head without rules give
 abbrev pub behind_head : List ℕ → List ℕ
 behind_head more = line (codes "html-cert 2") (line (codes "rules") more)
 

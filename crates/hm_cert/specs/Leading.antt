@@ -24,7 +24,7 @@ pub record WritesPair (tens ones number : ℕ) : Type 0 where
   pub ones_are : ones ≡ 48 + low
   pub value : number ≡ high * 10 + low
 
--- a text begins with so many bytes that write a number
+-- a text begins with `len` bytes that write a number
 pub record BeginsWith (text : List ℕ) (len number : ℕ) : Type 0 where
   pub inside : len ≤ length text
   pub few : len ≤ 18

@@ -14,17 +14,17 @@ rows_or_none (Err bad) = []
 unfoldable pub rows_of : List ℕ → List Row
 rows_of text = rows_or_none (rows_in 3 text)
 
--- a text is the lines of so many rows
+-- a text is the lines of `count` rows
 pub record AreLines (text : List ℕ) (count : ℕ) : Type 0 where
   pub lines : row_lines (rows_of text) ≡ text
   pub written : AreRows (rows_of text)
   pub counted : count ≡ length (rows_of text)
 
--- the lines of the rows in front have so many bytes
+-- the lines of the rows before the place have `place.at` bytes
 abbrev pub IsRowPlace : List Row → RowPlace → Type 0
 IsRowPlace rows place = (place.row ≤ length rows) × (place.at ≡ length (row_lines (take place.row rows)))
 
--- the place behind the last line feed in front of one, or the first place where there is none
+-- the place after the last line feed before `end`, or the first place where there is none
 pub record IsLineStart (text : List ℕ) (end at : ℕ) : Type 0 where
   pub within : at ≤ end
   pub none : (k : ℕ) → at ≤ k → k < end → slice_index text k ≢ 10
@@ -36,7 +36,7 @@ pub record AreSoMany (left : Result (List Row) ℕ) (count : ℕ) : Type 0 where
   pub are : left ≡ Ok rows
   pub counted : count ≡ length rows
 
--- what a count of the rows that are left tells
+-- what a count of the rows that are left says
 abbrev pub AreCounted : Result (List Row) ℕ → Result ℕ CertificateFault → Type 0
 AreCounted left (Ok count) = AreSoMany left count
 AreCounted left (Err (BadLine line)) = left ≡ Err line

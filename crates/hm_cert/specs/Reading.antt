@@ -12,7 +12,7 @@ use Rattle.hm_cert.specs.declared.lines.CertificateFault.{CertificateFault}
 use Rattle.hm_cert.specs.declared.lines.CertificateFault.TheVariants.{TooLong, BadLine, Memory}
 use Rattle.hm_cert.specs.Certificate.{Row, price_text, format_text, rules_text}
 
--- what stands before each byte `mark` of a text, and what stands behind the last
+-- what stands before each byte `mark` of a text, and what follows the last
 abbrev pub pieces : ℕ → List ℕ → List (List ℕ)
 pieces mark text = slice_split (λ b. b == mark) text
 
@@ -44,7 +44,7 @@ words_rules words = record { omit = has_word (codes "omit") words; unquote = has
 abbrev pub line_rules : List ℕ → Option SpellRules
 line_rules line = if bytes_eq line (rules_text (words_rules (pieces 32 line))) then Some (words_rules (pieces 32 line)) else None
 
--- one more row in front
+-- one more row at the start
 abbrev pub and_row : Row → Result (List Row) ℕ → Result (List Row) ℕ
 and_row row (Ok rows) = Ok (row ∷ rows)
 and_row row (Err bad) = Err bad
@@ -53,7 +53,7 @@ abbrev pub with_row : ℕ → Option Row → Result (List Row) ℕ → Result (L
 with_row number None rows = Err number
 with_row number (Some row) rows = and_row row rows
 
--- the rows of lines, of which the first has this number; behind the last line feed there must be nothing
+-- the rows of lines, of which the first has this number; after the last line feed there must be nothing
 abbrev pub lines_rows : ℕ → List (List ℕ) → Result (List Row) ℕ
 lines_rows number [] = Ok []
 lines_rows number (line ∷ []) = if is_null line then Ok [] else Err number
@@ -88,7 +88,7 @@ given_lines (line ∷ next ∷ lines) = behind_format (next ∷ lines) (line_for
 abbrev pub given : List ℕ → Result Certificate ℕ
 given text = given_lines (pieces 10 text)
 
--- what an answer on bytes tells
+-- what an answer on bytes says
 abbrev pub ReadsAs : List ℕ → Result Certificate CertificateFault → Type 0
 ReadsAs bytes (Ok certificate) = (length bytes ≤ CERTIFICATE_LIMIT) × (given bytes ≡ Ok certificate)
 ReadsAs bytes (Err TooLong) = CERTIFICATE_LIMIT < length bytes
@@ -101,7 +101,7 @@ IsBadHead bytes TooLong = CERTIFICATE_LIMIT < length bytes
 IsBadHead bytes (BadLine line) = (length bytes ≤ CERTIFICATE_LIMIT) × (given bytes ≡ Err line)
 IsBadHead bytes Memory = ⊥
 
--- what is told of the rows that are left by an answer to whether there is one more, by that row and the rows behind it
+-- what an answer to whether there is one more row says of the rows that are left, by that row and the rows after it
 abbrev pub IsNext : Result (List Row) ℕ → Row → Result (List Row) ℕ → Result Bool CertificateFault → Type 0
 IsNext left row behind (Ok true) = left ≡ and_row row behind
 IsNext left row behind (Ok false) = left ≡ Ok []
@@ -109,7 +109,7 @@ IsNext left row behind (Err (BadLine line)) = left ≡ Err line
 IsNext left row behind (Err TooLong) = ⊥
 IsNext left row behind (Err Memory) = ⊤
 
--- what is told of the rows that are left by an answer to whether one more was passed, by those behind it
+-- what an answer to whether one more row was skipped says of the rows that are left, by those after it
 abbrev pub IsPassed : Result (List Row) ℕ → Result (List Row) ℕ → Result Bool CertificateFault → Type 0
 IsPassed left behind (Ok true) = (row : Row) × (left ≡ and_row row behind)
 IsPassed left behind (Ok false) = left ≡ Ok []
@@ -117,7 +117,7 @@ IsPassed left behind (Err (BadLine line)) = left ≡ Err line
 IsPassed left behind (Err TooLong) = ⊥
 IsPassed left behind (Err Memory) = ⊤
 
--- what an answer on all rows that are left tells
+-- what an answer on all rows that are left says
 abbrev pub RowsAre : Result (List Row) ℕ → Result (List Row) CertificateFault → Type 0
 RowsAre left (Ok rows) = left ≡ Ok rows
 RowsAre left (Err (BadLine line)) = left ≡ Err line

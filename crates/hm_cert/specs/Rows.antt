@@ -1,4 +1,4 @@
--- Rows of prices below a bound, and lines of rows of which each has more bytes than the one before.
+-- Rows of prices below a bound.
 use Rattle.std.specs.Prelude.{ℕ, ◌<◌, [], ◌∷◌, Option, Some, None}
 use Rattle.hm_cert.specs.Certificate.{Row}
 

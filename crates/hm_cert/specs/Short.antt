@@ -5,12 +5,12 @@ use Rattle.hm_cert.specs.Certificate.{Row, IsPrice, ArePrices, price_text, row_l
 use Rattle.hm_cert.specs.Layout.{told}
 use Rattle.hm_cert.specs.Places.{IsLineStart}
 
--- a text begins with so many digits
+-- a text begins with `len` digits
 pub record AreDigits (text : List ℕ) (len : ℕ) : Type 0 where
   pub within : len ≤ length text
   pub digits : AllDigits 10 (take len text)
 
--- a text begins with a price of so many bytes, and something is behind it
+-- a text begins with a price of `len` bytes, and something follows it
 pub record IsShortWord (text : List ℕ) (len : ℕ) : Type 0 where
   pub inside : len < length text
   pub price : Option ℕ
@@ -25,7 +25,7 @@ pub record IsShortLine (text : List ℕ) (end : ℕ) : Type 0 where
   pub prices : ArePrices row
   pub written : take (end + 1) text ≡ row_line row
 
--- behind a place there are at most 18 digits, which write a number
+-- after a place there are at most 18 digits, which write a number
 pub record IsBackTo (text : List ℕ) (at number : ℕ) : Type 0 where
   pub within : at ≤ length text
   pub few : length text ≤ at + 18

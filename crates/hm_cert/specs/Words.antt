@@ -7,7 +7,7 @@ abbrev pub IsNumber : List ℕ → Option ℕ → Type 0
 IsNumber word (Some number) = AllDigits 10 word × (digits_value 10 word ≡ number) × (number < 2 ^ 63)
 IsNumber word None = AllDigits 10 word → 2 ^ 63 ≤ digits_value 10 word
 
--- as many bytes as a number below 2^63 has, and `0` in front only if that is all
+-- as many bytes as a number below 2^63 has, and `0` at the start only if that is all
 abbrev pub HasNumberForm : List ℕ → Type 0
 HasNumberForm word = (0 < length word) × (length word ≤ 19) × (slice_index word 0 ≡ 48 → length word ≡ 1)
 

@@ -18,7 +18,7 @@ pub struct Certificate<'a> {
 }
 
 impl<'a> Certificate<'a> {
-    /// Reads the text of a certificate. Each line is judged; the prices stay in the text until they are asked for.
+    /// Reads the text of a certificate. Each line is checked; the prices stay in the text until they are needed.
     pub fn read(alloc: Global, bytes: &'a [u8]) -> Result<Certificate<'a>, CertificateFault>
         ensures read { ReadsAs bytes.now result }
         ensures rows { IfOk result (λ certificate. AreRows certificate.prices) }

@@ -60,7 +60,7 @@ impl KeptDigits {
         price.wrapping_sub(self.base) < 100
     }
 
-    /// Puts a space and a price of these hundreds, from its end, into the front of a line, and answers how many bytes they have.
+    /// Puts a space and a price of these hundreds, from its end, at the start of a line, and returns how many bytes they have.
     #[inline(always)]
     fn put(&self, line: &mut [u8], price: u64) -> usize
         requires room { 16 ≤ length line.old }
@@ -76,8 +76,8 @@ impl KeptDigits {
     }
 }
 
-/// The digits of two hundreds that prices had lately. Prices that are written one behind another mostly differ in their last two
-/// digits alone, and those of a row have seldom more than two hundreds.
+/// The digits of two hundreds that recent prices had. Prices that are written one after another mostly differ only in
+/// their last two digits. Those of a row rarely have more than two hundreds.
 #[derive(Clone, Copy)]
 pub(crate) struct Hundreds {
     latest: KeptDigits,
@@ -94,8 +94,8 @@ impl Hundreds {
         }
     }
 
-    /// Puts a space and a price, from its end, into the front of a line, and answers how many bytes they have, where it is at
-    /// least 100 and below 10^9. Its hundreds are kept.
+    /// Puts a space and a price, from its end, at the start of a line, where the price is at least 100 and below 10^9.
+    /// Returns how many bytes they have. The hundreds of the price are kept.
     #[inline(always)]
     pub(crate) fn put(&mut self, line: &mut [u8], price: u64) -> Option<usize>
         requires { 16 ≤ length line.old }
@@ -147,7 +147,7 @@ fn two_digits(number: u8) -> [u8; 2]
     requires { number < 100 }
     ensures { result ≡ (48 + number % 10) ∷ (48 + number / 10) ∷ [] }
 {
-    // The tens are taken off the last digit and added to the byte behind: 256 - 10.
+    // The tens are taken off the last digit and added to the next byte: 256 - 10.
     let tens = (number / 10) as u16;
     (0x3030 + number as u16 + 246 * tens).to_le_bytes()
 }

@@ -12,8 +12,8 @@ use memchr::memrchr;
 use std::alloc::Global;
 use std::marker::Model;
 
-/// The prices of each layer that a certificate writes, in bytes, read from its lines when they are asked for. Contracts see the
-/// list of rows, each the list of its prices, in which a closed one is None.
+/// The prices of each layer that a certificate writes, in bytes, read from its lines when they are needed. Contracts
+/// see the list of rows, each the list of its prices, in which a closed one is None.
 #[derive(Drop)]
 pub struct WrittenRows<'a> {
     lines: &'a [u8],
@@ -32,14 +32,14 @@ impl<'a> Model for WrittenRows<'a> {
     ghost invariant = { λ r. AreLines r.lines.now r.count };
 }
 
-/// A place between rows: in front of one, or behind the last one.
+/// A place between rows: before one, or after the last one.
 #[derive(Clone, Copy)]
 pub struct RowPlace<'a> {
-    /// How many rows are in front.
+    /// How many rows are before it.
     pub row: usize,
     // how many bytes their lines have
     at: usize,
-    // the first digits of a price behind
+    // the first digits of a later price
     known: LeadingDigits<'a>,
 }
 
@@ -60,7 +60,7 @@ impl<'a> WrittenRows<'a> {
         self.count
     }
 
-    /// The place behind the last row.
+    /// The place after the last row.
     pub fn end(&self) -> RowPlace<'a>
         ensures place { IsRowPlace self.now result }
         ensures row { result.row ≡ length self.now }
@@ -72,7 +72,7 @@ impl<'a> WrittenRows<'a> {
         }
     }
 
-    /// Reads the row in front of a place, of any form, in place of what the list held, and goes in front of it.
+    /// Reads the row before a place, of any form, in place of what the list held, and moves the place before it.
     fn any_row_before(&self, place: &mut RowPlace<'a>, into: &mut Vec<u64>) -> Result<(), Memory>
         requires place { IsRowPlace self.now place.old }
         requires some { 0 < place.old.row }
@@ -87,8 +87,8 @@ impl<'a> WrittenRows<'a> {
         Ok(())
     }
 
-    /// Reads the row in front of a place into a list, in place of what is there, a closed price as `CLOSED`, and goes in front
-    /// of it. Where memory is refused, the place stays where it was.
+    /// Reads the row before a place into a list, in place of what is there, a closed price as `CLOSED`. The place moves
+    /// before that row. Where memory is refused, the place stays where it was.
     pub fn row_before(&self, place: &mut RowPlace<'a>, into: &mut Vec<u64>) -> Result<(), Memory>
         requires place { IsRowPlace self.now place.old }
         requires some { 0 < place.old.row }

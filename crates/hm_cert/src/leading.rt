@@ -1,4 +1,4 @@
-//! Numbers of six to ten digits that differ from one that was read in their last two digits alone.
+//! Numbers of six to ten digits that differ only in their last two digits from one that was read.
 ghost use Rattle.std.specs.Prelude.{◌≡◌, ◌+◌, ◌≤◌, length, take, IfSome, IsTrue};
 ghost use Rattle.std.specs.Fmt.{decimal};
 ghost use Rattle.std.specs.Int.{w32, to_le_bytes};
@@ -8,8 +8,8 @@ ghost use Rattle.hm_cert.specs.Leading.{BeginsWith, HasFour, IsLeading, WritesPa
 
 use crate::lines::read_price;
 
-/// The digits of a number but for the last two, and the number that they write. In a certificate many prices have those of the
-/// price beside them.
+/// The digits of a number without the last two, and the number that they write. In a certificate many prices have the
+/// same ones as the price next to them.
 #[derive(Clone, Copy)]
 pub(crate) struct LeadingDigits<'a> {
     digits: &'a [u8],

@@ -50,7 +50,7 @@ pub struct Lines<'a> {
 pub struct Head<'a> {
     pub format: Format,
     pub rules: SpellRules,
-    /// The lines of prices behind.
+    /// The lines of prices that follow.
     pub lines: Lines<'a>,
 }
 
@@ -111,8 +111,8 @@ impl<'a> Lines<'a> {
         Ok(true)
     }
 
-    /// Goes past the next row, where the first digits of a price are known. False at the end. A row of prices of few digits isn't
-    /// read, and of another one the list is left with what was read. After a refusal the lines are as they were.
+    /// Skips the next row, where the first digits of a price are known. False at the end. A row of prices of few digits
+    /// isn't read, and of another one the list is left with what was read. After a refusal the lines are as they were.
     pub(crate) fn pass_row(
         &mut self,
         spare: &mut Vec<u64>,
@@ -134,7 +134,7 @@ impl<'a> Lines<'a> {
     }
 }
 
-/// The text before the first byte `mark` and the text behind it, where there is one.
+/// The text before the first byte `mark` and the text after it, where there is one.
 fn cut(text: &[u8], mark: u8) -> Option<(&[u8], &[u8])>
     ensures pieces { MatchOption result (pieces mark text.now ≡ text.now ∷ []) (λ parts. pieces mark text.now ≡ parts.0.now ∷ pieces mark parts.1.now) }
     ensures shorter { IfSome result (λ parts. length parts.0.now + length parts.1.now + 1 ≡ length text.now) }
@@ -208,7 +208,7 @@ fn behind<'a>(text: &'a [u8], word: &[u8]) -> Option<&'a [u8]>
 #[derive(Drop)]
 struct FirstPrice<'a> {
     price: u64,
-    /// What is behind the space behind it, where there is one.
+    /// What follows the space after it, where there is one.
     more: Option<&'a [u8]>,
 }
 
@@ -260,7 +260,7 @@ pub(crate) fn read_price(word: &[u8]) -> Option<u64>
     read_number(word)
 }
 
-/// Whether a word has as many bytes as a number below 2^63, and `0` in front only if that is all.
+/// Whether a word has as many bytes as a number below 2^63, and `0` at the start only if that is all.
 pub(crate) fn has_number_form(word: &[u8]) -> bool
     ensures { IsTrue result ↔ HasNumberForm word.now }
 {

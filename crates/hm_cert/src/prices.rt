@@ -17,7 +17,7 @@ pub fn price_of(number: u64) -> Option<u64>
     if number == CLOSED { None } else { Some(number) }
 }
 
-/// The price with so many bytes more.
+/// The price with `len` added.
 pub fn more(price: u64, len: u64) -> u64
     requires below { IsBelow (2 ^ 63 + 2 ^ 62) (told price) }
     requires low { len < 2 ^ 62 }
@@ -26,7 +26,7 @@ pub fn more(price: u64, len: u64) -> u64
     len.saturating_add(price)
 }
 
-/// Adds so many bytes to each price.
+/// Adds `len` to each price.
 pub fn add_each(row: &mut [u64], len: u64)
     requires below { AreBelow (2 ^ 63 + 2 ^ 62) (map told row.old) }
     requires low { len < 2 ^ 62 }
@@ -41,7 +41,7 @@ pub fn add_each(row: &mut [u64], len: u64)
 /// which a closed one is None.
 #[derive(Drop)]
 pub struct Prices {
-    // the rows, one behind the other
+    // the rows, one after the other
     numbers: Vec<u64>,
     // where each row ends
     ends: Vec<usize>,
@@ -70,7 +70,7 @@ impl Prices {
         }
     }
 
-    /// Adds a row behind the others: its prices, a closed one as `CLOSED`.
+    /// Adds a row at the end: its prices, a closed one as `CLOSED`.
     pub fn push_row(&mut self, row: &[u64]) -> Result<(), Memory>
         ensures ok { OnOk result (self.new ≡ self.old ++ map told row.now ∷ []) }
         ensures unchanged { OnErr result (self.new ≡ self.old) }

@@ -19,9 +19,9 @@ const PRICES: usize = 256;
 /// The text of a certificate from its end. Contracts see its bytes, the last byte of the text first.
 #[derive(Drop)]
 pub struct ReversedText {
-    /// The bytes, and room behind them.
+    /// The bytes, and room after them.
     bytes: Vec<u8>,
-    /// How many bytes there are in front of the room.
+    /// How many bytes there are before the room.
     len: usize,
     hundreds: Hundreds,
     /// Lines that are not put into the room at once.
@@ -98,7 +98,7 @@ impl ReversedText {
     }
 }
 
-/// Sees to it that there is room for so many prices behind so many bytes.
+/// Makes room for `count` prices after the first `len` bytes.
 #[inline(always)]
 fn make_room(bytes: &mut Vec<u8>, len: usize, count: usize) -> Result<(), Memory>
     requires within { len ≤ length bytes.old.items }
@@ -113,7 +113,7 @@ fn make_room(bytes: &mut Vec<u8>, len: usize, count: usize) -> Result<(), Memory
     Ok(())
 }
 
-/// Adds these bytes behind so many, into the room or in its place.
+/// Adds these bytes after the first `len`, into the room or in its place.
 fn add(bytes: &mut Vec<u8>, len: &mut usize, more: &[u8]) -> Result<(), Memory>
     requires { len.old ≤ length bytes.old.items }
     ensures within { len.new ≤ length bytes.new.items }
@@ -152,8 +152,8 @@ fn put_line_reversed(out: &mut Vec<u8>, row: &[u64]) -> Result<(), Memory>
     put_row(out, row, b'\n')
 }
 
-/// Puts the line of a row, the last byte first, into the front of a line, and answers how many bytes it has, where each price is
-/// at least 100 and below 10^9.
+/// Puts the line of a row, the last byte first, at the start of a line, where each price is at least 100 and below
+/// 10^9. Returns how many bytes it has.
 #[inline(always)]
 fn put_prices(line: &mut [u8], hundreds: &mut Hundreds, row: &[u64]) -> Option<usize>
     requires some { 0 < length row.now }
@@ -169,7 +169,7 @@ fn put_prices(line: &mut [u8], hundreds: &mut Hundreds, row: &[u64]) -> Option<u
     Some(at)
 }
 
-/// Appends prices with a space between and a byte behind, the last byte first.
+/// Appends prices with a space between and a byte after them, the last byte first.
 fn put_row(out: &mut Vec<u8>, row: &[u64], mark: u8) -> Result<(), Memory>
     ensures { OnOk result (out.new.items ≡ out.old.items ++ mark ∷ reverse (row_text (map told row.now))) }
 {
@@ -181,7 +181,7 @@ fn put_row(out: &mut Vec<u8>, row: &[u64], mark: u8) -> Result<(), Memory>
     Ok(())
 }
 
-/// Appends prices, each behind a space, the last byte first.
+/// Appends prices, each after a space, the last byte first.
 fn put_more(out: &mut Vec<u8>, row: &[u64]) -> Result<(), Memory>
     ensures { OnOk result (out.new.items ≡ out.old.items ++ reverse (more_prices (map told row.now))) }
 {
@@ -203,7 +203,7 @@ fn put_price(out: &mut Vec<u8>, price: u64) -> Result<(), Memory>
     put_number(out, price)
 }
 
-/// Appends a word behind a space, where it is set, the last byte first.
+/// Appends a word after a space, where it is set, the last byte first.
 fn put_flag(out: &mut Vec<u8>, is_set: bool, word: &[u8]) -> Result<(), Memory>
     ensures { OnOk result (out.new.items ≡ out.old.items ++ reverse (flag_text is_set word.now)) }
 {

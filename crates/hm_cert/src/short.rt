@@ -1,4 +1,4 @@
-//! Lines of prices of few digits, judged from their front and read from their end.
+//! Lines of prices of few digits, checked from their start and read from their end.
 ghost use Rattle.std.specs.Prelude.{◌≡◌, ◌<◌, length, map, reverse, IfOk, IfSome};
 ghost use Rattle.hm_cert.specs.Layout.{told};
 ghost use Rattle.hm_cert.specs.Short.{AreDigits, IsBackTo, IsLastPrice, IsShortLine, IsShortRow, IsShortWord};
@@ -20,7 +20,7 @@ fn count_digits(text: &[u8]) -> usize
     text.len()
 }
 
-/// The length of a closed price in bytes, where a text begins with one and something is behind.
+/// The length of a closed price in bytes, where a text begins with one and something follows.
 fn closed_word(text: &[u8]) -> Option<usize>
     ensures { IfSome result (IsShortWord text.now) }
 {
@@ -30,8 +30,8 @@ fn closed_word(text: &[u8]) -> Option<usize>
     }
 }
 
-/// The length of a price in bytes, where a text begins with one, it is closed or has at most 18 digits, and something is
-/// behind.
+/// The length of a price in bytes, where a text begins with one, it is closed or has at most 18 digits, and something
+/// follows.
 fn short_word(text: &[u8]) -> Option<usize>
     ensures { IfSome result (IsShortWord text.now) }
 {
@@ -48,7 +48,7 @@ fn short_word(text: &[u8]) -> Option<usize>
     Some(len)
 }
 
-/// The length of a price with these first digits, where a text begins with one and something is behind.
+/// The length of a price with these first digits, where a text begins with one and something follows.
 fn word_with(known: &LeadingDigits<'_>, text: &[u8]) -> Option<usize>
     ensures { IfSome result (IsShortWord text.now) }
 {
@@ -61,7 +61,8 @@ fn word_with(known: &LeadingDigits<'_>, text: &[u8]) -> Option<usize>
     }
 }
 
-/// As `short_word`, where the first digits of a price are known: it often has them too. Otherwise its own take their place.
+/// As `short_word`, where the first digits of some price are known: this one often has them too. Otherwise its own take
+/// their place.
 fn short_word_like<'a>(text: &'a [u8], known: &mut LeadingDigits<'a>) -> Option<usize>
     ensures { IfSome result (IsShortWord text.now) }
 {
@@ -139,7 +140,8 @@ fn price_with(known: &LeadingDigits<'_>, text: &[u8]) -> Option<(u64, usize)>
     Some((number, at))
 }
 
-/// As `back_price`, where the first digits of a price are known: it often has them too. Otherwise its own take their place.
+/// As `back_price`, where the first digits of some price are known: this one often has them too. Otherwise its own take
+/// their place.
 fn back_price_like<'a>(text: &'a [u8], known: &mut LeadingDigits<'a>) -> Option<(u64, usize)>
     ensures { IfSome result (λ found. IsLastPrice text.now found.1 found.0) }
 {
@@ -153,7 +155,7 @@ fn back_price_like<'a>(text: &'a [u8], known: &mut LeadingDigits<'a>) -> Option<
     Some((price, at))
 }
 
-/// Turns a row round. Most have at most three prices.
+/// Reverses a row. Most have at most three prices.
 fn turn(row: &mut Vec<u64>)
     ensures { row.new.items ≡ reverse row.old.items }
 {
@@ -165,7 +167,7 @@ fn turn(row: &mut Vec<u64>)
     }
 }
 
-/// Reads the row whose line ends at a place into a list, in place of what is there, a closed price as `CLOSED`, and gives
+/// Reads the row whose line ends at a place into a list, in place of what is there, a closed price as `CLOSED`. Gives
 /// where the line begins, where each price is closed or has at most 18 digits.
 pub(crate) fn short_row_before<'a>(
     text: &'a [u8],

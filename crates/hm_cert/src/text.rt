@@ -1,4 +1,4 @@
-//! The text of a certificate, from its front.
+//! The text of a certificate, from its start.
 ghost use Rattle.std.specs.Prelude.{◌≡◌, ℕ, [], ◌∷◌, ◌++◌, map, OnOk, IfOk};
 ghost use Rattle.hm_cert.specs.Certificate.{certificate_text, flag_text, head_lines, more_prices, price_text, row_line, row_text};
 ghost use Rattle.hm_cert.specs.Certificate as text;
@@ -16,7 +16,7 @@ pub enum Format {
     One,
     /// The first, the last, and those with a choice: with more than one state, or with more than one edge.
     Two,
-    /// The first, the last, and those in which some state has a choice, in the graph without edges that are outdone.
+    /// The first, the last, and those in which some state has a choice, in the graph without dominated (outdone) edges.
     Three,
 }
 
@@ -65,7 +65,7 @@ fn put_head(out: &mut Vec<u8>, format: Format, rules: SpellRules) -> Result<(), 
     Ok(())
 }
 
-/// Appends a word behind a space, where it is set.
+/// Appends a word after a space, where it is set.
 fn put_flag(out: &mut Vec<u8>, is_set: bool, word: &[u8]) -> Result<(), Memory>
     ensures { OnOk result (out.new.items ≡ out.old.items ++ flag_text is_set word.now) }
 {
@@ -96,7 +96,7 @@ fn put_row(out: &mut Vec<u8>, row: &[u64]) -> Result<(), Memory>
     Ok(())
 }
 
-/// Appends prices, each behind a space.
+/// Appends prices, each after a space.
 fn put_more(out: &mut Vec<u8>, row: &[u64]) -> Result<(), Memory>
     ensures { OnOk result (out.new.items ≡ out.old.items ++ more_prices (map told row.now)) }
 {

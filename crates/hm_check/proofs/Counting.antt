@@ -40,14 +40,14 @@ counted_out format k steps h e = counted format k steps h ∙ rw e refl
 pub counted_in : (format : Format) (k : ℕ) (steps : List Step) → k < length steps → is_left_out format k (get_or steps k []) ≡ false → count_over format k (drop k steps) ≡ suc (count_over format (k + 1) (drop (k + 1) steps))
 counted_in format k steps h e = counted format k steps h ∙ rw e refl
 
--- behind all steps the last layer is left
+-- after all steps the last layer is left
 pub counted_end : (format : Format) (k : ℕ) (steps : List Step) → k ≡ length steps → count_over format k (drop k steps) ≡ 1
 counted_end format k steps e = rw (e, drop-length steps) refl
 
 pub out_later : (format : Format) (k : ℕ) (step : Step) → 0 < k → is_left_out format k step ≡ leaves_out format step
 out_later format k step some = ap (λ b. not b && leaves_out format step) (other_test k 0 (λ none. omega (arith, none, some)))
 
--- behind the first layer each layer is written whose step says so
+-- after the first layer each layer is written whose step says so
 kept_counted : (format : Format) (k : ℕ) (steps : List Step) → 0 < k → count_over format k steps ≡ kept_count format steps + 1
 kept_counted format k [] some = refl
 kept_counted format k (step ∷ steps) some = by_test (leaves_out format step) (out_later format k step some) (kept_counted format (suc k) steps (omega arith))
@@ -67,7 +67,7 @@ first_counted format (step ∷ steps) out some is = by_test out is (kept_counted
     by_test true e more = rw (sym e) (omega (arith, more))
     by_test false e more = rw (sym e) (omega (arith, more))
 
--- no more layers are written behind one than in all
+-- no more layers are written after one than in all
 pub fewer_counted : (format : Format) (j n m : ℕ) (steps : List Step) → n ≡ j + m → count_over format n (drop m steps) ≤ count_over format j steps
 fewer_counted format j n zero steps e =
     let same : j ≡ n = omega (arith, e) in

@@ -31,7 +31,8 @@ each_sum : (own rest : ℕ) (row : Row) → map (over (own + rest)) row ≡ map 
 each_sum own rest [] = refl
 each_sum own rest (p ∷ row) = λ i. over_sum own rest p i ∷ each_sum own rest row i
 
--- what is known from layer k on where no width is wrong, by how many rows are in front, what is found and the prices of the layer
+-- what is known from layer k on where no width is wrong, by how many rows are before it, what is found and the prices
+-- of the layer
 record AreRight (format : Format) (g : GraphView) (rows : List Row) (k at : ℕ) (why : Option Why) (row : Row) : Type 0 where
   pub written : at + count_over format k (drop k g.steps) ≡ length rows
   pub widths : other_width_over format k g.last (drop k g.steps) (drop at rows) ≡ None

@@ -15,7 +15,7 @@ use Rattle.hm_check.specs.Rows.{is_above, high_in}
 use Rattle.hm_cert.specs.Rows.{AreBelow, IsBelow}
 use Rattle.hm_cert.proofs.Below.{below_in}
 
--- ---- What a number tells
+-- ---- What a number stands for
 
 pub number_told : (p : ℕ) → p ≢ 18446744073709551615 → told p ≡ Some p
 number_told p h = by_test (p == 18446744073709551615) refl
@@ -27,13 +27,13 @@ number_told p h = by_test (p == 18446744073709551615) refl
 pub closed_told : (p : ℕ) → p ≡ 18446744073709551615 → told p ≡ None
 closed_told p h = rw (eq-eqb p 18446744073709551615 h) refl
 
--- the price that a number in a row tells
+-- the price that a number in a row stands for
 pub told_at : (numbers : List ℕ) (i p : ℕ) → slice_get numbers i ≡ Some p → get_or (map told numbers) i None ≡ told p
 told_at [] i p e = absurd (cc)
 told_at (q ∷ numbers) zero p e = let is : q ≡ p = cc in ap told is
 told_at (q ∷ numbers) (suc i) p e = told_at numbers i p e
 
--- of two numbers the lesser tells the lesser price
+-- of two numbers the lesser stands for the lesser price
 pub told_lesser : (a b : ℕ) → a ≤ 18446744073709551615 → b ≤ 18446744073709551615 → told (min a b) ≡ lesser (told a) (told b)
 told_lesser a b ha hb = by_left (a == 18446744073709551615) refl
   where
@@ -56,7 +56,7 @@ told_lesser a b ha hb = by_left (a == 18446744073709551615) refl
         ap told least ∙ ap (λ p. lesser p (told b)) (sym (closed_told a is))
     by_left false e = by_right (eqb-false a 18446744073709551615 e) (b == 18446744073709551615) refl
 
--- a sum that is told
+-- the price that a sum stands for
 pub told_over : (behind : List ℕ) (h : Hop) (p : ℕ) → slice_get behind h.to ≡ Some p → p ≢ 18446744073709551615 → p + h.len ≢ 18446744073709551615 → told (p + h.len) ≡ price_over (map told behind) h
 told_over behind h p there open_price open_sum =
     number_told (p + h.len) open_sum ∙ ap Some (omega arith) ∙ sym (ap (over h.len) (told_at behind h.to p there ∙ number_told p open_price))
@@ -104,7 +104,7 @@ best_below n behind [] b low = tt
 best_below n behind (h ∷ hops) b low =
     lesser_below (n + 2 ^ 33) (price_over behind h) (best_price behind hops) (over_below n (2 ^ 33) h.len (get_or behind h.to None) low.0 (below_in behind n h.to b)) (best_below n behind hops b low.1)
 
--- the prices in front of a step
+-- the prices before a step
 pub row_below : (n : ℕ) (behind : Row) (step : Step) → AreBelow n behind → IsLowStep step → AreBelow (n + 2 ^ 33) (row_over behind step)
 row_below n behind [] b low = tt
 row_below n behind (hops ∷ step) b low = (best_below n behind hops b low.0, row_below n behind step b low.1)

@@ -29,7 +29,7 @@ use Rattle.hm_check.proofs.Sums.{below_more, row_below, written_below, row_at, h
 pub has_row : (format : Format) (g : GraphView) (rows : List Row) (k at : ℕ) → at + count_over format k (drop k g.steps) ≡ length rows → at < length rows
 has_row format g rows k at left = omega (arith, left, some_counted format k (drop k g.steps))
 
--- and one in front of a layer that is written
+-- and one before a layer that is written
 pub has_front : (format : Format) (g : GraphView) (rows : List Row) (k at : ℕ) → AreInPlace format g rows → k < length g.steps → is_left_out format k (get_or g.steps k []) ≡ false
     → at + count_over format (k + 1) (drop (k + 1) g.steps) ≡ length rows → 1 ≤ at
 has_front format g rows k at h within kept left =
@@ -45,7 +45,7 @@ pub priced : (format : Format) (g : GraphView) (rows : List Row) (k : ℕ) (s : 
 priced format g rows k s None h e = h.1
 priced format g rows k s (Some w) h e = absurd (cc)
 
--- the prices behind are low enough
+-- the next layer's prices are low enough
 pub swept_below : (format : Format) (g : GraphView) (rows : List Row) (k : ℕ) (s : Sweep) → length g.steps < 2 ^ 29 → IsSwept format g rows k s → s.found.right ≡ true → AreBelow (2 ^ 63 + 2 ^ 62) (map told s.behind.items)
 swept_below format g rows k s few h right =
     let p = priced format g rows k s _ h.known right in

@@ -1,4 +1,4 @@
--- Rows of layers in front of steps over which no state changes its place.
+-- Rows of layers before steps over which no state changes its place.
 use Rattle.std.proofs.Common.{◌≡◌, ◌∙◌, ℕ, ◌+◌, ◌<◌, ◌≤◌, ◌==◌, ◌&&◌, not, Bool, true, false, List, length, map, get_or, drop, None, Option, refl, sym, ap, add-one}
 use Rattle.std.specs.Option.{option_map}
 use Rattle.std.proofs.lemmas.List.{drop_more, drop_all, length-map}
@@ -29,14 +29,14 @@ within_more k i len row behind inside there e = sym (
 pub within_end : (k i len : ℕ) (row behind : List ℕ) → length row ≤ i → high_from k i len row behind ≡ None
 within_end k i len row behind past = ap (λ r. high_in k i (map told r) (map (over len) (map told (drop i behind)))) (drop_all i row past)
 
--- a row none of whose prices is above the one behind with the length more
+-- a row none of whose prices is above the next layer's price plus the length
 pub judged_still : (found : SweepFound) (k len : ℕ) (numbers behind : List ℕ) (step : Step) → found.right ≡ true → length numbers ≡ length step → length behind ≡ length numbers → AreStill len step
     → high_in k 0 (map told numbers) (map (over len) (map told behind)) ≡ None → found ≡ judged found k (map told numbers) (map told behind) step
 judged_still found k len numbers behind step right width same still none =
     let bounds : row_over (map told behind) step ≡ map (over len) (map told behind) = still_row (map told behind) len step (length-map behind told ∙ same ∙ width) still in
     judged_low found k numbers behind step width right (sym (ap (option_map high_why) (ap (high_in k 0 (map told numbers)) bounds ∙ none)))
 
--- a layer behind the first one, in front of a step that leaves none out
+-- a layer after the first one, before a step that leaves none out
 pub kept_later : (format : Format) (k : ℕ) (step : Step) → leaves_out format step ≡ false → is_left_out format k step ≡ false
 kept_later format k step e = by_test (k == 0)
   where

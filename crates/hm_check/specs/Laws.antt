@@ -38,7 +38,7 @@ pub record IsShown (t : List Entry) (r : SpellRules) (w : List Event) (out : Lis
   pub parses : page_tree t out ≡ built w
   pub shortest : Shortest t r w (length out)
 
--- A yes on any text and any prices shows that, whoever made the two.
+-- A yes on any text and any prices, from any source, shows that.
 abbrev pub YesShows : Type 0
 YesShows = (t : List Entry) → IsTable t → (r : SpellRules) (w : List Event) → Settled w → (out : List ℕ) (c : Certificate) (n : ℕ) → verdict t r w out c ≡ Yes n → IsShown t r w out n
 

@@ -12,8 +12,8 @@ pub record OtherWidth : Type 0 where
   pub got : ℕ
   pub want : ℕ
 
--- The first written layer from layer k on whose row has another width; rows that aren't there, and those behind the last layer,
--- are none.
+-- The first written layer from layer k on whose row has another width; rows that aren't there, and those after the last
+-- layer, are none.
 abbrev pub other_width : Edges → LayerTest → ℕ → List Unit → List State → List Row → Option OtherWidth
 other_width edges follows k units states [] = None
 other_width edges follows k [] states (row ∷ rows) = if length row == length states then None else Some (record { layer = k; got = length row; want = length states })
@@ -22,7 +22,7 @@ other_width edges follows k (unit ∷ units) states (row ∷ rows) =
     else if length row == length states then other_width edges follows (suc k) units (states_behind edges unit states) rows
     else Some (record { layer = k; got = length row; want = length states })
 
--- A price above its bound: a number above a number, or a closed price where there is a number behind.
+-- A price above its bound: a number above a number, or a closed price where the bound is a number.
 abbrev pub is_above : Option ℕ → Option ℕ → Bool
 is_above price None = false
 is_above None (Some b) = true
@@ -54,7 +54,7 @@ abbrev pub or_else : Option HighPrice → Option HighPrice → Option HighPrice
 or_else None other = other
 or_else (Some found) other = Some found
 
--- the bounds of the states of a layer, by the prices behind
+-- the bounds of the states of a layer, by the next layer's prices
 abbrev pub bounds_of : Edges → Unit → List State → Row → Row
 bounds_of edges unit states behind = map (λ s. best (price_at (states_behind edges unit states) behind) (edges unit s)) states
 

@@ -35,7 +35,7 @@ pub record AreInPlace (format : Format) (g : GraphView) (rows : List Row) : Type
 abbrev pub IsStillOver : Step → ℕ → Type 0
 IsStillOver step len = AreStill len step × (len < 2 ^ 33)
 
--- what is found with the row of layer k in front, by the prices behind
+-- what is found with the row of layer k added, by the next layer's prices
 abbrev pub judged : SweepFound → ℕ → Row → Row → Step → SweepFound
 judged found k row behind step =
     if length row == length step then (if found.right then record { right = true; why = option_or (option_map high_why (high_in k 0 row (row_over behind step))) found.why } else found)
@@ -47,8 +47,8 @@ judged_at_end k row last =
     if length row == last then record { right = true; why = option_map high_why (high_at_end k 0 row) }
     else record { right = false; why = Some (WrongWidth k (length row) last) }
 
--- The rows behind the first ones stand for the prices from layer k on, of which those of layer k are at hand, and the first of
--- them above its bound is found.
+-- The rows after the first ones stand for the prices from layer k on, of which those of layer k are at hand. The first
+-- of these prices above its bound is found.
 pub record ArePriced (format : Format) (g : GraphView) (rows : List Row) (k : ℕ) (s : Sweep) : Type 0 where
   pub more : List Row
   pub full : full_rows format k g.last (drop k g.steps) (drop s.at.row rows) ≡ Some (map told s.behind.items ∷ more)
@@ -57,12 +57,12 @@ pub record ArePriced (format : Format) (g : GraphView) (rows : List Row) (k : �
   pub turned : turns + k ≡ length g.steps
   pub below : AreBelow (2 ^ 63 + turns * 2 ^ 33) (map told s.behind.items)
 
--- what is known of the rows behind the first ones, by the first of them that has another width
+-- what is known of the rows after the first ones, by the first of them that has another width
 abbrev pub AreKnown : Format → GraphView → List Row → ℕ → Sweep → Option OtherWidth → Type 0
 AreKnown format g rows k s None = (s.found.right ≡ true) × ArePriced format g rows k s
 AreKnown format g rows k s (Some w) = (s.found.right ≡ false) × (s.found.why ≡ Some (width_why w))
 
--- The rows behind a place are those of the layers from layer k on.
+-- The rows after a place are those of the layers from layer k on.
 pub record IsSwept (format : Format) (g : GraphView) (rows : List Row) (k : ℕ) (s : Sweep) : Type 0 where
   pub place : IsRowPlace rows s.at
   pub written : s.at.row + count_over format k (drop k g.steps) ≡ length rows

@@ -36,7 +36,7 @@ abbrev pub by_high : ℕ → List Row → Option HighPrice → Verdict
 by_high n prices (Some h) = No (TooHigh h.layer h.state h.price h.bound)
 by_high n prices None = by_first n (first_price prices)
 
--- the prices of all layers; where there are none, layers or widths differ, which is asked before
+-- the prices of all layers; where there are none, layers or widths differ, which is checked before
 abbrev pub by_full : Edges → ℕ → List Unit → Option (List Row) → Verdict
 by_full edges n units None = No (TooLong n 0)
 by_full edges n units (Some prices) = by_high n prices (high_price edges 0 units first_layer prices)

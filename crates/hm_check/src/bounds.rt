@@ -13,7 +13,7 @@ use hm_cert::{CLOSED, more, price_of};
 use hm_layers::Step;
 use hm_steps::Hop;
 
-/// The price over a hop, by the prices of the layer behind.
+/// The price over a hop, by the prices of the next layer.
 fn price_over(behind: &[u64], hop: Hop) -> u64
     requires below { AreBelow (2 ^ 63 + 2 ^ 62) (map told behind.now) }
     requires low { hop.len < 2 ^ 33 }
@@ -25,7 +25,7 @@ fn price_over(behind: &[u64], hop: Hop) -> u64
     }
 }
 
-/// The least price over these hops, by the prices of the layer behind.
+/// The least price over these hops, by the prices of the next layer.
 fn least_price(behind: &[u64], hops: &[Hop]) -> u64
     requires below { AreBelow (2 ^ 63 + 2 ^ 62) (map told behind.now) }
     requires low { AreLowHops hops.now }
@@ -57,7 +57,7 @@ fn is_above(price: u64, bound: u64) -> bool
     price > bound
 }
 
-/// Whether no price is above the one behind it with so many bytes more.
+/// Whether no price is above the next layer's price plus `len`.
 pub(crate) fn are_within(row: &[u64], behind: &[u64], len: u64) -> bool
     requires below { AreBelow (2 ^ 63 + 2 ^ 62) (map told behind.now) }
     requires low { len < 2 ^ 62 }
@@ -72,7 +72,7 @@ pub(crate) fn are_within(row: &[u64], behind: &[u64], len: u64) -> bool
     true
 }
 
-/// The first price of layer `k` above its bound, by the prices of the layer behind.
+/// The first price of layer `k` above its bound, by the prices of the next layer.
 pub(crate) fn find_high(k: u64, row: &[u64], behind: &[u64], step: &Step) -> Option<Why>
     requires below { AreBelow (2 ^ 63 + 2 ^ 62) (map told behind.now) }
     requires low { IsLowStep step.now }

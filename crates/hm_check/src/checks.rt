@@ -31,7 +31,7 @@ fn same_rules(left: SpellRules, right: SpellRules) -> bool
         && left.frame == right.frame
 }
 
-/// What is found of the rows of a certificate, for a text of so many bytes.
+/// What is found of the rows of a certificate, for a text of `length` bytes.
 fn by_certificate(
     alloc: Global,
     table: &Table,

@@ -51,14 +51,14 @@ struct Followed<'o> {
     spare: Vec<u8>,
 }
 
-/// Where a hop leads, and what is left of the text behind its bytes.
+/// Where a hop leads, and what is left of the text after its bytes.
 #[derive(Clone, Copy)]
 struct Taken<'o> {
     to: usize,
     rest: &'o [u8],
 }
 
-/// What is behind a byte, where the text begins with it.
+/// What follows a byte, where the text begins with it.
 #[inline(always)]
 fn behind_byte(text: &[u8], byte: u8) -> Option<&[u8]>
     ensures { IfSome result (λ rest. text.now ≡ byte ∷ rest.now) }
@@ -69,7 +69,7 @@ fn behind_byte(text: &[u8], byte: u8) -> Option<&[u8]>
     }
 }
 
-/// What is behind a byte, where the text begins with it, or where it isn't wanted.
+/// What follows a byte, where the text begins with it, or where it isn't wanted.
 #[inline(always)]
 fn behind_where(text: &[u8], wanted: bool, byte: u8) -> Option<&[u8]>
     ensures { IfSome result (λ rest. text.now ≡ (if wanted then byte ∷ [] else []) ++ rest.now) }
@@ -95,7 +95,7 @@ fn are_short_same(text: &[u8], bytes: &[u8]) -> bool
     true
 }
 
-/// What is behind these bytes, where the text begins with them.
+/// What follows these bytes, where the text begins with them.
 fn behind<'o>(text: &'o [u8], bytes: &[u8]) -> Option<&'o [u8]>
     ensures { IfSome result (λ rest. text.now ≡ bytes.now ++ rest.now) }
 {
@@ -108,7 +108,7 @@ fn behind<'o>(text: &'o [u8], bytes: &[u8]) -> Option<&'o [u8]>
     None
 }
 
-/// What is behind a character of several bytes, where the text begins with it.
+/// What follows a character of several bytes, where the text begins with it.
 #[inline(never)]
 fn behind_wide(text: &[u8], c: char) -> Option<&[u8]>
     ensures { IfSome result (λ rest. text.now ≡ encode_utf8 c ++ rest.now) }
@@ -117,7 +117,7 @@ fn behind_wide(text: &[u8], c: char) -> Option<&[u8]>
     behind(text, c.encode_utf8(&mut buffer).as_bytes())
 }
 
-/// What is behind a character, where the text begins with it.
+/// What follows a character, where the text begins with it.
 #[inline(always)]
 fn behind_character(text: &[u8], c: char) -> Option<&[u8]>
     ensures { IfSome result (λ rest. text.now ≡ encode_utf8 c ++ rest.now) }
@@ -129,7 +129,7 @@ fn behind_character(text: &[u8], c: char) -> Option<&[u8]>
     }
 }
 
-/// What is behind a comment, where the text begins with it.
+/// What follows a comment, where the text begins with it.
 fn behind_comment<'o>(text: &'o [u8], comment: &str) -> Option<&'o [u8]>
     ensures { IfSome result (λ rest. text.now ≡ comment_bytes comment.now ++ rest.now) }
 {
@@ -138,7 +138,7 @@ fn behind_comment<'o>(text: &'o [u8], comment: &str) -> Option<&'o [u8]>
     behind(end, b"-->")
 }
 
-/// What is behind that which a unit has of its own, where the text begins with it.
+/// What follows the bytes that a unit has of its own, where the text begins with it.
 #[inline(always)]
 fn behind_own<'o>(text: &'o [u8], own: Own) -> Option<&'o [u8]>
     ensures { IfSome result (λ rest. text.now ≡ own_text own.entry ++ rest.now) }
@@ -150,7 +150,7 @@ fn behind_own<'o>(text: &'o [u8], own: Own) -> Option<&'o [u8]>
     }
 }
 
-/// What is behind the end of a tag, where the text begins with it.
+/// What follows the end of a tag, where the text begins with it.
 #[inline(always)]
 fn behind_close(text: &[u8], closes: bool) -> Option<&[u8]>
     ensures { IfSome result (λ rest. text.now ≡ (if closes then codes "/>" else codes ">") ++ rest.now) }
@@ -158,7 +158,7 @@ fn behind_close(text: &[u8], closes: bool) -> Option<&[u8]>
     behind_byte(behind_where(text, closes, b'/')?, b'>')
 }
 
-/// What is behind a quote, where the text begins with it.
+/// What follows a quote, where the text begins with it.
 #[inline(always)]
 fn behind_quote(text: &[u8], double: bool) -> Option<&[u8]>
     ensures { IfSome result (λ rest. text.now ≡ (if double then 34 ∷ [] else 39 ∷ []) ++ rest.now) }
@@ -170,7 +170,7 @@ fn behind_quote(text: &[u8], double: bool) -> Option<&[u8]>
     }
 }
 
-/// What is behind the end of a tag and what stands in front of it, where the text begins with them.
+/// What follows the end of a tag and what stands before it, where the text begins with them.
 #[inline(always)]
 fn behind_tag_close(text: &[u8], space: bool, closes: bool) -> Option<&[u8]>
     ensures { IfSome result (λ rest. text.now ≡ with_gap space (if closes then codes "/>" else codes ">") ++ rest.now) }
@@ -178,7 +178,7 @@ fn behind_tag_close(text: &[u8], space: bool, closes: bool) -> Option<&[u8]>
     behind_close(behind_where(text, space, b' ')?, closes)
 }
 
-/// What is behind the name of a tag with a `<`, where the text begins with it.
+/// What follows the name of a tag with a `<`, where the text begins with it.
 #[inline(always)]
 fn behind_tag_name<'o>(text: &'o [u8], own: Own) -> Option<&'o [u8]>
     ensures { IfSome result (λ rest. text.now ≡ (60 ∷ own_text own.entry) ++ rest.now) }
@@ -186,7 +186,7 @@ fn behind_tag_name<'o>(text: &'o [u8], own: Own) -> Option<&'o [u8]>
     behind_own(behind_byte(text, b'<')?, own)
 }
 
-/// What is behind that which opens a value, where the text begins with it.
+/// What follows the bytes that open a value, where the text begins with it.
 #[inline(always)]
 fn behind_opening(text: &[u8], form: Form) -> Option<&[u8]>
     ensures { IfSome result (λ rest. text.now ≡ with_opening form [] ++ rest.now) }
@@ -199,7 +199,7 @@ fn behind_opening(text: &[u8], form: Form) -> Option<&[u8]>
     }
 }
 
-/// What is behind an attribute up to what opens its value, where the text begins with it.
+/// What follows an attribute up to what opens its value, where the text begins with it.
 #[inline(always)]
 fn behind_attribute<'o>(text: &'o [u8], own: Own, gap: bool, form: Form) -> Option<&'o [u8]>
     ensures { IfSome result (λ rest. text.now ≡ with_gap gap (with_opening form (own_text own.entry)) ++ rest.now) }
@@ -208,7 +208,7 @@ fn behind_attribute<'o>(text: &'o [u8], own: Own, gap: bool, form: Form) -> Opti
     behind_opening(behind_own(name, own)?, form)
 }
 
-/// What is behind an end tag, where the text begins with it.
+/// What follows an end tag, where the text begins with it.
 #[inline(always)]
 fn behind_end_tag<'o>(text: &'o [u8], own: Own) -> Option<&'o [u8]>
     ensures { IfSome result (λ rest. text.now ≡ (codes "</" ++ (own_text own.entry ++ codes ">")) ++ rest.now) }
@@ -217,8 +217,8 @@ fn behind_end_tag<'o>(text: &'o [u8], own: Own) -> Option<&'o [u8]>
     behind_byte(behind_own(name, own)?, b'>')
 }
 
-/// What is behind the bytes that a piece writes for a unit, where the text begins with them: those of a piece that writes a
-/// reference or a section are put into a buffer.
+/// What follows the bytes that a piece writes for a unit, where the text begins with them: those of a piece that writes
+/// a reference or a section are put into a buffer.
 fn behind_other<'o>(
     text: &'o [u8],
     spare: &mut Vec<u8>,
@@ -234,7 +234,7 @@ fn behind_other<'o>(
     Ok(behind(text, spare.as_slice()))
 }
 
-/// What is behind the bytes that a piece writes for a unit, where the text begins with them.
+/// What follows the bytes that a piece writes for a unit, where the text begins with them.
 #[inline(always)]
 fn behind_piece<'o>(
     text: &'o [u8],
@@ -292,8 +292,8 @@ fn may_open(text: &[u8], at: usize, form: Form) -> bool {
     }
 }
 
-/// Whether a text may begin with the bytes of a piece. Of the forms of an attribute, those that open its value otherwise than the
-/// text does are passed over before its name is compared.
+/// Whether a text may begin with the bytes of a piece. Of the forms of an attribute, those that open its value in
+/// another way than the text does are skipped before its name is compared.
 #[inline(always)]
 fn may_begin(text: &[u8], piece: Piece, own: Own) -> bool {
     match (piece, own) {

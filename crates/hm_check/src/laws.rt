@@ -1,7 +1,8 @@
 //! What a check's answer is worth. The functions do nothing.
 ghost use Rattle.hm_check.specs.Laws.{MinifiedIsAccepted, SpellingsAreAccepted, YesShows};
 
-/// A yes shows that the text parses to the tree and that no spelling of it is shorter, whoever made text and prices.
+/// A yes on text and prices from any source shows that the text parses to the tree and that no spelling of it is
+/// shorter.
 pub fn yes_shows()
     ensures { YesShows }
 {}

@@ -6,7 +6,7 @@ ghost use Rattle.hm_check.specs.Steps.{count_over};
 use hm_cert::Format;
 use hm_layers::{Graph, Step};
 
-/// Whether layer `k`, the one in front of the step, is left out.
+/// Whether layer `k`, the one before the step, is left out.
 pub(crate) fn is_left_out(format: Format, k: usize, step: &Step) -> bool
     ensures { result ≡ steps.is_left_out format k step.now }
 {
@@ -21,7 +21,7 @@ pub(crate) fn count_layers(graph: &Graph, format: Format) -> usize
     if graph.len() == 0 {
         return 1;
     }
-    // The last layer has no step behind it. The first one is written whatever its step says.
+    // The last layer has no step after it. The first one is written whatever its step says.
     let count = graph.count_kept(format) + 1;
     if graph.step(graph.first_layer()).is_left_out(format) {
         count + 1

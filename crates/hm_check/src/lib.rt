@@ -1,4 +1,4 @@
-//! The checker: whether a certificate shows that a text is the shortest of a tree, whoever made the two.
+//! The checker: whether a certificate shows that a text is the shortest of a tree. The two may come from any source.
 #![tactic(auto)]
 
 mod bounds;

@@ -46,7 +46,7 @@ fn first_of(row: &[u64]) -> Option<u64>
     }
 }
 
-/// What is found by the first price, of a text of so many bytes.
+/// What is found by the first price, of a text of `length` bytes.
 fn by_first(length: u64, first: Option<u64>) -> Verdict
     ensures { result ≡ verdicts.by_first length first }
 {
@@ -66,7 +66,7 @@ fn by_first(length: u64, first: Option<u64>) -> Verdict
     }
 }
 
-/// What is found by the widths of all rows and by all prices, of a text of so many bytes.
+/// What is found by the widths of all rows and by all prices, of a text of `length` bytes.
 fn by_prices(
     alloc: Global,
     graph: &Graph,
@@ -84,7 +84,7 @@ fn by_prices(
     }
 }
 
-/// What is found of the rows of a certificate, for a text of so many bytes.
+/// What is found of the rows of a certificate, for a text of `length` bytes.
 pub(crate) fn by_rows(
     alloc: Global,
     graph: &Graph,

@@ -30,7 +30,7 @@ pub(crate) struct SweepFound {
 /// What is known from a layer on.
 #[derive(Drop)]
 pub(crate) struct Sweep<'a> {
-    /// Behind this place are the rows of these layers.
+    /// After this place are the rows of these layers.
     pub(crate) at: RowPlace<'a>,
     /// The prices of the layer, where all rows have the right widths.
     pub(crate) behind: Vec<u64>,
@@ -38,7 +38,7 @@ pub(crate) struct Sweep<'a> {
     spare: Vec<u64>,
 }
 
-/// Adds to what is found what is found of the row of layer `k` in front, by the prices behind.
+/// Adds to `found` what is found of the row of layer `k`, by the next layer's prices.
 fn judge(found: &mut SweepFound, k: u64, row: &[u64], behind: &[u64], step: &Step)
     requires below { found.old.right ≡ true → AreBelow (2 ^ 63 + 2 ^ 62) (map told behind.now) }
     requires low { IsLowStep step.now }
@@ -89,7 +89,7 @@ fn judge_over(
     judge(found, k, row, behind, step)
 }
 
-/// What is found of the row of the last layer, layer `k`, which has so many states.
+/// What is found of the row of the last layer, layer `k`, which has `last` states.
 fn judge_at_end(k: u64, row: &[u64], last: usize) -> SweepFound
     ensures { result ≡ judged_at_end k (map told row.now) last }
 {
@@ -109,7 +109,7 @@ fn judge_at_end(k: u64, row: &[u64], last: usize) -> SweepFound
     }
 }
 
-/// Finds the prices of a layer that is left out by those behind it, in place of what the row held.
+/// Finds the prices of a layer that is left out by those after it, in place of what the row held.
 fn find_followed(behind: &[u64], row: &mut Vec<u64>, step: &Step) -> Result<(), Memory>
     requires below { AreBelow (2 ^ 63 + 2 ^ 62) (map told behind.now) }
     requires low { IsLowStep step.now }
@@ -122,7 +122,7 @@ fn find_followed(behind: &[u64], row: &mut Vec<u64>, step: &Step) -> Result<(), 
     Ok(())
 }
 
-/// Adds so many bytes to each price.
+/// Adds `len` to each price.
 fn add_to(behind: &mut Vec<u64>, len: u64)
     requires below { AreBelow (2 ^ 63 + 2 ^ 62) (map told behind.old.items) }
     requires low { len < 2 ^ 62 }
@@ -131,7 +131,7 @@ fn add_to(behind: &mut Vec<u64>, len: u64)
     add_each(behind, len);
 }
 
-/// Puts the prices of a layer that is left out in place of those behind it. Over most steps no state changes its place.
+/// Puts the prices of a layer that is left out in place of those after it. Over most steps no state changes its place.
 fn follow(behind: &mut Vec<u64>, spare: &mut Vec<u64>, step: &Step) -> Result<(), Memory>
     requires below { AreBelow (2 ^ 63 + 2 ^ 62) (map told behind.old.items) }
     requires low { IsLowStep step.now }
@@ -226,7 +226,7 @@ impl<'a> Sweep<'a> {
         Ok(())
     }
 
-    /// Goes on to layer `k`, the one in front of the step.
+    /// Goes on to layer `k`, the one before the step.
     pub(crate) fn take_layer(
         &mut self,
         graph: &Graph,
@@ -259,8 +259,8 @@ impl<'a> Sweep<'a> {
         add_to(&mut self.behind, len);
     }
 
-    /// Goes on over layers that are written, from the one in front of a layer down to another, which isn't the first. They have
-    /// the same step, over which no state changes its place, and each hop has this length in bytes.
+    /// Goes on over layers that are written, from the one before a layer down to another, which isn't the first. They
+    /// have the same step, over which no state changes its place, and each hop has this length in bytes.
     fn read_on(
         &mut self,
         graph: &Graph,
@@ -289,8 +289,8 @@ impl<'a> Sweep<'a> {
         Ok(())
     }
 
-    /// Goes on from a layer over those in front of it that are left out, as long as no state changes its place, but not to the first
-    /// layer.
+    /// Goes on from a layer over those before it that are left out, as long as no state changes its place, but not to
+    /// the first layer.
     pub(crate) fn pass_still(
         &mut self,
         graph: &Graph,
@@ -318,8 +318,8 @@ impl<'a> Sweep<'a> {
         passed.front
     }
 
-    /// Goes on over layers in front of one that have the same step, where they are written and no state changes its place over
-    /// it, but not to the first layer.
+    /// Goes on over layers before one that have the same step, where they are written and no state changes its place
+    /// over it, but not to the first layer.
     pub(crate) fn go_on(
         &mut self,
         graph: &Graph,

@@ -55,7 +55,7 @@ fn first_difference(tree: &Tree, wanted: &Tree) -> Option<u32>
     tree.first_other(wanted)
 }
 
-/// Why a text hasn't the wanted tree, where it hasn't.
+/// Why a text doesn't have the wanted tree, where it doesn't.
 pub(crate) fn find_difference(
     alloc: Global,
     table: &Table,

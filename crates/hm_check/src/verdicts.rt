@@ -27,7 +27,7 @@ pub enum Why {
         got: u64,
         want: u64,
     },
-    /// A price is above the bound that the prices behind give it; None for a closed price, and for no bound.
+    /// A price is above the bound that the next layer's prices give it; None for a closed price, and for no bound.
     TooHigh {
         layer: u64,
         state: u64,
@@ -44,7 +44,7 @@ pub enum Why {
 /// What a check finds.
 #[derive(Clone, Copy, Debug, PartialEq, Eq)]
 pub enum Verdict {
-    /// The text, of so many bytes, is shown to be the shortest.
+    /// The text, of `length` bytes, is shown to be the shortest.
     Yes { length: u64 },
     No { why: Why },
 }

@@ -1,4 +1,4 @@
--- What a child in the trie tells of the names of the table.
+-- What a child in the trie says about the names of the table.
 use Rattle.std.proofs.Common.{◌≡◌, ℕ, Bool, true, false, cond, ◌==◌, List, [], ◌∷◌, ◌++◌, Option, Some, None, is_some, refl, sym, subst, bytes_eq, arith}
 use Rattle.std.specs.Option.{option_map}
 use Rattle.std.proofs.lemmas.Slice.Eq.{bytes_eq-Decides}
@@ -37,7 +37,7 @@ onto_child kind t q r c h = by_front (is_front t (q ++ c ∷ [])) h
     by_front true k = let i : r ≡ q ++ c ∷ [] = cc in rw i refl
     by_front false k = absurd (cc)
 
--- equality with the root tells whether the '&' alone leads to a node
+-- equality with the root says whether the '&' alone leads to a node
 pub root_tells : (v : TableView) (n m : ℕ) → IsNode v n → IsNode v m → front_at v m ≡ 38 ∷ [] → (n == m) ≡ is_root (front_at v n)
 unfolding is_root
 root_tells v n m own root is = by_tests (n == m) (bytes_eq (front_at v n) (38 ∷ [])) refl refl

@@ -27,7 +27,7 @@ abbrev pub room : ℕ → ℕ
 room zero = 1
 room (suc k) = 2 * room k
 
--- so many digits are counted, and this is left
+-- `count` digits are counted, and `left` is what remains of the number
 pub record Counting (base number count left : ℕ) : Type 0 where
   pub fuel : ℕ
   pub fits : left < room fuel

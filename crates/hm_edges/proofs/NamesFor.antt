@@ -76,7 +76,7 @@ pub record SomeNames (v : TableView) (u : units.Unit) (before now : List Edge) (
   pub adds : AddsEdges {E = Memory} (Ok tt) v u before now done
   pub whole : done ++ map (kept_at at) (names_at to points v.entries left) ≡ map (kept_at at) (by_names to points v.entries)
 
--- the one at a place, and those at the places behind it
+-- the one at a place, and those at the places after it
 left_on : (at : Where) (to : List ℕ → Pending) (points : List ℕ) (t : List Entry) (is : List ℕ) (k id : ℕ) → k < length is → id ≡ get_or is k 0
     → map (kept_at at) (by_names to points (entry_at t id ∷ [])) ++ map (kept_at at) (names_at to points t (drop (k + 1) is)) ≡ map (kept_at at) (names_at to points t (drop k is))
 left_on at to points t is k id l e =

@@ -1,4 +1,4 @@
--- What is pending behind bytes, one after the other, and behind a character as itself.
+-- What is pending after bytes, one after the other, and after a character as itself.
 use Rattle.std.proofs.Common.{◌≡◌, ℕ, suc, ◌+◌, ◌<◌, true, false, List, [], ◌∷◌, length, get_or, drop, drop-cons, Option, Some, None, refl, arith, encode_utf8}
 use Rattle.hm_refs.specs.Names.{Entry}
 use Rattle.hm_spellings.specs.Characters.{CharacterRules, Spot, may_stand}

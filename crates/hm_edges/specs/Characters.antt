@@ -12,7 +12,7 @@ use Rattle.hm_units.specs.Units.{TextKind}
 abbrev pub rules_with : List Entry → Bool → CharacterRules
 rules_with t ascii = record { ascii = ascii; refers = needs_reference t }
 
--- what is pending behind a name for one code point, or for two
+-- what is pending after a name for one code point, or for two
 abbrev pub behind_by : Bool → List ℕ → Pending
 behind_by false = behind_name
 behind_by true = behind_pair

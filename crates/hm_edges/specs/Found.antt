@@ -23,12 +23,12 @@ spelling t rules = record { table = t; rules = rules; refers = needs_reference t
 abbrev pub AreEdges : TableView → SpellRules → Unit → State → List Edge → Type 0
 AreEdges v rules unit from es = (u : units.Unit) → StandsFor v.entries unit u → edges_seen v u es ≡ edges_of (spelling v.entries rules) u (state_of v from)
 
--- for each of them these are a front of its edges
+-- for each of them these are a prefix of its edges
 abbrev pub AreFront : TableView → SpellRules → Unit → State → List Edge → Type 0
 AreFront v rules unit from es = (u : units.Unit) → StandsFor v.entries unit u → (rest : List graph.Edge) × (edges_seen v u es ++ rest ≡ edges_of (spelling v.entries rules) u (state_of v from))
 
--- The buffer has more edges behind those from before: these as edges of the unit, or, after an error, a front of them. They
--- are of the table.
+-- The buffer has more edges after those from before: these as edges of the unit, or, after an error, a prefix of them.
+-- They are of the table.
 pub record AddsEdges {E : Type 0} (r : Result (Prim.Unit {0}) E) (v : TableView) (u : units.Unit) (before now : List Edge) (more : List graph.Edge) : Type 0 where
   pub edges : OnOk r (edges_seen v u now ≡ edges_seen v u before ++ more)
   pub front : (rest : List graph.Edge) × (edges_seen v u now ++ rest ≡ edges_seen v u before ++ more)

@@ -55,7 +55,7 @@ HasNodes v (Named node) = IsNode v node
 HasNodes v (Half (Some node)) = IsNode v node
 HasNodes v pending = Unit {0}
 
--- equality of two states tells whether they mean the same
+-- equality of two states says whether they mean the same
 abbrev pub LikeStatesAreEqual : Type 0
 LikeStatesAreEqual =
     (v : TableView) (s t : State) → HasNodes v s.pending → HasNodes v t.pending

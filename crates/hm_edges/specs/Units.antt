@@ -27,8 +27,8 @@ abbrev pub pair_of : List Entry → ℕ → Option ℕ → Option ℕ
 pair_of t c None = None
 pair_of t c (Some d) = if has_pair t c d then Some d else None
 
--- The code's unit has what the edges of the tree's unit depend on: names by their length; of what is behind a character, the
--- code point that a name gives together with it, and whether there is one.
+-- The code's unit has what the edges of the tree's unit depend on: names by their length; of what follows a character,
+-- the code point that a name gives together with it, and whether there is one.
 pub data StandsFor (t : List Entry) : Unit → units.Unit → Type 0 where
   fixed : (b : List ℕ) (len : ℕ) → length b ≡ len → StandsFor t (code.Fixed len) (units.fixed b)
   start_tag : (n : List ℕ) (len : ℕ) (omits firm closes : Bool) → length n ≡ len → StandsFor t (code.StartTag len omits firm closes) (units.start_tag n omits firm closes)

@@ -48,7 +48,7 @@ fn spot_at(kind: TextKind, at: Where) -> Spot
     }
 }
 
-/// Whether a value without quotes can't hold the character (13.1.2.3).
+/// Whether a value without quotes can't hold the character (#attributes-2).
 #[tactic(auto, unfolding(hm_spellings::specs::Characters::is_barred))]
 fn is_barred(c: char) -> bool
     ensures { result ≡ spots.is_barred c }
@@ -76,7 +76,7 @@ fn may_stand(ascii: bool, spot: Spot, c: char) -> bool
     is_writable(ascii, c) && may_stand_in(spot, c)
 }
 
-/// What is pending behind these bytes, where they break nothing.
+/// What is pending after these bytes, where they break nothing.
 fn run(table: &Table, spot: Spot, pending: Pending, bytes: &[u8]) -> Option<Pending>
     requires { HasNodes table.now pending }
     ensures run { option_map (pending_of table.now) result
@@ -90,7 +90,7 @@ fn run(table: &Table, spot: Spot, pending: Pending, bytes: &[u8]) -> Option<Pend
     Some(behind)
 }
 
-/// What is pending behind a character as itself, where its bytes leave `behind`.
+/// What is pending after a character as itself, where its bytes leave `behind`.
 fn itself_to(table: &Table, spot: Spot, c: char, behind: Pending) -> Pending
     requires { HasNodes table.now behind }
     ensures to { pending_of table.now result ≡ characters.itself_to (spot_of spot) c (pending_of table.now behind) }
@@ -143,7 +143,7 @@ fn is_closed(name: &[u8]) -> bool
     }
 }
 
-/// What is pending behind a name for one code point.
+/// What is pending after a name for one code point.
 #[tactic(auto, unfolding(hm_text_spell::specs::CharacterEdges::behind_name))]
 fn behind_name(table: &Table, id: NameId) -> Pending
     requires { id < length table.now.entries }
@@ -157,7 +157,7 @@ fn behind_name(table: &Table, id: NameId) -> Pending
     Pending::Named { node }
 }
 
-/// What is pending behind a name for two code points, the second of which is due.
+/// What is pending after a name for two code points, the second of which is due.
 #[tactic(auto, unfolding(hm_text_spell::specs::CharacterEdges::behind_pair))]
 fn behind_pair(table: &Table, id: NameId) -> Pending
     requires { id < length table.now.entries }
@@ -319,7 +319,7 @@ fn may_refer(table: &Table, spot: Spot, c: char, pending: &Pending) -> bool
     step(*pending, table, spot, b'&').is_some() && !table.is_plain(c)
 }
 
-/// By references: by names, by those for two, by the number.
+/// By references: by names, by names for two code points, by the number.
 fn add_references(
     into: &mut Vec<Edge>,
     table: &Table,
@@ -336,7 +336,7 @@ fn add_references(
     add_hexadecimals(into, c, at)
 }
 
-/// What is pending behind the second code point of a name, where that is due.
+/// What is pending after the second code point of a name, where that is due.
 fn behind_half(pending: &Pending) -> Option<Pending>
     ensures to { (v : TableView) → option_map (pending_of v) result ≡ option_map characters.behind_half (characters.half_of (pending_of v pending.now)) }
     ensures nodes { (v : TableView) → HasNodes v pending.now → IfSome result (HasNodes v) }

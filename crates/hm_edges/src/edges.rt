@@ -18,7 +18,7 @@ use crate::units::Unit;
 use hm_base::{Memory, SpellRules};
 use hm_refs::Table;
 
-/// Adds an edge behind.
+/// Adds an edge at the end.
 pub(crate) fn add(
     into: &mut Vec<Edge>,
     piece: Piece,
@@ -32,7 +32,7 @@ pub(crate) fn add(
     Ok(())
 }
 
-/// Adds an edge behind, where it is there.
+/// Adds an edge at the end, where there is one.
 pub(crate) fn add_if(
     there: bool,
     into: &mut Vec<Edge>,
@@ -67,7 +67,7 @@ fn unloosed(at: Where) -> Where
     }
 }
 
-/// Whether a start tag that may be left out is: not behind a loose end, where it is firm.
+/// Whether a start tag that may be left out is left out: not after a loose end, where it is firm.
 fn may_fall(omits: bool, firm: bool, at: Where) -> bool
     ensures { result ≡ (omits && not (firm && tags.is_loose (where_of at))) }
 {
@@ -102,7 +102,7 @@ fn add_start_edges(
     )
 }
 
-/// The state behind an end tag that is left out.
+/// The state after an end tag that is left out.
 fn behind_left_out(loosens: bool, from: State) -> State
     ensures state { (v : TableView) → state_of v result ≡ tags.behind_left_out loosens (state_of v from) }
     ensures nodes { (v : TableView) → HasNodes v from.pending → HasNodes v result.pending }
@@ -126,7 +126,7 @@ fn is_self_closed(at: Where) -> bool
     }
 }
 
-/// An end tag: nothing, behind a start tag that closed itself; else nothing, where it may be left out, and the tag.
+/// An end tag: nothing, after a start tag that closed itself; else nothing, where it may be left out, and the tag.
 fn add_end_edges(
     into: &mut Vec<Edge>,
     omits: bool,
@@ -153,7 +153,7 @@ fn is_behind_quoted(at: Where) -> bool
     }
 }
 
-/// Whether a space stands in front of an attribute: always but behind a quote where attributes may touch.
+/// Whether a space stands before an attribute: always, except after a quote where attributes may touch.
 fn has_gap(tight: bool, at: Where) -> bool
     ensures { result ≡ not (tight && attributes.is_behind_quoted (where_of at)) }
 {
@@ -177,7 +177,7 @@ fn add_bare_edges(into: &mut Vec<Edge>, tight: bool, from: State) -> Result<(), 
     )
 }
 
-/// The name of another one, its `=` and what opens its value.
+/// The name of an attribute whose value isn't empty, its `=` and what opens the value.
 fn add_opening_edges(
     into: &mut Vec<Edge>,
     tight: bool,
@@ -305,7 +305,7 @@ fn add_close_edges(into: &mut Vec<Edge>, closes: bool, from: State) -> Result<()
 
 /// Gives the edges of a unit from a state, in their order and in place of what the buffer held.
 ///
-/// A reference is an edge only for characters that aren't plain. After an error the buffer holds a front of the edges.
+/// A reference is an edge only for characters that aren't plain. After an error the buffer holds a prefix of the edges.
 pub fn find_edges(
     table: &Table,
     rules: SpellRules,

@@ -42,7 +42,7 @@ fn own_len(unit: Unit) -> u64
     }
 }
 
-/// How many bytes open a value behind the name.
+/// How many bytes open a value after the name.
 fn opening_len(form: Form) -> u64
     ensures value { (n : List ℕ) → length (with_opening form n) ≡ length n + result }
     ensures few { result ≤ 2 }

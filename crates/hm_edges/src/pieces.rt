@@ -3,7 +3,7 @@
 use crate::states::State;
 use hm_refs::NameId;
 
-/// How a value is written (HTML Standard, 13.1.2.3).
+/// How a value is written (HTML Standard, #attributes-2).
 #[derive(Clone, Copy, Debug, PartialEq, Eq)]
 pub enum Form {
     Bare,
@@ -22,11 +22,11 @@ pub enum Piece {
     StartTag { closes: bool },
     /// `<` and the name.
     TagName,
-    /// An attribute, with a space in front of it, up to what opens its value.
+    /// An attribute, with a space before it, up to what opens its value.
     Attribute { gap: bool, form: Form },
     /// The quote that closes a value.
     Quote { double: bool },
-    /// `>`, with a `/` in front of it where the tag closes itself, and a space where that has to stand apart.
+    /// `>`, with a `/` before it where the tag closes itself, and a space where that has to stand apart.
     TagClose { space: bool, closes: bool },
     EndTag,
     /// A character reference by name.
@@ -39,7 +39,7 @@ pub enum Piece {
     Section { opens: bool, closes: bool },
 }
 
-/// An edge: what it writes, and the state behind it.
+/// An edge: what it writes, and the state after it.
 #[derive(Clone, Copy, Debug, PartialEq, Eq)]
 pub struct Edge {
     pub piece: Piece,

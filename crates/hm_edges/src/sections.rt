@@ -68,7 +68,7 @@ pub(crate) fn may_open(kind: TextKind, from: &State) -> bool
     is_foreign(kind) && (is_outside(from.at) && !is_half(&from.pending))
 }
 
-/// What is pending behind a character in a section.
+/// What is pending after a character in a section.
 fn in_section_behind(c: char, pending: Pending) -> Pending
     ensures to { (v : TableView) → pending_of v result ≡ characters.in_section_behind c (pending_of v pending) }
     ensures nodes { (v : TableView) → HasNodes v result }

@@ -6,15 +6,15 @@ use hm_refs::Node;
 pub enum Where {
     /// Outside of tags.
     Outside,
-    /// Outside of tags, behind an end tag of a table's section or of colgroup that was left out.
+    /// Outside of tags, after an end tag of a table's section or of colgroup that was left out.
     Loose,
-    /// Behind a start tag of SVG with a `/`, which stands for the end tag as well.
+    /// After a start tag of SVG with a `/`, which stands for the end tag as well.
     SelfClosed,
-    /// In a tag, behind its name or an attribute without value.
+    /// In a tag, after its name or an attribute without value.
     BehindName,
-    /// In a tag, behind a value without quotes.
+    /// In a tag, after a value without quotes.
     BehindUnquoted,
-    /// In a tag, behind a value in quotes.
+    /// In a tag, after a value in quotes.
     BehindQuoted,
     /// In a value without quotes.
     InUnquoted,
@@ -31,25 +31,25 @@ pub enum Where {
 #[derive(Clone, Copy, Debug, PartialEq, Eq)]
 pub enum Pending {
     Nothing,
-    /// Behind a `<` that stands as itself.
+    /// After a `<` that stands as itself.
     LessThan,
-    /// Behind `&#`, with the `&` as itself.
+    /// After `&#`, with the `&` as itself.
     Hash,
-    /// Behind `&#x`, with the `&` as itself.
+    /// After `&#x`, with the `&` as itself.
     HashX,
-    /// Behind a decimal reference without `;`.
+    /// After a decimal reference without `;`.
     Decimal,
-    /// Behind a hexadecimal reference without `;`.
+    /// After a hexadecimal reference without `;`.
     Hexadecimal,
-    /// Behind the bytes that lead to the node, with the `&` as itself.
+    /// After the bytes that lead to the node, with the `&` as itself.
     Ampersand { node: Node },
-    /// Behind the bytes that lead to the node, which begin with a name without `;`.
+    /// After the bytes that lead to the node, which begin with a name without `;`.
     Named { node: Node },
-    /// Behind a name for two code points, the second of which is due; the name, where it has no `;`.
+    /// After a name for two code points, the second of which is due; the name, where it has no `;`.
     Half { left: Option<Node> },
-    /// Behind `]` in a section.
+    /// After `]` in a section.
     OneBracket,
-    /// Behind `]]` in a section.
+    /// After `]]` in a section.
     TwoBrackets,
 }
 

@@ -44,7 +44,7 @@ fn blocks(byte: u8) -> bool
     byte == b'=' || byte.is_ascii_alphanumeric()
 }
 
-/// Whether the byte makes markup of a `<` before it (13.2.5.6).
+/// Whether the byte makes markup of a `<` before it (#tag-open-state).
 #[tactic(auto, unfolding(hm_spellings::specs::Characters::opens_text, hm_base::specs::Bytes::is_letter))]
 fn opens_text(byte: u8) -> bool
     ensures { result ≡ spots.opens_text byte }
@@ -66,14 +66,14 @@ fn opens(spot: Spot, byte: u8) -> bool
     }
 }
 
-/// Whether the byte goes on a decimal reference.
+/// Whether the byte continues a decimal reference.
 fn goes_on_decimal(byte: u8) -> bool
     ensures { result ≡ steps.goes_on_decimal byte }
 {
     is_digit(byte, 10) || byte == b';'
 }
 
-/// Whether the byte goes on a hexadecimal reference.
+/// Whether the byte continues a hexadecimal reference.
 fn goes_on_hexadecimal(byte: u8) -> bool
     ensures { result ≡ steps.goes_on_hexadecimal byte }
 {
@@ -93,7 +93,7 @@ fn is_x(byte: u8) -> bool
     byte == b'x' || byte == b'X'
 }
 
-/// Behind `&#`.
+/// After `&#`.
 fn behind_hash(byte: u8) -> Option<Pending>
     ensures { (v : TableView) → (option_map (pending_of v) result ≡ steps.step [] spots.text states.hash byte) × IfSome result (HasNodes v) }
 {
@@ -154,7 +154,7 @@ fn onto_ampersand(table: &Table, node: Node, byte: u8) -> Option<Pending>
     }
 }
 
-/// On to the child, behind a name.
+/// On to the child, after a name.
 fn onto_named(table: &Table, node: Node, byte: u8) -> Option<Pending>
     requires { IsNode table.now node }
     ensures step { option_map (pending_of table.now) result ≡ steps.onto states.named table.now.entries (front_at table.now node) byte }
@@ -221,7 +221,7 @@ fn named_in_text(table: &Table, node: Node, byte: u8) -> Option<Pending>
     onto_named(table, node, byte)
 }
 
-/// Whether the byte goes on a name without `;` in a value (13.2.5.73).
+/// Whether the byte makes something else of a name without `;` in a value (#named-character-reference-state).
 fn breaks_name(table: &Table, node: Node, byte: u8) -> bool
     requires { IsNode table.now node }
     ensures { result ≡ (refs.blocks byte || (refs.is_semicolon byte && is_front table.now.entries (front_at table.now node ++ byte ∷ []))) }
@@ -242,9 +242,9 @@ fn named_in_value(table: &Table, node: Node, byte: u8) -> Option<Pending>
     }
 }
 
-/// What is pending behind a byte more; None where the byte makes something else of what was written.
+/// What is pending after one more byte; None where the byte makes something else of what was written.
 ///
-/// None as well while a code point is due, and behind brackets in a section, where it isn't asked.
+/// None as well while a code point is due, and after brackets in a section, where it isn't asked.
 pub fn step(pending: Pending, table: &Table, spot: Spot, byte: u8) -> Option<Pending>
     requires { HasNodes table.now pending }
     ensures step { option_map (pending_of table.now) result ≡ steps.step table.now.entries (spot_of spot) (pending_of table.now pending) byte }

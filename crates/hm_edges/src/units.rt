@@ -16,7 +16,7 @@ pub enum Unit {
     Fixed {
         len: u32,
     },
-    /// A start tag without attributes: whether it may be left out, but not behind a loose end, and whether it may close
+    /// A start tag without attributes: whether it may be left out, but not after a loose end, and whether it may close
     /// itself.
     StartTag {
         len: u32,
@@ -32,11 +32,11 @@ pub enum Unit {
     BareAttribute {
         len: u32,
     },
-    /// The name of another one, its `=` and what opens the value.
+    /// The name of an attribute whose value isn't empty, its `=` and what opens the value.
     AttributeName {
         len: u32,
     },
-    /// A character. `pair` is the next one in the same text where some name stands for the two, else None. `more` tells
+    /// A character. `pair` is the next one in the same text where some name stands for the two, else None. `more` says
     /// whether there is a next one.
     Character {
         kind: TextKind,

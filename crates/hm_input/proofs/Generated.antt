@@ -17,7 +17,7 @@ use Rattle.hm_input.specs.declared.unread.Unread.{Unread}
 use Rattle.hm_input.specs.declared.unread.Unread.TheVariants as reasons
 use Rattle.hm_input.proofs.Loaded.{page_read}
 
--- the content of the table is one that can be told
+-- the content of the table is one that can be known
 seen_table : (told : Option FileMap) (table page : List ℕ) (o : TreeOptions) (content : Option (List ℕ)) (input : Input) → (IsSome told → file_of told table ≡ content) → input_from o (table_names (is_none table) content) (Some page) ≡ input
     → Sees told (λ seen. input_from o (table_names (is_none table) (seen table)) (Some page) ≡ input)
 seen_table (Some files) table page o content input is_table is = record {

@@ -1,4 +1,4 @@
--- What the loaded front of a file says of the file.
+-- What the loaded prefix of a file says about the file.
 use Rattle.std.proofs.Common.{◌≡◌, ℕ, ◌+◌, ◌≤◌, ◌<◌, Bool, true, false, not, ◌||◌, cond, List, [], length, take, Some, None, IsSome, refl, sym, ap, ◌∙◌, subst, arith}
 use Rattle.std.proofs.lemmas.Bool.Decides.{nat_tests}
 use Rattle.std.proofs.lemmas.Grind.{common_steps}
@@ -104,7 +104,7 @@ text_in page text h e = record { short = short_test PAGE_LIMIT (length page) h.s
 pub faulty_text : (page : List ℕ) (r : Refusal) → length page ≤ PAGE_LIMIT → text_fault page ≡ Some r → (t : List Entry) → page_outcome t page ≡ refused_by r.rule r.at
 faulty_text page r h e t = faulty_page t page r (short_test PAGE_LIMIT (length page) h) e
 
--- what is found of the front that is loaded is found of the page
+-- what is found of the prefix that is loaded is found of the page
 page_front : (t : List Entry) (content : List ℕ) → page_outcome t (take (PAGE_LIMIT + 1) content) ≡ page_outcome t content
 page_front t content = by_length (nat_lt PAGE_LIMIT (length content)) refl
   where

@@ -58,7 +58,7 @@ input_from o (Some (Ok t)) page = page_input o t page
 abbrev pub page_with_table : List ℕ → List ℕ → TreeOptions → Contents → Input
 page_with_table table page o seen = input_from o (table_names (is_none table) (seen table)) (seen page)
 
--- what a table gives with the page that is made of a number, with so many blocks
+-- what a table gives with the page that is made of a number, with `size` blocks
 abbrev pub made_with_table : List ℕ → ℕ → ℕ → TreeOptions → Contents → Input
 made_with_table table number size o seen = input_from o (table_names (is_none table) (seen table)) (Some (made_page number size))
 
@@ -69,7 +69,7 @@ input_of (check table page out cert) o seen = page_with_table table page o seen
 input_of (show_tree table page) o seen = page_with_table table page o seen
 input_of (measure table number size) o seen = made_with_table table number size o seen
 
--- A table and a page give this, as far as the store tells its files.
+-- A table and a page give this, as far as the store's files are known.
 abbrev pub IsInput : Option FileMap → List ℕ → List ℕ → TreeOptions → Input → Type 0
 IsInput told table page o input = Sees told (λ seen. page_with_table table page o seen ≡ input)
 

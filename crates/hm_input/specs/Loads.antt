@@ -71,7 +71,7 @@ pub record HasNames (told : Option FileMap) (name : List ℕ) : Type 0 where
 abbrev pub IsFileMissing : Option FileMap → List ℕ → List ℕ → Type 0
 IsFileMissing told table page = ((is_none table ≡ false) × IsMissing told table) ⊎ (HasNames told table × IsMissing told page)
 
--- why there is no table; failed calls and want of memory have other causes
+-- why there is no table; failed calls and lack of memory have other causes
 abbrev pub NoTable : Option FileMap → List ℕ → Unread → Type 0
 NoTable told name (reasons.Table fault) = IsTableOf told name (Err fault)
 NoTable told name (reasons.Page rule at) = ⊥

@@ -20,7 +20,7 @@ use hm_store::Store;
 use hm_tree::Tree;
 use std::alloc::Global;
 
-/// The tree of a page's text, after the rewrites that are asked for. The text's memory is given back before them.
+/// The tree of a page's text, after the rewrites that are asked for. The text's memory is freed before them.
 fn read_tree(
     alloc: Global,
     text: SourceText,
@@ -90,7 +90,7 @@ pub struct MadeInput {
     pub bytes: usize,
 }
 
-/// Loads a table and makes the page of a number, with so many blocks, and gives the table with the page's tree after the
+/// Loads a table and makes the page of a number, with `size` blocks, and gives the table with the page's tree after the
 /// rewrites that are asked for. The table `none` has no names and is no file.
 pub fn make_tree<S: Store>(
     alloc: Global,

@@ -9,7 +9,7 @@ use hm_base::{Memory, SourceText};
 use hm_gen::page_of;
 use std::alloc::Global;
 
-/// The text of the page of a number, with so many blocks, and how many bytes the page has.
+/// The text of the page of a number, with `size` blocks, and how many bytes the page has.
 pub fn make_text(alloc: Global, number: u32, size: u32) -> Result<(SourceText, usize), Unread>
     ensures ok { IfOk result (λ made. IsMadeText (page number size) made.0 made.1) }
     ensures err { IfErr result (NoTextIn (page number size)) }

@@ -1,4 +1,4 @@
--- Steps that are added one behind the other lead on, unit by unit.
+-- Steps that are added one after the other lead on, unit by unit.
 use Rattle.std.proofs.Common.{◌≡◌, ◌∙◌, ℕ, zero, suc, ◌-◌, ◌<◌, ◌^◌, List, [], ◌∷◌, ◌++◌, length, get_or, refl, sym, ap, subst, arith, append_assoc, append-nil, length-append}
 use Rattle.std.proofs.lemmas.List.{map-append}
 use Rattle.std.proofs.lemmas.List.Elements.{All-append}
@@ -59,7 +59,7 @@ named_more t (x ∷ steps) step named own = (named.0, named_more t steps step na
 steps_more : (m n : MetView) (numbers : List ℕ) (k : ℕ) → Grows m n → All (λ j. j < length m.made) numbers → steps_at n (numbers ++ k ∷ []) ≡ steps_at m numbers ++ (made_at n k).step ∷ []
 steps_more m n numbers k grows are = map-append (λ j. (made_at n j).step) numbers (k ∷ []) ∙ ap (λ steps. steps ++ (made_at n k).step ∷ []) (steps_kept m n numbers grows are)
 
--- ---- What is built stays built where more is met
+-- ---- What is built stays built when more is met
 
 pub building_kept : (m n : MetView) (numbers : List ℕ) (last : ℕ) → IsBuilding m numbers last → Grows m n → IsBuilding n numbers last
 building_kept m n numbers last is grows =

@@ -42,7 +42,7 @@ pub length_characters : (kind : TextKind) (cs : List ℕ) → length (character_
 length_characters kind [] = refl
 length_characters kind (c ∷ cs) = omega (arith, length_characters kind cs)
 
--- ---- Fronts
+-- ---- Prefixes
 
 pub front_on : (a b d : BuildingView) (kind : TextKind) (cs mid rest : List ℕ) → AddsFront a b kind cs mid → AddsFront b d kind mid rest → AddsFront a d kind cs rest
 front_on a b d kind cs mid rest one more =
@@ -64,7 +64,7 @@ first_of (c ∷ cs) = refl
 grows_self : (m : MetView) → Grows m m
 grows_self m = record { table = refl; rules = refl; lists = λ k within. record { there = within; list = refl }; made = λ n within. (within, refl) }
 
--- the step was added so many times, and leads to this list
+-- the step was added `count` times, and leads to the list `behind`
 pub record RunAdded (m : MetView) (numbers : List ℕ) (last behind : ℕ) (kind : TextKind) (n count : ℕ) (cs rest : List ℕ) : Type 0 where
   pub is : IsBuilding m (numbers ++ replicate count n) behind
   pub front : AddsFront (building m numbers last) (building m (numbers ++ replicate count n) behind) kind cs rest
@@ -115,7 +115,7 @@ before_more m numbers last kind to [] rest some more is leads back few = absurd 
 before_more m numbers last kind to (c ∷ front) [] some more is leads back few = absurd (omega (arith, more))
 before_more m numbers last kind to (c ∷ front) (d ∷ ds) some more is leads back few = run_added m numbers last kind to c front d ds is leads (λ others. back (omega (arith, others))) few
 
--- the front of a text, with more behind it
+-- a prefix of a text, with more after it
 pub text_added : (m : MetView) (numbers : List ℕ) (last : ℕ) (kind : code.TextKind) (to : Reached) (text : List ℕ) (count : ℕ) → IsUtf8 text → 0 < count → count < length text → (1 < count → to.behind ≡ last) → IsBuilding m numbers last
     → All (Leads m last kind true to) (take count text) → length numbers + count < 2 ^ 29 → RunAdded m numbers last to.behind (kind_of kind) to.number count (chars text) (chars (drop count text))
 text_added m numbers last kind to text count utf8 some short back is leads few =

@@ -17,7 +17,7 @@ kept_within format (step ∷ steps) = by_test (leaves_out format step) (kept_wit
     by_test true h = omega (arith, h)
     by_test false h = omega (arith, h)
 
--- the same step so many times, and more behind
+-- the same step `n` times, and more after it
 kept_alike : (format : Format) (step : Step) (n : ℕ) (steps : List Step) → kept_count format (replicate n step ++ steps) ≡ cond (leaves_out format step) 0 n + kept_count format steps
 kept_alike format step zero steps = by_test (leaves_out format step)
   where

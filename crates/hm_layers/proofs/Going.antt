@@ -1,4 +1,4 @@
--- What goes along while steps are added, step by step.
+-- A visitor while steps are added, step by step.
 use Rattle.std.proofs.Common.{◌≡◌, ◌∙◌, ℕ, ◌+◌, ◌<◌, ◌≤◌, List, [], ◌∷◌, ◌++◌, length, get_or, take, drop, chars, Option, refl, sym, ap, subst, append_assoc, append-nil}
 use Rattle.std.specs.Prelude.{encode_utf8, slice_get}
 use Rattle.std.specs.Str.{IsAscii, IsUtf8}
@@ -44,7 +44,7 @@ goes_on C from mid left a b d one more = record {
   on = λ units steps h. subst (λ s. C (from ++ units) s a.by) (sym (append_assoc one.added more.added steps)) (one.on units (more.added ++ steps) (more.on units steps h));
 }
 
--- with more units behind
+-- with more units after them
 pub goes_front : {F : Type 0} (C : List Unit → List Step → F → Type 0) (us more : List Unit) (a b : Along F) → Goes C us [] a b → Goes C (us ++ more) more a b
 goes_front C us more a b one = record {
   done = one.done;
@@ -62,7 +62,7 @@ goes_one C u step a b adds steps on = record { done = u ∷ []; adds = adds; who
 
 -- ---- Characters
 
--- over the first one, by the one behind it, where there is one
+-- over the first one, by the one after it, where there is one
 pub text_first : {F : Type 0} (C : List Unit → List Step → F → Type 0) (kind : TextKind) (c : ℕ) (text rest : List ℕ) (next : Option ℕ) (step : Step) (a b : Along F) → IsUtf8 text → text ≡ encode_utf8 c ++ rest → next ≡ slice_get (chars rest) 0
     → AddsSteps a.graph b.graph (character kind c next ∷ []) → b.graph.steps ≡ a.graph.steps ++ step ∷ [] → ((u : Unit) (more : List Unit) (steps : List Step) → u ≡ character kind c next → C more steps b.by → C (u ∷ more) (step ∷ steps) a.by)
     → GoesOver C kind (chars text) (chars rest) a b
@@ -113,7 +113,7 @@ parts_all C parts n a b past added = subst (λ ps. Goes C (parts_units parts) (p
 
 -- ---- The events of a tree
 
--- The steps of some events are there. Those of event i and of all behind it are left.
+-- The steps of some events are there. Those of event i and of all after it are left.
 pub record EventsAdded {F : Type 0} (C : List Unit → List Step → F → Type 0) (v : TableView) (r : EdgeRules) (w : List Event) (start : F) (i : ℕ) (along : Along F) : Type 0 where
   pub table : along.graph.table ≡ v
   pub rules : along.graph.rules ≡ r

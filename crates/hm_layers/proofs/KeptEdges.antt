@@ -1,4 +1,4 @@
--- The edges that no other one outdoes, kept one after another.
+-- The edges that no other one dominates (outdoes), kept one after another.
 use Rattle.std.proofs.Common.{◌≡◌, ◌∙◌, ℕ, zero, suc, ◌+◌, ◌-◌, ◌<◌, ◌≤◌, Bool, true, false, ◌&&◌, ◌||◌, List, [], ◌∷◌, ◌++◌, length, get_or, take, drop, reverse, cond, refl, sym, ap, subst, arith, append_assoc, append-nil}
 use Rattle.std.proofs.lemmas.List.{length-drop, take_all, drop_more, drop_all, take_more, map-append, reverse-append}
 use Rattle.std.proofs.lemmas.List.Sorted.{IsPermutation-reverse, list_any-IsPermutation}
@@ -17,7 +17,7 @@ use Rattle.hm_units.specs.Units as units
 
 -- ---- Whether one edge outdoes another
 
--- whether two states are equal tells whether they mean the same
+-- equality of two states says whether they mean the same
 pub means_same : (v : TableView) (s t : State) (b : Bool) → HasNodes v s.pending → HasNodes v t.pending → (b ≡ true → s ≡ t) → (s ≡ t → b ≡ true) → b ≡ same_state (state_of v s) (state_of v t)
 means_same v s t true own has is same = sym (subst (λ x. same_state (state_of v s) (state_of v x) ≡ true) (is refl) (same_self (state_of v s)))
 means_same v s t false own has is same = by_test (same_state (state_of v s) (state_of v t)) refl
@@ -26,7 +26,7 @@ means_same v s t false own has is same = by_test (same_state (state_of v s) (sta
     by_test false e = refl
     by_test true e = same (like_states v s t own has e)
 
--- an answer with `||` and `&&`, by the tests that were asked
+-- an answer with `||` and `&&`, by the tests that were made
 pub first_holds : (x a b c : Bool) → x ≡ a → x ≡ true → x ≡ (a || (b && c))
 first_holds x a b c is holds = let k : a ≡ true = sym is ∙ holds in rw k holds
 
@@ -64,7 +64,7 @@ abbrev pub SomeKept : TableView → units.Unit → List Edge → List Edge → �
 SomeKept v u edges kept n =
     edges_seen v u kept ++ kept_behind (reverse (edges_seen v u (take n edges))) (edges_seen v u (drop n edges)) ≡ kept_edges (edges_seen v u edges)
 
--- whether the edge is outdone by one of those in front of it or behind it
+-- whether the edge is outdone by one of those before it or after it
 abbrev pub is_outdone : TableView → units.Unit → Edge → List Edge → List Edge → Bool
 is_outdone v u e front behind = list_any (outdoes_in_front (edge_of v u e)) (edges_seen v u front) || list_any (outdoes_behind (edge_of v u e)) (edges_seen v u behind)
 
@@ -77,7 +77,7 @@ rest_by : (before : List graph.Edge) (e : graph.Edge) (es : List graph.Edge) (b 
 rest_by before e es b is =
     ap (λ x. cond x (kept_behind (e ∷ reverse before) es) (e ∷ kept_behind (e ∷ reverse before) es)) (ap (λ x. x || list_any (outdoes_behind e) es) (any_reverse (outdoes_in_front e) before) ∙ is)
 
--- one edge more in front
+-- one more edge before it
 front_more : (v : TableView) (u : units.Unit) (edges : List Edge) (n : ℕ) (e : Edge) → n < length edges → e ≡ get_or edges n e
     → reverse (edges_seen v u (take (n + 1) edges)) ≡ edge_of v u e ∷ reverse (edges_seen v u (take n edges))
 front_more v u edges n e within at =

@@ -1,4 +1,4 @@
--- Hops and steps that are made one behind the other.
+-- Hops and steps that are made one after the other.
 use Rattle.std.proofs.Common.{◌≡◌, ◌∙◌, ℕ, ◌<◌, ◌^◌, List, [], ◌∷◌, ◌++◌, length, refl, sym, ap, subst}
 use Rattle.std.proofs.lemmas.List.{map-append}
 use Rattle.hm_layers.specs.declared.rules.EdgeRules.{EdgeRules}
@@ -28,7 +28,7 @@ pub hop_made : (v : TableView) (unit : Unit) (e : Edge) (before now : List State
 hop_made v unit e before now len n own is low placed =
     record { fits = λ u stands. record { writes = refl; len = is u stands; to = placed.place }; states = placed.states; nodes = placed.nodes; low = low; named = own.name }
 
--- ---- Behind more states
+-- ---- After more states
 
 hop_keeps : (bytes : Piece → List ℕ) (before now : List states.State) (e : graph.Edge) (h : Hop) → Keeps before now → HopFits bytes before e h → HopFits bytes now e h
 hop_keeps bytes before now e h keeps fits = record { writes = fits.writes; len = fits.len; to = keeps e.to h.to fits.to }

@@ -1,4 +1,4 @@
--- Lists and steps that are added behind others.
+-- Lists and steps that are added after others.
 use Rattle.std.proofs.Common.{◌≡◌, ◌∙◌, ℕ, zero, suc, ◌<◌, List, Bool, [], ◌∷◌, ◌++◌, None, length, get_or, map, refl, sym, ap, subst, arith}
 use Rattle.std.proofs.lemmas.List.{get_or-map, get_or_append_left, length-map, length_push}
 use Rattle.std.proofs.lemmas.List.Elements.{All-append}

@@ -1,4 +1,4 @@
--- States that are added behind others where they aren't there yet, and places that stay.
+-- States that are added after others where they aren't there yet, and places that stay.
 use Rattle.std.proofs.Common.{◌≡◌, ◌∙◌, ℕ, suc, Bool, true, false, ◌||◌, cond, List, [], ◌∷◌, ◌++◌, length, Option, Some, None, is_some, refl, sym, ap, subst}
 use Rattle.std.proofs.lemmas.List.{map-append, length-map}
 use Rattle.std.specs.List.{list_any}
@@ -40,7 +40,7 @@ state_new states s none =
     let other : list_any (λ t. same_state t s) states ≡ false = sym (place_any states s) ∙ ap is_some none in
     rw other refl
 
--- a state that wasn't there has the place behind
+-- a state that wasn't there has the place after the others
 place_new : (states : List graph.State) (s : graph.State) → place_of states s ≡ None → place_of (states ++ s ∷ []) s ≡ Some (length states)
 place_new [] s none = rw (same_self s) refl
 place_new (t ∷ states) s none = by_test (same_state t s) none (λ e. place_new states s e)

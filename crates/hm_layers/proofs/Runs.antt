@@ -37,7 +37,7 @@ at_end [] = (refl, refl, refl)
 at_end (r ∷ runs) =
     (as_at runs (length runs) 0 (length (unroll runs)) (length (unroll (r ∷ runs)) - r.count) (omega (arith, length_run r runs)) (at_end runs), omega (arith, length_run r runs))
 
--- a place in front of the end is in a run
+-- a place before the end is in a run
 pub at_run : (runs : List Run) (run used at : ℕ) → IsAt runs run used at → at < length (unroll runs) → run < length runs
 at_run [] run used at is inside = absurd (omega arith)
 at_run (r ∷ runs) zero used at is inside = omega arith
@@ -154,7 +154,7 @@ run_end [] run used at d is inside = absurd (omega arith)
 run_end (r ∷ runs) zero used at d is inside = omega (arith, is.0, is.1, length_run r runs)
 run_end (r ∷ runs) (suc run) used at d is inside = omega (arith, is.1, length_run r runs, run_end runs run used (at - r.count) d is.0 (omega arith))
 
--- behind the last of a run
+-- after the last of a run
 pub next_all : (runs : List Run) (run used at : ℕ) (d : Run) → AreRuns runs → IsAt runs run used at → run < length runs → IsAt runs (run + 1) 0 (at + ((get_or runs run d).count - used))
 next_all runs run used at d are is inside =
     let count : ℕ = (get_or runs run d).count in

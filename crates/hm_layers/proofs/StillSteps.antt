@@ -11,7 +11,7 @@ use Rattle.hm_steps.specs.Still.{AreStill}
 more_bytes : (n own len : ℕ) → len + suc n * own ≡ own + (len + n * own)
 more_bytes n own len = grind arith
 
--- so many more steps in front, which are equal
+-- `n` more steps before, which are equal
 pub still_more : (format : Format) (steps : List Step) (k n most width own len : ℕ) (step : Step) → k + n ≤ length steps → ((j : ℕ) → k ≤ j → j < k + n → get_or steps j [] ≡ step) → length step ≡ width → leaves_out format step ≡ true → AreStill own step
     → AreStillOver format (drop (k + n) steps) most width len → AreStillOver format (drop k steps) (n + most) width (len + n * own)
 still_more format steps k zero most width own len step inside are same out still h =
@@ -29,7 +29,7 @@ still_more format steps k (suc n) most width own len step inside are same out st
     let count : suc (n + most) ≡ suc n + most = omega arith in
     subst (λ A. A) (λ i. AreStillOver format (sym cut i) (count i) width (len + suc n * own)) (own, len + n * own, more_bytes n own len, same, out, still, more)
 
--- over the step in front of a layer and those in front of that which are equal
+-- over the step before a layer and the steps before that one which are equal
 pub back_over : (format : Format) (steps : List Step) (at front next to width own len : ℕ) (step : Step) → step ≡ get_or steps next [] → next + 1 ≡ front → front ≤ at → at ≤ length steps → to ≤ next → ((j : ℕ) → to ≤ j → j < next → get_or steps j [] ≡ get_or steps next [])
     → length step ≡ width → leaves_out format step ≡ true → AreStill own step → AreStillOver format (drop front steps) (at - front) width len → AreStillOver format (drop to steps) (at - to) width (len + (next - to + 1) * own)
 back_over format steps at front next to width own len step is one before inside low are same out still h =
@@ -41,7 +41,7 @@ back_over format steps at front next to width own len step is one before inside 
     subst (λ m. AreStillOver format (drop to steps) m width (len + n * own)) count
     (still_more format steps to n (at - front) width own len step (omega (arith, end, before, inside)) each same out still (subst (λ j. AreStillOver format (drop j steps) (at - front) width len) (sym end) h))
 
--- the bytes of so many layers stay low
+-- the bytes of `count` layers stay low
 low_bytes : (count own : ℕ) → own < 2 ^ 33 → count * own ≤ count * 2 ^ 33
 low_bytes count own low = mul-le-mul_left count (omega (arith, low))
 

@@ -1,4 +1,4 @@
--- What is built of a tree's graph: the steps so far, and the states behind them.
+-- What is built of a tree's graph: the steps so far, and the states after them.
 use Rattle.std.specs.Prelude.{◌≡◌, ℕ, ◌<◌, ◌^◌, List, [], ◌∷◌, ◌++◌, length, map, slice_index_or}
 use Rattle.std.specs.List.{All}
 use Rattle.std.proofs.Math.ListN.{replicate}
@@ -19,7 +19,7 @@ use Rattle.hm_layers.specs.Met.{MetView, list_at, made_at, none_made}
 use Rattle.hm_layers.specs.declared.made.MadeStep.{MadeStep}
 use Rattle.hm_layers.specs.declared.rules.EdgeRules.{EdgeRules}
 
--- the steps that were met, the steps so far, and the states of the layer behind them
+-- the steps that were met, the steps so far, and the states of the layer after them
 pub record BuildingView : Type 0 where
   pub table : TableView
   pub rules : EdgeRules
@@ -42,7 +42,7 @@ pub record IsBuilding (m : MetView) (numbers : List ℕ) (last : ℕ) : Type 0 w
   pub low : AreLow (steps_at m numbers)
   pub named : AreNamed m.table.entries (steps_at m numbers)
 
--- the steps of units lead from a layer with these states to one with those behind
+-- the steps of units lead from a layer with these states to one with the states `behind`
 abbrev pub Lead : Edges → (units.Unit → Piece → List ℕ) → List units.Unit → List graph.State → List Step → List graph.State → Type 0
 Lead edges bytes [] states [] behind = states ≡ behind
 Lead edges bytes [] states (step ∷ steps) behind = ⊥
@@ -54,7 +54,7 @@ Lead edges bytes (u ∷ us) states (step ∷ steps) behind =
 abbrev pub IsBuilt : BuildingView → List units.Unit → Type 0
 IsBuilt b us = Lead (edges_under b.table.entries b.rules) (piece_bytes b.table.entries) us first_layer b.steps (states_of b.table b.last)
 
--- the steps of more units are added behind
+-- the steps of more units are added at the end
 pub record AddsSteps (old new : BuildingView) (more : List units.Unit) : Type 0 where
   pub table : new.table ≡ old.table
   pub rules : new.rules ≡ old.rules
@@ -70,7 +70,7 @@ pub record AddsFront (old new : BuildingView) (kind : units.TextKind) (cs rest :
 abbrev pub numbered_step : BuildingView → ℕ → Step
 numbered_step b n = (slice_index_or b.made n none_made).step
 
--- the step of this number is added so many times behind
+-- the step of this number is added `count` times at the end
 pub record IsAdded (old new : BuildingView) (count number : ℕ) : Type 0 where
   pub table : new.table ≡ old.table
   pub there : number < length new.made

@@ -1,12 +1,12 @@
--- What goes along while a graph is built.
+-- A visitor that is called for each step while a graph is built.
 use Rattle.std.specs.Prelude.{◌≡◌, ℕ, List, ◌++◌}
 use Rattle.hm_steps.specs.Steps.{Step}
 use Rattle.hm_units.specs.Units.{TextKind, Unit, character_units}
 use Rattle.hm_layers.specs.Building.{AddsSteps}
 use Rattle.hm_layers.specs.declared.along.Along.{Along}
 
--- The steps of some units were added, and of the units in front these are left. C is what it means to go on over units and their
--- steps: what goes on from the new place over what is left goes on from the old one over all.
+-- The steps of some units were added, and of the units `from` those in `left` remain. C is what it means to go on over
+-- units and their steps: what goes on from the new place over what is left goes on from the old one over all.
 pub record Goes {F : Type 0} (C : List Unit → List Step → F → Type 0) (from left : List Unit) (old new : Along F) : Type 0 where
   pub done : List Unit
   pub adds : AddsSteps old.graph new.graph done

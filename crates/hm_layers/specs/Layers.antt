@@ -1,4 +1,4 @@
--- What is made of a unit and the states in front of it: hops, a step, the states behind.
+-- What is made of a unit and the states before it: hops, a step, the states after it.
 use Rattle.std.specs.Prelude.{◌≡◌, ℕ, ◌<◌, ◌^◌, List, [], ◌∷◌, Some, map}
 use Rattle.hm_graph.specs.Layers.{states_behind, with_ends, with_state}
 use Rattle.hm_graph.specs.Ways.{Edges}
@@ -57,7 +57,7 @@ pub record AreHops (v : TableView) (unit : Unit) (es : List Edge) (before now : 
 abbrev pub AreEdgesUnder : TableView → EdgeRules → Unit → State → List Edge → Type 0
 AreEdgesUnder v rules unit from es = (u : units.Unit) → StandsFor v.entries unit u → edges_seen v u es ≡ edges_under v.entries rules u (state_of v from)
 
--- the step is that of the unit from these states to those behind
+-- the step is that of the unit from these states to those after it
 pub record IsLayer (v : TableView) (rules : EdgeRules) (unit : Unit) (from behind : List State) (step : Step) : Type 0 where
   pub fits : (u : units.Unit) → StandsFor v.entries unit u → StepFits (piece_bytes v.entries u) (edges_under v.entries rules u) (states_of v behind) (states_of v from) step
   pub states : (u : units.Unit) → StandsFor v.entries unit u → states_of v behind ≡ states_behind (edges_under v.entries rules) u (states_of v from)

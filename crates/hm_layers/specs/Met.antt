@@ -1,4 +1,5 @@
--- What is met of a tree's graph: lists of states with numbers, and steps with numbers, each with the number of the list behind it.
+-- What is met of a tree's graph: lists of states with numbers, and steps with numbers, each with the number of the list
+-- after it.
 use Rattle.std.specs.Prelude.{◌≡◌, ℕ, ◌<◌, Bool, true, false, List, [], ◌∷◌, None, length, slice_index_or}
 use Rattle.hm_refs.specs.Names.{Entry}
 use Rattle.hm_refs.specs.Tables.{TableView}
@@ -32,7 +33,7 @@ none_made = record { step = []; behind = 0 }
 abbrev pub made_at : MetView → ℕ → MadeStep
 made_at m n = slice_index_or m.made n none_made
 
--- the state in front of the first unit
+-- the state before the first unit
 abbrev pub first_states : List State
 first_states = record { at = Outside; pending = Nothing } ∷ []
 
@@ -90,8 +91,8 @@ IsKnown to = to.number < 4294967295
 abbrev pub IsToward : List Reached → Reached → ℕ → Type 0
 IsToward steps to c = (slice_index_or steps c unknown).number ≡ to.number
 
--- From its list a character of ASCII leads so, in front of another one or as the last of its text. In front of another one it
--- begins no name's two code points.
+-- From its list a character of ASCII leads to `to`, before another one or as the last of its text. Where it stands before
+-- another one, no name for two code points begins with it.
 pub record Leads (m : MetView) (list : ℕ) (kind : TextKind) (more : Bool) (to : Reached) (c : ℕ) : Type 0 where
   pub ascii : c < 128
   pub from : list < length m.lists

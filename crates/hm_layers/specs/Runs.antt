@@ -13,7 +13,7 @@ abbrev pub AreRuns : List Run → Type 0
 AreRuns [] = Prim.Unit {0}
 AreRuns (r ∷ runs) = (0 < r.count) × AreRuns runs
 
--- Number `used` of run `run` is number `at` of all. Behind the last run is the place behind the last number.
+-- Number `used` of run `run` is number `at` of all. After the last run is the place after the last number.
 abbrev pub IsAt : List Run → ℕ → ℕ → ℕ → Type 0
 IsAt [] run used at = (run ≡ 0) × (used ≡ 0) × (at ≡ 0)
 IsAt (r ∷ runs) zero used at = (used < r.count) × (at ≡ used)

@@ -1,4 +1,4 @@
-//! The steps of a tree's parts. What goes along takes each as it is added.
+//! The steps of a tree's parts. A visitor is called for each as it is added.
 ghost use Rattle.std.specs.Prelude.{◌≡◌, ◌<◌, ◌≤◌, ◌∷◌, [], length, IfOk, OnOk};
 ghost use Rattle.std.specs.Str.{IsUtf8, chars};
 ghost use Rattle.hm_edges.specs.Pieces.{own_bytes};
@@ -16,7 +16,7 @@ use hm_parts::Part;
 use hm_pieces::Own;
 use hm_refs::Table;
 
-/// A graph while it is built, and what goes along.
+/// A graph while it is built, and its visitor.
 #[derive(Drop)]
 pub(crate) struct Along<'t, F> {
     pub(crate) graph: GraphBuilder<'t>,

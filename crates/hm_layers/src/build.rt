@@ -18,8 +18,8 @@ use std::alloc::Global;
 impl Graph {
     /// The graph of a tree in a format, by the names of a table and these rules.
     ///
-    /// It is taken as want of memory if the tree has 2^29 units or more, if an edge writes 2^33 bytes or more, or if there
-    /// are 2^29 different steps or lists of states.
+    /// Memory counts as refused if the tree has 2^29 units or more, or if an edge writes 2^33 bytes or more. It does
+    /// too if there are 2^29 different steps or lists of states.
     pub fn of(
         alloc: Global,
         tree: &Tree,
@@ -33,7 +33,7 @@ impl Graph {
         Ok(graph)
     }
 
-    /// As `of`. What goes along takes each step as it is added, and is given back behind the last one.
+    /// As `of`. A visitor is called for each step as it is added, and is returned after the last one.
     pub fn followed<F: Follower>(
         alloc: Global,
         tree: &Tree,

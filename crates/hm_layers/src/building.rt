@@ -18,7 +18,7 @@ use hm_refs::Table;
 use std::alloc::Global;
 use std::marker::Model;
 
-/// The steps so far, by their numbers, and the number of the list behind them.
+/// The steps so far, by their numbers, and the number of the list after them.
 #[derive(Drop)]
 pub(crate) struct GraphBuilder<'t> {
     met: Met<'t>,
@@ -81,7 +81,7 @@ impl<'t> GraphBuilder<'t> {
         Ok(number)
     }
 
-    /// Adds the step of a character, behind which the next one stands in the same text, and gives its number.
+    /// Adds the step of a character, after which the next one stands in the same text, and gives its number.
     #[inline(always)]
     fn add_in_front(&mut self, kind: TextKind, c: char, next: char) -> Result<u32, Memory>
         ensures adds { OnOk result (AddsSteps self.old self.new (units.character (kind_of kind) c (Some next) ∷ [])) }
@@ -111,7 +111,7 @@ impl<'t> GraphBuilder<'t> {
         Ok(to.number)
     }
 
-    /// Adds the step of a character by the one behind it in the same text, where there is one, and gives its number.
+    /// Adds the step of a character by the one after it in the same text, where there is one, and gives its number.
     #[inline(always)]
     pub(crate) fn add_character(
         &mut self,
@@ -128,8 +128,8 @@ impl<'t> GraphBuilder<'t> {
         }
     }
 
-    /// Adds the steps of characters that a text begins with, as far as they are known to lead to one place, and gives how many
-    /// they are and where they lead. All are of ASCII and have the same step.
+    /// Adds the steps of characters that a text begins with, as far as they are known to lead to one place. Gives how
+    /// many they are and where they lead. All are of ASCII and have the same step.
     #[inline(always)]
     pub(crate) fn add_alike(&mut self, kind: TextKind, text: &str) -> Result<Alike, Memory>
         ensures adds { IfOk result (λ alike. AddsFront self.old self.new (kind_of kind) (chars text.now) (chars (drop alike.count text.now))) }

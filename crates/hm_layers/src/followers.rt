@@ -1,4 +1,4 @@
-//! What goes along while a graph is built.
+//! A visitor that is called for each step while a graph is built.
 ghost use Rattle.std.specs.Prelude.{◌≡◌, ◌++◌, ◌∷◌, ℕ, List, length, OnOk};
 ghost use Rattle.std.proofs.Math.ListN.{replicate};
 ghost use Rattle.std.specs.Str.{IsAscii};
@@ -15,9 +15,9 @@ use hm_base::Memory;
 use hm_pieces::Own;
 use hm_refs::Table;
 
-/// What goes along while a graph is built: it takes each step as it is added.
+/// A visitor that is called for each step while a graph is built.
 pub trait Follower: Drop {
-    /// Why it doesn't go on.
+    /// Why it stops.
     type Stop: From<Memory> + Drop;
 
     // whether it goes on over these units and their steps up to the last layer, by the names of a table
@@ -37,7 +37,7 @@ pub trait Follower: Drop {
             → goes_on table.now.entries (character_units kind (bytes.now ++ rest) ++ more) (replicate (length bytes.now) step.now ++ steps) self.old) };
 }
 
-/// Nothing goes along.
+/// No visitor.
 #[derive(Drop)]
 pub(crate) struct Nobody;
 

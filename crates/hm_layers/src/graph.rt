@@ -22,12 +22,12 @@ pub struct Graph {
     last: usize,
 }
 
-/// A layer of a graph: the one in front of step `used` of a run, or the last one behind all runs.
+/// A layer of a graph: the one before step `used` of a run, or the last one after all runs.
 #[derive(Clone, Copy)]
 pub struct Cursor {
     run: usize,
     used: usize,
-    /// How many layers are in front.
+    /// How many layers are before it.
     pub layer: usize,
 }
 
@@ -40,8 +40,8 @@ pub struct Passed {
     pub len: u64,
 }
 
-/// The length in bytes of each hop of a step, where no state changes its place, there are so many, and a certificate of this
-/// format leaves out the layer in front.
+/// The length in bytes of each hop, where no state changes its place over a step of `width` states, and the layer
+/// before it is left out in this format.
 #[inline(always)]
 fn still_over(step: &Step, format: Format, width: usize) -> Option<u64>
     ensures still { IfSome result (λ len. AreStill len step.now) }
@@ -128,7 +128,7 @@ impl Graph {
         }
     }
 
-    /// The step behind a layer.
+    /// The step after a layer.
     pub fn step(&self, at: Cursor) -> &Step
         requires place { IsPlace self.now at }
         requires inside { at.layer < length self.now.steps }
@@ -161,7 +161,7 @@ impl Graph {
         }
     }
 
-    /// The layer in front.
+    /// The previous layer.
     pub fn back(&self, at: Cursor) -> Cursor
         requires place { IsPlace self.now at }
         requires some { 0 < at.layer }
@@ -185,7 +185,7 @@ impl Graph {
         }
     }
 
-    /// Goes back over at most so many layers that have the same step behind them as this one.
+    /// Goes back over at most `limit` layers that have the same step after them as this one.
     pub fn back_alike(&self, at: Cursor, limit: usize) -> Cursor
         requires place { IsPlace self.now at }
         requires inside { at.layer < length self.now.steps }
@@ -202,7 +202,7 @@ impl Graph {
         }
     }
 
-    /// Goes on over at most so many layers that have the same step behind them as this one.
+    /// Goes on over at most `limit` layers that have the same step after them as this one.
     pub fn next_alike(&self, at: Cursor, limit: usize) -> Cursor
         requires place { IsPlace self.now at }
         requires inside { at.layer < length self.now.steps }
@@ -225,8 +225,8 @@ impl Graph {
         }
     }
 
-    /// Goes back from a layer over layers that a certificate of this format leaves out, as long as there are so many states and
-    /// none changes its place, but not to the first layer.
+    /// Goes back from a layer over layers that a certificate of this format leaves out, but not to the first layer.
+    /// Each of them has `width` states, and none changes its place.
     pub fn back_still(&self, at: Cursor, format: Format, width: usize) -> Passed
         requires place { IsPlace self.now at }
         requires within { at.layer ≤ length self.now.steps }

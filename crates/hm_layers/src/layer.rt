@@ -1,4 +1,4 @@
-//! The step of a unit from the states in front of it, and the states behind.
+//! The step of a unit from the states before it, and the states after it.
 ghost use Rattle.std.specs.Prelude.{◌≡◌, ◌↔◌, map, IfOk, IsTrue};
 ghost use Rattle.hm_refs.specs.Tables.{TableView};
 ghost use Rattle.hm_edges.specs.Pieces.{AreOfTable, IsOfTable};
@@ -14,7 +14,7 @@ use hm_refs::Table;
 use hm_steps::Hop;
 use std::alloc::Global;
 
-/// More bytes than an edge is taken to write: with these, memory is said to be wanting.
+/// More bytes than an edge may write: from here on memory counts as refused.
 const LEN_LIMIT: u64 = 1 << 33;
 
 /// Whether the two are equal.
@@ -36,7 +36,7 @@ fn place_in(states: &[State], state: &State) -> Option<usize>
     None
 }
 
-/// The place of a state among these, behind which it is added where it isn't one of them.
+/// The place of a state among these. It is added at the end where it isn't one of them.
 fn place(states: &mut Vec<State>, state: &State) -> Result<usize, Memory>
     ensures { (v : TableView) → HaveNodes v states.old.items → HasNodes v state.now.pending → IfOk result (IsPlaced v state.now states.old.items states.new.items) }
 {
@@ -48,7 +48,7 @@ fn place(states: &mut Vec<State>, state: &State) -> Result<usize, Memory>
     Ok(place)
 }
 
-/// The hop of an edge of the unit. Its end is added to the states behind, where it isn't one of them.
+/// The hop of an edge of the unit. Its end is added to the next layer's states, where it isn't one of them.
 fn hop_of(table: &Table, unit: Unit, edge: &Edge, behind: &mut Vec<State>) -> Result<Hop, Memory>
     requires edge { IsOfTable table.now edge.now }
     requires nodes { HaveNodes table.now behind.old.items }
@@ -66,7 +66,7 @@ fn hop_of(table: &Table, unit: Unit, edge: &Edge, behind: &mut Vec<State>) -> Re
     })
 }
 
-/// The hops of these edges of the unit, in their order. Their ends are added to the states behind.
+/// The hops of these edges of the unit, in their order. Their ends are added to the next layer's states.
 fn hops_of(
     alloc: Global,
     table: &Table,
@@ -85,7 +85,7 @@ fn hops_of(
     Ok(hops)
 }
 
-/// What a unit leads to from some states: the hops of each, and the states behind.
+/// What a unit leads to from some states: the hops of each, and the next layer's states.
 #[derive(Drop)]
 pub(crate) struct Layer {
     pub(crate) hops: Vec<Vec<Hop>>,
@@ -109,7 +109,7 @@ fn edges_from(
     edges_in(alloc, table, rules.format, unit, edges)
 }
 
-/// Finds the hops of each of these states, and the states behind.
+/// Finds the hops of each of these states, and the next layer's states.
 pub(crate) fn find_layer(
     alloc: Global,
     table: &Table,

@@ -15,7 +15,7 @@ pub(crate) struct Front {
     pub(crate) unit: Unit,
 }
 
-/// A step, and the number of the list behind it.
+/// A step, and the number of the list after it.
 #[derive(Drop)]
 pub(crate) struct MadeStep {
     pub(crate) step: Step,
@@ -30,7 +30,7 @@ pub(crate) struct KnownStep {
     pub(crate) number: u32,
 }
 
-/// The number of a step, and that of the list behind it.
+/// The number of a step, and that of the list after it.
 #[derive(Clone, Copy)]
 pub(crate) struct Reached {
     pub(crate) number: u32,
@@ -61,7 +61,7 @@ impl KnownStep {
     }
 }
 
-/// The place of a step with these hops and this list behind it, where it is one of the first steps.
+/// The place of a step with these hops and this list after it, where it is one of the first steps.
 pub(crate) fn equal_made(made: &[MadeStep], step: &Step, behind: u32) -> Option<u32>
     ensures there { IfSome result (λ n. n < length made.now) }
     ensures step { IfSome result (HoldsAt (λ x. x.step ≡ step.now) made.now) }

@@ -19,7 +19,7 @@ use std::alloc::Global;
 use std::collections::HashMap;
 use std::marker::Model;
 
-/// How many lists, steps or layers are too many: with these, memory is said to be wanting.
+/// How many lists, steps or layers are too many: memory then counts as refused.
 pub(crate) const LIMIT: usize = 1 << 29;
 
 /// How many lists are searched for one that is there.
@@ -38,9 +38,9 @@ pub(crate) struct Met<'t> {
     known: HashMap<Front, u32>,
     /// Where a list and a unit may be seen that have a place in common, as `known`.
     hints: Vec<u32>,
-    /// For each ASCII character whether it is known to begin no name's two code points.
+    /// For each ASCII character, whether it is known that no name for two code points begins with it.
     lone: Vec<bool>,
-    /// Where such characters lead that have another one behind them.
+    /// Where such characters lead that have another one after them.
     plain: Vec<PlainRow>,
     /// Where the last characters of texts lead.
     ends: Vec<PlainRow>,
@@ -144,7 +144,7 @@ fn number_of(lists: &[Vec<State>], states: &[State]) -> Option<u32>
     None
 }
 
-/// The list of the state in front of the first unit.
+/// The list of the state before the first unit.
 fn first_lists(alloc: Global) -> Result<Vec<Vec<State>>, Memory>
     ensures { IfOk result (λ lists. map (λ l. l.items) lists.items ≡ first_states ∷ []) }
 {
@@ -178,7 +178,7 @@ impl<'t> Met<'t> {
         })
     }
 
-    /// Whether the character is known to begin no name's two code points.
+    /// Whether it is known that no name for two code points begins with the character.
     fn is_lone(&self, c: char) -> bool
         ensures { IsTrue result → BeginsNoPair self.now.table.entries c }
     {
@@ -207,7 +207,7 @@ impl<'t> Met<'t> {
         self.lists[list as usize].as_slice()
     }
 
-    /// The number of the list behind a step.
+    /// The number of the list after a step.
     pub(crate) fn behind(&self, number: u32) -> u32
         requires { number < length self.now.made }
         ensures { result ≡ (made_at self.now number).behind }
@@ -269,7 +269,7 @@ impl<'t> Met<'t> {
         self.seen_at(place, list, unit)
     }
 
-    /// The number of the step of this list and unit, where they are known. The hint then tells of them.
+    /// The number of the step of this list and unit, where they are known. The hint then points to them.
     fn known_step(&mut self, front: &Front) -> Option<u32>
         ensures step { IfSome result (IsStepOf self.old front.now.list front.now.unit) }
         ensures same { self.new ≡ self.old }
@@ -296,7 +296,7 @@ impl<'t> Met<'t> {
         Ok(number as u32)
     }
 
-    /// The number of a step with these hops and this list behind it: of an earlier one, or of one that is added.
+    /// The number of a step with these hops and this list after it: of an earlier one, or of one that is added.
     fn made_of(&mut self, made: MadeStep) -> Result<u32, Memory>
         ensures there { IfOk result (λ n. n < length self.new.made) }
         ensures made { IfOk result (λ n. made_at self.new n ≡ made) }
@@ -378,8 +378,8 @@ impl<'t> Met<'t> {
         self.step_without_hint(Front { list, unit: *unit })
     }
 
-    /// Where the plain characters at the front of a text lead, as far as they are known to lead to one place, each with
-    /// another one behind it. Only where that is the list itself they are more than one.
+    /// Where the plain characters at the start of a text lead, as far as they are known to lead to one place, each with
+    /// another one after it. They are more than one only where that place is the list itself.
     #[inline(always)]
     pub(crate) fn alike(&self, list: u32, kind: TextKind, text: &[u8]) -> Alike
         ensures within { result.count ≤ length text.now }
@@ -393,7 +393,7 @@ impl<'t> Met<'t> {
         }
     }
 
-    /// Keeps where a character leads that begins no name's two code points and has another one behind it.
+    /// Keeps where a character leads that has another one after it, and with which no name for two code points begins.
     fn keep_plain(&mut self, list: u32, kind: TextKind, c: char, to: Reached) -> Result<(), Memory>
         requires { c < 128 → Leads self.old list kind true to c }
         ensures { self.new ≡ self.old }
@@ -415,7 +415,7 @@ impl<'t> Met<'t> {
         keep(self.alloc, &mut self.ends, list, kind, c, to)
     }
 
-    /// Where the step of a character leads from the states of a list, with this one behind it in the same text.
+    /// Where the step of a character leads from the states of a list, with this one after it in the same text.
     pub(crate) fn character_step(
         &mut self,
         list: u32,

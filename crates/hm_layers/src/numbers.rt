@@ -35,7 +35,7 @@ impl Model for Numbers {
     ghost invariant = { λ n. AreRuns n.runs.items × (n.len ≡ length (unroll n.runs.items ++ replicate n.latest.count n.latest.number)) };
 }
 
-/// Adds a run behind, where it isn't empty.
+/// Adds a run at the end, where it isn't empty.
 fn push_run(runs: &mut Vec<Run>, run: Run) -> Result<(), Memory>
     requires { AreRuns runs.old.items }
     ensures runs { AreRuns runs.new.items }
@@ -86,7 +86,7 @@ impl Numbers {
         self.len
     }
 
-    /// Adds a number behind.
+    /// Adds a number at the end.
     pub(crate) fn push(&mut self, number: u32) -> Result<(), Memory>
         requires { length self.old < 2 ^ 29 - 1 }
         ensures ok { OnOk result (self.new ≡ self.old ++ number ∷ []) }
@@ -95,7 +95,7 @@ impl Numbers {
         self.push_alike(number, 1)
     }
 
-    /// Adds a number so many times behind.
+    /// Adds a number `count` times at the end.
     pub(crate) fn push_alike(&mut self, number: u32, count: u32) -> Result<(), Memory>
         requires { length self.old + count < 2 ^ 29 }
         ensures ok { OnOk result (self.new ≡ self.old ++ replicate count number) }

@@ -1,4 +1,4 @@
-//! The edges that no other one outdoes.
+//! The edges that no other one dominates (outdoes).
 ghost use Rattle.std.specs.Prelude.{◌≡◌, ◌||◌, ◌++◌, ◌∷◌, [], if◌then◌else◌, IfOk, OnOk};
 ghost use Rattle.std.specs.List.{list_any};
 ghost use Rattle.hm_edges.specs.Pieces.{AreOfTable, IsOfTable, edge_of, edges_seen};
@@ -47,7 +47,7 @@ fn serves(one: &State, other: &State) -> bool
     is_same(one, other) || (may_forget(other) && is_same(one, &forgotten))
 }
 
-/// Whether an edge is outdone by this one in front of it.
+/// Whether an edge is outdone by this one before it.
 fn outdoes_in_front(table: &Table, unit: Unit, edge: &Edge, other: &Edge) -> bool
     requires edge { IsOfTable table.now edge.now }
     requires other { IsOfTable table.now other.now }
@@ -57,7 +57,7 @@ fn outdoes_in_front(table: &Table, unit: Unit, edge: &Edge, other: &Edge) -> boo
         && piece_len(unit, other.piece, table) <= piece_len(unit, edge.piece, table)
 }
 
-/// Whether an edge is outdone by this one behind it.
+/// Whether an edge is outdone by this one after it.
 fn outdoes_behind(table: &Table, unit: Unit, edge: &Edge, other: &Edge) -> bool
     requires edge { IsOfTable table.now edge.now }
     requires other { IsOfTable table.now other.now }
@@ -67,7 +67,7 @@ fn outdoes_behind(table: &Table, unit: Unit, edge: &Edge, other: &Edge) -> bool
         && piece_len(unit, other.piece, table) < piece_len(unit, edge.piece, table)
 }
 
-/// Whether an edge is outdone by one of these in front of it.
+/// Whether an edge is outdone by one of these before it.
 fn some_outdoes_in_front(table: &Table, unit: Unit, edge: &Edge, others: &[Edge]) -> bool
     requires edge { IsOfTable table.now edge.now }
     requires others { AreOfTable table.now others.now }
@@ -81,7 +81,7 @@ fn some_outdoes_in_front(table: &Table, unit: Unit, edge: &Edge, others: &[Edge]
     false
 }
 
-/// Whether an edge is outdone by one of these behind it.
+/// Whether an edge is outdone by one of these after it.
 fn some_outdoes_behind(table: &Table, unit: Unit, edge: &Edge, others: &[Edge]) -> bool
     requires edge { IsOfTable table.now edge.now }
     requires others { AreOfTable table.now others.now }
@@ -95,7 +95,7 @@ fn some_outdoes_behind(table: &Table, unit: Unit, edge: &Edge, others: &[Edge]) 
     false
 }
 
-/// Whether an edge is outdone by one of those in front of it or behind it.
+/// Whether an edge is outdone by one of those before it or after it.
 fn is_outdone(table: &Table, unit: Unit, edge: &Edge, front: &[Edge], behind: &[Edge]) -> bool
     requires edge { IsOfTable table.now edge.now }
     requires front { AreOfTable table.now front.now }
@@ -107,7 +107,7 @@ fn is_outdone(table: &Table, unit: Unit, edge: &Edge, front: &[Edge], behind: &[
         || some_outdoes_behind(table, unit, edge, behind)
 }
 
-/// Keeps an edge behind the others, unless it is outdone.
+/// Keeps an edge after the others, unless it is outdone.
 fn keep(kept: &mut Vec<Edge>, edge: Edge, outdone: bool) -> Result<(), Memory>
     ensures { OnOk result (kept.new.items ≡ kept.old.items ++ (if outdone then [] else edge ∷ [])) }
 {

@@ -48,7 +48,7 @@ fn is_double(table: &Table, id: NameId) -> bool
     table.points(id).second.is_some()
 }
 
-/// Whether the character is known to begin no name's two code points.
+/// Whether it is known that no name for two code points begins with the character.
 fn begins_no_pair(table: &Table, c: char) -> bool
     ensures { IsTrue result → BeginsNoPair table.now.entries c }
 {
@@ -60,7 +60,7 @@ fn begins_no_pair(table: &Table, c: char) -> bool
     true
 }
 
-/// For each ASCII character whether it is known to begin no name's two code points.
+/// For each ASCII character, whether it is known that no name for two code points begins with it.
 pub(crate) fn lone_characters(alloc: Global, table: &Table) -> Result<Vec<bool>, Memory>
     ensures { IfOk result (λ lone. AreLone table.now.entries lone.items) }
 {

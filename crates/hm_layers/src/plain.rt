@@ -57,7 +57,7 @@ fn is_toward(steps: &[Reached], to: Reached, byte: u8) -> bool
     step_at(steps, byte).number == to.number
 }
 
-/// How many characters at the front of a text lead where the first one does, each with another one behind it.
+/// How many characters at the start of a text lead where the first one does, each with another one after it.
 #[inline(always)]
 fn alike_run(steps: &[Reached], to: Reached, text: &[u8]) -> usize
     requires some { 1 < length text.now }
@@ -122,8 +122,8 @@ impl PlainRow {
         if is_known(to) { Some(to) } else { None }
     }
 
-    /// Where the characters at the front of a text lead, as far as they lead to one place, each with another one behind it.
-    /// Only where that is the list itself they are more than one.
+    /// Where the characters at the start of a text lead, as far as they lead to one place, each with another one after
+    /// it. They are more than one only where that place is the list itself.
     #[inline(always)]
     pub(crate) fn alike(&self, text: &[u8]) -> Alike
         ensures within { result.count ≤ length text.now }
@@ -149,7 +149,7 @@ impl PlainRow {
 /// How many rows there are for texts' characters.
 const ROWS: usize = 128;
 
-/// The list of a row that is no list's.
+/// The list number of a row that belongs to no list.
 const NO_LIST: u32 = u32::MAX;
 
 /// Rows in which nothing is known.
@@ -196,7 +196,7 @@ pub(crate) fn row_of(rows: &[PlainRow], list: u32, kind: TextKind) -> Option<&Pl
     }
 }
 
-/// Keeps where a character leads from a list, in its row. If the row is another list's, that one's steps are given up.
+/// Keeps where a character leads from a list, in its row. If the row is another list's, that one's steps are dropped.
 fn keep_in(
     alloc: Global,
     row: &mut PlainRow,

@@ -11,7 +11,7 @@ use hm_edges::Piece;
 use hm_steps::Hop;
 use std::marker::Model;
 
-/// The hops of each state of a layer, in the order of its edges.
+/// The hops (arcs) of each state of a layer, in the order of its edges.
 #[derive(Drop)]
 pub struct Step {
     lists: Vec<Vec<Hop>>,
@@ -93,7 +93,7 @@ impl Step {
         step
     }
 
-    /// How many states are in front of it.
+    /// How many states are before it.
     pub fn width(&self) -> usize
         ensures { result ≡ length self.now }
     {
@@ -123,7 +123,7 @@ impl Step {
         self.still
     }
 
-    /// Whether a certificate of this format leaves out the layer in front of it, where that isn't the first one.
+    /// Whether a certificate of this format leaves out the layer before it, where that isn't the first one.
     pub fn is_left_out(&self, format: Format) -> bool
         ensures { result ≡ steps.leaves_out format self.now }
     {

@@ -84,7 +84,7 @@ check_comes r t w out cert ended seen more h =
 
 -- ---- the ending of a request
 
--- what doesn't depend on further files is said by the contents that are told
+-- what doesn't depend on further files is said by the contents that are known
 pub told_ending : (told : Option FileMap) (a c : Command) (r : Writing) (t : List Entry) (w : List Event) (ended : Ending) → a ≡ c → ended ≡ tree_ending c r (file_of told) t w → Sees told (λ seen. ended ≡ tree_ending a r seen t w)
 told_ending told a c r t w ended is e = record { seen = file_of told; are_told = λ _ _. refl; holds = e ∙ ap (λ x. tree_ending x r (file_of told) t w) (sym is) }
 

@@ -42,7 +42,7 @@ said_fault : (k k_new : ℕ) (s s_new : Option (List ℕ)) (r : Status) → Puts
 said_fault k k_new s s_new r (inl p) a = no_store r a p.0
 said_fault k k_new s s_new r (inr p) a = no_sink r a p.0
 
--- nor is it want of memory
+-- nor is it lack of memory
 said_no_memory : (k k_new : ℕ) (s s_new : Option (List ℕ)) (line : List ℕ) (said r : Status) → Puts k k_new s s_new line said r → (said ≡ status.Memory → ⊥) → r ≡ status.Memory → ⊥
 said_no_memory k k_new s s_new line said r (inl p) n e = n (sym p.0 ∙ e)
 said_no_memory k k_new s s_new line said r (inr p) n e = let h : status.SinkFault ≡ status.Memory = sym p.0 ∙ e in cc

@@ -47,7 +47,7 @@ short_by_test n m e = grind (arith, nat_tests)
 long_test : (n m : ℕ) → n < m → nat_lt n m ≡ true
 long_test n m h = grind (arith, nat_tests)
 
--- the front that is loaded is longer too
+-- the prefix that is loaded is longer too
 front_long : (n : ℕ) (content : List ℕ) → nat_lt n (length content) ≡ true → nat_lt n (length (take (n + 1) content)) ≡ true
 front_long n content e = long_test n (length (take (n + 1) content)) (still_long content n (long_by_test n (length content) e))
 
@@ -71,7 +71,7 @@ found_front : (t : List Entry) (r : SpellRules) (w : List Event) (out : List ℕ
 found_front t r w out (Err line) = refl
 found_front t r w out (Ok c) = ap verdict_ending (text_front t r w out c)
 
--- what is said of the fronts that are loaded is said of the files
+-- what is said of the prefixes that are loaded is said of the files
 checked_front : (r : SpellRules) (t : List Entry) (w : List Event) (out cert : List ℕ) → checked_ending r t w (take (OUTPUT_LIMIT + 1) out) (take (CERTIFICATE_LIMIT + 1) cert) ≡ checked_ending r t w out cert
 checked_front r t w out cert = by_length (nat_lt CERTIFICATE_LIMIT (length cert)) refl
   where

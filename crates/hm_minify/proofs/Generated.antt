@@ -34,7 +34,7 @@ number_limit least most n word e = by_test (is_number word) (nat_le least (digit
     by_test true false c t h = cc
     by_test false b c t h = cc
 
--- a page of so many blocks can be asked for
+-- a page of `size` blocks can be asked for
 pub record IsMeasured (number size : ℕ) : Type 0 where
   pub fits : number < 2 ^ 32
   pub few : size ≤ 20000

@@ -102,7 +102,7 @@ measured_by bytes layers (Ok (Yes n)) = says status.Done (measured_line bytes n 
 measured_by bytes layers (Ok (No why)) = says status.Memory []
 measured_by bytes layers (Err line) = says status.Memory []
 
--- the tree of a page of so many bytes is written shortest, and what was written is checked
+-- the tree of a page of `bytes` bytes is written shortest, and what was written is checked
 abbrev pub measured_ending : ℕ → Writing → List Entry → List Event → Ending
 measured_ending bytes x t w = measured_by bytes (layer_count x.rules w) (own_verdict x t w)
 

@@ -9,7 +9,7 @@ use Rattle.hm_refs.specs.Faults.{fault_name}
 use Rattle.hm_refs.specs.declared.fault.TableFault.{TableFault}
 use Rattle.hm_refs.specs.declared.fault.TableFault.TheVariants as faults
 
--- a page was minified to so many bytes
+-- a page was minified to `n` bytes
 abbrev pub length_line : ℕ → List ℕ
 length_line n = codes "length " ++ decimal n ++ 10 ∷ []
 
@@ -17,7 +17,7 @@ length_line n = codes "length " ++ decimal n ++ 10 ∷ []
 abbrev pub refused_line : Rule → ℕ → List ℕ
 refused_line rule at = codes "page refused: " ++ name_of rule ++ codes " at " ++ decimal at ++ 10 ∷ []
 
--- a key or a number behind the name of a fault
+-- a key or a number after the name of a fault
 abbrev pub fault_about : TableFault → List ℕ
 fault_about (faults.BadName key) = 32 ∷ key
 fault_about (faults.BadPoints key) = 32 ∷ key
@@ -27,7 +27,7 @@ fault_about fault = []
 
 -- ---- check
 
--- the text is shown to be the shortest, with so many bytes
+-- the text is shown to be the shortest, with `n` bytes
 abbrev pub yes_line : ℕ → List ℕ
 yes_line n = codes "yes " ++ decimal n ++ 10 ∷ []
 
@@ -55,7 +55,7 @@ why_line (whys.TooLong length first) = codes "no 7 output " ++ decimal length ++
 
 -- ---- measure
 
--- a page of so many bytes was written shortest in so many, over so many layers, and the check said yes
+-- a page of `page` bytes was written shortest in `out`, over `layers` layers, and the check said yes
 abbrev pub measured_line : ℕ → ℕ → ℕ → List ℕ
 measured_line page out layers = codes "page " ++ decimal page ++ codes " output " ++ decimal out ++ codes " layers " ++ decimal layers ++ codes " yes\n"
 

@@ -29,7 +29,7 @@ pub record EndsAs (e : Ending) (ended : Status) (old new : Option FileMap) (sink
   pub files : new ≡ after_writes old e.writes
   pub sink : sink_new ≡ append_known sink_old e.line
 
--- a line was put, and the status is the one that goes with it; or the sink has failed, and a front of the line was put
+-- a line was put, and the status is the one that goes with it; or the sink has failed, and a prefix of the line was put
 abbrev pub Puts : (faults_old faults_new : ℕ) (sink_old sink_new : Option (List ℕ)) (line : List ℕ) (said ended : Status) → Type 0
 Puts faults_old faults_new sink_old sink_new line said ended =
     ((ended ≡ said) × (sink_new ≡ append_known sink_old line))
@@ -109,8 +109,8 @@ pub record HasShown (command : Command) (options : TreeOptions) (old new : Optio
 
 -- ---- measure
 
--- The table's names give the tree of the page that is made, and the line says how many bytes the page has, how many the tree
--- written shortest, and how many layers its graph.
+-- The table's names give the tree of the page that is made. The line says how many bytes the page has, how many the
+-- tree written shortest, and how many layers its graph.
 pub record HasMeasured (command : Command) (number size : ℕ) (options : TreeOptions) (writing : Writing) (old new : Option FileMap) (sink_old sink_new : Option (List ℕ)) (seen : Contents) : Type 0 where
   pub table : List Entry
   pub tree : List Event

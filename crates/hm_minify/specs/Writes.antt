@@ -21,7 +21,7 @@ abbrev pub after_writes : Option FileMap → List Write → Option FileMap
 after_writes told [] = told
 after_writes told (w ∷ ws) = after_writes (with_file told w.name w.bytes) ws
 
--- the files after a front of these writes: each earlier one is whole, and of the last there may be a front
+-- the files after a prefix of these writes: each earlier one is whole, and of the last there may be only a prefix
 abbrev pub IsLeft : Option FileMap → List Write → Option FileMap → Type 0
 IsLeft old [] new = new ≡ old
 IsLeft old (w ∷ ws) new = (new ≡ old) ⊎ (HasFront old new w.name w.bytes ⊎ IsLeft (with_file old w.name w.bytes) ws new)

@@ -14,7 +14,7 @@ pub const USAGE: &[u8] =
 /// What is said where a call on the store has failed, or a file isn't there.
 pub const STORE_FAULT: &[u8] = b"store fault\n";
 
-/// The line of a page that was minified to so many bytes.
+/// The line of a page that was minified to `length` bytes.
 pub fn length_line(alloc: Global, length: usize) -> Result<String, AllocError>
     ensures { IfOk result (λ line. string_bytes line ≡ spec.length_line length) }
 {
@@ -29,14 +29,14 @@ pub fn refused_line(alloc: Global, rule: Rule, at: u32) -> Result<String, AllocE
     format!(in alloc; "page refused: {name} at {at}\n")
 }
 
-/// The line of a text of so many bytes that is shown to be the shortest.
+/// The line of a text of `length` bytes that is shown to be the shortest.
 pub fn yes_line(alloc: Global, length: u64) -> Result<String, AllocError>
     ensures { IfOk result (λ line. string_bytes line ≡ spec.yes_line length) }
 {
     format!(in alloc; "yes {length}\n")
 }
 
-/// The line of a page of so many bytes that is written shortest in so many, over so many layers, and was checked.
+/// The line of a page of `page` bytes that is written shortest in `out`, over `layers` layers, and was checked.
 pub fn measured_line(
     alloc: Global,
     page: usize,

@@ -78,12 +78,13 @@ pub fn run<S: Store, O: Sink>(alloc: Global, words: &[Word], store: &mut S, out:
     ensures usage { result ≡ Status.Usage → (asked_by words.now ≡ None) × (store.new ≡ store.old) × (O.contents out.new ≡ append_known (O.contents out.old) usage_line) }
     ensures no_meaning { asked_by words.now ≡ None → (store.new ≡ store.old) × ((result ≡ Status.Usage) ⊎ ((result ≡ Status.SinkFault) ⊎ (result ≡ Status.Memory))) }
 
-    // An answer is the ending that words and files give. Where no call has failed, there is nothing else but want of memory.
+    // An answer is the ending that words and files give. Where no call has failed, there is nothing else but lack of memory.
     ensures answer { is_fault result ≡ false → Sees (S.files store.old) (λ seen. spec.EndsAs (ending words.now seen) result (S.files store.old) (S.files store.new) (O.contents out.old) (O.contents out.new)) }
     ensures complete { (Rose (S.faults store.old) (S.faults store.new) → ⊥) → (Rose (O.faults out.old) (O.faults out.new) → ⊥)
         → (result ≡ Status.Memory) ⊎ Sees (S.files store.old) (λ seen. spec.EndsAs (ending words.now seen) result (S.files store.old) (S.files store.new) (O.contents out.old) (O.contents out.new)) }
 
-    // Where no call on the store has failed, all files of the ending are written. Always a front of them is, each earlier one whole, and no other file is ever changed.
+    // Where no call on the store has failed, all files of the ending are written. Always a prefix of them is, each
+    // earlier one whole, and no other file is ever changed.
     ensures whole { (Rose (S.faults store.old) (S.faults store.new) → ⊥) → result ≢ Status.Memory → Sees (S.files store.old) (λ seen. S.files store.new ≡ after_writes (S.files store.old) (ending words.now seen).writes) }
     ensures left { Sees (S.files store.old) (λ seen. IsLeft (S.files store.old) (ending words.now seen).writes (S.files store.new)) }
     ensures others { (name : List ℕ) → request.has (endings.asked_outputs (asked_by words.now)) name ≡ false → file_of (S.files store.new) name ≡ file_of (S.files store.old) name }
@@ -92,7 +93,8 @@ pub fn run<S: Store, O: Sink>(alloc: Global, words: &[Word], store: &mut S, out:
     ensures store_cause { result ≡ Status.StoreFault → Rose (S.faults store.old) (S.faults store.new) ⊎ Tells (S.files store.old) (λ seen. (ending words.now seen).status ≡ Status.StoreFault) }
     ensures store_line { result ≡ Status.StoreFault → O.contents out.new ≡ append_known (O.contents out.old) store_line }
 
-    // A fault of the sink: a call has failed, and a front of the line was put, that of the ending or that of a fault of the store.
+    // A fault of the sink: a call has failed, and a prefix of the line was put, that of the ending or that of a fault
+    // of the store.
     ensures sink_cause { result ≡ Status.SinkFault → Rose (O.faults out.old) (O.faults out.new) }
     ensures sink_front { result ≡ Status.SinkFault → (Rose (S.faults store.old) (S.faults store.new) × AppendsFront (O.contents out.old) (O.contents out.new) store_line)
         ⊎ Sees (S.files store.old) (λ seen. AppendsFront (O.contents out.old) (O.contents out.new) (ending words.now seen).line) }
@@ -104,7 +106,8 @@ pub fn run<S: Store, O: Sink>(alloc: Global, words: &[Word], store: &mut S, out:
     ensures minified { (table page output cert : List ℕ) (options : TreeOptions) (writing : Writing) → asked_by words.now ≡ Some (asks (request.minify table page output cert) options writing) → result ≡ Status.Done
         → Sees (S.files store.old) (spec.HasMinified (request.minify table page output cert) options writing output cert (S.files store.old) (S.files store.new) (O.contents out.old) (O.contents out.new)) }
 
-    // The checker's yes implies the bound, whoever made text and prices; a no comes with the first condition that fails.
+    // The checker's yes implies the bound, for text and prices from any source; a no comes with the first condition
+    // that fails.
     ensures checked { (table page output cert : List ℕ) (options : TreeOptions) (writing : Writing) → asked_by words.now ≡ Some (asks (request.check table page output cert) options writing) → result ≡ Status.Done
         → Sees (S.files store.old) (spec.HasChecked (request.check table page output cert) options writing output (S.files store.old) (S.files store.new) (O.contents out.old) (O.contents out.new)) }
     ensures denied { (command : request.Command) (options : TreeOptions) (writing : Writing) → asked_by words.now ≡ Some (asks command options writing) → result ≡ Status.No

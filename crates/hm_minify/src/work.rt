@@ -103,7 +103,8 @@ fn show<'w>(alloc: Global, tree: Tree) -> Result<Ended<'w>, Stop>
     Ok(shows(alloc, Status::Done, Shown::of(alloc, tree)?))
 }
 
-/// What a request makes of the tree of its page, which is let go but where it is shown. A check reads two further files.
+/// What a request makes of the tree of its page, which is freed, except where it is shown. A check reads two further
+/// files.
 fn answer<'w, S: Store>(
     alloc: Global,
     asked: &Asked<'w>,

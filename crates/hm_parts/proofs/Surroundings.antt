@@ -8,7 +8,7 @@ use Rattle.hm_tree.specs.Trees.{open_after, parent_of}
 use Rattle.hm_tree.proofs.ListLemmas.{slice_get-append}
 use Rattle.hm_tree.proofs.OpenLemmas.{AreOpen, all_open}
 
--- the event that stands first behind n others
+-- the event that stands first after n others
 pub first_there : (w : List Event) (n : ℕ) (e : Event) → slice_get w n ≡ Some e → e ∷ [] ≡ take 1 (drop n w)
 first_there [] n e at = absurd (cc)
 first_there (x ∷ w) zero e at =

@@ -1,4 +1,4 @@
--- The units of starts and ends, by the event directly behind them.
+-- The units of starts and ends, by the event directly after them.
 use Rattle.std.proofs.Common.{◌≡◌, ℕ, Bool, false, not, ◌&&◌, List, [], ◌∷◌, length, take, refl, arith}
 use Rattle.hm_base.specs.Walks.{Attribute, Event, doctype, start, text, comment, end, Element}
 use Rattle.hm_base.specs.declared.plain.SpellRules.{SpellRules}
@@ -7,7 +7,7 @@ use Rattle.hm_elements.specs.Tables.{is_void}
 use Rattle.hm_spellings.specs.Omission.{start_falls, end_falls, may_omit_end}
 use Rattle.hm_units.specs.Units.{Previous, start_tag, end_tag, is_firm, may_close_itself, start_units, is_loose_end, end_units}
 
--- of what stands behind it, a start or an end depends on the next event alone
+-- of what follows it, a start or an end depends on the next event alone
 start_by_next : (frame : Bool) (n : List ℕ) (w : List Event) → start_falls frame n (take 1 w) ≡ start_falls frame n w
 unfolding start_falls
 start_by_next frame n [] = refl

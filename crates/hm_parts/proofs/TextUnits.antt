@@ -1,4 +1,4 @@
--- The line feed in front of a text.
+-- The line feed before a text.
 use Rattle.std.proofs.Common.{◌≡◌, ℕ, Bool, true, false, ◌&&◌, List, chars, refl, if◌then◌else◌}
 use Rattle.hm_base.specs.Bytes.{head_is}
 use Rattle.hm_base.specs.Walks.{Element}
@@ -19,6 +19,6 @@ by_opening : (behind : Bool) (path : List Element) (cs : List ℕ) → head_is i
 by_opening true path cs = by_flags true (drops_first_line_feed path) (head_is is_line_feed cs)
 by_opening false path cs = by_flags false (drops_first_line_feed path) (head_is is_line_feed cs)
 
--- one is due behind a start in an element that drops the first one, where the text begins with one
+-- one is due after a start in an element that drops the first one, where the text begins with one
 pub due : (previous : Previous) (path : List Element) (s : List ℕ) → head_is is_line_feed (chars s) && (drops_first_line_feed path && is_behind_start previous) ≡ wants_line_feed (if is_behind_start previous then opening else other) path (chars s)
 due previous path s = by_opening (is_behind_start previous) path (chars s)

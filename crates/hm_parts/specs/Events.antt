@@ -10,7 +10,7 @@ abbrev pub previous_at : List Event → ℕ → Previous
 previous_at w zero = None
 previous_at w (suc i) = slice_get w i
 
--- the units of the first of the events that are left, behind the previous one and with these elements open
+-- the units of the first of the events that are left, after the previous one and with these elements open
 abbrev pub event_units : SpellRules → Previous → List Element → List Event → List Unit
 event_units r previous path [] = []
 event_units r previous path (doctype legacy ∷ w) = fixed (doctype_bytes legacy) ∷ []
@@ -23,6 +23,6 @@ event_units r previous path (end n foreign ∷ w) = end_units r n foreign (outer
 abbrev pub units_at : SpellRules → List Event → ℕ → List Unit
 units_at r w i = event_units r (previous_at w i) (path_after [] (take i w)) (drop i w)
 
--- the units of event i and of all behind it
+-- the units of event i and of all after it
 abbrev pub units_left : SpellRules → List Event → ℕ → List Unit
 units_left r w i = units_from r (previous_at w i) (path_after [] (take i w)) (drop i w)

@@ -10,11 +10,11 @@ use Rattle.hm_units.specs.Units.{units_of}
 use Rattle.hm_parts.specs.Events.{units_at, units_left}
 use Rattle.hm_parts.specs.Parts.{HasOwn, unit_with}
 
--- The units that are left at an event are its own and then those that are left behind it.
+-- The units that are left at an event are its own and then those that are left after it.
 abbrev pub UnitsGoEventByEvent : Type 0
 UnitsGoEventByEvent = (r : SpellRules) (w : List Event) (i : ℕ) → i < length w → units_left r w i ≡ units_at r w i ++ units_left r w (i + 1)
 
--- Behind the last event none are left.
+-- After the last event none are left.
 abbrev pub NoUnitsAreBehind : Type 0
 NoUnitsAreBehind = (r : SpellRules) (w : List Event) → units_left r w (length w) ≡ []
 

@@ -1,4 +1,4 @@
--- Names by their length and first byte. These tell most names of pages from those that a rule of tags speaks of.
+-- Names by their length and first byte. These set most names in pages apart from those that a rule of tags names.
 use Rattle.std.specs.Prelude.{ℕ, Bool, false, ◌||◌, ◌==◌, List, [], ◌∷◌}
 
 -- a name like those of void elements

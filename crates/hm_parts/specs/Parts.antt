@@ -41,7 +41,7 @@ part_units (parts.One unit own) = unit_with unit own.now ∷ []
 part_units (parts.Comment text) = units.fixed (comment_bytes text.now) ∷ []
 part_units (parts.Chars kind text) = character_units (kind_of kind) (chars text.now)
 
--- the units of parts, one behind the other
+-- the units of parts, one after the other
 abbrev pub parts_units : List Part → List units.Unit
 parts_units [] = []
 parts_units (part ∷ more) = part_units part ++ parts_units more

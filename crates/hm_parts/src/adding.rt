@@ -8,7 +8,7 @@ use crate::parts::Part;
 use hm_base::Memory;
 use hm_edges::Unit;
 
-/// Adds a part behind.
+/// Adds a part at the end.
 pub(crate) fn add<'t>(into: &mut Vec<Part<'t>>, part: Part<'t>) -> Result<(), Memory>
     requires { IsPart part }
     ensures { AddsParts result into.old.items into.new.items (part_units part.entry) }

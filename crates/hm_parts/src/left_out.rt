@@ -1,4 +1,4 @@
-//! Which tags may be left out, by what stands around them (HTML Standard, 13.1.2.4).
+//! Which tags may be left out, by what stands around them (HTML Standard, #optional-tags).
 ghost use Rattle.std.specs.Prelude.{◌≡◌, ◌<◌, ◌+◌, ◌&&◌, ◌||◌, List, [], not, bytes_eq, length, take, drop};
 ghost use Rattle.hm_base.specs.Bytes as bytes;
 ghost use Rattle.hm_base.specs.Bytes.{head_is};
@@ -91,7 +91,7 @@ fn is_child_of(parent: &str, next: Option<EventView<'_>>) -> bool
     }
 }
 
-/// Whether the start tag of the HTML element without attributes may be left out in front of the event behind it.
+/// Whether the start tag of the HTML element without attributes may be left out before the next event.
 #[tactic(auto, unfolding(hm_spellings::specs::Omission::start_falls))]
 fn start_falls(frame: bool, name: &str, next: Option<EventView<'_>>) -> bool
     ensures { result ≡ spellings.start_falls frame name.now (shown next.entry) }
@@ -107,7 +107,7 @@ fn start_falls(frame: bool, name: &str, next: Option<EventView<'_>>) -> bool
     }
 }
 
-/// Whether the end tag may be left out, by the tables of names: in front of the start of an HTML element, or at the end of
+/// Whether the end tag may be left out, by the tables of names: before the start of an HTML element, or at the end of
 /// the parent.
 fn end_goes(name: &str, parent: &str, next: Option<EventView<'_>>) -> bool
     ensures { result ≡ spellings.end_goes name.now parent.now (shown next.entry) }
@@ -125,7 +125,7 @@ fn end_goes(name: &str, parent: &str, next: Option<EventView<'_>>) -> bool
     }
 }
 
-/// Whether the end tag of the HTML element in this parent may be left out in front of the event behind it.
+/// Whether the end tag of the HTML element in this parent may be left out before the next event.
 #[tactic(auto, unfolding(hm_spellings::specs::Omission::end_falls))]
 fn end_falls(name: &str, parent: &str, next: Option<EventView<'_>>) -> bool
     ensures { result ≡ spellings.end_falls name.now parent.now (shown next.entry) }

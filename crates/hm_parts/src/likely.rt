@@ -1,5 +1,5 @@
-//! Names by their length and first byte. Most names of pages are told so from those that a rule of tags speaks of, with no
-//! list gone through.
+//! Names by their length and first byte. They set most names in pages apart from those that a rule of tags names,
+//! without a search through a list.
 ghost use Rattle.std.specs.Prelude.{◌≡◌};
 ghost use Rattle.hm_parts.specs.Likely as likely;
 

@@ -41,7 +41,7 @@ pub(crate) fn parent_name(tree: &Tree, i: u32) -> &str
     }
 }
 
-/// The event behind event `i`.
+/// The event after event `i`.
 pub(crate) fn next_event(tree: &Tree, i: u32) -> Option<EventView<'_>>
     requires { i < length tree.now }
     ensures { shown result ≡ take 1 (drop (i + 1) tree.now) }

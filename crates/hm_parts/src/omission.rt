@@ -1,4 +1,4 @@
-//! Which tags may be left out, by the names of elements (HTML Standard, 13.1.2.4).
+//! Which tags may be left out, by the names of elements (HTML Standard, #optional-tags).
 ghost use Rattle.std.specs.Prelude.{◌≡◌};
 ghost use Rattle.hm_elements.specs.Names.{is_among};
 ghost use Rattle.hm_elements.specs.Omission as omission;
@@ -167,7 +167,7 @@ pub(crate) fn start_goes_before(name: &str, child: &str) -> bool
     }
 }
 
-/// Whether the start tag of the HTML element isn't left out behind an end of the HTML element `before` whose tag was left out.
+/// Whether the start tag of the HTML element isn't left out after an end of the HTML element `before` whose tag was left out.
 #[tactic(auto, unfolding(hm_elements::specs::Omission::bars_start))]
 pub(crate) fn bars_start(before: &str, name: &str) -> bool
     ensures { result ≡ omission.bars_start before.now name.now }

@@ -39,7 +39,7 @@ fn is_start(event: Option<EventView<'_>>) -> bool
     matches!(event, Some(EventView::Start { .. }))
 }
 
-/// Whether a line feed that comes first in this element is not read (HTML Standard, 13.1.2.5).
+/// Whether a line feed that comes first in this element is not read (HTML Standard, #element-restrictions).
 #[tactic(auto, unfolding(hm_spellings::specs::Spellings::drops_first_line_feed))]
 fn drops_first_line_feed(around: Around<'_>) -> bool
     ensures { (path : List Element) → IsAround around.entry path → result ≡ spellings.drops_first_line_feed path }
@@ -47,7 +47,7 @@ fn drops_first_line_feed(around: Around<'_>) -> bool
     !around.foreign && is_preformatted(around.name)
 }
 
-/// Whether one more line feed is due in front of the text, which is event `i`: it begins with one and comes first in such an
+/// Whether one more line feed is due before the text, which is event `i`: it begins with one and comes first in such an
 /// element.
 #[tactic(auto, using(crate::proofs::TextUnits::due))]
 pub(crate) fn is_line_feed_due(tree: &Tree, i: u32, around: Around<'_>, text: &str) -> bool

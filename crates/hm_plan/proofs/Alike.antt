@@ -29,7 +29,7 @@ left_out_later format k step b other left = λ i. not (false_from_ne_true (k == 
 
 -- ---- Over many
 
--- one line more, where lines are written
+-- one more line, where lines are written
 raised_more : (b : Bool) (n len : ℕ) (text : List ℕ) (row front : Row) → front ≡ map (over (suc n * len)) row
     → text ++ cond b [] (raised_lines (suc n) len row) ≡ (text ++ cond b [] (raised_lines n len row)) ++ cond b [] (reverse (row_line front))
 raised_more true n len text row front is = sym (append-nil (text ++ []))
@@ -62,7 +62,7 @@ back_along g format k (suc n) step len text choices row b still forced left same
     subst (λ j. IsBack g format j more choices (map (over (suc n * len)) row)) next
     (back_more g format (k - n) step written more choices choices behind (map (over (suc n * len)) row) (omega arith) cut before lines chosen front)
 
--- over the step behind layer k and those in front that are equal
+-- over the step after layer k and those before it that are equal
 pub along_found : (g : GraphView) (format : Format) (k front n len : ℕ) (text more choices chosen : List ℕ) (row after : Row) (b : Bool) → AreStill len (get_or g.steps k []) → is_forced (get_or g.steps k []) ≡ true → leaves_out format (get_or g.steps k []) ≡ b
     → length row ≡ length (get_or g.steps k []) → k < length g.steps → front ≤ k → 0 < front → n ≡ k - front + 1 → ((j : ℕ) → front ≤ j → j < k → get_or g.steps j [] ≡ get_or g.steps k []) → IsBack g format (k + 1) text choices row
     → more ≡ text ++ cond b [] (raised_lines n len row) → chosen ≡ choices → after ≡ map (over (n * len)) row → IsBack g format front more chosen after
@@ -104,7 +104,7 @@ pub raised_below : (bound most n : ℕ) (row : Row) → bound + n ≤ most → A
 raised_below bound most n [] l h = tt
 raised_below bound most n (price ∷ row) l h = (over_at_most bound most n price l h.0, raised_below bound most n row l h.1)
 
--- over one layer more
+-- over one more layer
 pub one_alike : (n len : ℕ) (start text more : List ℕ) (row behind front : Row) → text ≡ start ++ raised_lines n len row → behind ≡ map (over (n * len)) row → front ≡ map (over len) behind → more ≡ text ++ reverse (row_line front)
     → (more ≡ start ++ raised_lines (suc n) len row) × (front ≡ map (over (suc n * len)) row)
 one_alike n len start text more row behind front t b f m =

@@ -1,4 +1,4 @@
--- Bytes in the opposite order, eight at each end at a time.
+-- Bytes in reverse order, eight at each end at a time.
 use Rattle.std.proofs.Common.{◌≡◌, ◌∙◌, ℕ, ◌+◌, ◌-◌, ◌≤◌, List, [], ◌++◌, length, take, drop, reverse, refl, sym, ap, subst, arith, append_assoc, append-nil, take_all}
 use Rattle.std.proofs.Math.Seq.{take-append-add}
 use Rattle.std.proofs.Math.ListN.{drop_of_length-le}
@@ -12,7 +12,7 @@ put_is a k xs ys inside same =
     let end : a + k ≡ a + length ys = omega (arith, same) in
     sym (take-append-drop (a + k) (put_mid a k xs ys)) ∙ (λ i. take-put_mid a k xs ys (a + k) end inside i ++ drop-put_mid a k xs ys (a + k) (omega arith) inside same i)
 
--- the ends in each other's place
+-- the ends swapped
 pub ends_turned : (xs front behind : List ℕ) → 16 ≤ length xs → front ≡ reverse (take 8 (drop 0 xs)) → behind ≡ reverse (take 8 (drop (length xs - 8) xs))
     → put_mid (length xs - 8) (length (behind ++ drop 8 xs) - (length xs - 8)) (behind ++ drop 8 xs) front ≡ reverse (drop (length xs - 8) xs) ++ take (length xs - 16) (drop 8 xs) ++ reverse (take 8 xs)
 ends_turned xs front behind long f b =
@@ -30,7 +30,7 @@ ends_turned xs front behind long f b =
     ∙ (λ i. (kept i ++ front) ++ none i) ∙ append-nil ((behind ++ take (n - 16) (drop 8 xs)) ++ front)
     ∙ (λ i. (behind_is i ++ take (n - 16) (drop 8 xs)) ++ f i)
 
--- so many bytes at each end are turned already, and those between them are left
+-- `done` bytes at each end are reversed already, and those between them are left
 pub record IsTurning (first now : List ℕ) (done : ℕ) : Type 0 where
   pub len : length now ≡ length first
   pub half : done + done ≤ length first

@@ -87,6 +87,6 @@ onward_ends : (more : ℕ → List ℕ) (place : Option ℕ) → ((k : ℕ) → 
 onward_ends more None h = refl
 onward_ends more (Some k) h = h k
 
--- behind the last step nothing is left of it
+-- after the last step nothing is left of it
 pub comes_last : (t : List Entry) (g : GraphView) (k : ℕ) (way : WrittenWay) → ComesTo t g [] k way way.out.items
 comes_last t g k way = ap (λ x. way.out.items ++ x) (onward_ends (way_from (piece_bytes t) g.last [] (drop k g.steps)) way.place (way_ends (piece_bytes t) g.last (drop k g.steps))) ∙ append-nil way.out.items

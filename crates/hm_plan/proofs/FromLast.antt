@@ -82,7 +82,7 @@ last_back g format text choices row t c r = let none : drop (length g.steps) g.s
   prices = r ∙ ap (λ steps. first_row (rows_of g.last steps)) (sym none);
 }
 
--- one line more, from its end, where it is written
+-- one more line, from its end, where it is written
 line_more : (left_out : Bool) (row : Row) (rows : List Row) → reverse (row_lines rows) ++ cond left_out [] (reverse (row_line row)) ≡ reverse (row_lines (cond left_out rows (row ∷ rows)))
 line_more true row rows = append-nil (reverse (row_lines rows))
 line_more false row rows = sym (reverse-append (row_line row) (row_lines rows))

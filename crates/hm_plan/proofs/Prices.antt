@@ -37,7 +37,7 @@ pub same_self : (price : Option ℕ) → same_price price price ≡ true
 same_self None = refl
 same_self (Some n) = nat_eq_self n
 
--- the lesser number tells the lesser price
+-- the lesser number stands for the lesser price
 lesser_front : (a b : ℕ) → a < 2 ^ 64 → b < 2 ^ 64 → a ≤ b → lesser (told a) (told b) ≡ told a
 lesser_front a b small low h = by_cases (told_cases a small) (told_cases b low)
   where
@@ -65,13 +65,13 @@ differ a b small low h = by_cases (told_cases a small) (told_cases b low)
 
 -- ---- The price over a hop
 
--- the price that a number of a list tells
+-- the price that a number of a list stands for
 pub told_at : (row : List ℕ) (k price : ℕ) → k < length row → price ≡ get_or row k price → get_or (map told row) k None ≡ told price
 told_at row k price inside is = get_or-map told row k price None inside ∙ ap told (sym is)
 
 -- ---- The best of hops
 
--- a hop in front of others, whose price is at most the least one of those
+-- a hop before others, whose price is at most the least one of those
 pub front_is_best : (row : Row) (x : Hop) (hops : List Hop) (price least : ℕ) → told price ≡ price_over row x → told least ≡ best_price row hops → price < 2 ^ 64 → least < 2 ^ 64 → price ≤ least
     → (told price ≡ best_price row (x ∷ hops)) × (0 ≡ choice row (x ∷ hops))
 front_is_best row x hops price least e f small low h =

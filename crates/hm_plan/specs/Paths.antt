@@ -9,7 +9,7 @@ use Rattle.hm_steps.specs.Ways.{choices_of, way_from}
 use Rattle.hm_units.specs.Units.{Unit}
 use Rattle.hm_plan.specs.declared.paths.WrittenWay.{WrittenWay}
 
--- the prices behind step k
+-- the prices after step k
 abbrev pub row_behind : GraphView → ℕ → Row
 row_behind g k = first_row (rows_of g.last (drop (k + 1) g.steps))
 
@@ -22,7 +22,7 @@ onward more (Some place) = more place
 abbrev pub way_on : List Entry → GraphView → List Unit → ℕ → Option ℕ → List ℕ
 way_on t g units k place = onward (way_from (piece_bytes t) g.last units (drop k g.steps)) place
 
--- the choices that are left are those in front of the steps behind layer k
+-- the choices that are left are those of the steps from layer k on
 abbrev pub HasChoices : GraphView → ℕ → WrittenWay → Type 0
 HasChoices g k way = way.choices.now ≡ choices_of g.last (drop k g.steps)
 

@@ -28,7 +28,8 @@ pub record IsBack (g : GraphView) (format : Format) (k : ℕ) (text choices : Li
 abbrev pub IsFound : GraphView → Format → ℕ → Back → Type 0
 IsFound g format k back = IsBack g format k back.text back.choices.items (map told back.row.items)
 
--- the lines of so many rows, from their end: the first has so many bytes more than this one, and each next one as many again
+-- the lines of `count` rows, from their end: each price of the first is `len` more than in `row`, and each next row
+-- adds `len` again
 abbrev pub raised_lines : ℕ → ℕ → Row → List ℕ
 raised_lines zero len row = []
 raised_lines (suc count) len row = raised_lines count len row ++ reverse (row_line (map (over (suc count * len)) row))

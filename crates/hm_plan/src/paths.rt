@@ -1,4 +1,4 @@
-//! The text of the first way.
+//! The text of the first way (path through the layered graph).
 ghost use Rattle.std.specs.Prelude.{◌≡◌, ◌<◌, ◌+◌, ◌++◌, [], ℕ, List, length, drop, option_and_then, slice_get, slice_index, slice_index_or, IfOk, IfSome};
 ghost use Rattle.hm_edges.specs.Pieces.{HasName, piece_bytes, piece_text};
 ghost use Rattle.hm_graph.specs.Prices.{Row};
@@ -24,11 +24,11 @@ struct WrittenWay<'c> {
     out: Vec<u8>,
     /// The place of the state among those of its layer, None where the way has ended.
     place: Option<usize>,
-    /// The choices in front of the steps that are left, those of the next one last.
+    /// The choices of the steps that are left, those of the next one last.
     choices: &'c [u8],
 }
 
-/// The choices behind the step of a layer, and those in front of it.
+/// The choices after the step of a layer, and those of that step.
 #[inline(always)]
 fn cut_choices<'c>(choices: &'c [u8], graph: &Graph, at: Cursor) -> (&'c [u8], &'c [u8])
     requires place { IsPlace graph.now at }
@@ -66,7 +66,7 @@ fn hop_at(hops: &[Hop], place: usize) -> Option<Hop>
     }
 }
 
-/// The hop that is taken from a place, by the choices in front of the step.
+/// The hop that is taken from a place, by the choices of the step.
 #[inline(always)]
 fn taken_at(step: &Step, choices: &[u8], place: usize) -> Option<Hop>
     ensures taken { (behind : Row) → choices.now ≡ step_choices behind step.now → result ≡ hop_taken behind step.now place }

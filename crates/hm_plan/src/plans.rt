@@ -1,4 +1,5 @@
-//! Least prices, from the last layer on: the certificate that tells them, and what the first way chooses.
+//! Least prices (potentials: the cost to go), from the last layer on: the certificate that lists them, and what the
+//! first way (path through the layered graph) chooses.
 ghost use Rattle.std.specs.Prelude.{◌≡◌, true, ◌++◌, ◌∷◌, [], ◌+◌, ◌*◌, ◌<◌, ◌≤◌, ◌^◌, length, map, reverse, if◌then◌else◌, Some, None, IfOk, IsTrue, OnOk, slice_index_or};
 ghost use Rattle.hm_cert.specs.Certificate.{head_lines, row_line};
 ghost use Rattle.hm_cert.specs.Layout.{told};
@@ -19,8 +20,8 @@ use hm_steps::Hop;
 use std::alloc::Global;
 use std::mem;
 
-/// What is known when the prices of all layers were found: the text of the certificate, the choices of the first way, those of
-/// the last layer first, and the first price, in bytes.
+/// What is known once the prices of all layers are found: the text of the certificate, the choices of the first way,
+/// those of the last layer first, and the first price, in bytes.
 #[derive(Drop)]
 pub struct Plan {
     pub certificate: Vec<u8>,
@@ -36,7 +37,7 @@ struct Best {
     place: usize,
 }
 
-/// The price over a hop, by the prices of the layer behind.
+/// The price over a hop, by the prices of the next layer.
 fn price_over(hop: Hop, behind: &[u64]) -> u64
     requires below { AreBelow (2 ^ 63 + 2 ^ 62) (map told behind.now) }
     requires low { hop.len < 2 ^ 62 }
@@ -48,7 +49,7 @@ fn price_over(hop: Hop, behind: &[u64]) -> u64
     }
 }
 
-/// The least price over these hops, by the prices of the layer behind.
+/// The least price over these hops, by the prices of the next layer.
 fn find_best(hops: &[Hop], behind: &[u64]) -> Best
     requires below { AreBelow (2 ^ 63 + 2 ^ 62) (map told behind.now) }
     requires low { AreLowHops hops.now }
@@ -87,7 +88,7 @@ fn put_choice(choices: &mut Vec<u8>, forced: bool, place: usize) -> Result<(), M
     Ok(())
 }
 
-/// Finds the prices in front of a step with one hop for each state, by those behind it, in place of what the row held.
+/// Finds the prices before a step with one hop for each state, by those after it, in place of what the row held.
 fn follow_each(step: &Step, behind: &[u64], row: &mut Vec<u64>) -> Result<(), Memory>
     requires forced { steps.is_forced step.now ≡ true }
     requires below { AreBelow (2 ^ 63 + 2 ^ 62) (map told behind.now) }
@@ -101,7 +102,7 @@ fn follow_each(step: &Step, behind: &[u64], row: &mut Vec<u64>) -> Result<(), Me
     Ok(())
 }
 
-/// Finds the prices in front of a step by those behind it, in place of what the row held, and appends the choices.
+/// Finds the prices before a step by those after it, in place of what the row held, and appends the choices.
 fn find_row(
     step: &Step,
     behind: &[u64],
@@ -200,7 +201,7 @@ impl Back {
         Ok(())
     }
 
-    /// Finds the prices in front of a step, in place of those behind it.
+    /// Finds the prices before a step, in place of those after it.
     fn find(&mut self, step: &Step) -> Result<(), Memory>
         requires below { AreBelow (2 ^ 63 + 2 ^ 62) (map told self.old.row.items) }
         requires low { IsLowStep step.now }
@@ -232,7 +233,7 @@ impl Back {
         put_choice(&mut self.choices, step.is_forced(), best.place)
     }
 
-    /// Goes to the layer in front of this step, without its line.
+    /// Goes to the layer before this step, without its line.
     fn pass(&mut self, step: &Step) -> Result<(), Memory>
         requires below { AreBelow (2 ^ 63 + 2 ^ 62) (map told self.old.row.items) }
         requires low { IsLowStep step.now }
@@ -249,7 +250,7 @@ impl Back {
         self.find(step)
     }
 
-    /// Goes to layer `k`, the one in front of this step.
+    /// Goes to layer `k`, the one before this step.
     fn go_over(&mut self, format: Format, k: usize, step: &Step) -> Result<(), Memory>
         requires below { AreBelow (2 ^ 63 + 2 ^ 62) (map told self.old.row.items) }
         requires low { IsLowStep step.now }
@@ -263,8 +264,8 @@ impl Back {
         put_line(&mut self.text, left_out, &self.row)
     }
 
-    /// Goes over so many layers, each of which has so many bytes more for each price than the one behind it, and writes their
-    /// lines.
+    /// Goes over `count` layers, and writes their lines. Each layer's prices are `len` more than those of the layer
+    /// after it.
     fn write_alike(&mut self, count: u64, len: u64) -> Result<(), Memory>
         requires below { AreBelow (2 ^ 62) (map told self.old.row.items) }
         requires low { count * len < 2 ^ 62 }
@@ -279,8 +280,8 @@ impl Back {
         Ok(())
     }
 
-    /// Goes over so many layers, each of which has so many bytes more for each price than the one behind it, and writes their
-    /// lines, where they aren't left out.
+    /// Goes over `count` layers, and writes their lines where they aren't left out. Each layer's prices are `len` more
+    /// than those of the layer after it.
     fn pass_alike(&mut self, left_out: bool, count: u64, len: u64) -> Result<(), Memory>
         requires below { AreBelow (2 ^ 62) (map told self.old.row.items) }
         requires low { count * len < 2 ^ 62 }
@@ -314,8 +315,8 @@ impl Back {
     }
 }
 
-/// Goes over the step behind a layer, and over those in front that are equal, where no state changes its place, but then not to
-/// the first layer.
+/// Goes over the step after a layer. Where no state changes its place, it also goes over the equal steps before that
+/// one, but not to the first layer.
 fn go_back(back: &mut Back, graph: &Graph, format: Format, at: Cursor) -> Result<Cursor, Memory>
     requires place { IsPlace graph.now at }
     requires inside { at.layer < length graph.now.steps }

@@ -1,7 +1,7 @@
-//! Bytes in the opposite order.
+//! Bytes in reverse order.
 ghost use Rattle.std.specs.Prelude.{◌≡◌, ◌+◌, ◌-◌, ◌≤◌, ◌++◌, length, take, drop, reverse};
 
-/// Eight bytes in the opposite order.
+/// Eight bytes in reverse order.
 #[inline(always)]
 fn turned(bytes: [u8; 8]) -> [u8; 8]
     ensures { result ≡ reverse bytes }
@@ -20,7 +20,7 @@ fn eight_at(bytes: &[u8], at: usize) -> [u8; 8]
     eight
 }
 
-/// Puts the first eight bytes and the last eight in each other's place, in the opposite order.
+/// Swaps the first eight bytes and the last eight, each in reverse order.
 #[inline(always)]
 fn turn_ends(bytes: &mut [u8])
     requires { 16 ≤ length bytes.old }
@@ -33,7 +33,7 @@ fn turn_ends(bytes: &mut [u8])
     bytes[last..].copy_from_slice(&front);
 }
 
-/// Puts bytes in the opposite order.
+/// Reverses bytes.
 pub(crate) fn turn(bytes: &mut [u8])
     ensures { bytes.new ≡ reverse bytes.old }
 {

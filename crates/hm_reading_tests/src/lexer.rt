@@ -13,7 +13,7 @@ use std::test::Fail;
 const NAMES: &str =
     "{\"&amp\":{\"codepoints\":[38]},\"&amp;\":{\"codepoints\":[38]},\"&lt\":{\"codepoints\":[60]},\"&lt;\":{\"codepoints\":[60]},\"&not\":{\"codepoints\":[172]},\"&not;\":{\"codepoints\":[172]},\"&notin;\":{\"codepoints\":[8713]},\"&nesim;\":{\"codepoints\":[8770,824]}}";
 
-/// The mode behind a token, as an element that it opens or closes sets it.
+/// The mode after a token, as an element that it opens or closes sets it.
 fn mode_behind(token: &Token, mode: Mode) -> Mode {
     match token {
         Token::StartTag { name, .. } if mode == Mode::Html => opened_mode(name.text.as_str()),
@@ -193,7 +193,7 @@ fn places_are_of_the_page(rt: HostRuntime) -> Result<(), Fail> {
     Ok(())
 }
 
-/// A tag with so many attributes of one name, and what stands behind them.
+/// A tag with `count` attributes of one name, and what follows them.
 fn crowded(alloc: Global, count: u32, behind: &str) -> Result<String, AllocError> {
     let mut page = String::from_str(alloc, "<a")?;
     for _ in 0..count {

@@ -1,4 +1,4 @@
-//! What each scan reads, after the tokenization of the HTML Standard (13.2.5).
+//! What each scan reads, after the tokenization of the HTML Standard (#tokenization).
 ghost use Rattle.std.specs.Prelude.{◌^◌, ◌<◌, length, IsTrue, IsCharBoundary};
 
 use hm_mark_scan::{
@@ -7,14 +7,14 @@ use hm_mark_scan::{
 };
 use hm_tree::{ScanFault, Token};
 
-/// Whether a text is short enough for every scan, and can be cut at its front.
+/// Whether a text is short enough for every scan, and can be cut at its start.
 fn is_short(text: &str) -> bool
     ensures { IsTrue result → (length text.now < 2 ^ 32) × IsCharBoundary text.now 0 }
 {
     text.len() < 1000 && text.is_char_boundary(0)
 }
 
-/// Whether the answer is this piece of the text, in front of this rest.
+/// Whether the answer is this piece of the text, before this rest.
 fn is_piece(text: &str, answer: Result<(Token, u32), ScanFault>, piece: &str, rest: &str) -> bool {
     match answer {
         Ok((Token::Comment { from, to } | Token::Slice { from, to }, behind)) => {
@@ -70,7 +70,7 @@ fn comments(rt: HostRuntime) {
     }
 }
 
-/// Whether a doctype is the legacy one, and the place behind it.
+/// Whether a doctype is the legacy one, and the place after it.
 fn form(text: &str) -> Result<(bool, u32), ScanFault> {
     if !(is_short(text) && begins_doctype(text, 0)) {
         return Err(ScanFault::Memory);

@@ -4,7 +4,7 @@ use std::alloc::Global;
 use std::process::Abort;
 use std::test::Fail;
 
-// Takes a start tag, or with a `/` in front an end tag.
+// Takes a start tag, or, where a `/` stands before it, an end tag.
 fn take(rt: &impl Abort, path: &mut Path, tag: &str) -> Result<Moves, SettleFault> {
     match tag.strip_prefix("/") {
         Some(name) => {
@@ -18,7 +18,7 @@ fn take(rt: &impl Abort, path: &mut Path, tag: &str) -> Result<Moves, SettleFaul
     }
 }
 
-// The path behind these tags, each of which is taken.
+// The path after these tags, each of which is taken.
 fn path_behind(rt: &impl Abort, alloc: Global, tags: &str) -> Result<Path, Fail> {
     let mut path = Path::new(alloc)?;
     for tag in tags.split_whitespace() {

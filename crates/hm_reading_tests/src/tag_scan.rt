@@ -1,4 +1,5 @@
-//! Tags, after the HTML Standard (13.2.5.6 to 13.2.5.8 and 13.2.5.32 to 13.2.5.40).
+//! Tags, after the HTML Standard (#tag-open-state to #tag-name-state and #before-attribute-name-state to
+//! #self-closing-start-tag-state).
 
 use hm_refs::Table;
 use hm_tag_scan::{begins_tag, scan_tag};
@@ -22,8 +23,8 @@ fn attributes(alloc: Global, attrs: &Attrs) -> Result<String, AllocError> {
     Ok(text)
 }
 
-/// A tag: its name, behind `/` where it is an end tag, its attributes, `/` where it stands before the `>`, and the place
-/// behind the tag.
+/// A tag: its name, after `/` where it is an end tag, its attributes, `/` where it stands before the `>`, and the place
+/// after the tag.
 fn tag(alloc: Global, token: &Token, behind: u32) -> Result<String, AllocError> {
     match token {
         Token::StartTag { name, attrs, slash } => {
@@ -36,7 +37,7 @@ fn tag(alloc: Global, token: &Token, behind: u32) -> Result<String, AllocError> 
     }
 }
 
-/// The tag at the front of a text, or its fault.
+/// The tag at the start of a text, or its fault.
 fn read(alloc: Global, table: &Table, text: &str) -> Result<String, AllocError> {
     if text.len() > 1000 || !begins_tag(text, 0) {
         return String::from_str(alloc, "no tag");
@@ -89,7 +90,7 @@ fn tags(rt: HostRuntime) -> Result<(), Fail> {
     Ok(())
 }
 
-/// A start tag in which an attribute is written so many times.
+/// A start tag in which an attribute is written `count` times.
 fn repeated(alloc: Global, count: u32) -> Result<String, AllocError> {
     let mut text = String::from_str(alloc, "<p")?;
     for _i in 0..count {

@@ -1,4 +1,4 @@
-//! Pieces of text, after the HTML Standard (13.2.5.72 to 13.2.5.80).
+//! Pieces of text, after the HTML Standard (#character-reference-state to #numeric-character-reference-end-state).
 ghost use Rattle.std.specs.Prelude.{◌≡◌, ◌^◌, ◌<◌, drop, false, length, IsTrue, IsCharBoundary};
 ghost use Rattle.hm_text_scan.specs.Texts as texts;
 
@@ -23,7 +23,7 @@ fn is_text(text: &str, at: u32, rcdata: bool) -> bool
         && (rcdata || !begins_markup(text, at))
 }
 
-/// Whether these code points are read at a place, and another one stands behind them.
+/// Whether these code points are read at a place, and another one stands after them.
 fn is_reference(
     table: &Table,
     rcdata: bool,

@@ -249,7 +249,7 @@ fn long_text(alloc: Global) -> Result<String, AllocError> {
     Ok(text)
 }
 
-/// The lines of a tree with a long text are put three times: what stands before the text, the text, and what stands behind it.
+/// The lines of a tree with a long text are put three times: what stands before the text, the text, and what follows it.
 #[test]
 fn a_long_tree_is_put_in_pieces(rt: HostRuntime) -> Result<(), Fail> {
     let alloc = rt.alloc();

@@ -38,7 +38,7 @@ some_there : (row : Row) (place n : ℕ) → slice_index_or row place None ≡ S
 some_there [] place n e = cc
 some_there (price ∷ row) place n e = omega arith
 
--- where the least price over hops isn't closed, there is one behind
+-- where the least price over hops isn't closed, the next layer has a price that isn't
 best_behind : (behind : Row) (hops : List Hop) (n : ℕ) → best_price behind hops ≡ Some n → HasNumber behind
 best_behind behind [] n e = cc
 best_behind behind (h ∷ hops) n e = by_price (slice_index_or behind h.to None) refl (best_behind behind hops n) e

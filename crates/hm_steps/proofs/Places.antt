@@ -1,4 +1,4 @@
--- What the place of a state tells of a row.
+-- What the place of a state says about a row.
 use Rattle.std.proofs.Common.{◌≡◌, ℕ, suc, Bool, List, [], ◌∷◌, map, Option, Some, None, true, false, cond, refl, ap, subst, slice_index_or, ◌⊎◌, inl, inr}
 use Rattle.std.specs.Option.{option_map}
 use Rattle.hm_units.specs.States.{State, same_state}
@@ -6,7 +6,7 @@ use Rattle.hm_graph.specs.Prices.{Row, price_at}
 use Rattle.hm_graph.proofs.States.{same_is}
 use Rattle.hm_steps.specs.Fits.{place_of}
 
--- a row tells at the place of a state what f tells of the state
+-- a row gives at the place of a state what f gives for the state
 abbrev pub Tells : List State → Row → (State → Option ℕ) → Type 0
 Tells states row f = (s : State) (n : ℕ) → place_of states s ≡ Some n → slice_index_or row n None ≡ f s
 
@@ -32,7 +32,7 @@ place_cases t s states n e = by_test (same_state t s) refl e
     by_test true same h = inl (record { same = same; place = cc })
     by_test false differs h = by_rest (place_of states s) refl differs h
 
--- each row tells the prices at its states
+-- each row gives the prices at its states
 pub tells_price : (states : List State) (row : Row) → Tells states row (price_at states row)
 tells_price [] row s n e = absurd (cc)
 tells_price (t ∷ states) [] s n e = refl
@@ -43,7 +43,7 @@ tells_price (t ∷ states) (q ∷ row) s n e = by_case (place_cases t s states n
     by_case (inl first) more = rw first.same (subst (λ k. slice_index_or (q ∷ row) k None ≡ q) first.place refl)
     by_case (inr later) more = rw later.differs (subst (λ k. slice_index_or (q ∷ row) k None ≡ price_at states row s) later.place (more later.before later.found))
 
--- a row of a function of the states tells it
+-- a row made by a function of the states gives the values of that function
 pub tells_map : (f : State → Option ℕ) (states : List State) → Tells states (map f states) f
 tells_map f [] s n e = absurd (cc)
 tells_map f (t ∷ states) s n e = by_case (place_cases t s states n e) (λ m h. tells_map f states s m h)

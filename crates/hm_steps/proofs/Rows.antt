@@ -41,7 +41,7 @@ first_least : (edges : Edges) (units : List Unit) (states : List State) → firs
 first_least edges [] states = refl
 first_least edges (unit ∷ units) states = refl
 
--- the first row over steps tells the least price of each state
+-- the first row over steps gives the least price of each state
 pub first_tells : (edges : Edges) (bytes : Unit → Piece → List ℕ) (units : List Unit) (states : List State) (steps : List Step) (last : ℕ) → rows_of last steps ≡ least_prices edges units states
     → Tells states (first_row (rows_of last steps)) (least edges units)
 first_tells edges bytes units states steps last e =

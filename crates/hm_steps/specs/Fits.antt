@@ -14,7 +14,7 @@ abbrev pub place_of : List State → State → Option ℕ
 place_of [] s = None
 place_of (t ∷ states) s = if same_state t s then Some 0 else option_map (λ n. suc n) (place_of states s)
 
--- a hop is an edge to one of the states behind
+-- a hop is an edge to one of the states of the next layer
 pub record HopFits (bytes : Piece → List ℕ) (behind : List State) (e : Edge) (h : Hop) : Type 0 where
   pub writes : bytes h.piece ≡ e.bytes
   pub len : h.len ≡ length e.bytes

@@ -1,4 +1,4 @@
--- What steps tell of the graph that they are the steps of.
+-- What steps say about the graph that they are the steps of.
 use Rattle.std.specs.Prelude.{◌≡◌, ℕ, List, Some}
 use Rattle.hm_cert.specs.declared.text.Format.{Format}
 use Rattle.hm_graph.specs.Prices as graph

@@ -1,4 +1,5 @@
--- Prices over steps: the least ones, those that are written, all that these stand for, and those that show a bound.
+-- Prices (potentials: the cost to go) over steps: the least ones, those that are written, all that these stand for, and
+-- those that show a bound.
 use Rattle.std.specs.Prelude.{◌≡◌, ℕ, suc, Bool, not, ◌&&◌, ◌==◌, List, [], ◌∷◌, length, map, Option, Some, None, if◌then◌else◌, slice_index_or}
 use Rattle.std.proofs.Math.ListN.{replicate}
 use Rattle.hm_cert.specs.declared.text.Format.{Format}
@@ -9,7 +10,7 @@ use Rattle.hm_steps.specs.declared.hops.Hop.{Hop}
 
 -- ---- Least prices
 
--- the price over a hop, by the prices of the layer behind
+-- the price over a hop, by the prices of the next layer
 abbrev pub price_over : Row → Hop → Option ℕ
 price_over behind h = over h.len (slice_index_or behind h.to None)
 
@@ -18,7 +19,7 @@ abbrev pub best_price : Row → List Hop → Option ℕ
 best_price behind [] = None
 best_price behind (h ∷ hops) = lesser (price_over behind h) (best_price behind hops)
 
--- the least prices in front of a step
+-- the least prices before a step
 abbrev pub row_over : Row → Step → Row
 row_over behind step = map (best_price behind) step
 
@@ -26,7 +27,7 @@ abbrev pub first_row : List Row → Row
 first_row [] = []
 first_row (row ∷ rows) = row
 
--- the prices of the last layer, which has so many states
+-- the prices of the last layer, which has `last` states
 abbrev pub zeros : ℕ → Row
 zeros last = replicate last (Some 0)
 
@@ -37,8 +38,8 @@ rows_of last (step ∷ steps) = row_over (first_row (rows_of last steps)) step �
 
 -- ---- Written prices
 
--- Whether a layer is left out of a certificate of this format, by the step behind it; k is the number of the layer, and the
--- first one never is.
+-- Whether a layer is left out of a certificate of this format, by the step after it; k is the number of the layer, and
+-- the first one never is.
 abbrev pub is_left_out : Format → ℕ → Step → Bool
 is_left_out format k step = not (k == 0) && leaves_out format step
 

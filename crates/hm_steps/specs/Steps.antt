@@ -6,7 +6,7 @@ use Rattle.hm_cert.specs.declared.text.Format.TheVariants.{One, Two, Three}
 use Rattle.hm_graph.specs.Layers.{is_single}
 use Rattle.hm_steps.specs.declared.hops.Hop.{Hop}
 
--- for each state in front, its hops in the order of its edges
+-- for each state before it, its hops (arcs) in the order of its edges
 abbrev pub Step : Type 0
 Step = List (List Hop)
 
@@ -18,7 +18,7 @@ is_forced step = list_all is_single step
 abbrev pub is_single_step : Step → Bool
 is_single_step step = is_single step && is_forced step
 
--- whether a certificate of a format leaves out the layer in front of a step, where that isn't the first one
+-- whether a certificate of a format leaves out the layer before a step, where that isn't the first one
 abbrev pub leaves_out : Format → Step → Bool
 leaves_out One step = false
 leaves_out Two step = is_single_step step

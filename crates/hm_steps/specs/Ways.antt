@@ -1,4 +1,5 @@
--- Ways over steps, and the first one: at each state the first hop over which the least price comes.
+-- Ways over steps (paths through the layered graph), and the first one: at each state the first hop over which the
+-- least price comes.
 use Rattle.std.specs.Prelude.{◌≡◌, ℕ, suc, List, [], ◌∷◌, ◌++◌, map, Option, Some, None, if◌then◌else◌, slice_get, slice_index_or}
 use Rattle.hm_graph.specs.Prices.{Row}
 use Rattle.hm_graph.specs.Ways.{same_price}
@@ -19,7 +20,7 @@ WayOver bytes (unit ∷ units) (step ∷ steps) place b =
 
 -- ---- The first way
 
--- the place of the first hop over which a price comes; behind the last where there is none
+-- the place of the first hop over which a price comes; after the last where there is none
 abbrev pub place_over : Row → Option ℕ → List Hop → ℕ
 place_over behind price [] = 0
 place_over behind price (h ∷ hops) = if same_price (price_over behind h) price then 0 else suc (place_over behind price hops)
@@ -28,7 +29,7 @@ place_over behind price (h ∷ hops) = if same_price (price_over behind h) price
 abbrev pub choice : Row → List Hop → ℕ
 choice behind hops = place_over behind (best_price behind hops) hops
 
--- the choices in front of a step, where there is something to choose
+-- the choices before a step, where there is something to choose
 abbrev pub step_choices : Row → Step → List ℕ
 step_choices behind step = if is_forced step then [] else map (choice behind) step
 
@@ -37,7 +38,7 @@ abbrev pub choices_of : ℕ → List Step → List ℕ
 choices_of last [] = []
 choices_of last (step ∷ steps) = choices_of last steps ++ step_choices (first_row (rows_of last steps)) step
 
--- the hop that the first way takes from a place, by the prices behind
+-- the hop that the first way takes from a place, by the next layer's prices
 abbrev pub hop_taken : Row → Step → ℕ → Option Hop
 hop_taken behind step place = slice_get (slice_index_or step place []) (choice behind (slice_index_or step place []))
 

@@ -27,7 +27,7 @@ goes_on g S C from mid left old between new one more = record {
   comes = λ units text h. one.comes units text (more.comes units text h);
 }
 
--- with more units behind
+-- with more units after them
 pub goes_front : {W : Type 0} (g : GraphView) (S : ℕ → W → Type 0) (C : List Unit → ℕ → W → List ℕ → Type 0) (us more : List Unit) (old new : Walk W) → Goes g S C us [] old new → Goes g S C (us ++ more) more old new
 goes_front g S C us more old new one = record {
   count = omega (arith, one.count, length-append us more);
@@ -123,7 +123,8 @@ parts_all g S C parts n old new past taken = subst (λ x. Goes g S C (parts_unit
 
 -- ---- The events of a tree
 
--- the units that are left at event i are those of the steps that are left, and a text to which they come is one to which the walker came from the start
+-- The units that are left at event i are those of the steps that are left. A text to which they come is one to which
+-- the walker came from the start.
 pub record EventsTaken {W : Type 0} (rules : SpellRules) (w : List Event) (g : GraphView) (S : ℕ → W → Type 0) (C : List Unit → ℕ → W → List ℕ → Type 0) (start : W) (i : ℕ) (walk : Walk W) : Type 0 where
   pub count : walk.at.layer + length (units_left rules w i) ≡ length g.steps
   pub place : IsPlace g walk.at

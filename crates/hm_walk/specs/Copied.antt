@@ -9,6 +9,6 @@ abbrev pub IsCopied : Step → Option ℕ → Type 0
 IsCopied step None = ⊥
 IsCopied step (Some place) = (is_forced step ≡ true) × Copies place (slice_index_or step place [])
 
--- the n steps behind layer k are such steps
+-- the n steps after layer k are such steps
 abbrev pub AreCopied : GraphView → ℕ → ℕ → Option ℕ → Type 0
 AreCopied g k n place = (j : ℕ) → k ≤ j → j < k + n → IsCopied (slice_index_or g.steps j []) place

@@ -4,8 +4,8 @@ use Rattle.hm_layers.specs.Graphs.{GraphView, IsPlace}
 use Rattle.hm_units.specs.Units.{TextKind, Unit, character_units}
 use Rattle.hm_walk.specs.declared.walks.Walk.{Walk}
 
--- The walk went from these units on up to those that are left of them, by where its walker may stand and the texts to which it comes:
--- to which it comes from here, it comes from there.
+-- The walk went from the units `from` up to those in `left`. Its walker may stand at the new place, and each text to
+-- which it comes from there is one to which it came from the old place.
 pub record Goes {W : Type 0} (g : GraphView) (S : ℕ → W → Type 0) (C : List Unit → ℕ → W → List ℕ → Type 0) (from left : List Unit) (old new : Walk W) : Type 0 where
   pub count : new.at.layer + length left ≡ old.at.layer + length from
   pub place : IsPlace g new.at

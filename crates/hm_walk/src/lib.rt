@@ -1,4 +1,4 @@
-//! Goes over the steps of a tree's graph, unit by unit. What is done at a step is the walker's own.
+//! Goes over the steps of a tree's graph, unit by unit. What is done at a step is up to the walker.
 #![tactic(auto)]
 
 mod copied;

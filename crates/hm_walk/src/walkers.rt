@@ -1,4 +1,4 @@
-//! What goes over the steps of a graph.
+//! A visitor of the steps of a graph.
 ghost use Rattle.std.specs.Prelude.{◌≡◌, ◌<◌, ◌≤◌, ◌+◌, ◌++◌, ◌∷◌, ℕ, List, length, OnOk};
 ghost use Rattle.std.specs.Str.{IsAscii};
 ghost use Rattle.std.specs.declared.option.Option.{Option};
@@ -15,9 +15,9 @@ use hm_layers::{Cursor, Graph};
 use hm_pieces::Own;
 use hm_refs::Table;
 
-/// What goes over the steps of a tree's graph, unit by unit.
+/// A visitor that is called for each step of a tree's graph, unit by unit.
 pub trait Walker: Drop {
-    /// Why it doesn't go on.
+    /// Why it stops.
     type Stop: From<Memory> + Drop;
 
     // whether it may stand at a layer
@@ -33,7 +33,7 @@ pub trait Walker: Drop {
     fn place(&self) -> Option<usize>
         ensures { result ≡ place self.now };
 
-    /// Takes the step behind a layer, which is that of a unit with these bytes of its own.
+    /// Takes the step after a layer, which is that of a unit with these bytes of its own.
     fn take(&mut self, graph: &Graph, at: Cursor, table: &Table, own: Own) -> Result<(), Self::Stop>
         requires place { IsPlace graph.now at }
         requires inside { at.layer < length graph.now.steps }
@@ -43,7 +43,7 @@ pub trait Walker: Drop {
         ensures comes { OnOk result ((u : units.Unit) (more : List units.Unit) (text : List ℕ) → own_bytes u ≡ own_text own.entry
             → comes table.now.entries graph.now more (at.layer + 1) self.new text → comes table.now.entries graph.now (u ∷ more) at.layer self.old text) };
 
-    /// Takes the steps behind a layer that copy these bytes, each that of a character.
+    /// Takes the steps after a layer that copy these bytes, each that of a character.
     fn copy(&mut self, graph: &Graph, at: Cursor, bytes: &[u8]) -> Result<(), Self::Stop>
         requires inside { at.layer + length bytes.now ≤ length graph.now.steps }
         requires stands { stands graph.now at.layer self.old }

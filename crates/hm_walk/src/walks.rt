@@ -182,7 +182,7 @@ fn take_parts<W: Walker>(
     Ok(())
 }
 
-/// Goes over the units of a tree, and gives the walker behind the last step.
+/// Goes over the units of a tree, and gives the walker after the last step.
 pub fn walk_over<W: Walker>(
     alloc: Global,
     tree: &Tree,

@@ -53,7 +53,7 @@ none_counted p (w ∷ ws) e = by_test (p w) refl (none_counted p ws)
     by_test true t more = let h = counted p w ws true t in absurd (omega arith)
     by_test false t more = let h = counted p w ws false t in rw t (more (omega arith))
 
--- a word stands once: behind it there is no other
+-- a word stands once: after it there is no other
 pub once : (w x : Text) (ws : List Text) → bytes_eq w x ≡ true → is_single (w ∷ ws) x ≡ true → has ws x ≡ false
 once w x ws same single =
     let h = counted (λ y. bytes_eq y x) w ws true same in
@@ -156,7 +156,7 @@ row_ends name (w ∷ ws) rows p apart known single none =
     by_test false true t s flag plain = absurd (true≢false (sym s ∙ no_dashed w name t))
     by_test false false t s flag plain = rw (t, s) (plain (single_rest w (dashed name) ws s single) named_none)
 
--- the names are the words that are no flags, behind those that were there
+-- the names are the words that are no flags, after those that were there
 pub names_end : (ws : List Text) (rows : List Row) (p : Option Text) → are_known flags ws ≡ true → values_at (codes "names") (end_rows ws rows p) ≡ values_at (codes "names") (with_name p rows) ++ names_in ws
 names_end [] rows p known = sym (append-nil _)
 names_end (w ∷ ws) rows p known =

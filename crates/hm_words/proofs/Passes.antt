@@ -89,7 +89,7 @@ ends_well : List Text → Walk → Bool
 ends_well ws end = entered_passes (built line) end.stopped && (walk_passes shape [] (stands [] None) ws && (settle_passes rules false end.held
     && (list_all default_passes rules && is_valid shape (finished rules end.held) (is_some (entered (built line) end.stopped)))))
 
--- words that may be read are taken: a parse fails for want of memory alone
+-- words that may be read are taken: a parse fails for lack of memory alone
 pub taken : (ws : List Text) → are_known flags ws ≡ true → are_single flags ws ≡ true → takes line ws ≡ true
 unfolding ends_well
 taken ws known single =

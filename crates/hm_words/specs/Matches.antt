@@ -7,7 +7,7 @@ use Rattle.clap.specs.declared.builder.action.ArgAction.TheVariants.{SetTrue, Ap
 use Rattle.clap.specs.declared.parser.matches.ArgMatches.{ArgMatches}
 use Rattle.hm_words.specs.Words.{flags, has, names_in}
 
--- the word of a flag: its name behind two hyphens
+-- the word of a flag: its name after two hyphens
 abbrev pub dashed : List ℕ → List ℕ
 dashed name = 45 ∷ 45 ∷ name
 

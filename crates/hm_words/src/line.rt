@@ -51,7 +51,7 @@ fn line<'t>(alloc: Global) -> Result<Command<'t>, AllocError>
         .arg(Arg::new(alloc, "names").action(ArgAction::Append))
 }
 
-/// What clap finds in words that can be read. The only error is want of memory.
+/// What clap finds in words that can be read. The only error is lack of memory.
 pub fn parse<'w>(alloc: Global, words: &'w [Word]) -> Result<ArgMatches<'w>, Error>
     requires readable { answers.are_readable words.now ≡ true }
     ensures ok { IfOk result (IsMatched words.now) }

@@ -39,7 +39,7 @@ pub enum Command<'w> {
         table: &'w str,
         page: &'w str,
     },
-    /// A page that is made of a number, with so many blocks, is written shortest and checked.
+    /// A page of `size` blocks that is made of a number is written shortest and checked.
     Measure {
         table: &'w str,
         number: u32,

@@ -25,7 +25,7 @@ const NEAR: &str =
 const RAISED: &str =
     "html-cert 2\nrules omit unquote\n1000000000 999999999\n1000100 1000099 1000000\n1000099 - 999999\n200 199 100 101 200 199 999\n100 9 0\n99 98\n";
 
-/// The text of a certificate, written from its end and turned round.
+/// The text of a certificate, written from its end and reversed.
 fn reversed(
     alloc: Global,
     format: Format,

@@ -40,10 +40,10 @@ fn element_alone(alloc: Global, name: &str, attr: &str, value: &str) -> Result<T
     Ok(maker.finish())
 }
 
-/// A step: how many states are in front of it, how many hops the first of them has, and whether each has one.
+/// A step: how many states are before it, how many hops the first of them has, and whether each has one.
 type Shown = (usize, usize, bool);
 
-/// Whether the graph has these steps, and so many states behind them.
+/// Whether the graph has these steps, and `last` states after them.
 fn is_like(graph: &Graph, wanted: &[Shown], last: usize) -> bool {
     if graph.len() != wanted.len() || graph.last() != last {
         return false;
@@ -63,7 +63,7 @@ fn is_like(graph: &Graph, wanted: &[Shown], last: usize) -> bool {
     true
 }
 
-/// `a<b`: behind the `<` as itself no letter may stand.
+/// `a<b`: after the `<` as itself no letter may stand.
 #[test]
 fn less_than(rt: HostRuntime) -> Result<(), Fail> {
     let table = Table::read(rt.alloc(), NONE.as_bytes())?;
@@ -74,7 +74,7 @@ fn less_than(rt: HostRuntime) -> Result<(), Fail> {
     Ok(())
 }
 
-/// `<p id=x></p>`: three ways to write the value. Behind either quote the state is the same.
+/// `<p id=x></p>`: three ways to write the value. After either quote the state is the same.
 #[test]
 fn value(rt: HostRuntime) -> Result<(), Fail> {
     let table = Table::read(rt.alloc(), NONE.as_bytes())?;

@@ -268,7 +268,7 @@ fn second_section(rt: HostRuntime) -> Result<(), Fail> {
     Ok(())
 }
 
-/// `<table><caption>x</caption><script></script><tr><td>y</td></tr></table>`: a script behind a caption keeps its end tag.
+/// `<table><caption>x</caption><script></script><tr><td>y</td></tr></table>`: a script after a caption keeps its end tag.
 #[test]
 fn caption_before_a_script(rt: HostRuntime) -> Result<(), Fail> {
     let steps = [
@@ -307,7 +307,7 @@ fn caption_before_a_script(rt: HostRuntime) -> Result<(), Fail> {
     Ok(())
 }
 
-/// `<span><p>x</p></span>`: a paragraph keeps its end tag in an element that may hold no other one behind it.
+/// `<span><p>x</p></span>`: a paragraph keeps its end tag in an element that may hold no other one after it.
 #[test]
 fn paragraph_in_a_span(rt: HostRuntime) -> Result<(), Fail> {
     let steps = [

@@ -15,7 +15,7 @@ enum NoWords {
     Memory,
 }
 
-/// The words behind the program's name.
+/// The words after the program's name.
 fn words<R: Env + AllocGlobal>(rt: &R) -> Result<Vec<Word>, NoWords> {
     let mut words = Vec::new(rt.alloc());
     match env::args(rt) {

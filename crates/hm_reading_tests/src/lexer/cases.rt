@@ -1,7 +1,8 @@
-//! Pages and their tokens, after the HTML Standard (13.2.5). In each line a page stands before ` ⇒ `, and behind it what is
-//! printed of its tokens.
+//! Pages and their tokens, after the HTML Standard (#tokenization). In each line a page stands before ` ⇒ `, and after
+//! it what is printed of its tokens.
 
-/// Text, comments and doctypes (13.2.5.1, 13.2.5.6 to 13.2.5.7, 13.2.5.41 to 13.2.5.68, 13.2.5.72 to 13.2.5.80).
+/// Text, comments and doctypes (#data-state, #tag-open-state to #end-tag-open-state, #bogus-comment-state to
+/// #bogus-doctype-state, #character-reference-state to #numeric-character-reference-end-state).
 pub(crate) const ORDINARY: &str = "\
     a<b>c ⇒ |a|<b>|c|\n\
     a<1> ⇒ |a<1>|\n\
@@ -57,7 +58,7 @@ pub(crate) const ORDINARY: &str = "\
     <!doctype html PUBLIC \"x\"> ⇒ !BadDoctype at 0\n\
     a<!doctype html ⇒ |a|!Cut at 1\n";
 
-/// Tags and their attributes (13.2.5.8 and 13.2.5.32 to 13.2.5.40).
+/// Tags and their attributes (#tag-name-state and #before-attribute-name-state to #self-closing-start-tag-state).
 pub(crate) const TAGS: &str = "\
     <DIV CLASS=A> ⇒ <div class=[A]>\n\
     <br/> ⇒ <br/>\n\
@@ -113,7 +114,9 @@ pub(crate) const TAGS: &str = "\
     <a b=&#x41g> ⇒ <a b=[Ag]>\n\
     <a b=\"&#x41;&lt;&\"> ⇒ <a b=[A<&]>\n";
 
-/// The texts of title, textarea, style, iframe and script, and text in SVG (13.2.5.2 to 13.2.5.4, 13.2.5.9 to 13.2.5.31, 13.2.5.69 to 13.2.5.71).
+/// The texts of title, textarea, style, iframe and script, and text in SVG (#rcdata-state to #script-data-state,
+/// #rcdata-less-than-sign-state to #script-data-double-escape-end-state, #cdata-section-state to
+/// #cdata-section-end-state).
 pub(crate) const ELEMENTS: &str = "\
     <title>a<b>&amp;</b></TITLE >c ⇒ <title>|a<b>&</b>|</title>|c|\n\
     <title>&lt;&lt</title> ⇒ <title>|<<|</title>\n\

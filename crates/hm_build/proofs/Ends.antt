@@ -1,66 +1,35 @@
--- The end of the text of a page.
-use Rattle.std.proofs.Common.{◌≡◌, ℕ, ◌+◌, ◌*◌, ◌^◌, ◌≤◌, ◌<◌, true, List, [], length, map, refl, sym, ap, ◌∙◌, subst, arith}
-use Rattle.std.specs.Prelude.{Result, Ok, Err, IfOk}
-use Rattle.std.specs.Str.{IsUtf8}
-use Rattle.std.proofs.lemmas.Str.{is_utf8-from_IsUtf8}
-use Rattle.hm_base.specs.Bytes.{all_pass}
-use Rattle.hm_base.specs.Source.{Source, byte_of, is_text_byte}
-use Rattle.hm_base.specs.Walks.{Event}
-use Rattle.hm_elements.specs.Settled.{Settled}
-use Rattle.hm_refs.specs.Names.{Entry}
-use Rattle.hm_refs.specs.Tables.{IsTable}
-use Rattle.hm_tokens.specs.Laws.{IsPlain, SoundNames}
-use Rattle.hm_construction.proofs.Built.{what_is_built_is_settled}
-use Rattle.hm_base.specs.declared.rules.Refused.{Refused}
-use Rattle.hm_construction.specs.Steps.{Stepped, went, stops, step_over, first_state}
-use Rattle.hm_construction.specs.Trees.{Outcome, built, refused_by, after_events, stepped, tree_from, tree_of_source}
-use Rattle.hm_lexer.specs.Reading.{Reading, text_of}
-use Rattle.hm_builder.specs.Building.{Building, first_building, Fits, IsBuilt, IsRefused}
-use Rattle.hm_builder.specs.declared.fault.BuildFault.{BuildFault}
-use Rattle.hm_builder.specs.declared.fault.BuildFault.TheVariants as faults
-use Rattle.hm_builder.proofs.Events.{grown_is}
-use Rattle.hm_build.specs.Parsing.{IsParsing, IsRead, tree_of, place_of, span_of}
-use Rattle.hm_build.proofs.Room.{first_within, over_fits, over_stops_there}
+-- The ends of the innermost elements, appended to a walk one by one.
+use Rattle.std.proofs.Common.{◌≡◌, ℕ, ◌+◌, ◌<◌, ◌≤◌, List, [], ◌∷◌, ◌++◌, map, length, take, drop, sym, ap, ◌∙◌, refl, arith, append-nil, append_assoc, length-drop, add-one, drop-cons, get_or, false}
+use Rattle.std.proofs.lemmas.List.{take_more, map-append}
+use Rattle.hm_base.specs.Walks.{Event, Element, path_behind, path_after}
+use Rattle.hm_construction_laws.specs.Steps.{end_event}
+use Rattle.hm_tree.specs.Trees.{end_of}
+use Rattle.hm_tree.proofs.WalkLemmas.{path_after-push}
 
-pub end_fits : (r : Reading) (b : Building) (s : List ℕ) → IsRead r b → text_of r ≡ s → 6 * length s + 13 < 2 ^ 29 → Fits (step_over b.state) b.walk
-end_fits r b s k t short = over_fits (length (text_of r)) (length (text_of r)) b.walk b.state k.within (omega arith) (subst (λ x. 6 * length x + 13 < 2 ^ 29) (sym t) short)
+-- `count` elements have ended
+pub record EndsSoFar (w : List Event) (path : List Element) (count : ℕ) (now : List Event) : Type 0 where
+  pub walk : now ≡ w ++ map end_event (take count path)
+  pub open_still : path_after [] now ≡ drop count path
+  pub within : count ≤ length path
 
-pub end_built : (r : Reading) (b : Building) (tree : List Event) → IsRead r b → IsBuilt (step_over b.state) b.walk tree → tree_of r ≡ built tree
-end_built r b tree k done = by (step_over b.state) refl done
-  where
-    by : (x : Stepped) → step_over b.state ≡ x → IsBuilt x b.walk tree → tree_of r ≡ built tree
-    by (stops rule n) e i = absurd i
-    by (went es st) e i = k.ends ∙ ap (λ x. after_events b.walk (stepped (place_of r.source) (length (text_of r)) x (λ next. built []))) e ∙ ap built (sym (grown_is b.walk es) ∙ sym i)
+pub no_end : (w : List Event) → EndsSoFar w (path_after [] w) 0 w
+no_end w = record { walk = sym (append-nil w); open_still = refl; within = omega arith }
 
-pub end_inside : (b : Building) (fault : BuildFault) (n : ℕ) → IsRefused (step_over b.state) fault → n + span_of fault ≤ n
-end_inside b faults.Memory n f = omega arith
-end_inside b (faults.Rule rule k) n f = let z : k ≡ 0 = over_stops_there b.state rule k f in omega arith
+no_element : Element
+no_element = record { name = []; foreign = false }
 
--- further on it is the tree of the same text
-pub same_tree : (old new : Reading) → new.names ≡ old.names → new.source ≡ old.source → tree_of new ≡ tree_of old
-same_tree old new e f = ap (λ t. tree_of (record new { names = t })) e ∙ ap (λ p. tree_of (record old { source = p })) f
+pub one_end : (w now next : List Event) (path : List Element) (count : ℕ) → EndsSoFar w path count now → count < length path → next ≡ now ++ end_of (path_after [] now) → EndsSoFar w path (count + 1) next
+one_end w now next path count so_far h is =
+    let e : Element = get_or path count no_element in
+    let open_now : path_after [] now ≡ e ∷ drop (count + 1) path = so_far.open_still ∙ (rw add-one (drop-cons path count no_element h)) in
+    let ends : next ≡ now ++ end_event e ∷ [] = is ∙ ap (λ p. now ++ end_of p) open_now in
+    record {
+      walk =
+          ends ∙ ap (λ v. v ++ end_event e ∷ []) so_far.walk ∙ append_assoc w (map end_event (take count path)) (end_event e ∷ [])
+          ∙ ap (λ v. w ++ v) (sym (ap (map end_event) (take_more path count no_element h) ∙ map-append end_event (take count path) (e ∷ [])));
+      open_still = ap (path_after []) ends ∙ path_after-push [] now (end_event e) ∙ ap (λ p. path_behind p (end_event e)) open_now;
+      within = omega arith;
+    }
 
--- before the first token
-pub begins : (t : List Entry) (page : Source) → IsPlain (map byte_of page.placed) → IsParsing (record { names = t; source = page; at = 0 }) first_building
-unfolding tree_of_source
-begins t page plain = record { inside = omega arith; goes_on = nothing (tree_from t (place_of page) 0 0 first_state (map byte_of page.placed)); within = first_within; plain = plain }
-  where
-    nothing : (o : Outcome) → o ≡ after_events [] o
-    nothing (built w) = refl
-    nothing (refused_by rule at) = refl
-
-pub plain_text : (page : Source) (s : List ℕ) → s ≡ map byte_of page.placed → all_pass is_text_byte s ≡ true → IsUtf8 s → IsPlain (map byte_of page.placed)
-plain_text page s is plain utf8 = subst IsPlain is (record { bytes = plain; utf8 = is_utf8-from_IsUtf8 s utf8 })
-
--- what holds of the names of a table
-pub sound_names : (t : List Entry) → IsTable t → SoundNames t
-sound_names t h = record { good = h.good; pointed = h.pointed }
-
-pub settled_here : (t : List Entry) (page : Source) (s : List ℕ) (r : Reading) (tree : List Event) → IsTable t → s ≡ map byte_of page.placed → all_pass is_text_byte s ≡ true → IsUtf8 s → r.names ≡ t → r.source ≡ page → tree_of r ≡ built tree → Settled tree
-settled_here t page s r tree h is plain utf8 e f k =
-    what_is_built_is_settled t page tree (sound_names t h) (plain_text page s is plain utf8)
-    (sym (same_tree (record { names = t; source = page; at = r.at }) r e f) ∙ k)
-
-pub all_settled : (t : List Entry) (page : Source) (s : List ℕ) (r : Reading) (result : Result (List Event) Refused) → IsTable t → s ≡ map byte_of page.placed → all_pass is_text_byte s ≡ true → IsUtf8 s → r.names ≡ t → r.source ≡ page → IfOk result (λ tree. tree_of r ≡ built tree) → IfOk result (λ tree. Settled tree)
-all_settled t page s r (Ok tree) h is plain utf8 e f k = settled_here t page s r tree h is plain utf8 e f k
-all_settled t page s r (Err refused) h is plain utf8 e f k = tt
+pub some_open : (w now : List Event) (path : List Element) (count : ℕ) → EndsSoFar w path count now → count < length path → 0 < length (path_after [] now)
+some_open w now path count so_far h = omega (arith, ap length so_far.open_still, length-drop count path)

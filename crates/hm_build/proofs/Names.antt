@@ -7,8 +7,8 @@ use Rattle.hm_base.specs.Walks.{Element}
 use Rattle.hm_elements.specs.Names.{is_among, script}
 use Rattle.hm_elements.specs.Tables.{holds_text, is_raw, raw_names, is_rcdata, rcdata_names}
 use Rattle.hm_elements.specs.Paths.{is_in_svg, is_in_text}
-use Rattle.hm_tokens.specs.First.{ordinary}
-use Rattle.hm_construction.specs.Trees.{mode_of, mode_of_name}
+use Rattle.hm_token_laws.specs.First.{ordinary}
+use Rattle.hm_construction_laws.specs.Trees.{mode_of, mode_of_name}
 
 differs : (n m : List ℕ) → (n ≡ m → ⊥) → (bytes_eq m n ≡ false) × (bytes_eq n m ≡ false)
 differs n m h = (by (bytes_eq m n) (bytes_eq-Decides m n) (λ e. h (sym e)), by (bytes_eq n m) (bytes_eq-Decides n m) h)

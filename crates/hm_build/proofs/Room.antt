@@ -5,12 +5,12 @@ use Rattle.hm_base.specs.Walks.{Event, doctype, start, text, comment, end, Eleme
 use Rattle.hm_base.specs.declared.rules.Rule.{Rule}
 use Rattle.hm_tree.specs.Tokens.{Seen, doctype as doctype_token, start_tag, end_tag, slice, points, comment as comment_token}
 use Rattle.hm_tree.specs.Trees.{HasRoom}
-use Rattle.hm_tokens.specs.Laws.{token_size, least_size, growth}
-use Rattle.hm_construction.specs.Steps.{Construction, Stepped, went, stops, step, step_over, first_state}
-use Rattle.hm_builder.specs.Building.{Fits, grown}
-use Rattle.hm_construction.specs.Weights.{weight, load, load_size, cost, size_cost, span, Within, WithinAll}
+use Rattle.hm_token_laws.specs.Laws.{token_size, least_size, growth}
+use Rattle.hm_construction_laws.specs.Steps.{Construction, Stepped, went, stops, step, step_over, first_state}
+use Rattle.hm_build.specs.Building.{Fits, grown}
+use Rattle.hm_construction_laws.specs.Weights.{weight, load, load_size, cost, size_cost, span, Within, WithinAll}
 use Rattle.hm_build.specs.Parsing.{IsWithin}
-use Rattle.hm_construction.proofs.Weights.{weight-append, walk_size-append, step_within, over_within}
+use Rattle.hm_construction_laws.proofs.Weights.{weight-append, walk_size-append, step_within, over_within}
 
 pub first_within : IsWithin 0 [] first_state
 first_within = record { events = omega arith; bytes = omega arith }

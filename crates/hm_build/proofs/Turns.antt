@@ -13,16 +13,16 @@ use Rattle.hm_tree.specs.Tokens.{Seen, seen, taken, refused, doctype, start_tag,
 use Rattle.hm_tree.specs.declared.tokens.Placed.{Placed}
 use Rattle.hm_tree.specs.declared.tokens.Spanned.{Spanned}
 use Rattle.hm_tree.specs.declared.tokens.Tag.{Tag}
-use Rattle.hm_tokens.specs.First.{Mode, at_end, behind_bytes, first}
-use Rattle.hm_tokens.specs.Laws.{IsPlain, SoundNames, SoundToken, TakesBytes, token_size, least_size, growth}
-use Rattle.hm_tokens.proofs.Firsts.{tokens_are_small, tokens_are_sound}
-use Rattle.hm_construction.specs.Steps.{Construction, Stepped, went, stops, step}
-use Rattle.hm_construction.specs.Trees.{Outcome, refused_by, after_events, mode_of, stepped, over, tree_from}
-use Rattle.hm_construction.proofs.Modes.{is_mode, markup_no_text}
+use Rattle.hm_token_laws.specs.First.{Mode, at_end, behind_bytes, first}
+use Rattle.hm_token_laws.specs.Laws.{IsPlain, SoundNames, SoundToken, TakesBytes, token_size, least_size, growth}
+use Rattle.hm_token_laws.proofs.Firsts.{tokens_are_small, tokens_are_sound}
+use Rattle.hm_construction_laws.specs.Steps.{Construction, Stepped, went, stops, step}
+use Rattle.hm_construction_laws.specs.Trees.{Outcome, refused_by, after_events, mode_of, stepped, over, tree_from}
+use Rattle.hm_construction_laws.proofs.Modes.{is_mode, markup_no_text}
 use Rattle.hm_lexer.specs.Reading.{Reading, text_of, next_of, Gives, IsTaken, Refuses}
-use Rattle.hm_builder.specs.Building.{Building, Fits, IsStepped, IsRefused, grown}
-use Rattle.hm_builder.specs.declared.fault.BuildFault.{BuildFault}
-use Rattle.hm_builder.specs.declared.fault.BuildFault.TheVariants as faults
+use Rattle.hm_build.specs.Building.{Building, Fits, IsStepped, IsRefused, grown}
+use Rattle.hm_build.specs.declared.fault.BuildFault.{BuildFault}
+use Rattle.hm_build.specs.declared.fault.BuildFault.TheVariants as faults
 use Rattle.hm_build.specs.Parsing.{IsParsing, IsReadUnder, IsRead, IsFurther, IsRefusedAs, IsWithin, tree_of, place_of, answer_of, span_of}
 use Rattle.hm_build.proofs.Reading.{goes_on, ends_here, is_faulty, after_grown}
 use Rattle.hm_build.proofs.Room.{step_fits, step_stays, stops_inside, within_further}

@@ -1,1 +1,4 @@
+pub mod Building
+pub mod Inside
+pub mod BeforeBody
 pub mod Parsing

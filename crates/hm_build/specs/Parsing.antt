@@ -5,15 +5,15 @@ use Rattle.hm_base.specs.Walks.{Event, Element, walk_size}
 use Rattle.hm_base.specs.declared.rules.Refused.{Refused}
 use Rattle.hm_base.specs.declared.rules.Refused.TheVariants as answers
 use Rattle.hm_elements.specs.Paths.{is_in_text}
-use Rattle.hm_tokens.specs.Laws.{IsPlain}
+use Rattle.hm_token_laws.specs.Laws.{IsPlain}
 use Rattle.hm_tree.specs.Tokens.{Seen, doctype, start_tag, end_tag, slice, points, comment}
-use Rattle.hm_construction.specs.Steps.{Construction}
-use Rattle.hm_construction.specs.Trees.{Outcome, refused_by, after_events, over, tree_from, tree_of_source}
+use Rattle.hm_construction_laws.specs.Steps.{Construction}
+use Rattle.hm_construction_laws.specs.Trees.{Outcome, refused_by, after_events, over, tree_from, tree_of_source}
 use Rattle.hm_lexer.specs.Reading.{Reading, text_of}
-use Rattle.hm_builder.specs.Building.{Building}
-use Rattle.hm_builder.specs.declared.fault.BuildFault.{BuildFault}
-use Rattle.hm_builder.specs.declared.fault.BuildFault.TheVariants as faults
-use Rattle.hm_construction.specs.Weights.{weight, load, load_size}
+use Rattle.hm_build.specs.Building.{Building}
+use Rattle.hm_build.specs.declared.fault.BuildFault.{BuildFault}
+use Rattle.hm_build.specs.declared.fault.BuildFault.TheVariants as faults
+use Rattle.hm_construction_laws.specs.Weights.{weight, load, load_size}
 
 -- why there is no tree; lack of memory has no cause in the page
 abbrev pub IsRefusedAs : Outcome → Refused → Type 0

@@ -1,7 +1,21 @@
-//! The tree of a page (HTML Standard, #parsing), or its first refusal.
+//! `parse`: the tree of a page, built token by token by the insertion modes of the HTML Standard.
 #![tactic(auto)]
 
+mod before_body;
+mod builder;
+mod end_tag;
+mod fault;
+mod finish;
+mod insertion;
+mod make;
+mod moves;
+mod other;
 mod page;
+mod parts;
+mod start_tag;
+mod text;
 mod tokens;
 
+pub use builder::TreeBuilder;
+pub use fault::BuildFault;
 pub use page::parse;

@@ -1,13 +1,13 @@
 //! The tree of a page.
 ghost use Rattle.std.specs.Prelude.{◌≡◌, ◌≤◌, ◌<◌, ◌+◌, ℕ, Ok, true, false, length, IfOk, OnOk, IfErr};
 ghost use Rattle.hm_elements.specs.Settled.{Settled};
-ghost use Rattle.hm_tokens.specs.Laws.{SoundNames};
-ghost use Rattle.hm_construction.specs.Trees.{built, tree_of_source};
+ghost use Rattle.hm_token_laws.specs.Laws.{SoundNames};
+ghost use Rattle.hm_construction_laws.specs.Trees.{built, tree_of_source};
 ghost use Rattle.hm_build.specs.Parsing.{IsFurther, IsParsing, IsRead, IsRefusedAs, answer_of, place_of, span_of, tree_of};
 
 use crate::tokens::{mode, take};
+use crate::{BuildFault, TreeBuilder};
 use hm_base::{Memory, Refused, SourceText};
-use hm_builder::{BuildFault, TreeBuilder};
 use hm_lexer::Lexer;
 use hm_refs::Table;
 use hm_refs::laws::every_table;

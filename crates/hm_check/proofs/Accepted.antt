@@ -2,13 +2,13 @@
 use Rattle.std.proofs.Common.{◌≡◌, ◌==◌, ℕ, suc, Bool, true, false, not, ◌&&◌, List, [], ◌∷◌, length, map, Some, None, cond, refl, ap, ◌∙◌, subst, arith}
 use Rattle.std.proofs.lemmas.Bool.{eq-eqb, le-ltb}
 use Rattle.std.proofs.lemmas.List.{length-map}
-use Rattle.hm_units.specs.States.{State}
-use Rattle.hm_units.specs.Units.{Unit}
-use Rattle.hm_graph.specs.Layers.{LayerTest, states_behind, first_layer, written, written_from}
-use Rattle.hm_graph.specs.Prices.{Row, first_price, least_prices, written_rows, full}
-use Rattle.hm_graph.specs.Ways.{Edges, least}
-use Rattle.hm_graph.proofs.LeastPrices.{least_feasible}
-use Rattle.hm_graph.proofs.WrittenRows.{full_is_least, some_written}
+use Rattle.hm_graph_laws.specs.States.{State}
+use Rattle.hm_graph_laws.specs.Units.{Unit}
+use Rattle.hm_graph_laws.specs.Layers.{LayerTest, states_behind, first_layer, written, written_from}
+use Rattle.hm_graph_laws.specs.Prices.{Row, first_price, least_prices, written_rows, full}
+use Rattle.hm_graph_laws.specs.Ways.{Edges, least}
+use Rattle.hm_graph_laws.proofs.LeastPrices.{least_feasible}
+use Rattle.hm_graph_laws.proofs.WrittenRows.{full_is_least, some_written}
 use Rattle.hm_check.specs.Rows.{other_width, high_price}
 use Rattle.hm_check.specs.Verdicts.{by_first, by_high, by_full, by_width, by_rows}
 use Rattle.hm_check.specs.declared.verdicts.Verdict.TheVariants.{Yes, No}

@@ -16,17 +16,17 @@ use Rattle.hm_base.specs.declared.rules.Rule.{Rule}
 use Rattle.hm_base.specs.declared.rules.Rule.TheVariants as rules
 use Rattle.hm_build.specs.Parsing.{IsRefusedAs}
 use Rattle.hm_cert.specs.declared.certificate.Certificate.{Certificate}
-use Rattle.hm_construction.specs.Trees.{Outcome, built, refused_by, page_tree, tree_of_source}
+use Rattle.hm_construction_laws.specs.Trees.{Outcome, built, refused_by, page_tree, tree_of_source}
 use Rattle.hm_edges.specs.declared.pieces.Piece.{Piece}
-use Rattle.hm_graph.specs.Layers.{first_layer}
-use Rattle.hm_graph.specs.Prices.{Row}
-use Rattle.hm_graph.specs.Ways.{Edges}
-use Rattle.hm_layers.specs.Graphs.{GraphView, tree_edges}
+use Rattle.hm_graph_laws.specs.Layers.{first_layer}
+use Rattle.hm_graph_laws.specs.Prices.{Row}
+use Rattle.hm_graph_laws.specs.Ways.{Edges}
+use Rattle.hm_graph.specs.Graphs.{GraphView, tree_edges}
 use Rattle.hm_refs.specs.Names.{Entry}
-use Rattle.hm_steps.specs.Fits.{StepsFit}
-use Rattle.hm_outdone.specs.Formats.{follows_by}
+use Rattle.hm_graph.specs.Fits.{StepsFit}
+use Rattle.hm_optimality_laws.specs.Formats.{follows_by}
 use Rattle.hm_tree.specs.Trees.{DifferFirstAt}
-use Rattle.hm_units.specs.Units.{Unit, units_of}
+use Rattle.hm_graph_laws.specs.Units.{Unit, units_of}
 use Rattle.hm_check.specs.Differences.{first_difference}
 use Rattle.hm_check.specs.Steps.{by_rows_over}
 use Rattle.hm_check.specs.Trees.{tree_why}

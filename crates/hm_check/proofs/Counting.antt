@@ -4,10 +4,10 @@ use Rattle.std.proofs.Math.Seq.{drop-length}
 use Rattle.std.proofs.lemmas.Bool.{eqb-true}
 use Rattle.std.proofs.lemmas.List.{drop_more}
 use Rattle.hm_cert.specs.declared.text.Format.{Format}
-use Rattle.hm_graph.specs.Prices.{Row}
-use Rattle.hm_steps.specs.Prices.{is_left_out}
-use Rattle.hm_steps.specs.Steps.{Step, leaves_out}
-use Rattle.hm_layers.specs.Kept.{kept_count}
+use Rattle.hm_graph_laws.specs.Prices.{Row}
+use Rattle.hm_graph.specs.Prices.{is_left_out}
+use Rattle.hm_graph.specs.Steps.{Step, leaves_out}
+use Rattle.hm_graph.specs.Kept.{kept_count}
 use Rattle.hm_check.specs.Steps.{count_over, other_width_over}
 
 pub other_test : (a b : ℕ) → a ≢ b → (a == b) ≡ false

@@ -2,12 +2,12 @@
 use Rattle.std.proofs.Common.{◌≡◌, ◌≤◌, ◌+◌, ◌==◌, ℕ, suc, Bool, true, false, not, ◌&&◌, List, [], ◌∷◌, length, map, min, Option, Some, None, cond, refl, sym, ap, subst, arith}
 use Rattle.std.proofs.lemmas.Bool.{eqb-true, ltb-false, le-ltb}
 use Rattle.std.proofs.lemmas.List.{length-map}
-use Rattle.hm_units.specs.Edges.{Edge, edge_length}
-use Rattle.hm_units.specs.States.{State}
-use Rattle.hm_units.specs.Units.{Unit}
-use Rattle.hm_graph.specs.Layers.{LayerTest, states_behind}
-use Rattle.hm_graph.specs.Prices.{Row, price_at, KeepsEdge, KeepsEdges, KeepsLayer, AreZero, FeasibleFrom, has_width, row_over, with_row, followed_by, full_from}
-use Rattle.hm_graph.specs.Ways.{Edges, lesser, over, best}
+use Rattle.hm_graph_laws.specs.Edges.{Edge, edge_length}
+use Rattle.hm_graph_laws.specs.States.{State}
+use Rattle.hm_graph_laws.specs.Units.{Unit}
+use Rattle.hm_graph_laws.specs.Layers.{LayerTest, states_behind}
+use Rattle.hm_graph_laws.specs.Prices.{Row, price_at, KeepsEdge, KeepsEdges, KeepsLayer, AreZero, FeasibleFrom, has_width, row_over, with_row, followed_by, full_from}
+use Rattle.hm_graph_laws.specs.Ways.{Edges, lesser, over, best}
 use Rattle.hm_check.specs.Rows.{HighPrice, is_above, high_in, high_at_end, or_else, bounds_of, high_price}
 
 -- ---- A price and its bound

@@ -11,14 +11,14 @@ use Rattle.std.proofs.lemmas.Str.{encode_ascii}
 use Rattle.hm_edges.specs.Pieces.{HasName, own_bytes, piece_bytes, piece_text}
 use Rattle.hm_edges.specs.declared.pieces.Piece.{Piece}
 use Rattle.hm_edges.specs.declared.pieces.Piece.TheVariants as pieces
-use Rattle.hm_layers.specs.Copied.{Copies}
-use Rattle.hm_layers.specs.Graphs.{AreNamedHops}
+use Rattle.hm_graph.specs.Copied.{Copies}
+use Rattle.hm_graph.specs.Graphs.{AreNamedHops}
 use Rattle.hm_refs.specs.Names.{Entry}
 use Rattle.hm_refs.specs.Tables.{IsIn, first, later}
-use Rattle.hm_steps.specs.Steps.{Step}
-use Rattle.hm_steps.specs.Ways.{WayOver}
-use Rattle.hm_steps.specs.declared.hops.Hop.{Hop}
-use Rattle.hm_units.specs.Units.{TextKind, Unit, character, character_units, next_of}
+use Rattle.hm_graph.specs.Steps.{Step}
+use Rattle.hm_graph.specs.Ways.{WayOver}
+use Rattle.hm_graph.specs.declared.hops.Hop.{Hop}
+use Rattle.hm_graph_laws.specs.Units.{TextKind, Unit, character, character_units, next_of}
 use Rattle.hm_check.specs.Following.{GoesOverAlike, IsOver, IsWayOn, LeadsTo}
 use Rattle.hm_check.specs.declared.followed.Followed.{Followed}
 use Rattle.hm_check.specs.declared.followed.Taken.{Taken}

@@ -1,18 +1,18 @@
 -- What is found of rows is the same over the steps of the graph.
 use Rattle.std.proofs.Common.{◌≡◌, ℕ, suc, Bool, true, false, not, ◌&&◌, ◌==◌, List, [], ◌∷◌, length, Option, Some, None, cond, refl, ap, ◌∙◌}
 use Rattle.hm_cert.specs.declared.text.Format.{Format}
-use Rattle.hm_units.specs.States.{State}
-use Rattle.hm_units.specs.Units.{Unit}
+use Rattle.hm_graph_laws.specs.States.{State}
+use Rattle.hm_graph_laws.specs.Units.{Unit}
 use Rattle.hm_edges.specs.declared.pieces.Piece.{Piece}
-use Rattle.hm_graph.specs.Layers.{states_behind, first_layer, written, written_from}
-use Rattle.hm_graph.specs.Prices.{Row, price_at, full}
-use Rattle.hm_graph.specs.Ways.{Edges}
-use Rattle.hm_steps.specs.Fits.{StepsFit}
-use Rattle.hm_outdone.specs.Formats.{follows_by}
-use Rattle.hm_steps.specs.Steps.{Step}
-use Rattle.hm_steps.proofs.Places.{tells_price}
-use Rattle.hm_steps.proofs.Rows.{row_agrees}
-use Rattle.hm_steps.proofs.Written.{full_agrees, left_out_agrees, width_agrees}
+use Rattle.hm_graph_laws.specs.Layers.{states_behind, first_layer, written, written_from}
+use Rattle.hm_graph_laws.specs.Prices.{Row, price_at, full}
+use Rattle.hm_graph_laws.specs.Ways.{Edges}
+use Rattle.hm_graph.specs.Fits.{StepsFit}
+use Rattle.hm_optimality_laws.specs.Formats.{follows_by}
+use Rattle.hm_graph.specs.Steps.{Step}
+use Rattle.hm_graph.proofs.StepPlaces.{tells_price}
+use Rattle.hm_graph.proofs.Rows.{row_agrees}
+use Rattle.hm_graph.proofs.Written.{full_agrees, left_out_agrees, width_agrees}
 use Rattle.hm_check.specs.Rows.{OtherWidth, other_width, high_price, high_in, or_else}
 use Rattle.hm_check.specs.Steps.{count_over, other_width_over, high_price_over, by_full_over, by_width_over, by_rows_over}
 use Rattle.hm_check.specs.Verdicts.{by_high, by_full, by_width, by_rows}

@@ -7,25 +7,25 @@ use Rattle.hm_base.specs.declared.plain.SpellRules.{SpellRules}
 use Rattle.hm_base.specs.declared.rules.Rule.{Rule}
 use Rattle.hm_base.specs.declared.rules.Rule.TheVariants as rules
 use Rattle.hm_cert.specs.declared.certificate.Certificate.{Certificate}
-use Rattle.hm_construction.specs.Trees.{Outcome, built, refused_by, page_tree}
+use Rattle.hm_construction_laws.specs.Trees.{Outcome, built, refused_by, page_tree}
 use Rattle.hm_edges.specs.Found.{spelling}
 use Rattle.hm_elements.specs.Settled.{Settled}
 use Rattle.hm_elements.proofs.Events.{is_same}
-use Rattle.hm_graph.specs.Layers.{LayerTest, first_layer, written}
-use Rattle.hm_graph.specs.Prices.{Row, Feasible, first_price, full}
-use Rattle.hm_graph.specs.UnitEdges.{edges_of}
-use Rattle.hm_graph.specs.Ways.{Edges, first_way}
-use Rattle.hm_layers.specs.Graphs.{tree_edges}
+use Rattle.hm_graph_laws.specs.Layers.{LayerTest, first_layer, written}
+use Rattle.hm_graph_laws.specs.Prices.{Row, Feasible, first_price, full}
+use Rattle.hm_graph_laws.specs.UnitEdges.{edges_of}
+use Rattle.hm_graph_laws.specs.Ways.{Edges, first_way}
+use Rattle.hm_graph.specs.Graphs.{tree_edges}
 use Rattle.hm_refs.specs.Names.{Entry}
 use Rattle.hm_refs.specs.Tables.{IsTable}
-use Rattle.hm_spellings.specs.Spellings.{Spells, Shortest, everywhere}
-use Rattle.hm_outdone.specs.Formats.{follows_by}
-use Rattle.hm_units.specs.States.{first_state}
-use Rattle.hm_units.specs.Units.{Unit, units_of}
-use Rattle.hm_ways.specs.Laws.{IsBest}
-use Rattle.hm_read_back.proofs.ReadBack.{spellings_are_read_back}
-use Rattle.hm_ways.proofs.Best.{first_ways_are_best}
-use Rattle.hm_outdone.proofs.Formats.{prices_show, same_first}
+use Rattle.hm_spelling_spec.specs.Spellings.{Spells, Shortest, everywhere}
+use Rattle.hm_optimality_laws.specs.Formats.{follows_by}
+use Rattle.hm_graph_laws.specs.States.{first_state}
+use Rattle.hm_graph_laws.specs.Units.{Unit, units_of}
+use Rattle.hm_optimality_laws.specs.SpellingLaws.{IsBest}
+use Rattle.hm_round_trip_laws.proofs.ReadBack.{spellings_are_read_back}
+use Rattle.hm_optimality_laws.proofs.Best.{first_ways_are_best}
+use Rattle.hm_optimality_laws.proofs.Formats.{prices_show, same_first}
 use Rattle.hm_check.specs.Differences.{first_difference}
 use Rattle.hm_check.specs.Laws.{least_certificate, YesShows, SpellingsAreAccepted, MinifiedIsAccepted}
 use Rattle.hm_check.specs.Rows.{OtherWidth, HighPrice, other_width, high_price}

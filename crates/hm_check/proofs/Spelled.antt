@@ -9,23 +9,23 @@ use Rattle.hm_cert.specs.declared.text.Format.{Format}
 use Rattle.hm_cert.specs.declared.text.Format.TheVariants.{One, Two, Three}
 use Rattle.hm_edges.specs.Pieces.{piece_bytes}
 use Rattle.hm_elements.specs.Settled.{Settled}
-use Rattle.hm_graph.specs.Layers.{first_layer}
-use Rattle.hm_graph.specs.UnitEdges.{edges_of}
-use Rattle.hm_graph.specs.Ways.{Edges, Way}
-use Rattle.hm_layers.specs.Graphs.{GraphView, IsGraphOf, tree_edges}
-use Rattle.hm_outdone.specs.Formats.{edges_by, kept_by}
-use Rattle.hm_outdone.specs.Outdone.{kept_behind, outdoes_behind, outdoes_in_front}
+use Rattle.hm_graph_laws.specs.Layers.{first_layer}
+use Rattle.hm_graph_laws.specs.UnitEdges.{edges_of}
+use Rattle.hm_graph_laws.specs.Ways.{Edges, Way}
+use Rattle.hm_graph.specs.Graphs.{GraphView, IsGraphOf, tree_edges}
+use Rattle.hm_optimality_laws.specs.Formats.{edges_by, kept_by}
+use Rattle.hm_optimality_laws.specs.Outdone.{kept_behind, outdoes_behind, outdoes_in_front}
 use Rattle.hm_refs.specs.Names.{Entry}
 use Rattle.hm_refs.specs.Tables.{IsIn, IsTable, first, later}
-use Rattle.hm_spellings.specs.Spellings.{Spells, other}
-use Rattle.hm_steps.proofs.Ways.{ways_are_ways}
-use Rattle.hm_steps.specs.Ways.{WayOver}
-use Rattle.hm_units.specs.Edges.{Edge}
-use Rattle.hm_units.specs.States.{State, first_state, same_state}
-use Rattle.hm_units.specs.Units.{Unit, units_of}
-use Rattle.hm_ways.proofs.Best.{ways_spell_trees}
-use Rattle.hm_ways.proofs.Wider.{wider}
-use Rattle.hm_ways.specs.Laws.{sparing_plain}
+use Rattle.hm_spelling_spec.specs.Spellings.{Spells, other}
+use Rattle.hm_graph.proofs.Ways.{ways_are_ways}
+use Rattle.hm_graph.specs.Ways.{WayOver}
+use Rattle.hm_graph_laws.specs.Edges.{Edge}
+use Rattle.hm_graph_laws.specs.States.{State, first_state, same_state}
+use Rattle.hm_graph_laws.specs.Units.{Unit, units_of}
+use Rattle.hm_optimality_laws.proofs.Best.{ways_spell_trees}
+use Rattle.hm_optimality_laws.proofs.Wider.{wider}
+use Rattle.hm_optimality_laws.specs.SpellingLaws.{sparing_plain}
 use Rattle.hm_check.specs.Steps.{by_rows_over}
 use Rattle.hm_check.specs.Verdicts.{same_rules, verdict}
 use Rattle.hm_check.specs.declared.verdicts.Verdict.{Verdict}

@@ -5,14 +5,14 @@ use Rattle.std.proofs.lemmas.List.{drop_more, length-map}
 use Rattle.hm_cert.specs.declared.text.Format.{Format}
 use Rattle.hm_cert.specs.Layout.{told}
 use Rattle.hm_cert.specs.Places.{IsRowPlace}
-use Rattle.hm_graph.specs.Prices.{Row}
-use Rattle.hm_graph.specs.Ways.{over}
-use Rattle.hm_layers.specs.Graphs.{GraphView, AreLow}
-use Rattle.hm_steps.specs.Prices.{row_over, is_left_out, full_rows}
-use Rattle.hm_steps.specs.Steps.{Step}
-use Rattle.hm_steps.proofs.Still.{each_none, still_row}
-use Rattle.hm_layers.proofs.Low.{low_step}
-use Rattle.hm_layers.specs.StillRuns.{AreStillOver}
+use Rattle.hm_graph_laws.specs.Prices.{Row}
+use Rattle.hm_graph_laws.specs.Ways.{over}
+use Rattle.hm_graph.specs.Graphs.{GraphView, AreLow}
+use Rattle.hm_graph.specs.Prices.{row_over, is_left_out, full_rows}
+use Rattle.hm_graph.specs.Steps.{Step}
+use Rattle.hm_graph.proofs.StepsStill.{each_none, still_row}
+use Rattle.hm_graph.proofs.Low.{low_step}
+use Rattle.hm_graph.specs.StillRuns.{AreStillOver}
 use Rattle.hm_check.specs.Rows.{OtherWidth}
 use Rattle.hm_check.specs.Steps.{count_over, other_width_over, high_price_over}
 use Rattle.hm_cert.specs.Rows.{AreBelow}

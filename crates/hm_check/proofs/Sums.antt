@@ -5,12 +5,12 @@ use Rattle.std.proofs.lemmas.Bool.{eqb-false, eqb-true, eq-eqb, le-ltb}
 use Rattle.std.proofs.lemmas.List.{drop_more}
 use Rattle.hm_cert.specs.Certificate.{IsPrice, ArePrices, AreRows}
 use Rattle.hm_cert.specs.Layout.{told}
-use Rattle.hm_graph.specs.Prices.{Row}
-use Rattle.hm_graph.specs.Ways.{lesser, over}
-use Rattle.hm_layers.specs.Graphs.{AreLowHops, IsLowStep}
-use Rattle.hm_steps.specs.Prices.{price_over, best_price, row_over}
-use Rattle.hm_steps.specs.Steps.{Step}
-use Rattle.hm_steps.specs.declared.hops.Hop.{Hop}
+use Rattle.hm_graph_laws.specs.Prices.{Row}
+use Rattle.hm_graph_laws.specs.Ways.{lesser, over}
+use Rattle.hm_graph.specs.Graphs.{AreLowHops, IsLowStep}
+use Rattle.hm_graph.specs.Prices.{price_over, best_price, row_over}
+use Rattle.hm_graph.specs.Steps.{Step}
+use Rattle.hm_graph.specs.declared.hops.Hop.{Hop}
 use Rattle.hm_check.specs.Rows.{is_above, high_in}
 use Rattle.hm_cert.specs.Rows.{AreBelow, IsBelow}
 use Rattle.hm_cert.proofs.Below.{below_in}

@@ -7,10 +7,10 @@ use Rattle.std.proofs.lemmas.List.{drop_more, drop_all, length-map}
 use Rattle.hm_cert.specs.declared.text.Format.{Format}
 use Rattle.hm_cert.specs.Layout.{told}
 use Rattle.hm_cert.specs.Places.{IsRowPlace}
-use Rattle.hm_graph.specs.Prices.{Row, first_price}
-use Rattle.hm_layers.specs.Graphs.{GraphView, AreLow}
-use Rattle.hm_steps.specs.Prices.{row_over, is_left_out, full_rows}
-use Rattle.hm_steps.specs.Steps.{Step}
+use Rattle.hm_graph_laws.specs.Prices.{Row, first_price}
+use Rattle.hm_graph.specs.Graphs.{GraphView, AreLow}
+use Rattle.hm_graph.specs.Prices.{row_over, is_left_out, full_rows}
+use Rattle.hm_graph.specs.Steps.{Step}
 use Rattle.hm_check.specs.Rows.{OtherWidth, HighPrice, high_in, high_at_end, or_else}
 use Rattle.hm_check.specs.Steps.{count_over, other_width_over, high_price_over, by_full_over, by_width_over}
 use Rattle.hm_check.specs.Verdicts.{by_first, by_high}
@@ -22,7 +22,7 @@ use Rattle.hm_check.specs.declared.verdicts.Why.{Why}
 use Rattle.hm_check.specs.declared.verdicts.Why.TheVariants.{WrongWidth}
 use Rattle.hm_check.specs.declared.verdicts.Verdict.TheVariants.{No}
 use Rattle.hm_check.proofs.Counting.{some_counted, counted_out, counted_in, counted_end, fewer_counted, wide_out, wide_kept, wide_end}
-use Rattle.hm_layers.proofs.Low.{low_step}
+use Rattle.hm_graph.proofs.Low.{low_step}
 use Rattle.hm_check.proofs.Sums.{below_more, row_below, written_below, row_at, high_self}
 
 -- there is a row at hand

@@ -4,11 +4,11 @@ use Rattle.std.specs.Option.{option_map}
 use Rattle.std.proofs.lemmas.List.{drop_more, drop_all, length-map}
 use Rattle.hm_cert.specs.declared.text.Format.{Format}
 use Rattle.hm_cert.specs.Layout.{told}
-use Rattle.hm_graph.specs.Ways.{over}
-use Rattle.hm_steps.specs.Prices.{row_over, is_left_out}
-use Rattle.hm_steps.specs.Steps.{Step, leaves_out}
-use Rattle.hm_steps.specs.Still.{AreStill}
-use Rattle.hm_steps.proofs.Still.{still_row}
+use Rattle.hm_graph_laws.specs.Ways.{over}
+use Rattle.hm_graph.specs.Prices.{row_over, is_left_out}
+use Rattle.hm_graph.specs.Steps.{Step, leaves_out}
+use Rattle.hm_graph.specs.Still.{AreStill}
+use Rattle.hm_graph.proofs.StepsStill.{still_row}
 use Rattle.hm_check.specs.Rows.{HighPrice, high_in, is_above}
 use Rattle.hm_check.specs.Sweeps.{high_why, judged}
 use Rattle.hm_check.specs.declared.sweep.SweepFound.{SweepFound}

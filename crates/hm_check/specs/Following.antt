@@ -5,10 +5,10 @@ use Rattle.hm_edges.specs.Pieces.{piece_bytes}
 use Rattle.hm_edges.specs.declared.pieces.Piece.{Piece}
 use Rattle.hm_refs.specs.Names.{Entry}
 use Rattle.hm_refs.specs.Tables.{IsIn}
-use Rattle.hm_steps.specs.Steps.{Step}
-use Rattle.hm_steps.specs.Ways.{WayOver}
-use Rattle.hm_steps.specs.declared.hops.Hop.{Hop}
-use Rattle.hm_units.specs.Units.{TextKind, Unit, character_units}
+use Rattle.hm_graph.specs.Steps.{Step}
+use Rattle.hm_graph.specs.Ways.{WayOver}
+use Rattle.hm_graph.specs.declared.hops.Hop.{Hop}
+use Rattle.hm_graph_laws.specs.Units.{TextKind, Unit, character_units}
 use Rattle.hm_check.specs.declared.followed.Followed.{Followed}
 use Rattle.hm_check.specs.declared.followed.Taken.{Taken}
 

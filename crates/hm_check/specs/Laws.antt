@@ -6,20 +6,20 @@ use Rattle.hm_base.specs.declared.plain.SpellRules.{SpellRules}
 use Rattle.hm_base.specs.declared.rules.Rule.{Rule}
 use Rattle.hm_cert.specs.declared.certificate.Certificate.{Certificate}
 use Rattle.hm_cert.specs.declared.text.Format.{Format}
-use Rattle.hm_construction.specs.Trees.{built, page_tree}
+use Rattle.hm_construction_laws.specs.Trees.{built, page_tree}
 use Rattle.hm_edges.specs.Found.{spelling}
 use Rattle.hm_elements.specs.Settled.{Settled}
-use Rattle.hm_graph.specs.Layers.{first_layer}
-use Rattle.hm_graph.specs.Prices.{least_prices, written_rows}
-use Rattle.hm_graph.specs.UnitEdges.{edges_of}
-use Rattle.hm_graph.specs.Ways.{first_way}
-use Rattle.hm_layers.specs.Graphs.{tree_edges}
+use Rattle.hm_graph_laws.specs.Layers.{first_layer}
+use Rattle.hm_graph_laws.specs.Prices.{least_prices, written_rows}
+use Rattle.hm_graph_laws.specs.UnitEdges.{edges_of}
+use Rattle.hm_graph_laws.specs.Ways.{first_way}
+use Rattle.hm_graph.specs.Graphs.{tree_edges}
 use Rattle.hm_refs.specs.Names.{Entry}
 use Rattle.hm_refs.specs.Tables.{IsTable}
-use Rattle.hm_spellings.specs.Spellings.{Shortest, Spells}
-use Rattle.hm_outdone.specs.Formats.{follows_by}
-use Rattle.hm_units.specs.States.{first_state}
-use Rattle.hm_units.specs.Units.{units_of}
+use Rattle.hm_spelling_spec.specs.Spellings.{Shortest, Spells}
+use Rattle.hm_optimality_laws.specs.Formats.{follows_by}
+use Rattle.hm_graph_laws.specs.States.{first_state}
+use Rattle.hm_graph_laws.specs.Units.{units_of}
 use Rattle.hm_check.specs.Verdicts.{verdict}
 use Rattle.hm_check.specs.declared.verdicts.Verdict.TheVariants.{Yes, No}
 use Rattle.hm_check.specs.declared.verdicts.Why.TheVariants.{OutRefused, TreesDiffer}

@@ -1,10 +1,10 @@
 -- What is wrong with the rows of a certificate.
 use Rattle.std.specs.Prelude.{ℕ, suc, Bool, true, false, not, ◌&&◌, ◌==◌, nat_lt, List, [], ◌∷◌, length, map, Option, Some, None, if◌then◌else◌}
-use Rattle.hm_graph.specs.Layers.{LayerTest, states_behind}
-use Rattle.hm_graph.specs.Prices.{Row, price_at}
-use Rattle.hm_graph.specs.Ways.{Edges, best}
-use Rattle.hm_units.specs.States.{State}
-use Rattle.hm_units.specs.Units.{Unit}
+use Rattle.hm_graph_laws.specs.Layers.{LayerTest, states_behind}
+use Rattle.hm_graph_laws.specs.Prices.{Row, price_at}
+use Rattle.hm_graph_laws.specs.Ways.{Edges, best}
+use Rattle.hm_graph_laws.specs.States.{State}
+use Rattle.hm_graph_laws.specs.Units.{Unit}
 
 -- a layer, the number of its prices, and how many are wanted
 pub record OtherWidth : Type 0 where

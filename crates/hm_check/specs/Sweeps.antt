@@ -6,11 +6,11 @@ use Rattle.hm_cert.specs.Certificate.{AreRows}
 use Rattle.hm_cert.specs.Layout.{told}
 use Rattle.hm_cert.specs.Places.{IsRowPlace}
 use Rattle.hm_cert.specs.Rows.{AreBelow}
-use Rattle.hm_graph.specs.Prices.{Row}
-use Rattle.hm_layers.specs.Graphs.{GraphView}
-use Rattle.hm_steps.specs.Prices.{row_over, full_rows}
-use Rattle.hm_steps.specs.Steps.{Step}
-use Rattle.hm_steps.specs.Still.{AreStill}
+use Rattle.hm_graph_laws.specs.Prices.{Row}
+use Rattle.hm_graph.specs.Graphs.{GraphView}
+use Rattle.hm_graph.specs.Prices.{row_over, full_rows}
+use Rattle.hm_graph.specs.Steps.{Step}
+use Rattle.hm_graph.specs.Still.{AreStill}
 use Rattle.hm_check.specs.Rows.{OtherWidth, HighPrice, high_in, high_at_end}
 use Rattle.hm_check.specs.Steps.{count_over, other_width_over, high_price_over}
 use Rattle.hm_check.specs.declared.sweep.SweepFound.{SweepFound}

@@ -5,14 +5,14 @@ use Rattle.hm_base.specs.declared.limits.TheConstants.{OUTPUT_LIMIT}
 use Rattle.hm_base.specs.declared.plain.SpellRules.{SpellRules}
 use Rattle.hm_base.specs.declared.rules.Rule.TheVariants as rules
 use Rattle.hm_cert.specs.declared.certificate.Certificate.{Certificate}
-use Rattle.hm_construction.specs.Trees.{Outcome, built, refused_by, page_tree}
-use Rattle.hm_graph.specs.Layers.{LayerTest, first_layer, written}
-use Rattle.hm_graph.specs.Prices.{Row, first_price, full}
-use Rattle.hm_graph.specs.Ways.{Edges}
-use Rattle.hm_layers.specs.Graphs.{tree_edges}
+use Rattle.hm_construction_laws.specs.Trees.{Outcome, built, refused_by, page_tree}
+use Rattle.hm_graph_laws.specs.Layers.{LayerTest, first_layer, written}
+use Rattle.hm_graph_laws.specs.Prices.{Row, first_price, full}
+use Rattle.hm_graph_laws.specs.Ways.{Edges}
+use Rattle.hm_graph.specs.Graphs.{tree_edges}
 use Rattle.hm_refs.specs.Names.{Entry}
-use Rattle.hm_outdone.specs.Formats.{follows_by}
-use Rattle.hm_units.specs.Units.{Unit, units_of}
+use Rattle.hm_optimality_laws.specs.Formats.{follows_by}
+use Rattle.hm_graph_laws.specs.Units.{Unit, units_of}
 use Rattle.hm_check.specs.Differences.{first_difference}
 use Rattle.hm_check.specs.Rows.{OtherWidth, HighPrice, other_width, high_price}
 use Rattle.hm_check.specs.declared.verdicts.Verdict.{Verdict}

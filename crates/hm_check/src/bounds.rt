@@ -1,17 +1,16 @@
 //! The bounds of prices, and the first price of a layer above its bound.
 ghost use Rattle.std.specs.Prelude.{◌≡◌, ℕ, ◌<◌, ◌+◌, ◌^◌, None, length, map, option_map, IsTrue};
 ghost use Rattle.hm_cert.specs.Layout.{told};
-ghost use Rattle.hm_graph.specs.Ways.{over};
-ghost use Rattle.hm_layers.specs.Graphs.{AreLowHops, IsLowStep};
-ghost use Rattle.hm_steps.specs.Prices as steps;
+ghost use Rattle.hm_graph_laws.specs.Ways.{over};
+ghost use Rattle.hm_graph.specs.Graphs.{AreLowHops, IsLowStep};
+ghost use Rattle.hm_graph.specs.Prices as steps;
 ghost use Rattle.hm_check.specs.Rows as rows;
 ghost use Rattle.hm_cert.specs.Rows.{AreBelow};
 ghost use Rattle.hm_check.specs.Sweeps.{high_why};
 
 use crate::Why;
 use hm_cert::{CLOSED, more, price_of};
-use hm_layers::Step;
-use hm_steps::Hop;
+use hm_graph::{Hop, Step};
 
 /// The price over a hop, by the prices of the next layer.
 fn price_over(behind: &[u64], hop: Hop) -> u64

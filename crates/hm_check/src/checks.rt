@@ -2,9 +2,9 @@
 ghost use Rattle.std.specs.Prelude.{◌≡◌, IfOk};
 ghost use Rattle.hm_cert.specs.Certificate.{AreRows};
 ghost use Rattle.hm_elements.specs.Settled.{Settled};
-ghost use Rattle.hm_layers.specs.Graphs.{tree_edges};
-ghost use Rattle.hm_outdone.specs.Formats.{follows_by};
-ghost use Rattle.hm_units.specs.Units.{units_of};
+ghost use Rattle.hm_graph.specs.Graphs.{tree_edges};
+ghost use Rattle.hm_optimality_laws.specs.Formats.{follows_by};
+ghost use Rattle.hm_graph_laws.specs.Units.{units_of};
 ghost use Rattle.hm_check.specs.Verdicts as verdicts;
 ghost use Rattle.hm_check.specs.Verdicts.{verdict};
 
@@ -14,7 +14,7 @@ use crate::trees::find_difference;
 use crate::{Verdict, Why};
 use hm_base::{Memory, OUTPUT_LIMIT, SpellRules};
 use hm_cert::{Certificate, Format};
-use hm_layers::Graph;
+use hm_graph::Graph;
 use hm_refs::Table;
 use hm_refs::laws::every_table;
 use hm_tree::Tree;

@@ -2,24 +2,23 @@
 ghost use Rattle.std.specs.Prelude.{◌≡◌, ◌++◌, ◌∷◌, ◌⊎◌, ℕ, List, [], codes, encode_utf8, if◌then◌else◌, length, slice_index_or, IfOk, IfSome, IsTrue, OnOk};
 ghost use Rattle.std.specs.Str.{IsAscii};
 ghost use Rattle.hm_edges.specs.Pieces.{HasName, own_bytes, piece_bytes, piece_text, with_gap, with_opening};
-ghost use Rattle.hm_layers.specs.Copied.{Copies};
-ghost use Rattle.hm_layers.specs.Graphs.{AreNamedHops, IsGraphOf, IsNamedStep};
+ghost use Rattle.hm_graph.specs.Copied.{Copies};
+ghost use Rattle.hm_graph.specs.Graphs.{AreNamedHops, IsGraphOf, IsNamedStep};
 ghost use Rattle.hm_parts.specs.Parts.{comment_bytes};
-ghost use Rattle.hm_pieces.specs.Own.{own_text};
+ghost use Rattle.hm_parts.specs.Own.{own_text};
 ghost use Rattle.hm_refs.specs.Names.{Entry};
-ghost use Rattle.hm_steps.specs.Steps.{Step as Hops};
-ghost use Rattle.hm_steps.specs.Ways.{WayOver};
-ghost use Rattle.hm_units.specs.Units as units;
-ghost use Rattle.hm_units.specs.Units.{units_of};
+ghost use Rattle.hm_graph.specs.Steps.{Step as Hops};
+ghost use Rattle.hm_graph.specs.Ways.{WayOver};
+ghost use Rattle.hm_graph_laws.specs.Units as units;
+ghost use Rattle.hm_graph_laws.specs.Units.{units_of};
 ghost use Rattle.hm_check.specs.Following.{GoesOverAlike, IsOver, IsWayOn, LeadsTo};
 
 use hm_base::{Memory, SpellRules};
 use hm_cert::Format;
 use hm_edges::{Form, Piece};
-use hm_layers::{Follower, Graph, Step};
-use hm_pieces::{Own, put_piece};
+use hm_graph::{Follower, Graph, Hop, Step};
+use hm_parts::{Own, put_piece};
 use hm_refs::Table;
-use hm_steps::Hop;
 use hm_tree::Tree;
 use std::alloc::Global;
 

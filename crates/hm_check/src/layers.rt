@@ -1,10 +1,10 @@
 //! The layers that a certificate writes.
 ghost use Rattle.std.specs.Prelude.{◌≡◌};
-ghost use Rattle.hm_steps.specs.Prices as steps;
+ghost use Rattle.hm_graph.specs.Prices as steps;
 ghost use Rattle.hm_check.specs.Steps.{count_over};
 
 use hm_cert::Format;
-use hm_layers::{Graph, Step};
+use hm_graph::{Graph, Step};
 
 /// Whether layer `k`, the one before the step, is left out.
 pub(crate) fn is_left_out(format: Format, k: usize, step: &Step) -> bool

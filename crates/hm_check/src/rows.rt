@@ -2,7 +2,7 @@
 ghost use Rattle.std.specs.Prelude.{◌≡◌, ◌∷◌, List, map, IfOk};
 ghost use Rattle.hm_cert.specs.Certificate.{AreRows};
 ghost use Rattle.hm_cert.specs.Layout.{told};
-ghost use Rattle.hm_graph.specs.Prices.{Row, first_price};
+ghost use Rattle.hm_graph_laws.specs.Prices.{Row, first_price};
 ghost use Rattle.hm_check.specs.Steps.{by_rows_over, by_width_over, other_width_over};
 ghost use Rattle.hm_check.specs.Sweeps.{AreInPlace, IsSwept};
 ghost use Rattle.hm_check.specs.Verdicts as verdicts;
@@ -12,7 +12,7 @@ use crate::sweep::Sweep;
 use crate::{Verdict, Why};
 use hm_base::Memory;
 use hm_cert::{Format, WrittenRows, price_of};
-use hm_layers::Graph;
+use hm_graph::Graph;
 use std::alloc::Global;
 
 /// What is known at the first layer.

@@ -1,11 +1,11 @@
 //! The prices of all layers, from the last layer on.
 ghost use Rattle.std.specs.Prelude.{◌≡◌, ℕ, ◌<◌, ◌≤◌, ◌+◌, ◌^◌, true, false, [], length, map, slice_index_or, IfOk, IfSome, None, OnOk};
 ghost use Rattle.hm_cert.specs.Layout.{told};
-ghost use Rattle.hm_graph.specs.Ways.{over};
-ghost use Rattle.hm_layers.specs.Graphs.{IsLowStep, IsPlace};
-ghost use Rattle.hm_steps.specs.Prices.{row_over};
-ghost use Rattle.hm_steps.specs.Prices as steps;
-ghost use Rattle.hm_steps.specs.Steps.{leaves_out};
+ghost use Rattle.hm_graph_laws.specs.Ways.{over};
+ghost use Rattle.hm_graph.specs.Graphs.{IsLowStep, IsPlace};
+ghost use Rattle.hm_graph.specs.Prices.{row_over};
+ghost use Rattle.hm_graph.specs.Prices as steps;
+ghost use Rattle.hm_graph.specs.Steps.{leaves_out};
 ghost use Rattle.hm_cert.specs.Rows.{AreBelow};
 ghost use Rattle.hm_check.specs.Sweeps.{AreInPlace, IsStillOver, IsSwept, judged, judged_at_end};
 
@@ -14,7 +14,7 @@ use crate::bounds::{are_within, best_price, find_high, find_high_at_end};
 use crate::layers::is_left_out;
 use hm_base::Memory;
 use hm_cert::{Format, RowPlace, WrittenRows, add_each};
-use hm_layers::{Cursor, Graph, Step};
+use hm_graph::{Cursor, Graph, Step};
 use std::alloc::Global;
 use std::mem;
 

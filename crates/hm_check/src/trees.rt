@@ -3,7 +3,7 @@ ghost use Rattle.std.specs.Prelude.{◌≡◌, ℕ, List, IfOk, IfErr};
 ghost use Rattle.hm_base.specs.Faults.{IsRefusedBy};
 ghost use Rattle.hm_base.specs.declared.limits.TheConstants.{OUTPUT_LIMIT};
 ghost use Rattle.hm_build.specs.Parsing.{IsRefusedAs};
-ghost use Rattle.hm_construction.specs.Trees.{built};
+ghost use Rattle.hm_construction_laws.specs.Trees.{built};
 ghost use Rattle.hm_refs.specs.Names.{Entry};
 ghost use Rattle.hm_check.specs.Differences as differences;
 ghost use Rattle.hm_check.specs.Trees.{tree_why};

@@ -1,8 +1,8 @@
 -- Edges that are added to a buffer, one after the other.
 use Rattle.std.proofs.Common.{◌≡◌, ◌∙◌, Bool, true, false, cond, ◌&&◌, List, [], ◌∷◌, ◌++◌, Result, Ok, Err, is_ok, IsErr, refl, sym, ap, subst, append_assoc, append-nil}
 use Rattle.hm_refs.specs.Tables.{TableView}
-use Rattle.hm_units.specs.Edges as graph
-use Rattle.hm_units.specs.Units as units
+use Rattle.hm_graph_laws.specs.Edges as graph
+use Rattle.hm_graph_laws.specs.Units as units
 use Rattle.hm_edges.specs.declared.pieces.Edge.{Edge}
 use Rattle.hm_edges.specs.Pieces.{edge_of, edges_seen, IsOfTable, AreOfTable}
 use Rattle.hm_edges.specs.Found.{AddsEdges}

@@ -5,9 +5,9 @@ use Rattle.std.proofs.lemmas.Slice.Eq.{bytes_eq-Decides}
 use Rattle.hm_refs.specs.Names.{Entry, is_name, is_front, child_of}
 use Rattle.hm_refs.specs.Tables.{TableView, IsNode, front_at}
 use Rattle.hm_refs.proofs.LoneLaws.{no_front, child_front}
-use Rattle.hm_units.specs.States.{Pending, nothing}
-use Rattle.hm_units.specs.Steps.{is_root, onto}
-use Rattle.hm_units.proofs.Runs.{no_name}
+use Rattle.hm_graph_laws.specs.States.{Pending, nothing}
+use Rattle.hm_graph_laws.specs.Steps.{is_root, onto}
+use Rattle.hm_graph_laws.proofs.Runs.{no_name}
 
 pub child_there : (t : List Entry) (q : List ℕ) (c : ℕ) (front : ℕ → List ℕ) (r : Option ℕ) → option_map front r ≡ child_of t q c → is_some r ≡ is_front t (q ++ c ∷ [])
 unfolding child_of

@@ -4,10 +4,10 @@ use Rattle.std.proofs.lemmas.List.{map-append}
 use Rattle.std.specs.Option.{option_map}
 use Rattle.hm_refs.specs.Names.{Entry}
 use Rattle.hm_refs.specs.Numbers.{best_number}
-use Rattle.hm_spellings.specs.Characters.{CharacterRules, Spot}
-use Rattle.hm_text_spell.specs.CharacterEdges.{choice, by_names, by_pairs, by_decimal, by_hexadecimal, by_references, behind_name, behind_half, choices_by, as_itself, kept_at}
-use Rattle.hm_units.specs.States.{Where, Pending}
-use Rattle.hm_units.specs.Steps.{step}
+use Rattle.hm_spelling_spec.specs.Characters.{CharacterRules, Spot}
+use Rattle.hm_graph_laws.specs.CharacterEdges.{choice, by_names, by_pairs, by_decimal, by_hexadecimal, by_references, behind_name, behind_half, choices_by, as_itself, kept_at}
+use Rattle.hm_graph_laws.specs.States.{Where, Pending}
+use Rattle.hm_graph_laws.specs.Steps.{step}
 
 pub references_are : (at : Where) (t : List Entry) (c : ℕ) (pair : Option ℕ)
     → map (kept_at at) (by_names behind_name (c ∷ []) t) ++ (map (kept_at at) (by_pairs t c pair) ++ (map (kept_at at) (by_decimal (best_number c)) ++ map (kept_at at) (by_hexadecimal c))) ≡ map (kept_at at) (by_references t c pair)

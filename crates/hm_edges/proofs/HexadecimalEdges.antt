@@ -1,9 +1,9 @@
 -- The two references in hexadecimal, where they are shorter.
 use Rattle.std.proofs.Common.{◌≡◌, ℕ, Bool, true, false, cond, ◌&&◌, [], ◌∷◌, ◌++◌, nat_le, codes, map, refl}
 use Rattle.std.specs.Fmt.{digits}
-use Rattle.hm_text_spell.specs.CharacterEdges.{kept_at, by_hexadecimal}
-use Rattle.hm_units.specs.Edges.{edge}
-use Rattle.hm_units.specs.States.{Where, hexadecimal, nothing}
+use Rattle.hm_graph_laws.specs.CharacterEdges.{kept_at, by_hexadecimal}
+use Rattle.hm_graph_laws.specs.Edges.{edge}
+use Rattle.hm_graph_laws.specs.States.{Where, hexadecimal, nothing}
 
 pub two_are : (at : Where) (c : ℕ) (b : Bool) → b ≡ (nat_le 1000000 c && nat_le c 1048575)
     → cond b (edge (codes "&#x" ++ digits 16 false c) at hexadecimal ∷ []) [] ++ cond b (edge (codes "&#x" ++ (digits 16 false c ++ codes ";")) at nothing ∷ []) [] ≡ map (kept_at at) (by_hexadecimal c)

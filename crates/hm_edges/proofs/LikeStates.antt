@@ -1,8 +1,8 @@
 -- States of a table that mean the same are equal.
 use Rattle.std.proofs.Common.{◌≡◌, ◌∙◌, ℕ, true, List, Option, Some, None, refl, sym, ap, ap₂}
-use Rattle.hm_graph.proofs.States.{same_is}
+use Rattle.hm_graph_laws.proofs.States.{same_is}
 use Rattle.hm_refs.specs.Tables.{TableView, IsNode, front_at}
-use Rattle.hm_units.specs.States as states
+use Rattle.hm_graph_laws.specs.States as states
 use Rattle.hm_edges.specs.declared.states.Where.{Where}
 use Rattle.hm_edges.specs.declared.states.Where.TheVariants.{Outside, Loose, SelfClosed, BehindName, BehindUnquoted, BehindQuoted, InUnquoted, InDouble, InSingle, InSection}
 use Rattle.hm_edges.specs.declared.states.Pending.{Pending}

@@ -8,10 +8,10 @@ use Rattle.hm_base.specs.Bytes.{head_is}
 use Rattle.hm_base.specs.declared.plain.Memory.{Memory}
 use Rattle.hm_refs.specs.Names.{Entry}
 use Rattle.hm_refs.specs.Tables.{TableView, entry_at, is_for, no_entry, places_from, places_for}
-use Rattle.hm_text_spell.specs.CharacterEdges.{Choice, choice, by_names, kept_at}
-use Rattle.hm_units.specs.Edges as graph
-use Rattle.hm_units.specs.States.{Where, Pending}
-use Rattle.hm_units.specs.Units as units
+use Rattle.hm_graph_laws.specs.CharacterEdges.{Choice, choice, by_names, kept_at}
+use Rattle.hm_graph_laws.specs.Edges as graph
+use Rattle.hm_graph_laws.specs.States.{Where, Pending}
+use Rattle.hm_graph_laws.specs.Units as units
 use Rattle.hm_edges.specs.declared.pieces.Edge.{Edge}
 use Rattle.hm_edges.specs.Found.{AddsEdges}
 use Rattle.hm_edges.proofs.Adding.{adds_none, adds_then, adds_stopped, adds_as}

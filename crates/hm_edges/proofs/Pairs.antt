@@ -3,12 +3,12 @@ use Rattle.std.proofs.Common.{◌≡◌, ℕ, Bool, true, false, cond, ◌&&◌,
 use Rattle.std.specs.List.{list_any}
 use Rattle.hm_refs.specs.Names.{Entry}
 use Rattle.hm_refs.specs.Numbers.{best_number}
-use Rattle.hm_spellings.specs.Characters.{CharacterRules, Spot}
-use Rattle.hm_text_spell.specs.CharacterEdges.{choice, by_names, by_pairs, by_decimal, by_hexadecimal, behind_name, behind_pair, half_of, choices, choices_by, as_itself, character_edges, is_in_section, section_edges, opened_sections, kept_at, spot_at}
-use Rattle.hm_units.specs.States.{Pending, State}
-use Rattle.hm_units.specs.Units.{TextKind}
+use Rattle.hm_spelling_spec.specs.Characters.{CharacterRules, Spot}
+use Rattle.hm_graph_laws.specs.CharacterEdges.{choice, by_names, by_pairs, by_decimal, by_hexadecimal, behind_name, behind_pair, half_of, choices, choices_by, as_itself, character_edges, is_in_section, section_edges, opened_sections, kept_at, spot_at}
+use Rattle.hm_graph_laws.specs.States.{Pending, State}
+use Rattle.hm_graph_laws.specs.Units.{TextKind}
 use Rattle.hm_edges.specs.Characters.{edges_by_pair, rules_with}
-use Rattle.hm_units.specs.Steps.{step}
+use Rattle.hm_graph_laws.specs.Steps.{step}
 use Rattle.hm_edges.specs.Units.{has_pair, pair_of}
 
 no_names : (to : List ℕ → Pending) (points : List ℕ) (t : List Entry) → list_any (λ (e : Entry). bytes_eq e.points points) t ≡ false → [] ≡ by_names to points t

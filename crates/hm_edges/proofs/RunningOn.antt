@@ -1,10 +1,10 @@
 -- What is pending after bytes, one after the other, and after a character as itself.
 use Rattle.std.proofs.Common.{◌≡◌, ℕ, suc, ◌+◌, ◌<◌, true, false, List, [], ◌∷◌, length, get_or, drop, drop-cons, Option, Some, None, refl, arith, encode_utf8}
 use Rattle.hm_refs.specs.Names.{Entry}
-use Rattle.hm_spellings.specs.Characters.{CharacterRules, Spot, may_stand}
-use Rattle.hm_text_spell.specs.CharacterEdges.{as_itself, choice, itself_to}
-use Rattle.hm_units.specs.States.{Pending}
-use Rattle.hm_units.specs.Steps.{run, step}
+use Rattle.hm_spelling_spec.specs.Characters.{CharacterRules, Spot, may_stand}
+use Rattle.hm_graph_laws.specs.CharacterEdges.{as_itself, choice, itself_to}
+use Rattle.hm_graph_laws.specs.States.{Pending}
+use Rattle.hm_graph_laws.specs.Steps.{run, step}
 
 pub run_on : (t : List Entry) (spot : Spot) (p : Pending) (r : Option Pending) (s : List ℕ) (i : ℕ) → i < length s → r ≡ step t spot p (get_or s i 0) → run t spot r (drop (i + 1) s) ≡ run t spot (Some p) (drop i s)
 run_on t spot p r s i l e =

@@ -1,10 +1,10 @@
 -- Sections: whether there is a next character, and where a section may begin.
 use Rattle.std.proofs.Common.{◌≡◌, ℕ, Bool, true, false, not, cond, ◌&&◌, List, [], ◌∷◌, ◌++◌, Option, Some, None, is_some, refl, codes, encode_utf8}
-use Rattle.hm_spellings.specs.Characters.{is_foreign, is_writable}
-use Rattle.hm_text_spell.specs.CharacterEdges.{spot_at, section_edges_by, opened_sections, in_section_behind, is_outside, half_of}
-use Rattle.hm_units.specs.Edges.{edge, edge_to}
-use Rattle.hm_units.specs.States as states
-use Rattle.hm_units.specs.States.{Where, Pending, State, in_section, first_state, value_spot}
+use Rattle.hm_spelling_spec.specs.Characters.{is_foreign, is_writable}
+use Rattle.hm_graph_laws.specs.CharacterEdges.{spot_at, section_edges_by, opened_sections, in_section_behind, is_outside, half_of}
+use Rattle.hm_graph_laws.specs.Edges.{edge, edge_to}
+use Rattle.hm_graph_laws.specs.States as states
+use Rattle.hm_graph_laws.specs.States.{Where, Pending, State, in_section, first_state, value_spot}
 use Rattle.hm_edges.specs.declared.units.TextKind.{TextKind}
 use Rattle.hm_edges.specs.declared.units.TextKind.TheVariants.{Text, Rcdata, Foreign, Value}
 use Rattle.hm_edges.specs.Units.{kind_of, is_foreign_kind}

@@ -1,10 +1,10 @@
 -- The units of a tree that a unit of the code stands for.
 use Rattle.std.proofs.Common.{◌≡◌, ◌∙◌, ℕ, Bool, List, [], ◌++◌, Option, is_some, Result, Ok, Err, OnOk, sym, ap, subst}
 use Rattle.hm_base.specs.declared.plain.SpellRules.{SpellRules}
-use Rattle.hm_graph.specs.UnitEdges.{edges_of}
+use Rattle.hm_graph_laws.specs.UnitEdges.{edges_of}
 use Rattle.hm_refs.specs.Names.{Entry}
 use Rattle.hm_refs.specs.Tables.{TableView}
-use Rattle.hm_units.specs.Units as units
+use Rattle.hm_graph_laws.specs.Units as units
 use Rattle.hm_edges.specs.declared.pieces.Edge.{Edge}
 use Rattle.hm_edges.specs.declared.states.State.{State}
 use Rattle.hm_edges.specs.declared.units.TextKind.{TextKind}

@@ -1,8 +1,8 @@
 -- The bytes of attributes and of a tag's close.
 use Rattle.std.proofs.Common.{◌≡◌, ℕ, Bool, true, false, not, ◌&&◌, cond, List, [], ◌∷◌, ◌++◌, codes, refl}
-use Rattle.hm_attr_spell.specs.AttributeEdges.{gap_at, is_behind_quoted, is_behind_unquoted}
+use Rattle.hm_graph_laws.specs.AttributeEdges.{gap_at, is_behind_quoted, is_behind_unquoted}
 use Rattle.hm_edges.specs.Pieces.{with_gap}
-use Rattle.hm_units.specs.States.{Where}
+use Rattle.hm_graph_laws.specs.States.{Where}
 
 pub gap_is : (tight gap : Bool) (at : Where) (n : List ℕ) → gap ≡ not (tight && is_behind_quoted at) → with_gap gap n ≡ gap_at tight at ++ n
 gap_is tight gap at n e = rw e (by_test (tight && is_behind_quoted at))

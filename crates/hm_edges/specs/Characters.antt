@@ -1,12 +1,12 @@
 -- Words for the edges of a character.
 use Rattle.std.specs.Prelude.{ℕ, Bool, true, false, List, ◌++◌, map, Option, if◌then◌else◌}
-use Rattle.hm_exchange.specs.Laws.{needs_reference}
+use Rattle.hm_graph_laws.specs.ExchangeLaws.{needs_reference}
 use Rattle.hm_refs.specs.Names.{Entry}
-use Rattle.hm_spellings.specs.Characters.{CharacterRules}
-use Rattle.hm_text_spell.specs.CharacterEdges.{spot_at, behind_name, behind_pair, choices, section_edges, opened_sections, is_in_section, kept_at}
-use Rattle.hm_units.specs.Edges.{Edge}
-use Rattle.hm_units.specs.States.{Pending, State}
-use Rattle.hm_units.specs.Units.{TextKind}
+use Rattle.hm_spelling_spec.specs.Characters.{CharacterRules}
+use Rattle.hm_graph_laws.specs.CharacterEdges.{spot_at, behind_name, behind_pair, choices, section_edges, opened_sections, is_in_section, kept_at}
+use Rattle.hm_graph_laws.specs.Edges.{Edge}
+use Rattle.hm_graph_laws.specs.States.{Pending, State}
+use Rattle.hm_graph_laws.specs.Units.{TextKind}
 
 -- references only at characters that need them
 abbrev pub rules_with : List Entry → Bool → CharacterRules

@@ -1,13 +1,13 @@
 -- What a search for edges finds.
 use Rattle.std.specs.Prelude.{◌≡◌, List, ◌++◌, Result, OnOk}
 use Rattle.hm_base.specs.declared.plain.SpellRules.{SpellRules}
-use Rattle.hm_exchange.specs.Laws.{needs_reference}
-use Rattle.hm_graph.specs.UnitEdges.{edges_of}
+use Rattle.hm_graph_laws.specs.ExchangeLaws.{needs_reference}
+use Rattle.hm_graph_laws.specs.UnitEdges.{edges_of}
 use Rattle.hm_refs.specs.Names.{Entry}
 use Rattle.hm_refs.specs.Tables.{TableView}
-use Rattle.hm_spellings.specs.Tags.{Spelling}
-use Rattle.hm_units.specs.Edges as graph
-use Rattle.hm_units.specs.Units as units
+use Rattle.hm_spelling_spec.specs.Tags.{Spelling}
+use Rattle.hm_graph_laws.specs.Edges as graph
+use Rattle.hm_graph_laws.specs.Units as units
 use Rattle.hm_edges.specs.declared.pieces.Edge.{Edge}
 use Rattle.hm_edges.specs.declared.states.State.{State}
 use Rattle.hm_edges.specs.declared.units.Unit.{Unit}

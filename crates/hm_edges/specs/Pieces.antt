@@ -4,8 +4,8 @@ use Rattle.std.specs.Fmt.{decimal, digits}
 use Rattle.std.specs.List.{AllByRecursion}
 use Rattle.hm_refs.specs.Names.{Entry}
 use Rattle.hm_refs.specs.Tables.{TableView, entry_at}
-use Rattle.hm_units.specs.Edges as edges
-use Rattle.hm_units.specs.Units as units
+use Rattle.hm_graph_laws.specs.Edges as edges
+use Rattle.hm_graph_laws.specs.Units as units
 use Rattle.hm_edges.specs.declared.pieces.Form.{Form}
 use Rattle.hm_edges.specs.declared.pieces.Form.TheVariants as forms
 use Rattle.hm_edges.specs.declared.pieces.Piece.{Piece}

@@ -2,8 +2,8 @@
 use Rattle.std.specs.Prelude.{◌≡◌, true, Some}
 use Rattle.std.specs.Option.{option_map}
 use Rattle.hm_refs.specs.Tables.{TableView, IsNode, front_at}
-use Rattle.hm_spellings.specs.Characters as spots
-use Rattle.hm_units.specs.States as states
+use Rattle.hm_spelling_spec.specs.Characters as spots
+use Rattle.hm_graph_laws.specs.States as states
 use Rattle.hm_edges.specs.declared.states.Where.{Where}
 use Rattle.hm_edges.specs.declared.states.Where.TheVariants.{Outside, Loose, SelfClosed, BehindName, BehindUnquoted, BehindQuoted, InUnquoted, InDouble, InSingle, InSection}
 use Rattle.hm_edges.specs.declared.states.Pending.{Pending}

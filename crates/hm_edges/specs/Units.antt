@@ -2,7 +2,7 @@
 use Rattle.std.specs.Prelude.{◌≡◌, ℕ, Bool, true, false, List, [], ◌∷◌, Option, Some, None, is_some, if◌then◌else◌, length, bytes_eq}
 use Rattle.std.specs.List.{list_any}
 use Rattle.hm_refs.specs.Names.{Entry}
-use Rattle.hm_units.specs.Units as units
+use Rattle.hm_graph_laws.specs.Units as units
 use Rattle.hm_edges.specs.declared.units.TextKind.{TextKind}
 use Rattle.hm_edges.specs.declared.units.TextKind.TheVariants as kinds
 use Rattle.hm_edges.specs.declared.units.Unit.{Unit}

@@ -1,15 +1,15 @@
 //! The edges of a character: as itself, by each name that gives it, by its number, in a section.
 ghost use Rattle.std.specs.Prelude.{◌≡◌, ◌&&◌, ◌++◌, ◌∷◌, [], not, List, ℕ, Option, Some, None, is_some, map, if◌then◌else◌, option_to_list, encode_utf8, codes, nat_le, IfSome, bytes_eq, length, true, ◌<◌};
 ghost use Rattle.std.specs.Option.{option_map};
-ghost use Rattle.hm_exchange.specs.Laws.{needs_reference};
+ghost use Rattle.hm_graph_laws.specs.ExchangeLaws.{needs_reference};
 ghost use Rattle.hm_refs.specs.Names as names;
 ghost use Rattle.hm_refs.specs.Numbers.{best_number};
 ghost use Rattle.hm_refs.specs.Tables.{IsNode, TableView, entry_at, front_at, is_for};
-ghost use Rattle.hm_spellings.specs.Characters as spots;
-ghost use Rattle.hm_text_spell.specs.CharacterEdges as characters;
-ghost use Rattle.hm_units.specs.States as states;
-ghost use Rattle.hm_units.specs.Steps as steps;
-ghost use Rattle.hm_units.specs.Units as units;
+ghost use Rattle.hm_spelling_spec.specs.Characters as spots;
+ghost use Rattle.hm_graph_laws.specs.CharacterEdges as characters;
+ghost use Rattle.hm_graph_laws.specs.States as states;
+ghost use Rattle.hm_graph_laws.specs.Steps as steps;
+ghost use Rattle.hm_graph_laws.specs.Units as units;
 ghost use Rattle.hm_edges.specs.Characters.{behind_by, edges_by_pair, rules_with};
 ghost use Rattle.hm_edges.specs.Found.{AddsEdges};
 ghost use Rattle.hm_edges.specs.Pieces.{AreOfTable, own_bytes};
@@ -49,7 +49,7 @@ fn spot_at(kind: TextKind, at: Where) -> Spot
 }
 
 /// Whether a value without quotes can't hold the character (#attributes-2).
-#[tactic(auto, unfolding(hm_spellings::specs::Characters::is_barred))]
+#[tactic(auto, unfolding(hm_spelling_spec::specs::Characters::is_barred))]
 fn is_barred(c: char) -> bool
     ensures { result ≡ spots.is_barred c }
 {
@@ -69,7 +69,7 @@ fn may_stand_in(spot: Spot, c: char) -> bool
     }
 }
 
-#[tactic(auto, unfolding(hm_spellings::specs::Characters::may_stand))]
+#[tactic(auto, unfolding(hm_spelling_spec::specs::Characters::may_stand))]
 fn may_stand(ascii: bool, spot: Spot, c: char) -> bool
     ensures { result ≡ spots.may_stand ascii (spot_of spot) c }
 {
@@ -144,7 +144,7 @@ fn is_closed(name: &[u8]) -> bool
 }
 
 /// What is pending after a name for one code point.
-#[tactic(auto, unfolding(hm_text_spell::specs::CharacterEdges::behind_name))]
+#[tactic(auto, unfolding(hm_graph_laws::specs::CharacterEdges::behind_name))]
 fn behind_name(table: &Table, id: NameId) -> Pending
     requires { id < length table.now.entries }
     ensures to { pending_of table.now result ≡ characters.behind_name (entry_at table.now.entries id).name }
@@ -158,7 +158,7 @@ fn behind_name(table: &Table, id: NameId) -> Pending
 }
 
 /// What is pending after a name for two code points, the second of which is due.
-#[tactic(auto, unfolding(hm_text_spell::specs::CharacterEdges::behind_pair))]
+#[tactic(auto, unfolding(hm_graph_laws::specs::CharacterEdges::behind_pair))]
 fn behind_pair(table: &Table, id: NameId) -> Pending
     requires { id < length table.now.entries }
     ensures to { pending_of table.now result ≡ characters.behind_pair (entry_at table.now.entries id).name }

@@ -1,11 +1,11 @@
 //! The edges of a unit from a state.
 ghost use Rattle.std.specs.Prelude.{◌≡◌, ◌&&◌, ◌++◌, ◌∷◌, [], not, List, ℕ, OnOk, is_ok, if◌then◌else◌};
-ghost use Rattle.hm_attr_spell.specs.AttributeEdges as attributes;
+ghost use Rattle.hm_graph_laws.specs.AttributeEdges as attributes;
 ghost use Rattle.hm_refs.specs.Tables.{TableView};
-ghost use Rattle.hm_spellings.specs.Characters as spots;
-ghost use Rattle.hm_tag_spell.specs.TagEdges as tags;
-ghost use Rattle.hm_units.specs.States as states;
-ghost use Rattle.hm_units.specs.Units as units;
+ghost use Rattle.hm_spelling_spec.specs.Characters as spots;
+ghost use Rattle.hm_graph_laws.specs.TagEdges as tags;
+ghost use Rattle.hm_graph_laws.specs.States as states;
+ghost use Rattle.hm_graph_laws.specs.Units as units;
 ghost use Rattle.hm_edges.specs.Found.{AreEdges, AreFront, AddsEdges};
 ghost use Rattle.hm_edges.specs.Pieces.{AreOfTable};
 ghost use Rattle.hm_edges.specs.States.{HasNodes, spot_of, state_of, where_of};

@@ -2,7 +2,7 @@
 ghost use Rattle.std.specs.Prelude.{◌≡◌, ◌≤◌, ◌<◌, ◌+◌, ◌^◌, ℕ, List, false, length};
 ghost use Rattle.std.specs.Fmt.{digits};
 ghost use Rattle.hm_refs.specs.Names.{Entry};
-ghost use Rattle.hm_units.specs.Units as units;
+ghost use Rattle.hm_graph_laws.specs.Units as units;
 ghost use Rattle.hm_edges.specs.Pieces.{HasName, own_bytes, piece_bytes, with_opening};
 ghost use Rattle.hm_edges.specs.Units.{StandsFor};
 

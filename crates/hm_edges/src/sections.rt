@@ -1,10 +1,10 @@
 //! Characters in CDATA sections, which a text of SVG may have.
 ghost use Rattle.std.specs.Prelude.{◌≡◌, ◌&&◌, [], not, ℕ, Option, is_some, if◌then◌else◌, encode_utf8, codes};
-ghost use Rattle.hm_spellings.specs.Characters as spots;
+ghost use Rattle.hm_spelling_spec.specs.Characters as spots;
 ghost use Rattle.hm_refs.specs.Tables.{TableView};
-ghost use Rattle.hm_text_spell.specs.CharacterEdges as characters;
-ghost use Rattle.hm_units.specs.States as states;
-ghost use Rattle.hm_units.specs.Units as units;
+ghost use Rattle.hm_graph_laws.specs.CharacterEdges as characters;
+ghost use Rattle.hm_graph_laws.specs.States as states;
+ghost use Rattle.hm_graph_laws.specs.Units as units;
 ghost use Rattle.hm_edges.specs.Found.{AddsEdges};
 ghost use Rattle.hm_edges.specs.Pieces.{own_bytes};
 ghost use Rattle.hm_edges.specs.States.{HasNodes, pending_of, where_of};
@@ -18,7 +18,7 @@ use hm_base::Memory;
 use hm_refs::best_number;
 
 /// Whether the character may be written as itself at all: it is no CR, and where all is to be ASCII it is, or has no number.
-#[tactic(auto, unfolding(hm_spellings::specs::Characters::is_writable))]
+#[tactic(auto, unfolding(hm_spelling_spec::specs::Characters::is_writable))]
 pub(crate) fn is_writable(ascii: bool, c: char) -> bool
     ensures { result ≡ spots.is_writable ascii c }
 {

@@ -5,9 +5,9 @@ ghost use Rattle.hm_base.specs.Bytes.{is_digit_of};
 ghost use Rattle.hm_refs.specs.Names.{is_front, is_name};
 ghost use Rattle.hm_refs.specs.References as refs;
 ghost use Rattle.hm_refs.specs.Tables.{IsNode, TableView, front_at};
-ghost use Rattle.hm_spellings.specs.Characters as spots;
-ghost use Rattle.hm_units.specs.States as states;
-ghost use Rattle.hm_units.specs.Steps as steps;
+ghost use Rattle.hm_spelling_spec.specs.Characters as spots;
+ghost use Rattle.hm_graph_laws.specs.States as states;
+ghost use Rattle.hm_graph_laws.specs.Steps as steps;
 ghost use Rattle.hm_edges.specs.States.{HasNodes, pending_of, spot_of};
 
 use crate::states::{Pending, Spot};
@@ -45,7 +45,7 @@ fn blocks(byte: u8) -> bool
 }
 
 /// Whether the byte makes markup of a `<` before it (#tag-open-state).
-#[tactic(auto, unfolding(hm_spellings::specs::Characters::opens_text, hm_base::specs::Bytes::is_letter))]
+#[tactic(auto, unfolding(hm_spelling_spec::specs::Characters::opens_text, hm_base::specs::Bytes::is_letter))]
 fn opens_text(byte: u8) -> bool
     ensures { result ≡ spots.opens_text byte }
 {
@@ -166,7 +166,7 @@ fn onto_named(table: &Table, node: Node, byte: u8) -> Option<Pending>
     }
 }
 
-#[tactic(auto, unfolding(hm_units::specs::Steps::ampersand_in_text))]
+#[tactic(auto, unfolding(hm_graph_laws::specs::Steps::ampersand_in_text))]
 fn ampersand_in_text(table: &Table, node: Node, byte: u8) -> Option<Pending>
     requires { IsNode table.now node }
     ensures step { option_map (pending_of table.now) result ≡ steps.ampersand_in_text table.now.entries (front_at table.now node) byte }
@@ -188,7 +188,7 @@ fn is_closed_name_behind(table: &Table, node: Node, byte: u8) -> bool
     is_name_behind(table, node, byte) && byte == b';'
 }
 
-#[tactic(auto, unfolding(hm_units::specs::Steps::ampersand_in_value))]
+#[tactic(auto, unfolding(hm_graph_laws::specs::Steps::ampersand_in_value))]
 fn ampersand_in_value(table: &Table, node: Node, byte: u8) -> Option<Pending>
     requires { IsNode table.now node }
     ensures step { option_map (pending_of table.now) result ≡ steps.ampersand_in_value table.now.entries (front_at table.now node) byte }
@@ -209,7 +209,7 @@ fn ampersand_in_value(table: &Table, node: Node, byte: u8) -> Option<Pending>
     onto_ampersand(table, node, byte)
 }
 
-#[tactic(auto, unfolding(hm_units::specs::Steps::named_in_text))]
+#[tactic(auto, unfolding(hm_graph_laws::specs::Steps::named_in_text))]
 fn named_in_text(table: &Table, node: Node, byte: u8) -> Option<Pending>
     requires { IsNode table.now node }
     ensures step { option_map (pending_of table.now) result ≡ steps.named_in_text table.now.entries (front_at table.now node) byte }
@@ -229,7 +229,7 @@ fn breaks_name(table: &Table, node: Node, byte: u8) -> bool
     blocks(byte) || (byte == b';' && has_child(table, node, byte))
 }
 
-#[tactic(auto, unfolding(hm_units::specs::Steps::named_in_value))]
+#[tactic(auto, unfolding(hm_graph_laws::specs::Steps::named_in_value))]
 fn named_in_value(table: &Table, node: Node, byte: u8) -> Option<Pending>
     requires { IsNode table.now node }
     ensures step { option_map (pending_of table.now) result ≡ steps.named_in_value table.now.entries (front_at table.now node) byte }

@@ -1,37 +1,44 @@
--- What is true of ways and prices, over any edges.
-use Rattle.std.specs.Prelude.{◌≡◌, ◌≤◌, ℕ, List, length, Some}
-use Rattle.hm_units.specs.States.{State, first_state, same_state}
-use Rattle.hm_units.specs.Units.{Unit}
-use Rattle.std.specs.Prelude.{true}
-use Rattle.hm_graph.specs.Layers.{LayerTest, first_layer}
-use Rattle.hm_graph.specs.Prices.{Row, Feasible, first_price, least_prices, written_rows, full}
-use Rattle.hm_graph.specs.Ways.{Edges, Way, least, first_way}
+-- What steps say about the graph that they are the steps of.
+use Rattle.std.specs.Prelude.{◌≡◌, ℕ, List, Some}
+use Rattle.hm_cert.specs.declared.text.Format.{Format}
+use Rattle.hm_graph_laws.specs.Prices as graph
+use Rattle.hm_graph_laws.specs.Prices.{Row, least_prices, FeasibleFrom, full_from}
+use Rattle.hm_graph_laws.specs.Ways.{Edges, Way, first_way}
+use Rattle.hm_graph_laws.specs.States.{State}
+use Rattle.hm_graph_laws.specs.Units.{Unit}
+use Rattle.hm_edges.specs.declared.pieces.Piece.{Piece}
+use Rattle.hm_graph.specs.Fits.{StepsFit, place_of}
+use Rattle.hm_optimality_laws.specs.Formats.{follows_by}
+use Rattle.hm_graph.specs.Prices.{rows_of, written_rows, full_rows, KeepsRows}
+use Rattle.hm_graph.specs.Steps.{Step}
+use Rattle.hm_graph.specs.Ways.{WayOver, way_from}
 
--- equality of states is equality
-abbrev pub SameStatesAreEqual : Type 0
-SameStatesAreEqual = (s t : State) → (same_state s t ≡ true → s ≡ t) × (s ≡ t → same_state s t ≡ true)
+-- the prices over steps are the least ones
+abbrev pub RowsAreLeast : Type 0
+RowsAreLeast = (edges : Edges) (bytes : Unit → Piece → List ℕ) (units : List Unit) (states : List State) (steps : List Step) (last : ℕ)
+    → StepsFit edges bytes units states steps last → rows_of last steps ≡ least_prices edges units states
 
--- Prices that keep the rules bound every way by the first of them.
-abbrev pub FeasiblePricesBound : Type 0
-FeasiblePricesBound = (edges : Edges) (units : List Unit) (prices : List Row) (n : ℕ) (b : List ℕ) → Feasible edges units prices → first_price prices ≡ Some n → Way edges units first_state b → n ≤ length b
+-- the way over steps is the first one
+abbrev pub WayIsFirst : Type 0
+WayIsFirst = (edges : Edges) (bytes : Unit → Piece → List ℕ) (units : List Unit) (states : List State) (steps : List Step) (last : ℕ) (s : State) (place : ℕ)
+    → StepsFit edges bytes units states steps last → place_of states s ≡ Some place → way_from bytes last units steps place ≡ first_way edges units s
 
--- The least prices keep the rules.
-abbrev pub LeastPricesAreFeasible : Type 0
-LeastPricesAreFeasible = (edges : Edges) (units : List Unit) → Feasible edges units (least_prices edges units first_layer)
+-- each way over steps is a way of the graph, with the same bytes
+abbrev pub WaysAreWays : Type 0
+WaysAreWays = (edges : Edges) (bytes : Unit → Piece → List ℕ) (units : List Unit) (states : List State) (steps : List Step) (last : ℕ) (s : State) (place : ℕ) (b : List ℕ)
+    → StepsFit edges bytes units states steps last → place_of states s ≡ Some place → WayOver bytes units steps place b → Way edges units s b
 
--- The first of the least prices is that of the first state.
-abbrev pub FirstPriceIsLeast : Type 0
-FirstPriceIsLeast = (edges : Edges) (units : List Unit) → first_price (least_prices edges units first_layer) ≡ least edges units first_state
+-- the rows that are written are the same
+abbrev pub WrittenRowsAgree : Type 0
+WrittenRowsAgree = (edges : Edges) (bytes : Unit → Piece → List ℕ) (units : List Unit) (states : List State) (steps : List Step) (last : ℕ) (format : Format) (k : ℕ) (rows : List Row)
+    → StepsFit edges bytes units states steps last → written_rows format k steps rows ≡ graph.written_rows edges (follows_by format edges) k units states rows
 
--- Where a state has a way, its least price is a number, and no way has fewer bytes.
-abbrev pub LeastPricesBound : Type 0
-LeastPricesBound = (edges : Edges) (units : List Unit) (s : State) (b : List ℕ) → Way edges units s b → (n : ℕ) × (least edges units s ≡ Some n) × (n ≤ length b)
+-- what written rows stand for is the same
+abbrev pub FullRowsAgree : Type 0
+FullRowsAgree = (edges : Edges) (bytes : Unit → Piece → List ℕ) (units : List Unit) (states : List State) (steps : List Step) (last : ℕ) (format : Format) (k : ℕ) (rows : List Row)
+    → StepsFit edges bytes units states steps last → full_rows format k last steps rows ≡ full_from edges (follows_by format edges) k units states rows
 
--- The first way of a least price is a way, and has that length.
-abbrev pub LeastPricesAreReached : Type 0
-LeastPricesAreReached = (edges : Edges) (units : List Unit) (s : State) (n : ℕ) → least edges units s ≡ Some n → Way edges units s (first_way edges units s) × (length (first_way edges units s) ≡ n)
-
--- The written least prices stand for all the least prices, whatever is left out.
-abbrev pub WrittenPricesAreWhole : Type 0
-WrittenPricesAreWhole = (edges : Edges) (follows : LayerTest) (units : List Unit)
-    → full edges follows units (written_rows edges follows 0 units first_layer (least_prices edges units first_layer)) ≡ Some (least_prices edges units first_layer)
+-- prices keep the rules over steps exactly where they do over edges
+abbrev pub KeepingAgrees : Type 0
+KeepingAgrees = (edges : Edges) (bytes : Unit → Piece → List ℕ) (units : List Unit) (states : List State) (steps : List Step) (last : ℕ) (rows : List Row)
+    → StepsFit edges bytes units states steps last → (KeepsRows last steps rows → FeasibleFrom edges units states rows) × (FeasibleFrom edges units states rows → KeepsRows last steps rows)

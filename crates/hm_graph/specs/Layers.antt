@@ -1,64 +1,66 @@
--- The layers of the graph: the states that may be reached between two units, in order of first appearance.
-use Rattle.std.specs.Prelude.{ℕ, suc, Bool, true, false, not, ◌&&◌, ◌==◌, List, [], ◌∷◌, ◌++◌, if◌then◌else◌}
-use Rattle.std.specs.List.{list_any, list_all}
-use Rattle.hm_graph.specs.Ways.{Edges}
-use Rattle.hm_units.specs.Edges.{Edge}
-use Rattle.hm_units.specs.States.{State, first_state, same_state}
-use Rattle.hm_units.specs.Units.{Unit}
+-- What is made of a unit and the states before it: hops, a step, the states after it.
+use Rattle.std.specs.Prelude.{◌≡◌, ℕ, ◌<◌, ◌^◌, List, [], ◌∷◌, Some, map}
+use Rattle.hm_graph_laws.specs.Layers.{states_behind, with_ends, with_state}
+use Rattle.hm_graph_laws.specs.Ways.{Edges}
+use Rattle.hm_refs.specs.Names.{Entry}
+use Rattle.hm_refs.specs.Tables.{TableView}
+use Rattle.hm_graph_laws.specs.States as graph
+use Rattle.hm_graph_laws.specs.Units as units
+use Rattle.hm_edges.specs.Pieces.{HasName, edge_of, edges_seen, piece_bytes}
+use Rattle.hm_edges.specs.States.{HasNodes, state_of}
+use Rattle.hm_edges.specs.Units.{StandsFor}
+use Rattle.hm_edges.specs.declared.pieces.Edge.{Edge}
+use Rattle.hm_edges.specs.declared.states.State.{State}
+use Rattle.hm_edges.specs.declared.units.Unit.{Unit}
+use Rattle.hm_graph.specs.Fits.{HopFits, HopsFit, StepFits, place_of}
+use Rattle.hm_graph.specs.Steps.{Step}
+use Rattle.hm_graph.specs.declared.hops.Hop.{Hop}
+use Rattle.hm_graph.specs.Graphs.{tree_edges, AreLowHops, AreNamedHops, IsLowStep, IsNamedStep}
+use Rattle.hm_graph.specs.declared.rules.EdgeRules.{EdgeRules}
 
--- with a state at the end, where it isn't there yet
-abbrev pub with_state : List State → State → List State
-with_state states s = if list_any (λ t. same_state t s) states then states else states ++ s ∷ []
+-- the edges by a table and these rules
+abbrev pub edges_under : List Entry → EdgeRules → Edges
+edges_under t rules = tree_edges t rules.spell rules.format
 
--- with the ends of these edges
-abbrev pub with_ends : List State → List Edge → List State
-with_ends states [] = states
-with_ends states (e ∷ es) = with_ends (with_state states e.to) es
+-- what the states of a layer mean
+abbrev pub states_of : TableView → List State → List graph.State
+states_of v states = map (state_of v) states
 
--- with the ends of the edges of a unit from these states
-abbrev pub with_layer : Edges → List State → Unit → List State → List State
-with_layer es ends unit [] = ends
-with_layer es ends unit (s ∷ states) = with_layer es (with_ends ends (es unit s)) unit states
+-- each node in them is one of the table
+abbrev pub HaveNodes : TableView → List State → Type 0
+HaveNodes v [] = Prim.Unit {0}
+HaveNodes v (s ∷ states) = HasNodes v s.pending × HaveNodes v states
 
--- the states of the next layer, in order of first appearance
-abbrev pub states_behind : Edges → Unit → List State → List State
-states_behind es unit states = with_layer es [] unit states
+-- the states are those from before with this one, which has this place
+pub record IsPlaced (v : TableView) (s : State) (before now : List State) (n : ℕ) : Type 0 where
+  pub states : states_of v now ≡ with_state (states_of v before) (state_of v s)
+  pub place : place_of (states_of v now) (state_of v s) ≡ Some n
+  pub nodes : HaveNodes v now
 
-abbrev pub first_layer : List State
-first_layer = first_state ∷ []
+-- the hop is this edge of the unit, and the states are those from before with its end
+pub record IsHop (v : TableView) (unit : Unit) (e : Edge) (before now : List State) (h : Hop) : Type 0 where
+  pub fits : (u : units.Unit) → StandsFor v.entries unit u → HopFits (piece_bytes v.entries u) (states_of v now) (edge_of v u e) h
+  pub states : states_of v now ≡ with_state (states_of v before) (state_of v e.to)
+  pub nodes : HaveNodes v now
+  pub low : h.len < 2 ^ 33
+  pub named : HasName v.entries h.piece
 
--- the states of each layer, from one on whose states these are
-abbrev pub layers : Edges → List Unit → List State → List (List State)
-layers es [] states = states ∷ []
-layers es (unit ∷ units) states = states ∷ layers es units (states_behind es unit states)
+-- the hops are these edges of the unit, and the states are those from before with their ends
+pub record AreHops (v : TableView) (unit : Unit) (es : List Edge) (before now : List State) (hops : List Hop) : Type 0 where
+  pub fit : (u : units.Unit) → StandsFor v.entries unit u → HopsFit (piece_bytes v.entries u) (states_of v now) (edges_seen v u es) hops
+  pub states : (u : units.Unit) → states_of v now ≡ with_ends (states_of v before) (edges_seen v u es)
+  pub nodes : HaveNodes v now
+  pub low : AreLowHops hops
+  pub named : AreNamedHops v.entries hops
 
--- ---- Which layers are written
+-- for each unit of a tree that this one stands for, these are its edges, in their order
+abbrev pub AreEdgesUnder : TableView → EdgeRules → Unit → State → List Edge → Type 0
+AreEdgesUnder v rules unit from es = (u : units.Unit) → StandsFor v.entries unit u → edges_seen v u es ≡ edges_under v.entries rules u (state_of v from)
 
--- A test of a layer by its unit and states: whether its prices follow from the next layer's prices, so that they aren't
--- written.
-abbrev pub LayerTest : Type 0
-LayerTest = Unit → List State → Bool
-
--- no layer is left out
-abbrev pub nothing_follows : LayerTest
-nothing_follows unit states = false
-
-abbrev pub is_single : {A : Type 0} → List A → Bool
-is_single (x ∷ []) = true
-is_single xs = false
-
--- one state with one edge
-abbrev pub single_follows : Edges → LayerTest
-single_follows es unit states = is_single states && list_all (λ s. is_single (es unit s)) states
-
--- The first layer and the last one are written, and of the others those that don't follow from the next one. These states
--- are those of layer k.
-abbrev pub written_from : Edges → LayerTest → ℕ → List Unit → List State → List ℕ
-written_from es follows k [] states = k ∷ []
-written_from es follows k (unit ∷ units) states =
-    if not (k == 0) && follows unit states then written_from es follows (suc k) units (states_behind es unit states)
-    else k ∷ written_from es follows (suc k) units (states_behind es unit states)
-
--- the numbers of the written layers
-abbrev pub written : Edges → LayerTest → List Unit → List ℕ
-written es follows units = written_from es follows 0 units first_layer
+-- the step is that of the unit from these states to those after it
+pub record IsLayer (v : TableView) (rules : EdgeRules) (unit : Unit) (from behind : List State) (step : Step) : Type 0 where
+  pub fits : (u : units.Unit) → StandsFor v.entries unit u → StepFits (piece_bytes v.entries u) (edges_under v.entries rules u) (states_of v behind) (states_of v from) step
+  pub states : (u : units.Unit) → StandsFor v.entries unit u → states_of v behind ≡ states_behind (edges_under v.entries rules) u (states_of v from)
+  pub nodes : HaveNodes v behind
+  pub low : IsLowStep step
+  pub named : IsNamedStep v.entries step

@@ -1,112 +1,88 @@
--- Prices (potentials: the cost to go) for the states of the layers: the least ones, those that show a bound by themselves,
--- and those that are written.
-use Rattle.std.specs.Prelude.{◌≡◌, ◌≤◌, ℕ, suc, ◌+◌, Bool, not, ◌&&◌, ◌==◌, List, [], ◌∷◌, length, map, Option, Some, None, if◌then◌else◌}
-use Rattle.hm_graph.specs.Layers.{LayerTest, states_behind, first_layer}
-use Rattle.hm_graph.specs.Ways.{Edges, best, least}
-use Rattle.hm_units.specs.Edges.{Edge, edge_length}
-use Rattle.hm_units.specs.States.{State, same_state}
-use Rattle.hm_units.specs.Units.{Unit}
-
-abbrev pub Row : Type 0
-Row = List (Option ℕ)
-
--- the price of a state by the prices of its layer
-abbrev pub price_at : List State → Row → State → Option ℕ
-price_at [] prices s = None
-price_at (t ∷ states) [] s = None
-price_at (t ∷ states) (q ∷ prices) s = if same_state t s then q else price_at states prices s
+-- Prices (potentials: the cost to go) over steps: the least ones, those that are written, all that these stand for, and
+-- those that show a bound.
+use Rattle.std.specs.Prelude.{◌≡◌, ℕ, suc, Bool, not, ◌&&◌, ◌==◌, List, [], ◌∷◌, length, map, Option, Some, None, if◌then◌else◌, slice_index_or}
+use Rattle.std.proofs.Math.ListN.{replicate}
+use Rattle.hm_cert.specs.declared.text.Format.{Format}
+use Rattle.hm_graph_laws.specs.Prices.{Row, KeepsEdge, with_row}
+use Rattle.hm_graph_laws.specs.Ways.{lesser, over}
+use Rattle.hm_graph.specs.Steps.{Step, leaves_out}
+use Rattle.hm_graph.specs.declared.hops.Hop.{Hop}
 
 -- ---- Least prices
 
--- the least prices of all layers from one on, that layer's states being these
-abbrev pub least_prices : Edges → List Unit → List State → List Row
-least_prices es [] states = map (least es []) states ∷ []
-least_prices es (unit ∷ units) states = map (least es (unit ∷ units)) states ∷ least_prices es units (states_behind es unit states)
+-- the price over a hop, by the prices of the next layer
+abbrev pub price_over : Row → Hop → Option ℕ
+price_over behind h = over h.len (slice_index_or behind h.to None)
+
+-- the least price over these hops
+abbrev pub best_price : Row → List Hop → Option ℕ
+best_price behind [] = None
+best_price behind (h ∷ hops) = lesser (price_over behind h) (best_price behind hops)
+
+-- the least prices before a step
+abbrev pub row_over : Row → Step → Row
+row_over behind step = map (best_price behind) step
+
+abbrev pub first_row : List Row → Row
+first_row [] = []
+first_row (row ∷ rows) = row
+
+-- the prices of the last layer, which has `last` states
+abbrev pub zeros : ℕ → Row
+zeros last = replicate last (Some 0)
+
+-- the least prices of all layers from one on
+abbrev pub rows_of : ℕ → List Step → List Row
+rows_of last [] = zeros last ∷ []
+rows_of last (step ∷ steps) = row_over (first_row (rows_of last steps)) step ∷ rows_of last steps
+
+-- ---- Written prices
+
+-- Whether a layer is left out of a certificate of this format, by the step after it; k is the number of the layer, and
+-- the first one never is.
+abbrev pub is_left_out : Format → ℕ → Step → Bool
+is_left_out format k step = not (k == 0) && leaves_out format step
+
+-- the rows that are written of those of all layers from one on
+abbrev pub written_rows : Format → ℕ → List Step → List Row → List Row
+written_rows format k steps [] = []
+written_rows format k [] (row ∷ rows) = row ∷ []
+written_rows format k (step ∷ steps) (row ∷ rows) =
+    if is_left_out format k step then written_rows format (suc k) steps rows
+    else row ∷ written_rows format (suc k) steps rows
+
+abbrev pub followed_by : Step → Option (List Row) → Option (List Row)
+followed_by step None = None
+followed_by step (Some []) = None
+followed_by step (Some (next ∷ rows)) = Some (row_over next step ∷ next ∷ rows)
+
+-- the rows of all layers from one on, by those that are written; none where these are too few or too many or of another width
+abbrev pub full_rows : Format → ℕ → ℕ → List Step → List Row → Option (List Row)
+full_rows format k last [] [] = None
+full_rows format k last [] (row ∷ []) = if length row == last then Some (row ∷ []) else None
+full_rows format k last [] (row ∷ more ∷ rows) = None
+full_rows format k last (step ∷ steps) [] = None
+full_rows format k last (step ∷ steps) (row ∷ rows) =
+    if is_left_out format k step then followed_by step (full_rows format (suc k) last steps (row ∷ rows))
+    else if length row == length step then with_row row (full_rows format (suc k) last steps rows)
+    else None
 
 -- ---- Prices that show a bound by themselves
 
--- A price keeps the rule at an edge: a number is at most the edge's length plus the price at the edge's end. A closed price
--- at the end bounds nothing, and where a price is closed, so is the price at the end.
-abbrev pub KeepsEdge : Option ℕ → ℕ → Option ℕ → Type 0
-KeepsEdge price n None = Prim.Unit {0}
-KeepsEdge None n (Some b) = ⊥
-KeepsEdge (Some a) n (Some b) = a ≤ n + b
+abbrev pub KeepsHops : Option ℕ → Row → List Hop → Type 0
+KeepsHops price behind [] = Prim.Unit {0}
+KeepsHops price behind (h ∷ hops) = KeepsEdge price h.len (slice_index_or behind h.to None) × KeepsHops price behind hops
 
-abbrev pub KeepsEdges : Option ℕ → (State → Option ℕ) → List Edge → Type 0
-KeepsEdges price behind [] = Prim.Unit {0}
-KeepsEdges price behind (e ∷ es) = KeepsEdge price (edge_length e) (behind e.to) × KeepsEdges price behind es
+-- a price for each state, and each keeps the rule at its hops
+abbrev pub KeepsStep : Row → Step → Row → Type 0
+KeepsStep behind [] [] = Prim.Unit {0}
+KeepsStep behind [] (price ∷ row) = ⊥
+KeepsStep behind (hops ∷ step) [] = ⊥
+KeepsStep behind (hops ∷ step) (price ∷ row) = KeepsHops price behind hops × KeepsStep behind step row
 
--- a price for each state, and each price keeps the rule at the edges of the unit
-abbrev pub KeepsLayer : Edges → Unit → (State → Option ℕ) → List State → Row → Type 0
-KeepsLayer es unit behind [] [] = Prim.Unit {0}
-KeepsLayer es unit behind [] (q ∷ row) = ⊥
-KeepsLayer es unit behind (s ∷ states) [] = ⊥
-KeepsLayer es unit behind (s ∷ states) (q ∷ row) = KeepsEdges q behind (es unit s) × KeepsLayer es unit behind states row
-
--- a price for each state, and each is 0
-abbrev pub AreZero : List State → Row → Type 0
-AreZero [] [] = Prim.Unit {0}
-AreZero [] (q ∷ row) = ⊥
-AreZero (s ∷ states) [] = ⊥
-AreZero (s ∷ states) (q ∷ row) = (q ≡ Some 0) × AreZero states row
-
--- layers and widths are those of the graph from one layer on, and each price keeps the rules
-abbrev pub FeasibleFrom : Edges → List Unit → List State → List Row → Type 0
-FeasibleFrom es units states [] = ⊥
-FeasibleFrom es [] states (row ∷ []) = AreZero states row
-FeasibleFrom es [] states (row ∷ next ∷ rows) = ⊥
-FeasibleFrom es (unit ∷ units) states (row ∷ []) = ⊥
-FeasibleFrom es (unit ∷ units) states (row ∷ next ∷ rows) =
-    KeepsLayer es unit (price_at (states_behind es unit states) next) states row × FeasibleFrom es units (states_behind es unit states) (next ∷ rows)
-
-abbrev pub Feasible : Edges → List Unit → List Row → Type 0
-Feasible es units rows = FeasibleFrom es units first_layer rows
-
--- the first price of all
-abbrev pub first_price : List Row → Option ℕ
-first_price [] = None
-first_price ([] ∷ rows) = None
-first_price ((q ∷ row) ∷ rows) = q
-
--- ---- Written prices, and all that they stand for
-
--- of the rows of all layers those that are written; k is the number of the layer whose states these are
-abbrev pub written_rows : Edges → LayerTest → ℕ → List Unit → List State → List Row → List Row
-written_rows es follows k units states [] = []
-written_rows es follows k [] states (row ∷ rows) = row ∷ []
-written_rows es follows k (unit ∷ units) states (row ∷ rows) =
-    if not (k == 0) && follows unit states then written_rows es follows (suc k) units (states_behind es unit states) rows
-    else row ∷ written_rows es follows (suc k) units (states_behind es unit states) rows
-
-abbrev pub has_width : List State → Row → Bool
-has_width states row = length row == length states
-
--- the prices of a layer that is left out: over the only edge of each state
-abbrev pub row_over : Edges → Unit → List State → (State → Option ℕ) → Row
-row_over es unit states behind = map (λ s. best behind (es unit s)) states
-
-abbrev pub with_row : Row → Option (List Row) → Option (List Row)
-with_row row None = None
-with_row row (Some rows) = Some (row ∷ rows)
-
--- a row that follows from the first of the next rows
-abbrev pub followed_by : Edges → Unit → List State → Option (List Row) → Option (List Row)
-followed_by es unit states None = None
-followed_by es unit states (Some []) = None
-followed_by es unit states (Some (next ∷ rows)) = Some (row_over es unit states (price_at (states_behind es unit states) next) ∷ next ∷ rows)
-
--- the rows of all layers from one on, by those that are written; None where these are too few or too many or of another
--- width
-abbrev pub full_from : Edges → LayerTest → ℕ → List Unit → List State → List Row → Option (List Row)
-full_from es follows k [] states [] = None
-full_from es follows k [] states (row ∷ []) = if has_width states row then Some (row ∷ []) else None
-full_from es follows k [] states (row ∷ more ∷ rows) = None
-full_from es follows k (unit ∷ units) states [] = None
-full_from es follows k (unit ∷ units) states (row ∷ rows) =
-    if not (k == 0) && follows unit states then followed_by es unit states (full_from es follows (suc k) units (states_behind es unit states) (row ∷ rows))
-    else if has_width states row then with_row row (full_from es follows (suc k) units (states_behind es unit states) rows)
-    else None
-
--- the prices of all layers that written ones stand for
-abbrev pub full : Edges → LayerTest → List Unit → List Row → Option (List Row)
-full es follows units rows = full_from es follows 0 units first_layer rows
+abbrev pub KeepsRows : ℕ → List Step → List Row → Type 0
+KeepsRows last steps [] = ⊥
+KeepsRows last [] (row ∷ []) = row ≡ zeros last
+KeepsRows last [] (row ∷ next ∷ rows) = ⊥
+KeepsRows last (step ∷ steps) (row ∷ []) = ⊥
+KeepsRows last (step ∷ steps) (row ∷ next ∷ rows) = KeepsStep next step row × KeepsRows last steps (next ∷ rows)

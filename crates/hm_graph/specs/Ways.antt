@@ -1,59 +1,53 @@
--- Ways (paths through the layered graph) over the units of a tree, and the least of them. All of this holds for any edges.
-use Rattle.std.specs.Prelude.{◌≡◌, ℕ, ◌+◌, Bool, true, false, List, [], ◌∷◌, ◌++◌, min, nat_eq, Option, Some, None, if◌then◌else◌}
-use Rattle.std.specs.Option.{option_map}
+-- Ways over steps (paths through the layered graph), and the first one: at each state the first hop over which the
+-- least price comes.
+use Rattle.std.specs.Prelude.{◌≡◌, ℕ, suc, List, [], ◌∷◌, ◌++◌, map, Option, Some, None, if◌then◌else◌, slice_get, slice_index_or}
+use Rattle.hm_graph_laws.specs.Prices.{Row}
+use Rattle.hm_graph_laws.specs.Ways.{same_price}
 use Rattle.hm_refs.specs.Tables.{IsIn}
-use Rattle.hm_units.specs.Edges.{Edge, edge_length}
-use Rattle.hm_units.specs.States.{State}
-use Rattle.hm_units.specs.Units.{Unit}
+use Rattle.hm_graph_laws.specs.Units.{Unit}
+use Rattle.hm_edges.specs.declared.pieces.Piece.{Piece}
+use Rattle.hm_graph.specs.Prices.{price_over, best_price, first_row, rows_of}
+use Rattle.hm_graph.specs.Steps.{Step, is_forced}
+use Rattle.hm_graph.specs.declared.hops.Hop.{Hop}
 
--- the edges of a unit from a state, in their order
-abbrev pub Edges : Type 0
-Edges = Unit → State → List Edge
-
--- a way over these units from a state to the end, with the bytes that it writes
-abbrev pub Way : Edges → List Unit → State → List ℕ → Type 0
-Way es [] from b = b ≡ []
-Way es (unit ∷ units) from b = (e : Edge) × IsIn e (es unit from) × ((rest : List ℕ) × (b ≡ e.bytes ++ rest) × Way es units e.to rest)
-
--- ---- Prices (potentials: the cost to go): a number of bytes up to the end, or None (closed) where there is no way
-
--- the lesser price, where a closed one is greater than each number
-abbrev pub lesser : Option ℕ → Option ℕ → Option ℕ
-lesser None b = b
-lesser (Some a) None = Some a
-lesser (Some a) (Some b) = Some (min a b)
-
--- the price over an edge
-abbrev pub over : ℕ → Option ℕ → Option ℕ
-over n price = option_map (λ q. n + q) price
-
--- the least price over these edges, by the prices of the states that they lead to
-abbrev pub best : (State → Option ℕ) → List Edge → Option ℕ
-best behind [] = None
-best behind (e ∷ es) = lesser (over (edge_length e) (behind e.to)) (best behind es)
-
--- the least number of bytes of a way from a state to the end, closed where there is none
-abbrev pub least : Edges → List Unit → State → Option ℕ
-least es [] from = Some 0
-least es (unit ∷ units) from = best (least es units) (es unit from)
+-- a way over these steps from a place to the end, with the bytes that it writes, by what a piece writes of a unit
+abbrev pub WayOver : (Unit → Piece → List ℕ) → List Unit → List Step → ℕ → List ℕ → Type 0
+WayOver bytes [] [] place b = b ≡ []
+WayOver bytes [] (step ∷ steps) place b = ⊥
+WayOver bytes (unit ∷ units) [] place b = ⊥
+WayOver bytes (unit ∷ units) (step ∷ steps) place b =
+    (h : Hop) × IsIn h (slice_index_or step place []) × ((rest : List ℕ) × (b ≡ bytes unit h.piece ++ rest) × WayOver bytes units steps h.to rest)
 
 -- ---- The first way
 
-abbrev pub same_price : Option ℕ → Option ℕ → Bool
-same_price None None = true
-same_price (Some a) (Some b) = nat_eq a b
-same_price a b = false
+-- the place of the first hop over which a price comes; after the last where there is none
+abbrev pub place_over : Row → Option ℕ → List Hop → ℕ
+place_over behind price [] = 0
+place_over behind price (h ∷ hops) = if same_price (price_over behind h) price then 0 else suc (place_over behind price hops)
 
--- the first edge over which a price comes
-abbrev pub first_edge : (State → Option ℕ) → Option ℕ → List Edge → Option Edge
-first_edge behind price [] = None
-first_edge behind price (e ∷ es) = if same_price (over (edge_length e) (behind e.to)) price then Some e else first_edge behind price es
+-- the place of the first hop over which the least price comes
+abbrev pub choice : Row → List Hop → ℕ
+choice behind hops = place_over behind (best_price behind hops) hops
 
-abbrev pub along : Option Edge → (State → List ℕ) → List ℕ
-along None more = []
-along (Some e) more = e.bytes ++ more e.to
+-- the choices before a step, where there is something to choose
+abbrev pub step_choices : Row → Step → List ℕ
+step_choices behind step = if is_forced step then [] else map (choice behind) step
 
--- the bytes of the way that takes, at each state, the first edge over which the least price comes
-abbrev pub first_way : Edges → List Unit → State → List ℕ
-first_way es [] from = []
-first_way es (unit ∷ units) from = along (first_edge (least es units) (least es (unit ∷ units) from) (es unit from)) (first_way es units)
+-- the choices of all layers from one on, those of the last layer first
+abbrev pub choices_of : ℕ → List Step → List ℕ
+choices_of last [] = []
+choices_of last (step ∷ steps) = choices_of last steps ++ step_choices (first_row (rows_of last steps)) step
+
+-- the hop that the first way takes from a place, by the next layer's prices
+abbrev pub hop_taken : Row → Step → ℕ → Option Hop
+hop_taken behind step place = slice_get (slice_index_or step place []) (choice behind (slice_index_or step place []))
+
+abbrev pub along : (Piece → List ℕ) → (ℕ → List ℕ) → Option Hop → List ℕ
+along bytes more None = []
+along bytes more (Some h) = bytes h.piece ++ more h.to
+
+-- the bytes of the first way from a place, by what a piece writes of a unit
+abbrev pub way_from : (Unit → Piece → List ℕ) → ℕ → List Unit → List Step → ℕ → List ℕ
+way_from bytes last units [] place = []
+way_from bytes last [] (step ∷ steps) place = []
+way_from bytes last (unit ∷ units) (step ∷ steps) place = along (bytes unit) (way_from bytes last units steps) (hop_taken (first_row (rows_of last steps)) step place)

@@ -1,25 +1,32 @@
-//! Laws over ways and prices of the graph of spellings. The functions do nothing.
-ghost use Rattle.hm_graph.specs.Laws.{FeasiblePricesBound, FirstPriceIsLeast, LeastPricesAreFeasible, LeastPricesAreReached, LeastPricesBound, SameStatesAreEqual, WrittenPricesAreWhole};
+//! Laws of steps. The functions do nothing.
+ghost use Rattle.hm_graph.specs.Laws.{FullRowsAgree, KeepingAgrees, RowsAreLeast, WayIsFirst, WaysAreWays, WrittenRowsAgree};
 
-/// Two states are the same exactly where they are equal.
-pub fn same_states_are_equal()
-    ensures { SameStatesAreEqual }
+/// The prices over steps are the least ones of their graph.
+pub fn rows_are_least()
+    ensures { RowsAreLeast }
 {}
 
-/// Prices from any source that keep the rules of a certificate bound every way.
-pub fn feasible_prices_bound()
-    ensures { FeasiblePricesBound }
+/// The way over steps is the first one of their graph.
+pub fn way_is_first()
+    ensures { WayIsFirst }
 {}
 
-/// The least prices keep the rules, bound every way, and are reached by the first way.
-pub fn least_prices_are_least()
-    ensures feasible { LeastPricesAreFeasible }
-    ensures first { FirstPriceIsLeast }
-    ensures bound { LeastPricesBound }
-    ensures reached { LeastPricesAreReached }
+/// Each way over steps is one of their graph.
+pub fn ways_are_ways()
+    ensures { WaysAreWays }
 {}
 
-/// The prices that a certificate leaves out follow from those that it writes.
-pub fn written_prices_are_whole()
-    ensures { WrittenPricesAreWhole }
+/// The rows that are written are those of the graph.
+pub fn written_rows_agree()
+    ensures { WrittenRowsAgree }
+{}
+
+/// What written rows stand for is what they do in the graph.
+pub fn full_rows_agree()
+    ensures { FullRowsAgree }
+{}
+
+/// Prices keep the rules over steps exactly where they do in the graph.
+pub fn keeping_agrees()
+    ensures { KeepingAgrees }
 {}

@@ -1,4 +1,26 @@
-//! The layered graph of the spellings of a tree: layers of states, ways (paths) and prices (potentials).
+//! The layered graph of a tree in code: each step between two layers is made once and numbered, and kept as runs of equal ones.
 #![tactic(auto)]
 
+mod along;
+mod build;
+mod building;
+mod copied;
+mod followers;
+mod graph;
+mod hops;
 pub mod laws;
+mod layer;
+mod made;
+mod met;
+mod numbers;
+mod outdone;
+mod pairs;
+mod plain;
+mod rules;
+mod step;
+mod still;
+
+pub use followers::Follower;
+pub use graph::{Cursor, Graph, Passed};
+pub use hops::Hop;
+pub use step::Step;

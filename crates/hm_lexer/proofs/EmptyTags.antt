@@ -4,7 +4,7 @@ use Rattle.std.specs.Str.{IsUtf8, IsCharBoundary}
 use Rattle.std.proofs.lemmas.Str.{IsCharBoundary-after_ascii}
 use Rattle.std.proofs.lemmas.List.{drop-drop, get_or-drop}
 use Rattle.std.proofs.lemmas.Bool.Decides.{Decides-eqb}
-use Rattle.hm_tokens.specs.First.{Behind, behind_empty_tags}
+use Rattle.hm_token_laws.specs.First.{Behind, behind_empty_tags}
 use Rattle.hm_lexer.specs.Steps.{begins_empty_tag}
 
 -- with n more bytes before

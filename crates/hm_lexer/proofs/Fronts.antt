@@ -5,8 +5,8 @@ use Rattle.std.proofs.lemmas.Bool.{cases_lt}
 use Rattle.std.proofs.lemmas.List.{drop-drop, drop-take, take-take, length-take-le, get_or-take}
 use Rattle.std.proofs.lemmas.List.Folds.{drop_split}
 use Rattle.hm_refs.specs.Names.{Entry}
-use Rattle.hm_text_scan.specs.Texts.{read_text}
-use Rattle.hm_tokens.specs.First.{before_rest, read_inside}
+use Rattle.hm_scan.specs.Texts.{read_text}
+use Rattle.hm_token_laws.specs.First.{before_rest, read_inside}
 use Rattle.hm_tree.specs.Lexemes.{token_of}
 use Rattle.hm_tree.specs.Tokens.{BeginsAt, IsPiece, IsInText, Reads, Scanned, seen, slice, comment, taken}
 use Rattle.hm_tree.specs.declared.tokens.Lexeme.{Lexeme}

@@ -2,10 +2,10 @@
 use Rattle.std.proofs.Common.{◌≡◌, ℕ, Bool, true, false, cond, not, ◌&&◌, ◌||◌, ◌==◌, List, [], ◌∷◌, Some, None, refl, subst}
 use Rattle.std.proofs.lemmas.Bool.Decides.{Decides-eqb}
 use Rattle.hm_base.specs.Bytes.{is_letter, is_null}
-use Rattle.hm_text_scan.specs.Texts.{begins_markup}
-use Rattle.hm_tag_scan.specs.Reading.{begins_tag, followed_by_letter}
-use Rattle.hm_mark_scan.specs.Comments.{begins_comment}
-use Rattle.hm_mark_scan.specs.Doctypes.{begins_doctype}
+use Rattle.hm_scan.specs.Texts.{begins_markup}
+use Rattle.hm_scan.specs.Reading.{begins_tag, followed_by_letter}
+use Rattle.hm_scan.specs.Comments.{begins_comment}
+use Rattle.hm_scan.specs.Doctypes.{begins_doctype}
 use Rattle.hm_lexer.specs.Steps.{begins_empty_tag}
 
 -- after `</`

@@ -4,7 +4,7 @@ use Rattle.std.proofs.lemmas.List.{drop_all, drop_more}
 use Rattle.hm_base.specs.Bytes.{is_null}
 use Rattle.hm_base.specs.Source.{place_in}
 use Rattle.hm_refs.specs.Names.{Entry}
-use Rattle.hm_tokens.specs.First.{Mode, ordinary, in_svg, rcdata, raw, script, at_end, behind_bytes, first, rule_of}
+use Rattle.hm_token_laws.specs.First.{Mode, ordinary, in_svg, rcdata, raw, script, at_end, behind_bytes, first, rule_of}
 use Rattle.hm_tree.specs.Tokens.{BeginsAt, Reads, refused}
 use Rattle.hm_tree.specs.declared.tokens.Token.{Token}
 use Rattle.hm_tree.specs.declared.tokens.ScanFault.{ScanFault}

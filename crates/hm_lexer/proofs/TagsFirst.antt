@@ -9,10 +9,10 @@ use Rattle.hm_tree.specs.Tokens.{BeginsAt, Reads, refused}
 use Rattle.hm_tree.specs.declared.tokens.Token.{Token}
 use Rattle.hm_tree.specs.declared.tokens.ScanFault.{ScanFault}
 use Rattle.hm_tree.specs.declared.tokens.ScanFault.TheVariants as faults
-use Rattle.hm_text_scan.specs.Texts.{begins_markup}
-use Rattle.hm_tag_scan.specs.Reading.{begins_tag, followed_by_letter, read_tag}
-use Rattle.hm_tag_scan.proofs.TagStarts.{Begins, short_begins, tag_begins}
-use Rattle.hm_tokens.specs.First.{Mode, ordinary, in_svg, rcdata, raw, script, behind_empty_tags, behind_none}
+use Rattle.hm_scan.specs.Texts.{begins_markup}
+use Rattle.hm_scan.specs.Reading.{begins_tag, followed_by_letter, read_tag}
+use Rattle.hm_scan.proofs.TagStarts.{Begins, short_begins, tag_begins}
+use Rattle.hm_token_laws.specs.First.{Mode, ordinary, in_svg, rcdata, raw, script, behind_empty_tags, behind_none}
 use Rattle.hm_lexer.specs.Reading.{Reading, IsTaken, Refuses, text_of}
 use Rattle.hm_lexer.specs.Steps.{IsBehind, begins_empty_tag, has_markup, read_in, refusal_of}
 use Rattle.hm_lexer.proofs.Nexts.{next_refused, next_taken}

@@ -9,12 +9,12 @@ use Rattle.hm_base.specs.RawText.{begins_end_tag, is_found_whole, place_from, ra
 use Rattle.hm_tree.specs.Tokens.{Reads, refused}
 use Rattle.hm_tree.specs.declared.tokens.Token.{Token}
 use Rattle.hm_tree.specs.declared.tokens.ScanFault.{ScanFault}
-use Rattle.hm_tag_scan.specs.Reading.{begins_tag}
-use Rattle.hm_mark_scan.specs.Pieces.{slice_up_to}
-use Rattle.hm_mark_scan.specs.RawTexts.{read_raw, read_script}
-use Rattle.hm_mark_scan.proofs.Lowered.{eqb_lower}
-use Rattle.hm_mark_scan.proofs.RawTextLaws.{place_found}
-use Rattle.hm_mark_scan.proofs.ScriptLaws.{first_found}
+use Rattle.hm_scan.specs.Reading.{begins_tag}
+use Rattle.hm_scan.specs.Pieces.{slice_up_to}
+use Rattle.hm_scan.specs.RawTexts.{read_raw, read_script}
+use Rattle.hm_scan.proofs.Lowered.{eqb_lower}
+use Rattle.hm_scan.proofs.RawTextLaws.{place_found}
+use Rattle.hm_scan.proofs.ScriptLaws.{first_found}
 use Rattle.hm_lexer.specs.Modes.{rcdata_name, raw_name}
 use Rattle.hm_lexer.specs.Steps.{IsEndAt, IsLexer}
 use Rattle.hm_lexer.specs.declared.lexer.TextEnd.{TextEnd}

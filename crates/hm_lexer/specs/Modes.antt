@@ -1,7 +1,7 @@
 -- The modes of the lexer, by the names of their elements.
 use Rattle.std.specs.Prelude.{ℕ, List, codes}
-use Rattle.hm_tokens.specs.First as tokens
-use Rattle.hm_tokens.specs.First.{ordinary, in_svg, rcdata, raw, script}
+use Rattle.hm_token_laws.specs.First as tokens
+use Rattle.hm_token_laws.specs.First.{ordinary, in_svg, rcdata, raw, script}
 use Rattle.hm_lexer.specs.declared.modes.Mode.{Mode}
 use Rattle.hm_lexer.specs.declared.modes.Mode.TheVariants as modes
 use Rattle.hm_lexer.specs.declared.modes.RcdataName.{RcdataName}

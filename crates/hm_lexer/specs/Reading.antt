@@ -5,13 +5,13 @@ use Rattle.hm_base.specs.declared.rules.Refused.{Refused}
 use Rattle.hm_base.specs.declared.rules.Refused.TheVariants as answers
 use Rattle.hm_base.specs.declared.rules.Rule.{Rule}
 use Rattle.hm_refs.specs.Names.{Entry}
-use Rattle.hm_mark_scan.specs.Comments.{begins_cdata, comment_front}
-use Rattle.hm_text_scan.specs.Texts.{begins_markup}
+use Rattle.hm_scan.specs.Comments.{begins_cdata, comment_front}
+use Rattle.hm_scan.specs.Texts.{begins_markup}
 use Rattle.hm_tree.specs.Tokens.{taken, refused, seen, BeginsAt, IsInText}
 use Rattle.hm_tree.specs.declared.tokens.ScanFault.{ScanFault}
 use Rattle.hm_tree.specs.declared.tokens.ScanFault.TheVariants as faults
 use Rattle.hm_tree.specs.declared.tokens.Spanned.{Spanned}
-use Rattle.hm_tokens.specs.First.{Mode, ordinary, in_svg, rcdata, raw, script, Next, at_end, behind_bytes, first, rule_of}
+use Rattle.hm_token_laws.specs.First.{Mode, ordinary, in_svg, rcdata, raw, script, Next, at_end, behind_bytes, first, rule_of}
 
 -- the names of character references, the text with its places, and how many bytes of the text were taken
 pub record Reading : Type 0 where

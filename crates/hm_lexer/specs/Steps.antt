@@ -5,7 +5,7 @@ use Rattle.hm_base.specs.RawText.{raw_end, script_end}
 use Rattle.hm_base.specs.declared.rules.Refused.{Refused}
 use Rattle.hm_base.specs.declared.rules.Refused.TheVariants as answers
 use Rattle.hm_refs.specs.Names.{Entry}
-use Rattle.hm_tag_scan.specs.Reading.{begins_tag}
+use Rattle.hm_scan.specs.Reading.{begins_tag}
 use Rattle.hm_tree.specs.Lexemes.{token_of}
 use Rattle.hm_tree.specs.Tokens.{Scanned}
 use Rattle.hm_tree.specs.declared.tokens.Lexeme.{Lexeme}
@@ -13,7 +13,7 @@ use Rattle.hm_tree.specs.declared.tokens.ScanFault.{ScanFault}
 use Rattle.hm_tree.specs.declared.tokens.ScanFault.TheVariants as faults
 use Rattle.hm_tree.specs.declared.tokens.Tag.{Tag}
 use Rattle.hm_tree.specs.declared.tokens.Token.{Token}
-use Rattle.hm_tokens.specs.First.{Mode, ordinary, in_svg, rcdata, raw, script, Next, at_end, behind_bytes, Behind, behind_empty_tags, behind_none, read_here, read_inside, read_references, read_nothing, rule_of}
+use Rattle.hm_token_laws.specs.First.{Mode, ordinary, in_svg, rcdata, raw, script, Next, at_end, behind_bytes, Behind, behind_empty_tags, behind_none, read_here, read_inside, read_references, read_nothing, rule_of}
 use Rattle.hm_lexer.specs.Modes.{rcdata_name}
 use Rattle.hm_lexer.specs.declared.lexer.TextEnd.{TextEnd}
 

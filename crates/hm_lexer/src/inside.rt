@@ -3,15 +3,13 @@ ghost use Rattle.std.specs.Prelude.{◌≡◌, ◌≢◌, ◌-◌, ◌^◌, ◌<
 ghost use Rattle.hm_base.specs.Bytes.{head_is};
 ghost use Rattle.hm_base.specs.Forms.{is_small};
 ghost use Rattle.hm_base.specs.RawText.{raw_end, script_end};
-ghost use Rattle.hm_tokens.specs.First.{read_inside};
+ghost use Rattle.hm_token_laws.specs.First.{read_inside};
 ghost use Rattle.hm_tree.specs.Lexemes.{token_of};
 ghost use Rattle.hm_tree.specs.Tokens.{BeginsAt, Reads, refused};
 ghost use Rattle.hm_lexer.specs.Steps.{Ends, IsEndAt, read_piece};
 
-use hm_mark_scan::{scan_raw, scan_script};
 use hm_refs::Table;
-use hm_tag_scan::scan_tag_into;
-use hm_text_scan::scan_text;
+use hm_scan::{scan_raw, scan_script, scan_tag_into, scan_text};
 use hm_tree::{Lexeme, ScanFault, Tag};
 use std::alloc::Global;
 

@@ -1,18 +1,19 @@
 //! Ordinary text: markup, and the text between.
 ghost use Rattle.std.specs.Prelude.{◌≡◌, ◌≢◌, ◌+◌, ◌^◌, ◌<◌, ◌≤◌, drop, false, length, true, IfOk, IfErr, IsCharBoundary};
-ghost use Rattle.hm_text_scan.specs.Texts as texts;
-ghost use Rattle.hm_tokens.specs.First as tokens;
-ghost use Rattle.hm_tokens.specs.First.{read_here, read_markup};
+ghost use Rattle.hm_scan.specs.Texts as texts;
+ghost use Rattle.hm_token_laws.specs.First as tokens;
+ghost use Rattle.hm_token_laws.specs.First.{read_here, read_markup};
 ghost use Rattle.hm_tree.specs.Lexemes.{token_of};
 ghost use Rattle.hm_tree.specs.Tokens.{BeginsAt, Reads, refused};
 ghost use Rattle.hm_lexer.specs.Reading.{front_here, markup_front};
 ghost use Rattle.hm_lexer.specs.Steps as steps;
 ghost use Rattle.hm_lexer.specs.Steps.{IsBehind, read_with};
 
-use hm_mark_scan::{begins_cdata, begins_doctype, scan_cdata, scan_comment, scan_doctype};
 use hm_refs::Table;
-use hm_tag_scan::{begins_tag, scan_tag_into};
-use hm_text_scan::{begins_markup, scan_text};
+use hm_scan::{
+    begins_cdata, begins_doctype, begins_markup, begins_tag, scan_cdata, scan_comment,
+    scan_doctype, scan_tag_into, scan_text,
+};
 use hm_tree::{Lexeme, ScanFault, Tag, Token};
 use std::alloc::Global;
 

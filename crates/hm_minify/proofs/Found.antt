@@ -19,12 +19,12 @@ use Rattle.hm_check.specs.Verdicts.{out_outcome, same_rules, verdict}
 use Rattle.hm_check.specs.declared.verdicts.Verdict.{Verdict}
 use Rattle.hm_check.specs.declared.verdicts.Verdict.TheVariants.{Yes, No}
 use Rattle.hm_check.specs.declared.verdicts.Why.TheVariants.{OutRefused, RulesDiffer}
-use Rattle.hm_construction.specs.Trees.{built, page_tree}
+use Rattle.hm_construction_laws.specs.Trees.{built, page_tree}
 use Rattle.hm_elements.specs.Settled.{Settled}
-use Rattle.hm_input.specs.Loads.{IsLoaded}
+use Rattle.hm_minify.specs.Loads.{IsLoaded}
 use Rattle.hm_refs.specs.Names.{Entry}
 use Rattle.hm_refs.specs.Tables.{IsTable}
-use Rattle.hm_spellings.specs.Spellings.{Shortest}
+use Rattle.hm_spelling_spec.specs.Spellings.{Shortest}
 use Rattle.hm_store.specs.Contents.{Sees}
 use Rattle.hm_store.specs.Files.{FileMap}
 use Rattle.hm_minify.specs.Endings.{Ending, says, is_fault, verdict_ending, certificate_ending, checked_ending, check_ending}

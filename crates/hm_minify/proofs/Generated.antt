@@ -8,11 +8,11 @@ use Rattle.hm_base.specs.declared.limits.TheConstants.{PAGE_LIMIT}
 use Rattle.hm_words.specs.declared.writing.Writing.{Writing}
 use Rattle.hm_base.specs.declared.plain.TreeOptions.{TreeOptions}
 use Rattle.hm_base.specs.declared.rules.Rule.{Rule}
-use Rattle.hm_construction.specs.Trees.{Outcome, built, refused_by}
+use Rattle.hm_construction_laws.specs.Trees.{Outcome, built, refused_by}
 use Rattle.hm_gen.proofs.Lengths.{pages_are_within_limit}
 use Rattle.hm_gen.specs.Pages.{page as made_page}
-use Rattle.hm_gen_settled.proofs.Page.{pages_are_built}
-use Rattle.hm_input.specs.Inputs.{bad_page, input_from, input_of, is_none, page_outcome, rewritten_input, table_names}
+use Rattle.hm_gen_laws.proofs.Page.{pages_are_built}
+use Rattle.hm_minify.specs.Inputs.{bad_page, input_from, input_of, is_none, page_outcome, rewritten_input, table_names}
 use Rattle.hm_refs.specs.Names.{Entry}
 use Rattle.hm_refs.specs.Tables.{IsTable}
 use Rattle.hm_refs.specs.declared.fault.TableFault.{TableFault}

@@ -6,11 +6,11 @@ use Rattle.hm_base.specs.Walks.{Event}
 use Rattle.hm_base.specs.declared.limits.TheConstants.{PAGE_LIMIT}
 use Rattle.hm_base.specs.declared.plain.TreeOptions.{TreeOptions}
 use Rattle.hm_base.specs.declared.rules.Rule.TheVariants.{TooLong}
-use Rattle.hm_construction.proofs.Pages.{pages_are_settled}
-use Rattle.hm_construction.specs.Trees.{Outcome, built, refused_by, page_tree}
+use Rattle.hm_construction_laws.proofs.Pages.{pages_are_settled}
+use Rattle.hm_construction_laws.specs.Trees.{Outcome, built, refused_by, page_tree}
 use Rattle.hm_elements.specs.Settled.{Settled}
 use Rattle.hm_gen.specs.Pages.{page as made_page}
-use Rattle.hm_input.specs.Inputs.{tree as tree_input, input_of, input_from, is_none, page_input, page_outcome, rewritten_input, table_names}
+use Rattle.hm_minify.specs.Inputs.{tree as tree_input, input_of, input_from, is_none, page_input, page_outcome, rewritten_input, table_names}
 use Rattle.hm_options.specs.Rewrites.{rewrite}
 use Rattle.hm_options.proofs.InOrder.{rewrite_settled}
 use Rattle.hm_refs.proofs.Gathered.{no_table}
@@ -19,10 +19,10 @@ use Rattle.hm_refs.specs.Json.{names}
 use Rattle.hm_refs.specs.Names.{Entry}
 use Rattle.hm_refs.specs.Tables.{IsTable}
 use Rattle.hm_refs.specs.declared.fault.TableFault.{TableFault}
-use Rattle.hm_shortest.proofs.Headline.{shortest_is_certified}
-use Rattle.hm_shortest.specs.Shortest.{IsShortest, certificate_of, shortest_text}
+use Rattle.hm_plan.proofs.Headline.{shortest_is_certified}
+use Rattle.hm_plan.specs.Shortest.{IsShortest, certificate_of, shortest_text}
 use Rattle.hm_store.specs.Contents.{Contents}
-use Rattle.hm_tokens.proofs.TextPieces.{names_of_table}
+use Rattle.hm_token_laws.proofs.TextPieces.{names_of_table}
 use Rattle.hm_words.specs.declared.writing.Writing.{Writing}
 use Rattle.hm_minify.specs.Endings.{format_of}
 use Rattle.hm_words.specs.Words.{Command, minify, check, tree, measure}

@@ -1,3 +1,5 @@
+pub mod Loaded
+pub mod GeneratedInputs
 pub mod Joined
 pub mod Headline
 pub mod Seen

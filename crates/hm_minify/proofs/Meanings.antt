@@ -8,8 +8,8 @@ use Rattle.hm_base.specs.declared.plain.TreeOptions.{TreeOptions}
 use Rattle.hm_refs.specs.Names.{Entry}
 use Rattle.hm_store.specs.Contents.{Contents, Sees}
 use Rattle.hm_store.specs.Files.{FileMap}
-use Rattle.hm_input.specs.Inputs.{Input, missing, bad_table, bad_page, tree as tree_input, input_of}
-use Rattle.hm_shortest.specs.Shortest.{certificate_of, layer_count, shortest_text}
+use Rattle.hm_minify.specs.Inputs.{Input, missing, bad_table, bad_page, tree as tree_input, input_of}
+use Rattle.hm_plan.specs.Shortest.{certificate_of, layer_count, shortest_text}
 use Rattle.hm_gen.specs.Pages.{page as made_page}
 use Rattle.hm_words.specs.Words.{Command, Asked, asks, minify, check, tree, measure, asked}
 use Rattle.hm_minify.specs.Endings.{Ending, format_of, is_fault, own_verdict, with_tree, tree_ending, check_ending, asked_ending, request_ending, ending}

@@ -12,7 +12,7 @@ use Rattle.hm_check.specs.declared.verdicts.Verdict.TheVariants.{Yes, No}
 use Rattle.hm_elements.specs.Settled.{Settled}
 use Rattle.hm_refs.specs.Names.{Entry}
 use Rattle.hm_refs.specs.Tables.{IsTable}
-use Rattle.hm_shortest.specs.Shortest.{certificate_of, shortest_text}
+use Rattle.hm_plan.specs.Shortest.{certificate_of, shortest_text}
 use Rattle.hm_words.specs.declared.writing.Writing.{Writing}
 use Rattle.hm_minify.specs.Endings.{format_of, is_fault, judged, measured_by, own_verdict, says}
 use Rattle.hm_minify.specs.Lines.{measured_line}

@@ -11,10 +11,10 @@ use Rattle.hm_words.specs.declared.writing.Writing.{Writing}
 use Rattle.hm_refs.specs.Names.{Entry}
 use Rattle.hm_store.specs.Contents.{Contents, Sees}
 use Rattle.hm_store.specs.Files.{FileMap, file_of, with_file, HasFront}
-use Rattle.hm_input.specs.Inputs.{Input, missing, bad_table, bad_page, tree as tree_input, input_of}
+use Rattle.hm_minify.specs.Inputs.{Input, missing, bad_table, bad_page, tree as tree_input, input_of}
 use Rattle.hm_words.specs.Words.{Command, Asked, minify, check, tree, measure, asked, has}
 use Rattle.hm_gen.specs.Pages.{page as made_page}
-use Rattle.hm_shortest.specs.Shortest.{layer_count}
+use Rattle.hm_plan.specs.Shortest.{layer_count}
 use Rattle.hm_minify.specs.Endings.{own_verdict, with_tree, tree_ending, request_ending, ending, outputs, asked_outputs}
 use Rattle.hm_minify.specs.Writes.{Write, IsLeft}
 use Rattle.hm_minify.proofs.Found.{check_writes}

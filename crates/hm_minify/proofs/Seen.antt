@@ -3,7 +3,7 @@ use Rattle.std.proofs.Common.{◌≡◌, ℕ, Bool, true, false, cond, ◌||◌,
 use Rattle.std.specs.declared.option.Option.{Option}
 use Rattle.std.specs.Str.{bytes_eq}
 use Rattle.hm_base.specs.declared.plain.TreeOptions.{TreeOptions}
-use Rattle.hm_input.specs.Inputs.{input_from, is_none, page_with_table, table_names}
+use Rattle.hm_minify.specs.Inputs.{input_from, is_none, page_with_table, table_names}
 use Rattle.hm_refs.proofs.Places.{same_bytes}
 use Rattle.hm_store.specs.Contents.{Contents, Sees}
 use Rattle.hm_store.specs.Files.{FileMap, file_of}

@@ -13,9 +13,9 @@ use Rattle.hm_check.specs.declared.verdicts.Verdict.TheVariants.{Yes, No}
 use Rattle.hm_store.specs.Contents.{Contents}
 use Rattle.hm_base.specs.Walks.{Event}
 use Rattle.hm_refs.specs.Names.{Entry}
-use Rattle.hm_shortest.specs.Shortest.{certificate_of, layer_count, shortest_text}
+use Rattle.hm_plan.specs.Shortest.{certificate_of, layer_count, shortest_text}
 use Rattle.hm_dump.specs.Dump.{dump_of}
-use Rattle.hm_input.specs.Inputs.{Input, missing, bad_table, bad_page, tree as tree_input, input_of}
+use Rattle.hm_minify.specs.Inputs.{Input, missing, bad_table, bad_page, tree as tree_input, input_of}
 use Rattle.hm_gen.specs.Pages.{page as made_page}
 use Rattle.hm_words.specs.Words.{Command, Asked, minify, check, tree, measure, asked}
 use Rattle.hm_words.specs.declared.writing.Writing.{Writing}

@@ -7,7 +7,7 @@ use Rattle.hm_check.specs.declared.verdicts.Verdict.TheVariants.{Yes}
 use Rattle.hm_elements.specs.Settled.{Settled}
 use Rattle.hm_refs.specs.Names.{Entry}
 use Rattle.hm_refs.specs.Tables.{IsTable}
-use Rattle.hm_shortest.specs.Shortest.{certified_rows, shortest_text}
+use Rattle.hm_plan.specs.Shortest.{certified_rows, shortest_text}
 use Rattle.hm_minify.specs.Endings.{format_of, own_verdict}
 use Rattle.hm_words.specs.declared.writing.Writing.{Writing}
 

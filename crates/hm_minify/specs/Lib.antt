@@ -1,3 +1,6 @@
+pub mod Inputs
+pub mod Loads
+pub mod InputExamples
 pub mod Codes
 pub mod Lines
 pub mod Writes

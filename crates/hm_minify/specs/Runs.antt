@@ -10,11 +10,11 @@ use Rattle.hm_store.specs.Files.{FileMap, AppendsFront}
 use Rattle.hm_refs.specs.Names.{Entry}
 use Rattle.hm_refs.specs.declared.fault.TableFault.{TableFault}
 use Rattle.hm_gen.specs.Pages.{page as made_page}
-use Rattle.hm_construction.specs.Trees.{built, page_tree}
-use Rattle.hm_shortest.specs.Shortest.{IsShortest, layer_count}
-use Rattle.hm_spellings.specs.Spellings.{Shortest}
+use Rattle.hm_construction_laws.specs.Trees.{built, page_tree}
+use Rattle.hm_plan.specs.Shortest.{IsShortest, layer_count}
+use Rattle.hm_spelling_spec.specs.Spellings.{Shortest}
 use Rattle.hm_dump.specs.Dump.{dump_of}
-use Rattle.hm_input.specs.Inputs.{bad_table, bad_page, tree as tree_input, input_of}
+use Rattle.hm_minify.specs.Inputs.{bad_table, bad_page, tree as tree_input, input_of}
 use Rattle.hm_words.specs.Words.{Command, check}
 use Rattle.hm_words.specs.declared.writing.Writing.{Writing}
 use Rattle.hm_minify.specs.Endings.{format_of, Ending, store_fault, is_fault, checked_ending}

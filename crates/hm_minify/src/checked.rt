@@ -7,13 +7,12 @@ ghost use Rattle.hm_store.specs.Causes.{Rose};
 ghost use Rattle.hm_store.specs.Contents.{Sees, Tells};
 ghost use Rattle.hm_minify.specs.Endings as spec;
 
-use crate::Status;
 use crate::ended::{Ended, Stop, says};
 use crate::lines::{bad_line_line, too_long_line, why_line, yes_line};
+use crate::{Input, Status, load_bytes};
 use hm_base::{CERTIFICATE_LIMIT, OUTPUT_LIMIT, SpellRules};
 use hm_cert::{Certificate, CertificateFault};
 use hm_check::{Verdict, check_settled};
-use hm_input::{Input, load_bytes};
 use hm_store::Store;
 use std::alloc::Global;
 

@@ -1,15 +1,22 @@
-//! hminify's top call: what the words ask for, from files to files.
+//! What a run is to do, done: the top call `run` over any files and any output, its endings, lines and statuses.
 #![tactic(auto)]
 
 mod checked;
 mod ended;
+mod input;
 pub mod laws;
 mod lines;
+mod loads;
+mod made;
 mod measured;
 mod saved;
 mod status;
 mod top;
+mod unread;
 mod work;
 
+pub use input::{Input, MadeInput, load_tree, make_tree};
+pub use loads::load_bytes;
 pub use status::Status;
 pub use top::run;
+pub use unread::Unread;

@@ -3,23 +3,22 @@ ghost use Rattle.std.specs.Prelude.{◌≡◌, ◌≢◌, ◌⊎◌, ◌≤◌, 
 ghost use Rattle.hm_cert.specs.Certificate.{AreRows};
 ghost use Rattle.hm_check.specs.declared.verdicts.Verdict.TheVariants.{Yes};
 ghost use Rattle.hm_elements.specs.Settled.{Settled};
-ghost use Rattle.hm_shortest.specs.Minified.{IsMinifiedBy};
-ghost use Rattle.hm_shortest.specs.Shortest.{certified_rows};
+ghost use Rattle.hm_plan.specs.Minified.{IsMinifiedBy};
+ghost use Rattle.hm_plan.specs.Shortest.{certified_rows};
 ghost use Rattle.hm_store.specs.Causes.{Rose};
 ghost use Rattle.hm_store.specs.Contents.{Sees, Tells};
 ghost use Rattle.hm_words.specs.Words as request;
 ghost use Rattle.hm_minify.specs.Endings as spec;
 
-use crate::Status;
 use crate::ended::{Ended, Stop, says};
 use crate::lines::{measured_line, refused_line, table_line};
 use crate::work::format_of;
+use crate::{Input, MadeInput, Status, Unread, make_tree};
 use hm_base::{OUTPUT_LIMIT, TreeOptions};
 use hm_cert::{Certificate, CertificateFault};
 use hm_check::{Verdict, check};
-use hm_input::{Input, MadeInput, Unread, make_tree};
+use hm_plan::{Minified, minify_tree};
 use hm_refs::laws::every_table;
-use hm_shortest::{Minified, minify_tree};
 use hm_store::Store;
 use hm_words::Writing;
 use std::alloc::Global;

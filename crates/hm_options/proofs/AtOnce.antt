@@ -10,7 +10,7 @@ use Rattle.hm_elements.specs.Attributes.{is_redundant}
 use Rattle.hm_options.specs.Passes.{valued, attribute_pass, changed, kept, event_pass, passed, all_but_space}
 use Rattle.hm_options.specs.Rewrites.{by, plain_doctype, no_comment, with_attributes, no_boolean_values, no_empty, no_redundant, without, without_value, is_empty, uncommented, where_set}
 use Rattle.hm_options.proofs.Kept.{same_list, without_by}
-use Rattle.hm_space.specs.Rewritten.{first_event, rewritten}
+use Rattle.hm_options.specs.Rewritten.{first_event, rewritten}
 use Rattle.hm_tree.specs.Trees.{is_apart, are_texts_apart}
 
 abbrev Rewrite : Type 0

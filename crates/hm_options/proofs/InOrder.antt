@@ -1,14 +1,14 @@
 -- All rewrites in their order.
 use Rattle.std.proofs.Common.{◌≡◌, Bool, true, false, List, refl}
 use Rattle.hm_elements.specs.Settled.{Settled}
-use Rattle.hm_space.proofs.Collapsed.{collapsed_settled}
+use Rattle.hm_options.proofs.Collapsed.{collapsed_settled}
 use Rattle.hm_options.proofs.StillSettled.{ruled_settled, uncommented_settled}
 use Rattle.hm_base.specs.Walks.{Event}
 use Rattle.hm_base.specs.declared.plain.TreeOptions.{TreeOptions}
 use Rattle.hm_options.specs.Passes.{all_but_space}
 use Rattle.hm_options.specs.Rewrites.{by, uncommented, where_set, rewrite}
 use Rattle.hm_options.specs.Rules.{PlainDoctype, BooleanValues, EmptyAttributes, RedundantAttributes, event_rule}
-use Rattle.hm_space.specs.Space.{collapsed}
+use Rattle.hm_options.specs.Space.{collapsed}
 
 pub in_order : (o : TreeOptions) (w a b : List Event) → a ≡ all_but_space o w → b ≡ where_set o.space (collapsed o.conservative) a → b ≡ rewrite o w
 unfolding rewrite

@@ -3,7 +3,7 @@ use Rattle.std.proofs.Common.{◌≡◌, ℕ, ◌+◌, ◌≤◌, Bool, true, fa
 use Rattle.hm_base.specs.Bytes.{is_null}
 use Rattle.hm_base.specs.Walks.{Event, doctype, start, text, comment, end, Element, path_behind, path_after, event_size, walk_size, with_text, text_before, pushed, pushes}
 use Rattle.hm_options.specs.Joins.{IsLast}
-use Rattle.hm_space.proofs.Behind.{some_null}
+use Rattle.hm_options.proofs.Behind.{some_null}
 use Rattle.hm_tree.specs.Rows.{is_text, ends_in_text, extended}
 use Rattle.hm_tree.specs.Trees.{HasRoom, last_agrees}
 use Rattle.hm_tree.proofs.LastLemmas.{ends_in_text-push}

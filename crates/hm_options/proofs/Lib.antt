@@ -1,3 +1,15 @@
+pub mod Apart
+pub mod Becoming
+pub mod Behind
+pub mod Better
+pub mod Collapsed
+pub mod Collapsing
+pub mod Distinct
+pub mod Fronts
+pub mod Parents
+pub mod Rewriting
+pub mod Runs
+pub mod Trims
 pub mod AtOnce
 pub mod InOrder
 pub mod Joined

@@ -3,7 +3,7 @@ use Rattle.std.proofs.Common.{◌≡◌, ℕ, ◌+◌, ◌≤◌, Bool, true, fa
 use Rattle.std.proofs.lemmas.Grind.{flat_map-append}
 use Rattle.std.proofs.lemmas.List.{append-nil}
 use Rattle.hm_base.specs.Walks.{Attribute, has_name, has_distinct_names, attributes_size}
-use Rattle.hm_space.proofs.Distinct.{take_push, new_name}
+use Rattle.hm_options.proofs.Distinct.{take_push, new_name}
 
 has_first : (n m : List ℕ) (b : Bool) (a : Attribute) (rest : List Attribute) → a.name ≡ m → bytes_eq m n ≡ false → has_name n rest ≡ false → has_name n ((if b then [] else a ∷ []) ++ rest) ≡ false
 has_first n m true a rest is other h = h

@@ -9,9 +9,9 @@ use Rattle.hm_options.specs.Rewrites.{without_value}
 use Rattle.hm_options.proofs.Joined.{joined_path, joined_room, other_put}
 use Rattle.hm_options.proofs.Kept.{named_by}
 use Rattle.hm_options.proofs.OneByOne.{each_size}
-use Rattle.hm_space.proofs.Apart.{text_there}
-use Rattle.hm_space.proofs.Collapsing.{stays_no_longer}
-use Rattle.hm_space.proofs.Rewriting.{NoLonger, IsCopied, IsCopied-more, HasRoom-next, IsCopied-all, IsCopied-closed, ends_match-at}
+use Rattle.hm_options.proofs.Apart.{text_there}
+use Rattle.hm_options.proofs.Collapsing.{stays_no_longer}
+use Rattle.hm_options.proofs.Rewriting.{NoLonger, IsCopied, IsCopied-more, HasRoom-next, IsCopied-all, IsCopied-closed, ends_match-at}
 use Rattle.hm_tree.specs.Rows.{is_text}
 use Rattle.hm_tree.specs.Trees.{HasRoom, IsWalk}
 use Rattle.hm_tree.proofs.LastLemmas.{ends_in_text-push}

@@ -14,9 +14,9 @@ use Rattle.hm_options.specs.Rewrites.{by, no_comment, uncommented}
 use Rattle.hm_options.specs.Rules.{AttributeRule, PlainDoctype, BooleanValues, EmptyAttributes, RedundantAttributes, event_rule, attributes_rule, attribute_rule, is_dropped, valued}
 use Rattle.hm_options.proofs.Kept.{rule_each, rule_count, valued_name, fresh_name}
 use Rattle.hm_options.proofs.Ruled.{start_by, svg_by, text_by, comment_by, end_by}
-use Rattle.hm_space.specs.Rewritten.{first_event, rewritten}
-use Rattle.hm_space.proofs.Becoming.{Fine, Becomes, element_of, settled_is_fine, settled_stays}
-use Rattle.hm_space.proofs.Collapsed.{text_before_others}
+use Rattle.hm_options.specs.Rewritten.{first_event, rewritten}
+use Rattle.hm_options.proofs.Becoming.{Fine, Becomes, element_of, settled_is_fine, settled_stays}
+use Rattle.hm_options.proofs.Collapsed.{text_before_others}
 
 -- a doctype becomes a doctype
 doctype_one : (rule : AttributeRule) (legacy : Bool) (path : List Element) (before next : Option Event) → (other : Bool) × (event_rule rule path before (doctype legacy) next ≡ doctype other ∷ [])

@@ -1,3 +1,10 @@
+pub mod Rewritten
+pub mod Copies
+pub mod Space
+pub mod Marks
+pub mod Fronts
+pub mod SpaceLaws
+pub mod SpaceExamples
 pub mod Rewrites
 pub mod Rules
 pub mod Passes

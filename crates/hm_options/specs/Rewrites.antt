@@ -6,8 +6,8 @@ use Rattle.hm_base.specs.declared.plain.TreeOptions.{TreeOptions}
 use Rattle.hm_elements.specs.Attributes.{nothing_blank, is_redundant}
 use Rattle.hm_elements.specs.Names.{is_among}
 use Rattle.hm_elements.specs.Tables.{is_boolean}
-use Rattle.hm_space.specs.Rewritten.{rewritten}
-use Rattle.hm_space.specs.Space.{collapsed}
+use Rattle.hm_options.specs.Rewritten.{rewritten}
+use Rattle.hm_options.specs.Space.{collapsed}
 
 -- the legacy doctype as the plain one
 abbrev pub plain_doctype : List Element → Option Event → Event → Option Event → List Event

@@ -7,8 +7,8 @@ ghost use Rattle.hm_tree.specs.Trees.{HasRoom};
 ghost use Rattle.hm_tree.specs.Views.{event_of, attributes_shown};
 
 use crate::attributes::{rewritten_attributes, stay};
+use crate::put;
 use hm_base::{Memory, TreeOptions};
-use hm_space::put;
 use hm_tree::{AttrsView, EventView, Maker, Tree};
 use std::alloc::Global;
 

@@ -4,11 +4,11 @@ ghost use Rattle.hm_elements.specs.Settled.{Settled};
 ghost use Rattle.hm_options.specs.Passes.{all_but_space};
 ghost use Rattle.hm_options.specs.Rewrites as rewrites;
 ghost use Rattle.hm_options.specs.Rewrites.{where_set};
-ghost use Rattle.hm_space.specs.Space.{collapsed};
+ghost use Rattle.hm_options.specs.Space.{collapsed};
 
+use crate::collapse;
 use crate::rules::rewritten;
 use hm_base::{Memory, TreeOptions};
-use hm_space::collapse;
 use hm_tree::Tree;
 use std::alloc::Global;
 

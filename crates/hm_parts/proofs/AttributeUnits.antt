@@ -3,7 +3,7 @@ use Rattle.std.proofs.Common.{◌≡◌, ℕ, ◌+◌, List, [], ◌∷◌, ◌+
 use Rattle.std.proofs.lemmas.List.{take_more}
 use Rattle.std.proofs.lemmas.Option.{slice_get_within, get_or_from_slice_get}
 use Rattle.hm_base.specs.Walks.{Attribute}
-use Rattle.hm_units.specs.Units.{attribute_units}
+use Rattle.hm_graph_laws.specs.Units.{attribute_units}
 
 first_alone : (a : Attribute) (attributes : List Attribute) → attribute_units (a ∷ attributes) ≡ attribute_units (a ∷ []) ++ attribute_units attributes
 first_alone a attributes = rw append-nil refl

@@ -8,3 +8,4 @@ pub mod TagUnits
 pub mod TextUnits
 pub mod UnitsLeft
 pub mod Unlike
+pub mod Hexadecimal

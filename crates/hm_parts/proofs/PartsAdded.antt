@@ -1,6 +1,6 @@
 -- Parts that are added to a buffer, one after the other.
 use Rattle.std.proofs.Common.{◌≡◌, List, [], ◌∷◌, ◌++◌, Result, Ok, Err, sym, ap, subst, ◌∙◌, append_assoc, append-nil}
-use Rattle.hm_units.specs.Units as units
+use Rattle.hm_graph_laws.specs.Units as units
 use Rattle.hm_parts.specs.Adding.{AddsParts}
 use Rattle.hm_parts.specs.Parts.{AreParts, IsPart, part_units, parts_units}
 use Rattle.hm_parts.specs.declared.parts.Part.{Part}

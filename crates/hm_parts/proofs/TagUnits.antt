@@ -4,8 +4,8 @@ use Rattle.hm_base.specs.Walks.{Attribute, Event, doctype, start, text, comment,
 use Rattle.hm_base.specs.declared.plain.SpellRules.{SpellRules}
 use Rattle.hm_elements.specs.Paths.{current}
 use Rattle.hm_elements.specs.Tables.{is_void}
-use Rattle.hm_spellings.specs.Omission.{start_falls, end_falls, may_omit_end}
-use Rattle.hm_units.specs.Units.{Previous, start_tag, end_tag, is_firm, may_close_itself, start_units, is_loose_end, end_units}
+use Rattle.hm_spelling_spec.specs.Omission.{start_falls, end_falls, may_omit_end}
+use Rattle.hm_graph_laws.specs.Units.{Previous, start_tag, end_tag, is_firm, may_close_itself, start_units, is_loose_end, end_units}
 
 -- of what follows it, a start or an end depends on the next event alone
 start_by_next : (frame : Bool) (n : List ℕ) (w : List Event) → start_falls frame n (take 1 w) ≡ start_falls frame n w

@@ -2,8 +2,8 @@
 use Rattle.std.proofs.Common.{◌≡◌, ℕ, Bool, true, false, ◌&&◌, List, chars, refl, if◌then◌else◌}
 use Rattle.hm_base.specs.Bytes.{head_is}
 use Rattle.hm_base.specs.Walks.{Element}
-use Rattle.hm_spellings.specs.Spellings.{opening, other, drops_first_line_feed, is_line_feed, wants_line_feed}
-use Rattle.hm_units.specs.Units.{Previous, is_behind_start}
+use Rattle.hm_spelling_spec.specs.Spellings.{opening, other, drops_first_line_feed, is_line_feed, wants_line_feed}
+use Rattle.hm_graph_laws.specs.Units.{Previous, is_behind_start}
 
 by_flags : (behind drops begins : Bool) → begins && (drops && behind) ≡ behind && (drops && begins)
 by_flags true true true = refl

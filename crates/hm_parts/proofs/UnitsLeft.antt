@@ -5,7 +5,7 @@ use Rattle.std.proofs.lemmas.Option.{slice_get-get_or}
 use Rattle.hm_base.specs.Walks.{Event, doctype, start, text, comment, end, Element, path_behind, path_after}
 use Rattle.hm_base.specs.declared.plain.SpellRules.{SpellRules}
 use Rattle.hm_tree.proofs.WalkLemmas.{path_after-take}
-use Rattle.hm_units.specs.Units.{Previous, units_from}
+use Rattle.hm_graph_laws.specs.Units.{Previous, units_from}
 use Rattle.hm_parts.specs.Events.{previous_at, event_units, units_at, units_left}
 
 -- the units of the first event stand first

@@ -7,8 +7,8 @@ use Rattle.hm_elements.specs.Names.{is_among, PairRow, find, html, head, body, p
 use Rattle.hm_elements.specs.Omission.{before_rows, goes_before, up_names, goes_up, start_rows, start_goes_before, bars_start}
 use Rattle.hm_elements.specs.Tables.{voids, is_void, sections, blocks, headings, is_section}
 use Rattle.hm_elements.proofs.TableTools.{same_bytes, entry_passes}
-use Rattle.hm_spellings.specs.Omission.{begins_child_of, end_goes, start_falls, end_falls}
-use Rattle.hm_units.specs.Units.{Previous, is_firm, is_loose_end}
+use Rattle.hm_spelling_spec.specs.Omission.{begins_child_of, end_goes, start_falls, end_falls}
+use Rattle.hm_graph_laws.specs.Units.{Previous, is_firm, is_loose_end}
 use Rattle.hm_parts.specs.Likely.{like_void, like_part, like_ended}
 
 -- ---- A test that names of a list pass and another name doesn't

@@ -1,6 +1,6 @@
 -- Parts that are added to a buffer.
 use Rattle.std.specs.Prelude.{◌≡◌, List, ◌++◌, Result, OnOk}
-use Rattle.hm_units.specs.Units as units
+use Rattle.hm_graph_laws.specs.Units as units
 use Rattle.hm_parts.specs.Parts.{AreParts, parts_units}
 use Rattle.hm_parts.specs.declared.parts.Part.{Part}
 

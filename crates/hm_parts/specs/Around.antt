@@ -4,7 +4,7 @@ use Rattle.hm_base.specs.Walks.{Event, Element}
 use Rattle.hm_elements.specs.Paths.{current, is_in_svg}
 use Rattle.hm_tree.specs.Views.{event_of}
 use Rattle.hm_tree.specs.declared.events.EventView.{EventView}
-use Rattle.hm_units.specs.Units.{Previous}
+use Rattle.hm_graph_laws.specs.Units.{Previous}
 use Rattle.hm_parts.specs.declared.neighbours.Around.{Around}
 
 -- a walk of the event that is shown, or of none

@@ -3,7 +3,7 @@ use Rattle.std.specs.Prelude.{ℕ, zero, suc, List, [], ◌∷◌, ◌++◌, tak
 use Rattle.hm_base.specs.Walks.{Event, Element, doctype, start, text, comment, end, path_after}
 use Rattle.hm_base.specs.declared.plain.SpellRules.{SpellRules}
 use Rattle.hm_elements.specs.Paths.{outer}
-use Rattle.hm_units.specs.Units.{Unit, Previous, fixed, doctype_bytes, start_units, end_units, text_units, units_from}
+use Rattle.hm_graph_laws.specs.Units.{Unit, Previous, fixed, doctype_bytes, start_units, end_units, text_units, units_from}
 
 -- the event directly before event i
 abbrev pub previous_at : List Event → ℕ → Previous

@@ -6,7 +6,7 @@ use Rattle.hm_edges.specs.Pieces.{own_bytes}
 use Rattle.hm_edges.specs.Units.{StandsFor}
 use Rattle.hm_edges.specs.declared.units.Unit.{Unit}
 use Rattle.hm_refs.specs.Names.{Entry}
-use Rattle.hm_units.specs.Units.{units_of}
+use Rattle.hm_graph_laws.specs.Units.{units_of}
 use Rattle.hm_parts.specs.Events.{units_at, units_left}
 use Rattle.hm_parts.specs.Parts.{HasOwn, unit_with}
 

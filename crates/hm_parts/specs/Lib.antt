@@ -4,3 +4,4 @@ pub mod Events
 pub mod Laws
 pub mod Likely
 pub mod Parts
+pub mod Own

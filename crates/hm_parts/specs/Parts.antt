@@ -1,7 +1,7 @@
 -- The units that parts stand for.
 use Rattle.std.specs.Prelude.{◌≡◌, ◌<◌, ◌+◌, ◌^◌, ℕ, List, [], ◌∷◌, ◌++◌, length, codes, chars}
-use Rattle.hm_units.specs.Units as units
-use Rattle.hm_units.specs.Units.{character_units}
+use Rattle.hm_graph_laws.specs.Units as units
+use Rattle.hm_graph_laws.specs.Units.{character_units}
 use Rattle.hm_edges.specs.Units.{kind_of}
 use Rattle.hm_edges.specs.declared.units.Unit.{Unit}
 use Rattle.hm_edges.specs.declared.units.Unit.TheVariants as code

@@ -1,6 +1,6 @@
 //! Parts put into a buffer.
 ghost use Rattle.std.specs.Prelude.{◌≡◌, ◌<◌, ◌^◌, [], ◌∷◌, length};
-ghost use Rattle.hm_units.specs.Units as units;
+ghost use Rattle.hm_graph_laws.specs.Units as units;
 ghost use Rattle.hm_parts.specs.Adding.{AddsParts};
 ghost use Rattle.hm_parts.specs.Parts.{IsPart, part_units};
 

@@ -2,8 +2,8 @@
 ghost use Rattle.std.specs.Prelude.{◌<◌, ◌+◌, ◌^◌, [], ◌∷◌, ◌++◌, length};
 ghost use Rattle.hm_base.specs.Walks.{attributes_size};
 ghost use Rattle.hm_tree.specs.Views.{attributes_shown};
-ghost use Rattle.hm_units.specs.Units as units;
-ghost use Rattle.hm_units.specs.Units.{attribute_units};
+ghost use Rattle.hm_graph_laws.specs.Units as units;
+ghost use Rattle.hm_graph_laws.specs.Units.{attribute_units};
 ghost use Rattle.hm_parts.specs.Adding.{AddsParts};
 
 use crate::adding::{add, len_of};

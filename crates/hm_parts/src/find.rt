@@ -4,7 +4,7 @@ ghost use Rattle.hm_base.specs.Walks.{attributes_size, path_after};
 ghost use Rattle.hm_elements.specs.Paths.{outer};
 ghost use Rattle.hm_elements.specs.Tables as tables;
 ghost use Rattle.hm_tree.specs.Views.{attributes_shown};
-ghost use Rattle.hm_units.specs.Units as units;
+ghost use Rattle.hm_graph_laws.specs.Units as units;
 ghost use Rattle.hm_parts.specs.Adding.{AddsParts};
 ghost use Rattle.hm_parts.specs.Events.{previous_at, units_at};
 ghost use Rattle.hm_parts.specs.Parts.{AreParts, parts_units};

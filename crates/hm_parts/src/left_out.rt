@@ -6,8 +6,8 @@ ghost use Rattle.hm_base.specs.Walks as walks;
 ghost use Rattle.hm_base.specs.Walks.{Event, path_after};
 ghost use Rattle.hm_elements.specs.Names.{head, option, p};
 ghost use Rattle.hm_elements.specs.Paths.{current, outer};
-ghost use Rattle.hm_spellings.specs.Omission as spellings;
-ghost use Rattle.hm_units.specs.Units as units;
+ghost use Rattle.hm_spelling_spec.specs.Omission as spellings;
+ghost use Rattle.hm_graph_laws.specs.Units as units;
 ghost use Rattle.hm_parts.specs.Around.{previous_shown, shown};
 ghost use Rattle.hm_parts.specs.Events.{previous_at};
 
@@ -92,7 +92,7 @@ fn is_child_of(parent: &str, next: Option<EventView<'_>>) -> bool
 }
 
 /// Whether the start tag of the HTML element without attributes may be left out before the next event.
-#[tactic(auto, unfolding(hm_spellings::specs::Omission::start_falls))]
+#[tactic(auto, unfolding(hm_spelling_spec::specs::Omission::start_falls))]
 fn start_falls(frame: bool, name: &str, next: Option<EventView<'_>>) -> bool
     ensures { result ≡ spellings.start_falls frame name.now (shown next.entry) }
 {
@@ -126,7 +126,7 @@ fn end_goes(name: &str, parent: &str, next: Option<EventView<'_>>) -> bool
 }
 
 /// Whether the end tag of the HTML element in this parent may be left out before the next event.
-#[tactic(auto, unfolding(hm_spellings::specs::Omission::end_falls))]
+#[tactic(auto, unfolding(hm_spelling_spec::specs::Omission::end_falls))]
 fn end_falls(name: &str, parent: &str, next: Option<EventView<'_>>) -> bool
     ensures { result ≡ spellings.end_falls name.now parent.now (shown next.entry) }
 {

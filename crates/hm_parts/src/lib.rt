@@ -1,4 +1,5 @@
-//! The parts of an event of a tree, as a writer takes them: units with the bytes of their own, and runs of characters.
+//! The parts of an event of a tree as the writer takes them: units with their own bytes and runs of characters, which tags may be
+//! left out, and the bytes that the pieces of edges write.
 #![tactic(auto)]
 
 mod adding;
@@ -10,7 +11,9 @@ mod likely;
 mod neighbours;
 mod omission;
 mod parts;
+mod pieces;
 mod texts;
 
 pub use find::find_parts;
 pub use parts::Part;
+pub use pieces::{Own, put_piece};

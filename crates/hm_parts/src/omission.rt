@@ -3,8 +3,8 @@ ghost use Rattle.std.specs.Prelude.{◌≡◌};
 ghost use Rattle.hm_elements.specs.Names.{is_among};
 ghost use Rattle.hm_elements.specs.Omission as omission;
 ghost use Rattle.hm_elements.specs.Tables as tables;
-ghost use Rattle.hm_spellings.specs.Omission as spellings;
-ghost use Rattle.hm_units.specs.Units as units;
+ghost use Rattle.hm_spelling_spec.specs.Omission as spellings;
+ghost use Rattle.hm_graph_laws.specs.Units as units;
 
 use crate::likely::is_like_part;
 use hm_elements::{is_cell, is_one_of, is_section, same_name};
@@ -177,7 +177,7 @@ pub(crate) fn bars_start(before: &str, name: &str) -> bool
 }
 
 /// Whether the HTML element is taken into `head` where no start tag of `body` stands before it.
-#[tactic(auto, unfolding(hm_spellings::specs::Omission::head_takes))]
+#[tactic(auto, unfolding(hm_spelling_spec::specs::Omission::head_takes))]
 pub(crate) fn head_takes(name: &str) -> bool
     ensures { result ≡ spellings.head_takes name.now }
 {

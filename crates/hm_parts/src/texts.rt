@@ -3,8 +3,8 @@ ghost use Rattle.std.specs.Prelude.{◌≡◌, ◌<◌, List, length, chars, if�
 ghost use Rattle.hm_base.specs.Bytes.{head_is};
 ghost use Rattle.hm_base.specs.Walks.{Element};
 ghost use Rattle.hm_edges.specs.Units.{kind_of};
-ghost use Rattle.hm_spellings.specs.Spellings as spellings;
-ghost use Rattle.hm_units.specs.Units as units;
+ghost use Rattle.hm_spelling_spec.specs.Spellings as spellings;
+ghost use Rattle.hm_graph_laws.specs.Units as units;
 ghost use Rattle.hm_parts.specs.Around.{IsAround, previous_shown};
 ghost use Rattle.hm_parts.specs.Events.{previous_at};
 
@@ -40,7 +40,7 @@ fn is_start(event: Option<EventView<'_>>) -> bool
 }
 
 /// Whether a line feed that comes first in this element is not read (HTML Standard, #element-restrictions).
-#[tactic(auto, unfolding(hm_spellings::specs::Spellings::drops_first_line_feed))]
+#[tactic(auto, unfolding(hm_spelling_spec::specs::Spellings::drops_first_line_feed))]
 fn drops_first_line_feed(around: Around<'_>) -> bool
     ensures { (path : List Element) → IsAround around.entry path → result ≡ spellings.drops_first_line_feed path }
 {

@@ -9,17 +9,17 @@ use Rattle.hm_cert.specs.Certificate.{row_line}
 use Rattle.hm_cert.specs.Rows.{AreBelow, IsBelow}
 use Rattle.std.specs.Prelude.{Option, Some, None}
 use Rattle.hm_cert.specs.declared.text.Format.{Format}
-use Rattle.hm_graph.specs.Layers.{is_single}
-use Rattle.hm_graph.specs.Prices.{Row}
-use Rattle.hm_graph.specs.Ways.{over}
-use Rattle.hm_layers.specs.Graphs.{GraphView}
-use Rattle.hm_steps.specs.Prices.{is_left_out, row_over}
-use Rattle.hm_steps.specs.Steps.{Step, is_forced, leaves_out}
-use Rattle.hm_steps.specs.Ways.{step_choices}
-use Rattle.hm_steps.proofs.Still.{each_more, each_none, still_row}
+use Rattle.hm_graph_laws.specs.Layers.{is_single}
+use Rattle.hm_graph_laws.specs.Prices.{Row}
+use Rattle.hm_graph_laws.specs.Ways.{over}
+use Rattle.hm_graph.specs.Graphs.{GraphView}
+use Rattle.hm_graph.specs.Prices.{is_left_out, row_over}
+use Rattle.hm_graph.specs.Steps.{Step, is_forced, leaves_out}
+use Rattle.hm_graph.specs.Ways.{step_choices}
+use Rattle.hm_graph.proofs.StepsStill.{each_more, each_none, still_row}
 use Rattle.hm_plan.specs.Plans.{IsBack, raised_lines}
-use Rattle.hm_steps.specs.Still.{AreStill, Stays}
-use Rattle.hm_steps.specs.declared.hops.Hop.{Hop}
+use Rattle.hm_graph.specs.Still.{AreStill, Stays}
+use Rattle.hm_graph.specs.declared.hops.Hop.{Hop}
 use Rattle.hm_plan.proofs.FirstWay.{forced_none}
 use Rattle.hm_plan.proofs.FromLast.{back_more, step_cut}
 

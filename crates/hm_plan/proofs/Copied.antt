@@ -5,15 +5,15 @@ use Rattle.std.specs.Str.{IsAscii}
 use Rattle.std.proofs.lemmas.Str.{encode_ascii}
 use Rattle.hm_edges.specs.Pieces.{piece_bytes, piece_text}
 use Rattle.hm_edges.specs.declared.pieces.Piece.TheVariants as pieces
-use Rattle.hm_graph.specs.Prices.{Row}
-use Rattle.hm_layers.specs.Graphs.{GraphView}
+use Rattle.hm_graph_laws.specs.Prices.{Row}
+use Rattle.hm_graph.specs.Graphs.{GraphView}
 use Rattle.hm_refs.specs.Names.{Entry}
-use Rattle.hm_steps.specs.Steps.{Step, is_forced}
-use Rattle.hm_steps.specs.Ways.{along, choice, choices_of, way_from}
-use Rattle.hm_steps.specs.declared.hops.Hop.{Hop}
-use Rattle.hm_units.specs.Units.{TextKind, Unit, character, character_units, next_of}
-use Rattle.hm_layers.specs.Copied.{Copies}
-use Rattle.hm_walk.specs.Copied.{AreCopied, IsCopied}
+use Rattle.hm_graph.specs.Steps.{Step, is_forced}
+use Rattle.hm_graph.specs.Ways.{along, choice, choices_of, way_from}
+use Rattle.hm_graph.specs.declared.hops.Hop.{Hop}
+use Rattle.hm_graph_laws.specs.Units.{TextKind, Unit, character, character_units, next_of}
+use Rattle.hm_graph.specs.Copied.{Copies}
+use Rattle.hm_plan.specs.CopiedRuns.{AreCopied, IsCopied}
 use Rattle.hm_plan.specs.Paths.{ComesTo, HasChoices, row_behind, way_on}
 use Rattle.hm_plan.specs.declared.paths.WrittenWay.{WrittenWay}
 use Rattle.hm_plan.proofs.FirstWay.{forced_choice, forced_none, step_next, way_next}

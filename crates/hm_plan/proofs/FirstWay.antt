@@ -4,16 +4,16 @@ use Rattle.std.specs.Option.{IfSome}
 use Rattle.std.proofs.lemmas.List.{get_or-map}
 use Rattle.hm_edges.specs.declared.pieces.Piece.{Piece}
 use Rattle.hm_edges.specs.Pieces.{HasName, own_bytes, piece_bytes, piece_text}
-use Rattle.hm_graph.specs.Prices.{Row}
-use Rattle.hm_graph.specs.Ways.{lesser, same_price}
-use Rattle.hm_layers.proofs.Named.{named_hops}
-use Rattle.hm_layers.specs.Graphs.{GraphView, AreNamedHops, IsNamedStep}
+use Rattle.hm_graph_laws.specs.Prices.{Row}
+use Rattle.hm_graph_laws.specs.Ways.{lesser, same_price}
+use Rattle.hm_graph.proofs.Named.{named_hops}
+use Rattle.hm_graph.specs.Graphs.{GraphView, AreNamedHops, IsNamedStep}
 use Rattle.hm_refs.specs.Names.{Entry}
-use Rattle.hm_steps.specs.Prices.{price_over}
-use Rattle.hm_steps.specs.Steps.{Step, is_forced}
-use Rattle.hm_steps.specs.Ways.{along, choice, hop_taken, step_choices, way_from}
-use Rattle.hm_steps.specs.declared.hops.Hop.{Hop}
-use Rattle.hm_units.specs.Units.{Unit}
+use Rattle.hm_graph.specs.Prices.{price_over}
+use Rattle.hm_graph.specs.Steps.{Step, is_forced}
+use Rattle.hm_graph.specs.Ways.{along, choice, hop_taken, step_choices, way_from}
+use Rattle.hm_graph.specs.declared.hops.Hop.{Hop}
+use Rattle.hm_graph_laws.specs.Units.{Unit}
 use Rattle.hm_plan.specs.Paths.{ComesTo, onward, row_behind, way_on}
 use Rattle.hm_plan.specs.declared.paths.WrittenWay.{WrittenWay}
 use Rattle.hm_plan.proofs.Prices.{same_self}

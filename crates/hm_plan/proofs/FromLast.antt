@@ -10,13 +10,13 @@ use Rattle.hm_cert.specs.Certificate.{head_lines, row_line, row_lines}
 use Rattle.hm_cert.specs.Layout.{told}
 use Rattle.hm_cert.proofs.Below.{below_in}
 use Rattle.hm_cert.specs.declared.text.Format.{Format}
-use Rattle.hm_graph.specs.Prices.{Row, first_price}
-use Rattle.hm_graph.specs.Ways.{lesser, over}
-use Rattle.hm_layers.specs.Graphs.{GraphView, AreLow, IsLowStep, AreLowHops}
-use Rattle.hm_steps.specs.Prices.{price_over, best_price, row_over, first_row, zeros, rows_of, is_left_out, written_rows}
-use Rattle.hm_steps.specs.Steps.{Step}
-use Rattle.hm_steps.specs.Ways.{choices_of, step_choices}
-use Rattle.hm_steps.specs.declared.hops.Hop.{Hop}
+use Rattle.hm_graph_laws.specs.Prices.{Row, first_price}
+use Rattle.hm_graph_laws.specs.Ways.{lesser, over}
+use Rattle.hm_graph.specs.Graphs.{GraphView, AreLow, IsLowStep, AreLowHops}
+use Rattle.hm_graph.specs.Prices.{price_over, best_price, row_over, first_row, zeros, rows_of, is_left_out, written_rows}
+use Rattle.hm_graph.specs.Steps.{Step}
+use Rattle.hm_graph.specs.Ways.{choices_of, step_choices}
+use Rattle.hm_graph.specs.declared.hops.Hop.{Hop}
 use Rattle.hm_plan.specs.Plans.{IsBack, IsPlan}
 use Rattle.hm_cert.specs.Rows.{IsBelow, AreBelow}
 use Rattle.hm_plan.specs.declared.plans.Plan.{Plan}

@@ -1,3 +1,4 @@
+pub mod Walking
 pub mod Prices
 pub mod FromLast
 pub mod FirstWay
@@ -5,3 +6,6 @@ mod Forced
 pub mod Alike
 mod Copied
 pub mod Ends
+pub mod Headline
+pub mod Graphs
+pub mod Written

@@ -5,12 +5,12 @@ use Rattle.std.proofs.lemmas.Bool.Decides.{Decides-eqb}
 use Rattle.std.proofs.Math.Seq.{drop-length}
 use Rattle.std.proofs.lemmas.List.{get_or-map}
 use Rattle.hm_cert.specs.Layout.{told}
-use Rattle.hm_graph.specs.Prices.{Row}
-use Rattle.hm_graph.specs.Ways.{lesser, same_price}
-use Rattle.hm_layers.specs.Graphs.{AreLowHops}
-use Rattle.hm_steps.specs.Prices.{price_over, best_price}
-use Rattle.hm_steps.specs.Ways.{place_over, choice}
-use Rattle.hm_steps.specs.declared.hops.Hop.{Hop}
+use Rattle.hm_graph_laws.specs.Prices.{Row}
+use Rattle.hm_graph_laws.specs.Ways.{lesser, same_price}
+use Rattle.hm_graph.specs.Graphs.{AreLowHops}
+use Rattle.hm_graph.specs.Prices.{price_over, best_price}
+use Rattle.hm_graph.specs.Ways.{place_over, choice}
+use Rattle.hm_graph.specs.declared.hops.Hop.{Hop}
 
 -- a number is the greatest, which stands for a closed price, or the price itself
 pub record IsClosed (n : ℕ) : Type 0 where

@@ -1,2 +1,7 @@
+pub mod CopiedRuns
+pub mod Walks
 pub mod Paths
 pub mod Plans
+pub mod Shortest
+pub mod Minified
+pub mod Laws

@@ -1,12 +1,12 @@
 -- The first way, as far as it is written.
 use Rattle.std.specs.Prelude.{◌≡◌, ℕ, ◌+◌, List, [], ◌++◌, drop, Option, Some, None}
 use Rattle.hm_edges.specs.Pieces.{piece_bytes}
-use Rattle.hm_graph.specs.Prices.{Row}
-use Rattle.hm_layers.specs.Graphs.{GraphView}
+use Rattle.hm_graph_laws.specs.Prices.{Row}
+use Rattle.hm_graph.specs.Graphs.{GraphView}
 use Rattle.hm_refs.specs.Names.{Entry}
-use Rattle.hm_steps.specs.Prices.{first_row, rows_of}
-use Rattle.hm_steps.specs.Ways.{choices_of, way_from}
-use Rattle.hm_units.specs.Units.{Unit}
+use Rattle.hm_graph.specs.Prices.{first_row, rows_of}
+use Rattle.hm_graph.specs.Ways.{choices_of, way_from}
+use Rattle.hm_graph_laws.specs.Units.{Unit}
 use Rattle.hm_plan.specs.declared.paths.WrittenWay.{WrittenWay}
 
 -- the prices after step k

@@ -4,11 +4,11 @@ use Rattle.hm_base.specs.declared.plain.SpellRules.{SpellRules}
 use Rattle.hm_cert.specs.Certificate.{certificate_text, row_line, row_lines}
 use Rattle.hm_cert.specs.Layout.{told}
 use Rattle.hm_cert.specs.declared.text.Format.{Format}
-use Rattle.hm_graph.specs.Prices.{Row, first_price}
-use Rattle.hm_graph.specs.Ways.{over}
-use Rattle.hm_layers.specs.Graphs.{GraphView}
-use Rattle.hm_steps.specs.Prices.{first_row, rows_of, written_rows}
-use Rattle.hm_steps.specs.Ways.{choices_of}
+use Rattle.hm_graph_laws.specs.Prices.{Row, first_price}
+use Rattle.hm_graph_laws.specs.Ways.{over}
+use Rattle.hm_graph.specs.Graphs.{GraphView}
+use Rattle.hm_graph.specs.Prices.{first_row, rows_of, written_rows}
+use Rattle.hm_graph.specs.Ways.{choices_of}
 use Rattle.hm_plan.specs.declared.plans.Back.{Back}
 use Rattle.hm_plan.specs.declared.plans.Plan.{Plan}
 

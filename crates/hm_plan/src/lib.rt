@@ -1,9 +1,17 @@
-//! The shortest text of a tree and its certificate, by the steps of its graph.
+//! A tree written shortest, with its certificate: prices and choices from the last layer on, then the text of the first least path.
 #![tactic(auto)]
 
+mod copied;
+pub mod laws;
+mod minify;
 mod paths;
 mod plans;
 mod turned;
+mod walkers;
+mod walks;
 
+pub use minify::{Minified, minify_tree};
 pub use paths::write_path;
 pub use plans::{Plan, backward};
+pub use walkers::Walker;
+pub use walks::walk_over;

@@ -1,21 +1,20 @@
 //! The text of the first way (path through the layered graph).
 ghost use Rattle.std.specs.Prelude.{◌≡◌, ◌<◌, ◌+◌, ◌++◌, [], ℕ, List, length, drop, option_and_then, slice_get, slice_index, slice_index_or, IfOk, IfSome};
 ghost use Rattle.hm_edges.specs.Pieces.{HasName, piece_bytes, piece_text};
-ghost use Rattle.hm_graph.specs.Prices.{Row};
-ghost use Rattle.hm_layers.specs.Graphs.{AreNamed, IsNamedStep, IsPlace};
-ghost use Rattle.hm_pieces.specs.Own.{own_text};
+ghost use Rattle.hm_graph_laws.specs.Prices.{Row};
+ghost use Rattle.hm_graph.specs.Graphs.{AreNamed, IsNamedStep, IsPlace};
+ghost use Rattle.hm_parts.specs.Own.{own_text};
 ghost use Rattle.hm_refs.specs.Names.{Entry};
-ghost use Rattle.hm_steps.specs.Ways.{along, choices_of, hop_taken, step_choices, way_from};
-ghost use Rattle.hm_units.specs.Units.{units_of};
+ghost use Rattle.hm_graph.specs.Ways.{along, choices_of, hop_taken, step_choices, way_from};
+ghost use Rattle.hm_graph_laws.specs.Units.{units_of};
 ghost use Rattle.hm_plan.specs.Paths.{ComesTo, HasChoices, onward, row_behind};
 
+use crate::{Walker, walk_over};
 use hm_base::{Memory, SpellRules};
-use hm_layers::{Cursor, Graph, Step};
-use hm_pieces::{Own, put_piece};
+use hm_graph::{Cursor, Graph, Hop, Step};
+use hm_parts::{Own, put_piece};
 use hm_refs::Table;
-use hm_steps::Hop;
 use hm_tree::Tree;
-use hm_walk::{Walker, walk_over};
 use std::alloc::Global;
 
 /// How far the way is written.

@@ -3,20 +3,19 @@
 ghost use Rattle.std.specs.Prelude.{◌≡◌, true, ◌++◌, ◌∷◌, [], ◌+◌, ◌*◌, ◌<◌, ◌≤◌, ◌^◌, length, map, reverse, if◌then◌else◌, Some, None, IfOk, IsTrue, OnOk, slice_index_or};
 ghost use Rattle.hm_cert.specs.Certificate.{head_lines, row_line};
 ghost use Rattle.hm_cert.specs.Layout.{told};
-ghost use Rattle.hm_graph.specs.Ways.{over};
-ghost use Rattle.hm_layers.specs.Graphs.{AreLowHops, IsLowStep, IsPlace};
-ghost use Rattle.hm_steps.specs.Prices.{best_price, row_over, zeros};
-ghost use Rattle.hm_steps.specs.Prices as prices;
-ghost use Rattle.hm_steps.specs.Steps as steps;
-ghost use Rattle.hm_steps.specs.Ways.{choice, step_choices};
+ghost use Rattle.hm_graph_laws.specs.Ways.{over};
+ghost use Rattle.hm_graph.specs.Graphs.{AreLowHops, IsLowStep, IsPlace};
+ghost use Rattle.hm_graph.specs.Prices.{best_price, row_over, zeros};
+ghost use Rattle.hm_graph.specs.Prices as prices;
+ghost use Rattle.hm_graph.specs.Steps as steps;
+ghost use Rattle.hm_graph.specs.Ways.{choice, step_choices};
 ghost use Rattle.hm_cert.specs.Rows.{AreBelow};
 ghost use Rattle.hm_plan.specs.Plans.{IsFound, IsPlan, raised_lines};
 
 use crate::turned::turn;
 use hm_base::{Memory, SpellRules};
 use hm_cert::{CLOSED, Format, ReversedText, add_each, more};
-use hm_layers::{Cursor, Graph, Step};
-use hm_steps::Hop;
+use hm_graph::{Cursor, Graph, Hop, Step};
 use std::alloc::Global;
 use std::mem;
 

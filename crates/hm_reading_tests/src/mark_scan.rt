@@ -1,7 +1,7 @@
 //! What each scan reads, after the tokenization of the HTML Standard (#tokenization).
 ghost use Rattle.std.specs.Prelude.{◌^◌, ◌<◌, length, IsTrue, IsCharBoundary};
 
-use hm_mark_scan::{
+use hm_scan::{
     begins_cdata, begins_comment, begins_doctype, scan_cdata, scan_comment, scan_doctype, scan_raw,
     scan_script,
 };

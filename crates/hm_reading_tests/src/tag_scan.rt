@@ -2,7 +2,7 @@
 //! #self-closing-start-tag-state).
 
 use hm_refs::Table;
-use hm_tag_scan::{begins_tag, scan_tag};
+use hm_scan::{begins_tag, scan_tag};
 use hm_tree::{Attrs, Token};
 use std::alloc::{AllocError, Global};
 use std::test::Fail;

@@ -1,9 +1,9 @@
 //! Pieces of text, after the HTML Standard (#character-reference-state to #numeric-character-reference-end-state).
 ghost use Rattle.std.specs.Prelude.{◌≡◌, ◌^◌, ◌<◌, drop, false, length, IsTrue, IsCharBoundary};
-ghost use Rattle.hm_text_scan.specs.Texts as texts;
+ghost use Rattle.hm_scan.specs.Texts as texts;
 
 use hm_refs::Table;
-use hm_text_scan::{begins_markup, scan_text};
+use hm_scan::{begins_markup, scan_text};
 use hm_tree::Token;
 use std::test::Fail;
 

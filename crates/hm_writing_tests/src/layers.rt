@@ -3,7 +3,7 @@
 use crate::made::{NONE, TIGHT_RULES as RULES, TWO, attributes};
 use hm_base::Memory;
 use hm_cert::Format;
-use hm_layers::Graph;
+use hm_graph::Graph;
 use hm_refs::Table;
 use hm_tree::Tree;
 use std::alloc::Global;

@@ -1,7 +1,7 @@
 use Rattle.std.proofs.Common.{◌+◌, ◌≤◌, length, subst}
 use Rattle.hm_build.specs.Parsing.{span_of}
 use Rattle.hm_build.proofs.Turns.{same_text, short_text}
-use Rattle.hm_build.proofs.Ends.{end_fits, end_built, end_inside}
+use Rattle.hm_build.proofs.PageEnds.{end_fits, end_built, end_inside}
 use Rattle.hm_build.proofs.page.finish.Goals as goal
 
 pub finish-requires : goal.finish-requires

@@ -1,8 +1,8 @@
 use Rattle.std.proofs.Common.{◌∙◌, sym, ap, subst}
 use Rattle.hm_lexer.specs.Reading.{Reading}
-use Rattle.hm_builder.specs.Building.{first_building}
+use Rattle.hm_build.specs.Building.{first_building}
 use Rattle.hm_build.specs.Parsing.{IsParsing}
-use Rattle.hm_build.proofs.Ends.{begins, plain_text, all_settled}
+use Rattle.hm_build.proofs.PageEnds.{begins, plain_text, all_settled}
 use Rattle.hm_build.proofs.page.parse.Goals as goal
 
 pub turns-requires-clause-parsing : goal.turns-requires-clause-parsing

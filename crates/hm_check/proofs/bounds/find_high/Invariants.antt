@@ -1,6 +1,6 @@
 use Rattle.std.proofs.Common.{◌≡◌, drop, map}
 use Rattle.hm_cert.specs.Layout.{told}
-use Rattle.hm_steps.specs.Prices.{row_over}
+use Rattle.hm_graph.specs.Prices.{row_over}
 use Rattle.hm_check.specs.Rows.{high_in}
 use Rattle.hm_check.proofs.bounds.find_high.Given as goal
 

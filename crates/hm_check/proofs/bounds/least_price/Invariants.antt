@@ -1,7 +1,7 @@
 use Rattle.std.proofs.Common.{◌≡◌, ◌≤◌, drop, map}
 use Rattle.hm_cert.specs.Layout.{told}
-use Rattle.hm_graph.specs.Ways.{lesser}
-use Rattle.hm_steps.specs.Prices.{best_price}
+use Rattle.hm_graph_laws.specs.Ways.{lesser}
+use Rattle.hm_graph.specs.Prices.{best_price}
 use Rattle.hm_check.proofs.bounds.least_price.Given as goal
 
 abbrev pub invariant-loop-hop : goal.invariant-loop-hop

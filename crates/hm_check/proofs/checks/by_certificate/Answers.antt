@@ -1,6 +1,6 @@
 use Rattle.hm_edges.specs.Pieces.{piece_bytes}
-use Rattle.hm_layers.specs.Graphs.{tree_edges}
-use Rattle.hm_units.specs.Units.{units_of}
+use Rattle.hm_graph.specs.Graphs.{tree_edges}
+use Rattle.hm_graph_laws.specs.Units.{units_of}
 use Rattle.hm_check.proofs.Checking.{if_ok, certificate_found}
 use Rattle.hm_check.proofs.checks.by_certificate.Goals as goal
 

@@ -1,9 +1,9 @@
 use Rattle.std.proofs.Common.{◌≡◌, ◌∙◌, true, sym, subst}
 use Rattle.std.specs.Option.{IfSome}
 use Rattle.hm_edges.specs.Pieces.{piece_bytes}
-use Rattle.hm_layers.specs.Graphs.{IsGraphOf}
-use Rattle.hm_steps.specs.Ways.{WayOver}
-use Rattle.hm_units.specs.Units.{units_of}
+use Rattle.hm_graph.specs.Graphs.{IsGraphOf}
+use Rattle.hm_graph.specs.Ways.{WayOver}
+use Rattle.hm_graph_laws.specs.Units.{units_of}
 use Rattle.hm_check.specs.Verdicts.{same_rules}
 use Rattle.hm_check.proofs.Checking.{if_ok}
 use Rattle.hm_check.proofs.Spelled.{followed_verdict}

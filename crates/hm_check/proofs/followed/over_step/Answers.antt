@@ -1,6 +1,6 @@
 use Rattle.std.proofs.Common.{sym, subst}
-use Rattle.hm_layers.proofs.Named.{named_hops}
-use Rattle.hm_layers.specs.Graphs.{AreNamedHops}
+use Rattle.hm_graph.proofs.Named.{named_hops}
+use Rattle.hm_graph.specs.Graphs.{AreNamedHops}
 use Rattle.hm_check.proofs.followed.over_step.Goals as goal
 
 pub over_hops-requires : goal.over_hops-requires

@@ -1,6 +1,6 @@
 use Rattle.std.proofs.Common.{◌≡◌, ◌∙◌, true, false, get_or, [], ap, arith}
-use Rattle.hm_layers.proofs.Counts.{kept_within}
-use Rattle.hm_steps.specs.Steps.{leaves_out}
+use Rattle.hm_graph.proofs.Counts.{kept_within}
+use Rattle.hm_graph.specs.Steps.{leaves_out}
 use Rattle.hm_check.proofs.Counting.{first_counted}
 use Rattle.hm_check.proofs.layers.count_layers.Goals as goal
 

@@ -1,6 +1,6 @@
 use Rattle.std.proofs.Common.{◌∷◌, map, ap, ◌∙◌}
 use Rattle.hm_cert.specs.Layout.{told}
-use Rattle.hm_graph.specs.Prices.{first_price}
+use Rattle.hm_graph_laws.specs.Prices.{first_price}
 use Rattle.hm_check.proofs.Sweeping.{none_swept, some_swept}
 use Rattle.hm_check.proofs.rows.by_prices.Goals as goal
 

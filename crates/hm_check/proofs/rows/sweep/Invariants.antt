@@ -1,5 +1,5 @@
 use Rattle.std.proofs.Common.{◌≤◌, length}
-use Rattle.hm_layers.specs.Graphs.{IsPlace}
+use Rattle.hm_graph.specs.Graphs.{IsPlace}
 use Rattle.hm_check.specs.Sweeps.{IsSwept}
 use Rattle.hm_check.proofs.rows.sweep.Given as goal
 

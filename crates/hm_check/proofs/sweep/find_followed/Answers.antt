@@ -1,6 +1,6 @@
 use Rattle.std.proofs.Common.{sym, subst}
-use Rattle.hm_layers.specs.Graphs.{AreLowHops}
-use Rattle.hm_layers.proofs.Low.{low_hops}
+use Rattle.hm_graph.specs.Graphs.{AreLowHops}
+use Rattle.hm_graph.proofs.Low.{low_hops}
 use Rattle.hm_check.proofs.sweep.find_followed.Goals as goal
 
 pub best_price-requires-clause-low : goal.best_price-requires-clause-low

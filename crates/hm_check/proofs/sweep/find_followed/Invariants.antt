@@ -1,6 +1,6 @@
 use Rattle.std.proofs.Common.{◌≡◌, map, take}
 use Rattle.hm_cert.specs.Layout.{told}
-use Rattle.hm_steps.specs.Prices.{row_over}
+use Rattle.hm_graph.specs.Prices.{row_over}
 use Rattle.hm_check.proofs.sweep.find_followed.Given as goal
 
 abbrev pub invariant-loop-place : goal.invariant-loop-place

@@ -1,7 +1,7 @@
 use Rattle.std.proofs.Common.{◌≡◌, ◌∙◌, length, map, sym, arith}
 use Rattle.std.proofs.lemmas.List.{length-map}
 use Rattle.hm_cert.specs.Layout.{told}
-use Rattle.hm_steps.proofs.Still.{still_row}
+use Rattle.hm_graph.proofs.StepsStill.{still_row}
 use Rattle.hm_check.proofs.sweep.follow.Goals as goal
 
 pub returns-then-len-width : goal.returns-then-len-width

@@ -3,9 +3,9 @@ use Rattle.hm_edges.proofs.Adding.{adds_one, adds_none, adds_as}
 use Rattle.hm_edges.proofs.RunningOn.{itself_barred, itself_broken, itself_stands}
 use Rattle.hm_edges.specs.Characters.{rules_with}
 use Rattle.hm_edges.specs.States.{where_of, spot_of, pending_of}
-use Rattle.hm_text_spell.specs.CharacterEdges.{kept_at}
-use Rattle.hm_units.specs.Edges.{edge}
-use Rattle.hm_units.specs.Steps.{run}
+use Rattle.hm_graph_laws.specs.CharacterEdges.{kept_at}
+use Rattle.hm_graph_laws.specs.Edges.{edge}
+use Rattle.hm_graph_laws.specs.Steps.{run}
 use Rattle.std.proofs.Common.{Some}
 use Rattle.hm_edges.proofs.characters.add_as_itself.Goals as goal
 

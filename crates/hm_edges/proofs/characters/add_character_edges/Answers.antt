@@ -1,6 +1,6 @@
 use Rattle.std.proofs.Common.{refl}
 use Rattle.hm_edges.proofs.SectionEdges.{next_for}
-use Rattle.hm_units.specs.Units.{character, in_text}
+use Rattle.hm_graph_laws.specs.Units.{character, in_text}
 use Rattle.std.proofs.Common.{None}
 use Rattle.hm_edges.proofs.characters.add_character_edges.Goals as goal
 

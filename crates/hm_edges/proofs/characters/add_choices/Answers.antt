@@ -3,7 +3,7 @@ use Rattle.hm_edges.proofs.Adding.{adds_one, adds_none, adds_then, adds_stopped,
 use Rattle.hm_edges.proofs.Choices.{due_choice, other_choices}
 use Rattle.hm_edges.specs.States.{where_of, spot_of, pending_of}
 use Rattle.hm_edges.specs.Characters.{rules_with}
-use Rattle.hm_text_spell.specs.CharacterEdges.{kept_at, half_of}
+use Rattle.hm_graph_laws.specs.CharacterEdges.{kept_at, half_of}
 use Rattle.hm_edges.proofs.characters.add_choices.Goals as goal
 
 pub returns-in-Some : goal.returns-in-Some

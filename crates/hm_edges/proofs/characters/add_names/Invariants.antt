@@ -1,5 +1,5 @@
 use Rattle.std.proofs.Common.{◌∷◌, drop, is_some, option_to_list}
-use Rattle.hm_units.specs.Units.{Unit}
+use Rattle.hm_graph_laws.specs.Units.{Unit}
 use Rattle.hm_edges.specs.Characters.{behind_by}
 use Rattle.hm_edges.specs.States.{where_of}
 use Rattle.hm_edges.proofs.NamesFor.{SomeNames}

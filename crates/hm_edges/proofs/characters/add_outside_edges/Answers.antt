@@ -3,8 +3,8 @@ use Rattle.hm_edges.proofs.Adding.{adds_none, adds_then, adds_stopped, adds_as}
 use Rattle.hm_edges.proofs.SectionEdges.{opened, not_opened, next_for}
 use Rattle.hm_edges.specs.States.{where_of, pending_of, state_of}
 use Rattle.hm_edges.specs.Characters.{rules_with}
-use Rattle.hm_text_spell.specs.CharacterEdges.{kept_at, choices}
-use Rattle.hm_units.specs.Units.{character, in_text}
+use Rattle.hm_graph_laws.specs.CharacterEdges.{kept_at, choices}
+use Rattle.hm_graph_laws.specs.Units.{character, in_text}
 use Rattle.std.proofs.Common.{None}
 use Rattle.hm_edges.proofs.characters.add_outside_edges.Goals as goal
 

@@ -1,5 +1,5 @@
 use Rattle.std.proofs.Common.{◌≡◌, drop, Some}
-use Rattle.hm_units.specs.Steps.{run}
+use Rattle.hm_graph_laws.specs.Steps.{run}
 use Rattle.hm_edges.specs.States.{HasNodes, pending_of, spot_of}
 use Rattle.hm_edges.proofs.characters.run.Given as goal
 

@@ -2,8 +2,8 @@ use Rattle.std.proofs.Common.{◌∷◌, [], ap}
 use Rattle.hm_edges.proofs.Adding.{adds_one, adds_as}
 use Rattle.hm_edges.proofs.TagBytes.{gap_is}
 use Rattle.hm_edges.specs.States.{where_of}
-use Rattle.hm_units.specs.Edges.{edge}
-use Rattle.hm_units.specs.States as states
+use Rattle.hm_graph_laws.specs.Edges.{edge}
+use Rattle.hm_graph_laws.specs.States as states
 use Rattle.hm_edges.proofs.edges.add_bare_edges.Goals as goal
 
 pub returns : goal.returns

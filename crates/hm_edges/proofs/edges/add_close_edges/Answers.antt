@@ -2,8 +2,8 @@ use Rattle.std.proofs.Common.{cond, ◌∷◌, [], ap}
 use Rattle.hm_edges.proofs.Adding.{adds_one, adds_if, adds_then, adds_stopped, adds_as}
 use Rattle.hm_edges.proofs.TagBytes.{close_is}
 use Rattle.hm_edges.specs.States.{where_of}
-use Rattle.hm_units.specs.Edges.{edge}
-use Rattle.hm_units.specs.States as states
+use Rattle.hm_graph_laws.specs.Edges.{edge}
+use Rattle.hm_graph_laws.specs.States as states
 use Rattle.hm_edges.proofs.edges.add_close_edges.Goals as goal
 
 pub returns-in_err-add : goal.returns-in_err-add

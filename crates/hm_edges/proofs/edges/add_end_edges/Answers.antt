@@ -1,6 +1,6 @@
 use Rattle.std.proofs.Common.{cond, ◌∷◌, [], ap}
 use Rattle.hm_edges.proofs.Adding.{adds_one, adds_if, adds_then, adds_stopped, adds_as}
-use Rattle.hm_units.specs.Edges.{edge_to}
+use Rattle.hm_graph_laws.specs.Edges.{edge_to}
 use Rattle.hm_edges.proofs.edges.add_end_edges.Goals as goal
 
 pub returns-then-is_self_closed : goal.returns-then-is_self_closed

@@ -1,8 +1,8 @@
 use Rattle.std.proofs.Common.{cond, ◌∷◌, [], ap, ap₂}
 use Rattle.hm_edges.proofs.Adding.{adds_one, adds_if, adds_then, adds_stopped, adds_as}
 use Rattle.hm_edges.specs.States.{pending_of}
-use Rattle.hm_units.specs.Edges.{edge_to}
-use Rattle.hm_units.specs.States.{state}
+use Rattle.hm_graph_laws.specs.Edges.{edge_to}
+use Rattle.hm_graph_laws.specs.States.{state}
 use Rattle.hm_edges.proofs.edges.add_start_edges.Goals as goal
 
 pub returns-in_err-add_if : goal.returns-in_err-add_if

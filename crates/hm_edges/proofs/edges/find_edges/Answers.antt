@@ -2,7 +2,7 @@ use Rattle.std.proofs.Common.{[], refl}
 use Rattle.hm_edges.specs.declared.units.Unit.TheVariants as code
 use Rattle.hm_edges.specs.States.{state_of}
 use Rattle.hm_edges.specs.Units.{kind_of}
-use Rattle.hm_units.specs.Units as units
+use Rattle.hm_graph_laws.specs.Units as units
 use Rattle.hm_edges.proofs.Adding.{adds_one, adds_as}
 use Rattle.hm_edges.proofs.Pairs.{by_pair_is}
 use Rattle.hm_edges.proofs.Standing.{AddsFor, found, of_fixed, of_start_tag, of_tag_name, of_bare_attribute, of_attribute_name, of_character, of_attribute_end, of_tag_close, of_end_tag}

@@ -1,6 +1,6 @@
 use Rattle.std.proofs.Common.{◌≡◌, true, subst}
-use Rattle.hm_units.specs.States.{same_state}
-use Rattle.hm_graph.proofs.States.{same_self}
+use Rattle.hm_graph_laws.specs.States.{same_state}
+use Rattle.hm_graph_laws.proofs.States.{same_self}
 use Rattle.hm_edges.specs.States.{state_of}
 use Rattle.hm_edges.proofs.LikeStates.{like_states}
 use Rattle.hm_edges.proofs.laws.like_states_are_equal.Goals as goal

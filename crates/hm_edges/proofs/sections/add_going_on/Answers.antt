@@ -2,8 +2,8 @@ use Rattle.std.proofs.Common.{cond, ◌∷◌, [], ◌++◌, codes, ap, ap₂}
 use Rattle.hm_edges.proofs.Adding.{adds_one, adds_if, adds_then, adds_stopped, adds_as}
 use Rattle.hm_edges.proofs.SectionEdges.{going_on}
 use Rattle.hm_edges.specs.States.{pending_of}
-use Rattle.hm_units.specs.Edges.{edge, edge_to}
-use Rattle.hm_units.specs.States.{in_section, first_state}
+use Rattle.hm_graph_laws.specs.Edges.{edge, edge_to}
+use Rattle.hm_graph_laws.specs.States.{in_section, first_state}
 use Rattle.hm_edges.proofs.sections.add_going_on.Goals as goal
 
 pub returns-in_err-add_if : goal.returns-in_err-add_if

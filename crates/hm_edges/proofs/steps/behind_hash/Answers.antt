@@ -1,6 +1,6 @@
 use Rattle.std.proofs.Common.{◌∙◌, ap, sym}
-use Rattle.hm_units.specs.States.{nothing}
-use Rattle.hm_units.specs.Steps.{unless}
+use Rattle.hm_graph_laws.specs.States.{nothing}
+use Rattle.hm_graph_laws.specs.Steps.{unless}
 use Rattle.hm_edges.proofs.steps.behind_hash.Goals as goal
 
 pub returns : goal.returns

@@ -1,5 +1,5 @@
 use Rattle.hm_refs.specs.Tables.{front_at}
-use Rattle.hm_units.specs.States.{ampersand}
+use Rattle.hm_graph_laws.specs.States.{ampersand}
 use Rattle.hm_edges.proofs.Children.{onto_nothing, onto_child}
 use Rattle.hm_edges.proofs.steps.onto_ampersand.Goals as goal
 

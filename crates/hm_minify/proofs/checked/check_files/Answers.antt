@@ -1,7 +1,7 @@
 use Rattle.std.proofs.Common.{sym, subst}
 use Rattle.std.proofs.lemmas.Result.{IfOk-weaker}
 use Rattle.hm_base.specs.declared.limits.TheConstants.{CERTIFICATE_LIMIT, OUTPUT_LIMIT}
-use Rattle.hm_input.specs.Loads.{IsLoaded}
+use Rattle.hm_minify.specs.Loads.{IsLoaded}
 use Rattle.hm_minify.proofs.Found.{checked_answers, checked_seen}
 use Rattle.hm_minify.proofs.checked.check_files.Goals as goal
 

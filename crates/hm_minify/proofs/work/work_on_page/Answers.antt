@@ -1,5 +1,5 @@
 use Rattle.std.proofs.lemmas.Result.{IfOk-weaker}
-use Rattle.hm_input.specs.Inputs.{tree}
+use Rattle.hm_minify.specs.Inputs.{tree}
 use Rattle.hm_words.specs.Answers.{command_of}
 use Rattle.hm_minify.proofs.Answered.{answer_before, asked_seen, input_seen}
 use Rattle.hm_minify.proofs.work.work_on_page.Goals as goal

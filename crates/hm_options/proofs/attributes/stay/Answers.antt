@@ -3,7 +3,7 @@ use Rattle.std.proofs.lemmas.List.{take_all}
 use Rattle.hm_base.specs.Walks.{Attribute}
 use Rattle.hm_options.specs.Passes.{attribute_pass, is_dropped, valued}
 use Rattle.hm_options.proofs.OneByOne.{each_more}
-use Rattle.hm_space.proofs.Distinct.{take_push}
+use Rattle.hm_options.proofs.Distinct.{take_push}
 use Rattle.hm_tree.specs.Views.{attributes_shown}
 use Rattle.hm_options.proofs.attributes.stay.Goals as goal
 

@@ -1,7 +1,7 @@
 use Rattle.std.proofs.Common.{◌∷◌, [], take, Ok, refl, arith}
 use Rattle.hm_base.specs.Walks.{Attribute}
 use Rattle.hm_tree.specs.Views.{attributes_shown}
-use Rattle.hm_units.specs.Units.{attribute_units}
+use Rattle.hm_graph_laws.specs.Units.{attribute_units}
 use Rattle.hm_parts.proofs.AttributeUnits.{one_more}
 use Rattle.hm_parts.proofs.PartsAdded.{adds_then, adds_as}
 use Rattle.hm_parts.proofs.Sizes.{attribute_within}

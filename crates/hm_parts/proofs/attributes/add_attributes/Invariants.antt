@@ -1,7 +1,7 @@
 use Rattle.std.proofs.Common.{take, Ok}
 use Rattle.hm_base.specs.declared.plain.Memory.{Memory}
 use Rattle.hm_tree.specs.Views.{attributes_shown}
-use Rattle.hm_units.specs.Units.{attribute_units}
+use Rattle.hm_graph_laws.specs.Units.{attribute_units}
 use Rattle.hm_parts.specs.Adding.{AddsParts}
 use Rattle.hm_parts.proofs.attributes.add_attributes.Given as goal
 

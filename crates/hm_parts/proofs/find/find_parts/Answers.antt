@@ -1,7 +1,7 @@
 use Rattle.std.proofs.Common.{◌∷◌, [], ap, arith}
 use Rattle.hm_base.specs.Walks as walks
 use Rattle.hm_tree.specs.Views.{attributes_shown}
-use Rattle.hm_units.specs.Units.{fixed}
+use Rattle.hm_graph_laws.specs.Units.{fixed}
 use Rattle.hm_parts.proofs.EventUnits.{found}
 use Rattle.hm_parts.proofs.PartsAdded.{adds_as}
 use Rattle.hm_parts.proofs.Sizes.{event_within, end_within}

@@ -1,5 +1,5 @@
 use Rattle.std.proofs.Common.{◌∙◌, ◌++◌, Some, length, sym, ap}
-use Rattle.hm_units.specs.Units.{units_of}
+use Rattle.hm_graph_laws.specs.Units.{units_of}
 use Rattle.hm_plan.specs.Paths.{way_on}
 use Rattle.hm_plan.proofs.FirstWay.{comes_last}
 use Rattle.hm_plan.proofs.paths.write_path.Goals as goal

@@ -1,7 +1,7 @@
 use Rattle.std.proofs.Common.{◌≡◌, ◌∙◌, ◌+◌, reverse, map, sym, ap, subst, arith}
 use Rattle.hm_cert.specs.Certificate.{row_line}
 use Rattle.hm_cert.specs.Layout.{told}
-use Rattle.hm_steps.specs.Prices.{zeros}
+use Rattle.hm_graph.specs.Prices.{zeros}
 use Rattle.hm_plan.specs.Plans.{IsFound}
 use Rattle.hm_plan.proofs.FromLast.{last_back, plan_is, if_three}
 use Rattle.hm_plan.proofs.plans.backward.Goals as goal

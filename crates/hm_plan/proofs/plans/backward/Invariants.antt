@@ -1,5 +1,5 @@
 use Rattle.std.proofs.Common.{◌≤◌, length}
-use Rattle.hm_layers.specs.Graphs.{IsPlace}
+use Rattle.hm_graph.specs.Graphs.{IsPlace}
 use Rattle.hm_plan.specs.Plans.{IsFound}
 use Rattle.hm_plan.proofs.plans.backward.Given as goal
 

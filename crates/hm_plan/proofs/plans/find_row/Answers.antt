@@ -1,6 +1,6 @@
-use Rattle.hm_layers.specs.Graphs.{AreLowHops}
+use Rattle.hm_graph.specs.Graphs.{AreLowHops}
 use Rattle.std.proofs.Common.{sym, subst}
-use Rattle.hm_layers.proofs.Low.{low_hops}
+use Rattle.hm_graph.proofs.Low.{low_hops}
 use Rattle.hm_plan.proofs.plans.find_row.Goals as goal
 
 pub find_best-best-requires-clause-low : goal.find_best-best-requires-clause-low

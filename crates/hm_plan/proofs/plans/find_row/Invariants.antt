@@ -1,7 +1,7 @@
 use Rattle.std.proofs.Common.{◌≡◌, ◌++◌, [], map, take, cond}
 use Rattle.hm_cert.specs.Layout.{told}
-use Rattle.hm_steps.specs.Prices.{row_over}
-use Rattle.hm_steps.specs.Ways.{choice}
+use Rattle.hm_graph.specs.Prices.{row_over}
+use Rattle.hm_graph.specs.Ways.{choice}
 use Rattle.hm_plan.proofs.plans.find_row.Given as goal
 
 abbrev pub invariant-loop-place : goal.invariant-loop-place

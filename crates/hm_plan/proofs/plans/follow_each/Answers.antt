@@ -1,7 +1,7 @@
 use Rattle.std.proofs.Common.{◌≡◌, ◌∙◌, ◌<◌, ◌^◌, length, ap, sym, subst, arith}
-use Rattle.hm_layers.specs.Graphs.{AreLowHops}
+use Rattle.hm_graph.specs.Graphs.{AreLowHops}
 use Rattle.hm_plan.proofs.Forced.{forced_one}
-use Rattle.hm_layers.proofs.Low.{low_hops}
+use Rattle.hm_graph.proofs.Low.{low_hops}
 use Rattle.hm_plan.proofs.Prices.{low_hop}
 use Rattle.hm_plan.proofs.plans.follow_each.Goals as goal
 

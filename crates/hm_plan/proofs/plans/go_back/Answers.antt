@@ -1,15 +1,15 @@
 use Rattle.std.proofs.Common.{◌≡◌, ◌∙◌, ◌+◌, ◌-◌, ◌^◌, ◌++◌, [], cond, get_or, length, map, reverse, refl, ap, sym, subst, arith}
 use Rattle.hm_cert.specs.Certificate.{row_line}
 use Rattle.hm_cert.specs.Layout.{told}
-use Rattle.hm_layers.specs.Graphs.{IsLowStep}
+use Rattle.hm_graph.specs.Graphs.{IsLowStep}
 use Rattle.std.proofs.lemmas.List.{length-map}
-use Rattle.hm_steps.specs.Still.{AreStill}
-use Rattle.hm_steps.specs.Prices.{is_left_out, row_over}
-use Rattle.hm_steps.specs.Steps.{leaves_out}
+use Rattle.hm_graph.specs.Still.{AreStill}
+use Rattle.hm_graph.specs.Prices.{is_left_out, row_over}
+use Rattle.hm_graph.specs.Steps.{leaves_out}
 use Rattle.hm_cert.specs.Rows.{AreBelow}
 use Rattle.hm_plan.specs.Plans.{IsFound}
 use Rattle.hm_plan.proofs.Alike.{along_found, along_low, still_forced}
-use Rattle.hm_layers.proofs.Low.{low_step}
+use Rattle.hm_graph.proofs.Low.{low_step}
 use Rattle.hm_plan.proofs.FromLast.{are_below, back_more, prices_below, step_cut}
 use Rattle.hm_plan.proofs.plans.go_back.Goals as goal
 

@@ -1,6 +1,6 @@
 use Rattle.std.proofs.Common.{◌≡◌, map}
 use Rattle.hm_cert.specs.Layout.{told}
-use Rattle.hm_steps.specs.Prices.{zeros}
+use Rattle.hm_graph.specs.Prices.{zeros}
 use Rattle.hm_plan.proofs.plans.zero_row.Given as goal
 
 abbrev pub invariant-loop-place : goal.invariant-loop-place

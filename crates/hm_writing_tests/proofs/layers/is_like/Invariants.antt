@@ -1,5 +1,5 @@
 use Rattle.std.proofs.Common.{◌≡◌}
-use Rattle.hm_layers.specs.Graphs.{IsPlace}
+use Rattle.hm_graph.specs.Graphs.{IsPlace}
 use Rattle.hm_writing_tests.proofs.layers.is_like.Given as goal
 
 abbrev pub invariant-loop-k : goal.invariant-loop-k

@@ -1,6 +1,6 @@
 use Rattle.std.proofs.Common.{sym, subst}
-use Rattle.hm_layers.specs.Graphs.{IsLowStep}
-use Rattle.hm_layers.proofs.Low.{low_step}
+use Rattle.hm_graph.specs.Graphs.{IsLowStep}
+use Rattle.hm_graph.proofs.Low.{low_step}
 use Rattle.hm_check.proofs.sweep.Sweep.go_on.Goals as goal
 
 pub read_on-requires-clause-still : goal.read_on-requires-clause-still

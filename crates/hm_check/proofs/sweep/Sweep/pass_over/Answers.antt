@@ -1,10 +1,10 @@
 use Rattle.std.proofs.Common.{◌≡◌, ◌+◌, [], true, get_or, map, refl, ap, sym, subst, ◌∙◌}
 use Rattle.std.proofs.lemmas.Result.{on_ok_weaker}
 use Rattle.hm_cert.specs.Layout.{told}
-use Rattle.hm_layers.specs.Graphs.{IsLowStep}
-use Rattle.hm_steps.specs.Prices.{is_left_out, row_over}
+use Rattle.hm_graph.specs.Graphs.{IsLowStep}
+use Rattle.hm_graph.specs.Prices.{is_left_out, row_over}
 use Rattle.hm_check.specs.declared.sweep.Sweep.{Sweep}
-use Rattle.hm_layers.proofs.Low.{low_step}
+use Rattle.hm_graph.proofs.Low.{low_step}
 use Rattle.hm_check.proofs.Sweeping.{swept_below, out_swept}
 use Rattle.hm_check.proofs.sweep.Sweep.pass_over.Goals as goal
 

@@ -1,5 +1,5 @@
 use Rattle.std.proofs.Common.{◌≡◌, ◌∙◌, ◌-◌, drop, sym, subst, arith}
-use Rattle.hm_layers.specs.StillRuns.{AreStillOver}
+use Rattle.hm_graph.specs.StillRuns.{AreStillOver}
 use Rattle.hm_check.specs.Sweeps.{IsSwept}
 use Rattle.hm_check.proofs.StillLayers.{along_swept}
 use Rattle.hm_check.proofs.Sweeping.{swept_below}

@@ -1,11 +1,11 @@
 use Rattle.std.proofs.Common.{◌≡◌, ◌+◌, ◌-◌, ◌^◌, ◌≤◌, ℕ, List, [], false, get_or, map, ap, sym, subst, ◌∙◌, arith}
 use Rattle.hm_cert.specs.Layout.{told}
-use Rattle.hm_layers.specs.Graphs.{IsLowStep}
-use Rattle.hm_steps.specs.Prices.{is_left_out}
+use Rattle.hm_graph.specs.Graphs.{IsLowStep}
+use Rattle.hm_graph.specs.Prices.{is_left_out}
 use Rattle.hm_cert.specs.Rows.{AreBelow}
 use Rattle.hm_check.specs.Sweeps.{judged}
 use Rattle.hm_check.specs.declared.sweep.Sweep.{Sweep}
-use Rattle.hm_layers.proofs.Low.{low_step}
+use Rattle.hm_graph.proofs.Low.{low_step}
 use Rattle.hm_check.proofs.Sweeping.{has_front, swept_below, in_swept}
 use Rattle.hm_check.proofs.sweep.Sweep.read_layer.Goals as goal
 

@@ -1,5 +1,5 @@
 use Rattle.std.proofs.Common.{◌≡◌, true, drop, sym, subst}
-use Rattle.hm_tag_scan.specs.Reading.{begins_tag}
+use Rattle.hm_scan.specs.Reading.{begins_tag}
 use Rattle.hm_tree.specs.Lexemes.{token_of}
 use Rattle.hm_lexer.specs.Modes.{mode_of}
 use Rattle.hm_lexer.specs.Reading.{Reading, Refuses, IsTaken, text_of}

@@ -1,10 +1,10 @@
 use Rattle.std.proofs.Common.{◌∙◌, option_and_then, sym, ap, subst}
-use Rattle.hm_graph.specs.Prices.{Row}
-use Rattle.hm_layers.specs.Graphs.{IsNamedStep}
-use Rattle.hm_steps.specs.Ways.{hop_taken, step_choices}
-use Rattle.hm_pieces.specs.Own.{own_text}
+use Rattle.hm_graph_laws.specs.Prices.{Row}
+use Rattle.hm_graph.specs.Graphs.{IsNamedStep}
+use Rattle.hm_graph.specs.Ways.{hop_taken, step_choices}
+use Rattle.hm_parts.specs.Own.{own_text}
 use Rattle.hm_plan.specs.Paths.{row_behind}
-use Rattle.hm_layers.proofs.Named.{named_step}
+use Rattle.hm_graph.proofs.Named.{named_step}
 use Rattle.hm_plan.proofs.FirstWay.{comes_one}
 use Rattle.hm_plan.proofs.paths.WrittenWayWalker.take.Goals as goal
 

@@ -2,7 +2,7 @@ use Rattle.std.proofs.Common.{◌≡◌, ◌∙◌, ◌++◌, [], cond, map, rev
 use Rattle.std.proofs.lemmas.Result.{on_ok_weaker}
 use Rattle.hm_cert.specs.Certificate.{row_line}
 use Rattle.hm_cert.specs.Layout.{told}
-use Rattle.hm_steps.specs.Prices.{row_over}
+use Rattle.hm_graph.specs.Prices.{row_over}
 use Rattle.hm_plan.proofs.plans.Back.go_over.Goals as goal
 
 pub returns-clause-text : goal.returns-clause-text

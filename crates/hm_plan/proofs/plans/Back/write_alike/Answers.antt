@@ -3,8 +3,8 @@ use Rattle.std.proofs.lemmas.List.{take_at}
 use Rattle.hm_cert.specs.Certificate.{row_line}
 use Rattle.hm_cert.specs.Layout.{told}
 use Rattle.hm_cert.specs.Rows.{AreBelow}
-use Rattle.hm_graph.specs.Ways.{over}
-use Rattle.hm_steps.proofs.Still.{each_none}
+use Rattle.hm_graph_laws.specs.Ways.{over}
+use Rattle.hm_graph.proofs.StepsStill.{each_none}
 use Rattle.hm_plan.specs.Plans.{raised_lines}
 use Rattle.hm_plan.proofs.Alike.{few_more, one_alike, raised_below}
 use Rattle.hm_plan.proofs.plans.Back.write_alike.Goals as goal

@@ -1,6 +1,6 @@
 use Rattle.std.proofs.Common.{◌≡◌, ◌*◌, ◌++◌, map}
 use Rattle.hm_cert.specs.Layout.{told}
-use Rattle.hm_graph.specs.Ways.{over}
+use Rattle.hm_graph_laws.specs.Ways.{over}
 use Rattle.hm_plan.specs.Plans.{raised_lines}
 use Rattle.hm_plan.proofs.plans.Back.write_alike.Given as goal
 

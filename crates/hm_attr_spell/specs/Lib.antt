@@ -1,2 +1,0 @@
-pub mod AttributeEdges
-pub mod Laws

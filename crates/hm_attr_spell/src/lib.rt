@@ -1,4 +1,0 @@
-//! The edges of attributes and of the close of a tag.
-#![tactic(auto)]
-
-pub mod laws;

@@ -1,8 +1,0 @@
-use Rattle.hm_construction.proofs.Weights.{step_within, over_within}
-use Rattle.hm_construction.proofs.laws.trees_grow_with_their_tokens.Goals as goal
-
-pub returns-clause-steps : goal.returns-clause-steps
-returns-clause-steps c = step_within
-
-pub returns-clause-ends : goal.returns-clause-ends
-returns-clause-ends c = over_within

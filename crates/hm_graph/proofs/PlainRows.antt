@@ -1,0 +1,28 @@
+-- Rows of plain characters.
+use Rattle.std.proofs.Common.{◌≡◌, ℕ, zero, suc, ◌<◌, Bool, List, [], length, get_or, take, Option, Some, None, sym, subst, refl, arith}
+use Rattle.std.proofs.Math.ListN.{replicate}
+use Rattle.std.proofs.lemmas.List.{take_more}
+use Rattle.std.proofs.lemmas.List.Elements.{All-push}
+use Rattle.std.specs.List.{All}
+use Rattle.std.specs.Option.{IfSome}
+use Rattle.hm_graph.specs.Met.{IsRow, MetView, unknown}
+use Rattle.hm_graph.specs.declared.plain.PlainRow.{PlainRow}
+
+pub none_known : (n c : ℕ) → get_or (replicate n unknown) c unknown ≡ unknown
+none_known zero c = refl
+none_known (suc n) zero = refl
+none_known (suc n) (suc c) = none_known n c
+
+-- a row in which nothing is known
+pub unknown_row : (m : MetView) (more : Bool) (x : PlainRow) → ((c : ℕ) → get_or x.steps.items c unknown ≡ unknown) → IsRow m more x
+unknown_row m more x none = λ c known. let low : 4294967295 < 4294967295 = subst (λ to. to.number < 4294967295) (none c) known in absurd (omega (arith, low))
+
+all_none : (P : ℕ → Type 0) → All P []
+all_none P = λ k d within. absurd (omega (arith, within))
+
+pub all_first : (P : ℕ → Type 0) (text : List ℕ) → 0 < length text → P (get_or text 0 0) → All P (take 1 text)
+all_first P text some own = subst (All P) (sym (take_more text 0 0 some)) (All-push P [] (get_or text 0 0) (all_none P) own)
+
+pub some_weaker : {A : Type 0} (o : Option A) (P Q : A → Type 0) → ((a : A) → P a → Q a) → IfSome o P → IfSome o Q
+some_weaker None P Q f is = tt
+some_weaker (Some a) P Q f is = f a is

@@ -1,0 +1,20 @@
+-- A visitor that is called for each step while a graph is built.
+use Rattle.std.specs.Prelude.{◌≡◌, ℕ, List, ◌++◌}
+use Rattle.hm_graph.specs.Steps.{Step}
+use Rattle.hm_graph_laws.specs.Units.{TextKind, Unit, character_units}
+use Rattle.hm_graph.specs.Building.{AddsSteps}
+use Rattle.hm_graph.specs.declared.along.Along.{Along}
+
+-- The steps of some units were added, and of the units `from` those in `left` remain. C is what it means to go on over
+-- units and their steps: what goes on from the new place over what is left goes on from the old one over all.
+pub record Goes {F : Type 0} (C : List Unit → List Step → F → Type 0) (from left : List Unit) (old new : Along F) : Type 0 where
+  pub done : List Unit
+  pub adds : AddsSteps old.graph new.graph done
+  pub whole : done ++ left ≡ from
+  pub added : List Step
+  pub steps : new.graph.steps ≡ old.graph.steps ++ added
+  pub on : (units : List Unit) (steps : List Step) → C (left ++ units) steps new.by → C (from ++ units) (added ++ steps) old.by
+
+-- from these characters on up to those that are left of them
+abbrev pub GoesOver : {F : Type 0} → (List Unit → List Step → F → Type 0) → TextKind → List ℕ → List ℕ → Along F → Along F → Type 0
+GoesOver C kind cs left old new = Goes C (character_units kind cs) (character_units kind left) old new

@@ -1,0 +1,167 @@
+//! A graph while it is built.
+ghost use Rattle.std.specs.Prelude.{◌≡◌, ◌<◌, ◌≤◌, ◌∷◌, [], None, Some, drop, length, take, IfOk, OnOk};
+ghost use Rattle.std.specs.Str.{IsAscii, chars};
+ghost use Rattle.hm_graph_laws.specs.Units as units;
+ghost use Rattle.hm_edges.specs.Units.{StandsFor, kind_of};
+ghost use Rattle.hm_graph.specs.Graphs.{AreNamed};
+ghost use Rattle.hm_graph.specs.Building.{AddsSteps, AddsFront, IsAdded, IsBuilt, numbered_step};
+
+use crate::graph::Graph;
+use crate::met::{LIMIT, Met};
+use crate::numbers::Numbers;
+use crate::plain::Alike;
+use crate::rules::EdgeRules;
+use crate::step::Step;
+use hm_base::Memory;
+use hm_edges::{TextKind, Unit};
+use hm_refs::Table;
+use std::alloc::Global;
+use std::marker::Model;
+
+/// The steps so far, by their numbers, and the number of the list after them.
+#[derive(Drop)]
+pub(crate) struct GraphBuilder<'t> {
+    met: Met<'t>,
+    numbers: Numbers,
+    last: u32,
+}
+
+impl<'t> Model for GraphBuilder<'t> {
+    ghost use Rattle.hm_graph.specs.Building.{BuildingView};
+
+    ghost Value = { BuildingView };
+
+    ghost use Rattle.hm_graph.specs.Building.{IsBuilding, building};
+
+    ghost view = { λ b. building b.met b.numbers b.last };
+
+    ghost invariant = { λ b. IsBuilding b.met b.numbers b.last };
+}
+
+impl<'t> GraphBuilder<'t> {
+    /// Nothing is built but the first layer.
+    pub(crate) fn new(
+        alloc: Global,
+        table: &'t Table,
+        rules: EdgeRules,
+    ) -> Result<GraphBuilder<'t>, Memory>
+        ensures table { IfOk result (λ building. building.table ≡ table.now) }
+        ensures rules { IfOk result (λ building. building.rules ≡ rules) }
+        ensures built { IfOk result (λ building. IsBuilt building []) }
+    {
+        Ok(GraphBuilder {
+            met: Met::new(alloc, table, rules)?,
+            numbers: Numbers::new(alloc),
+            last: 0,
+        })
+    }
+
+    /// The step of this number.
+    #[inline(always)]
+    pub(crate) fn step(&self, number: u32) -> &Step
+        requires { number < length self.now.made }
+        ensures { result.now ≡ numbered_step self.now number }
+    {
+        self.met.made_step(number)
+    }
+
+    /// Adds the step of a unit, and gives its number.
+    #[inline(always)]
+    pub(crate) fn add(&mut self, unit: &Unit) -> Result<u32, Memory>
+        ensures adds { OnOk result ((u : units.Unit) → StandsFor self.old.table.entries unit.now u → AddsSteps self.old self.new (u ∷ [])) }
+        ensures step { IfOk result (IsAdded self.old self.new 1) }
+    {
+        if self.numbers.len() >= LIMIT - 1 {
+            return Err(Memory);
+        }
+        let number = self.met.step(self.last, unit)?;
+        self.numbers.push(number)?;
+        let last = self.met.behind(number);
+        self.last = last;
+        Ok(number)
+    }
+
+    /// Adds the step of a character, after which the next one stands in the same text, and gives its number.
+    #[inline(always)]
+    fn add_in_front(&mut self, kind: TextKind, c: char, next: char) -> Result<u32, Memory>
+        ensures adds { OnOk result (AddsSteps self.old self.new (units.character (kind_of kind) c (Some next) ∷ [])) }
+        ensures step { IfOk result (IsAdded self.old self.new 1) }
+    {
+        if self.numbers.len() >= LIMIT - 1 {
+            return Err(Memory);
+        }
+        let to = self.met.character_step(self.last, kind, c, next)?;
+        self.numbers.push(to.number)?;
+        self.last = to.behind;
+        Ok(to.number)
+    }
+
+    /// Adds the step of the last character of a text, and gives its number.
+    #[inline(always)]
+    fn add_last(&mut self, kind: TextKind, c: char) -> Result<u32, Memory>
+        ensures adds { OnOk result (AddsSteps self.old self.new (units.character (kind_of kind) c None ∷ [])) }
+        ensures step { IfOk result (IsAdded self.old self.new 1) }
+    {
+        if self.numbers.len() >= LIMIT - 1 {
+            return Err(Memory);
+        }
+        let to = self.met.end_step(self.last, kind, c)?;
+        self.numbers.push(to.number)?;
+        self.last = to.behind;
+        Ok(to.number)
+    }
+
+    /// Adds the step of a character by the one after it in the same text, where there is one, and gives its number.
+    #[inline(always)]
+    pub(crate) fn add_character(
+        &mut self,
+        kind: TextKind,
+        c: char,
+        next: Option<char>,
+    ) -> Result<u32, Memory>
+        ensures adds { OnOk result (AddsSteps self.old self.new (units.character (kind_of kind) c next ∷ [])) }
+        ensures step { IfOk result (IsAdded self.old self.new 1) }
+    {
+        match next {
+            Some(next) => self.add_in_front(kind, c, next),
+            None => self.add_last(kind, c),
+        }
+    }
+
+    /// Adds the steps of characters that a text begins with, as far as they are known to lead to one place. Gives how
+    /// many they are and where they lead. All are of ASCII and have the same step.
+    #[inline(always)]
+    pub(crate) fn add_alike(&mut self, kind: TextKind, text: &str) -> Result<Alike, Memory>
+        ensures adds { IfOk result (λ alike. AddsFront self.old self.new (kind_of kind) (chars text.now) (chars (drop alike.count text.now))) }
+        ensures within { IfOk result (λ alike. alike.count ≤ length text.now) }
+        ensures ascii { IfOk result (λ alike. IsAscii (take alike.count text.now)) }
+        ensures step { IfOk result (λ alike. 0 < alike.count → IsAdded self.old self.new alike.count alike.to.number) }
+        ensures none { IfOk result (λ alike. alike.count ≡ 0 → self.new ≡ self.old) }
+    {
+        let alike = self.met.alike(self.last, kind, text.as_bytes());
+        let Alike { to, count } = alike;
+        if count == 0 {
+            return Ok(alike);
+        }
+        if count >= LIMIT || self.numbers.len() >= LIMIT - count {
+            return Err(Memory);
+        }
+        self.numbers.push_alike(to.number, count as u32)?;
+        self.last = to.behind;
+        Ok(alike)
+    }
+
+    /// The graph of what is built.
+    pub(crate) fn into_graph(self) -> Result<Graph, Memory>
+        ensures steps { IfOk result (λ graph. graph.steps ≡ self.entry.steps) }
+        ensures last { IfOk result (λ graph. graph.last ≡ length self.entry.last) }
+        ensures named { AreNamed self.entry.table.entries self.entry.steps }
+    {
+        let GraphBuilder { met, numbers, last } = self;
+        let last = met.list(last).len();
+        let steps = met.into_steps()?;
+        let len = numbers.len();
+        let runs = numbers.into_runs()?;
+        Ok(Graph::from_parts(steps, runs, len, last))
+    }
+}

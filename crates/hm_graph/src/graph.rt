@@ -1,0 +1,275 @@
+//! The steps of a tree.
+ghost use Rattle.std.specs.Prelude.{◌≡◌, ◌+◌, ◌-◌, ◌<◌, ◌≤◌, ◌^◌, ℕ, [], true, drop, length, slice_index_or, IfSome, IsSome};
+ghost use Rattle.hm_graph.specs.Graphs.{AreLow, AreNumbers, GraphView, IsLowStep, IsPlace, spread};
+ghost use Rattle.hm_graph.specs.Kept.{kept_count};
+ghost use Rattle.hm_graph.specs.Runs.{AreRuns, unroll};
+ghost use Rattle.hm_graph.specs.StillRuns.{AreStillOver};
+ghost use Rattle.hm_graph.specs.Steps.{leaves_out};
+ghost use Rattle.hm_graph.specs.Still.{AreStill};
+
+use crate::numbers::Run;
+use crate::step::Step;
+use hm_cert::Format;
+use std::marker::Model;
+
+/// The steps between the layers of a tree's graph, in their order, and how many states the last layer has. Each different
+/// step is kept once, and equal steps in a row as one run.
+#[derive(Drop)]
+pub struct Graph {
+    steps: Vec<Step>,
+    runs: Vec<Run>,
+    len: usize,
+    last: usize,
+}
+
+/// A layer of a graph: the one before step `used` of a run, or the last one after all runs.
+#[derive(Clone, Copy)]
+pub struct Cursor {
+    run: usize,
+    used: usize,
+    /// How many layers are before it.
+    pub layer: usize,
+}
+
+/// Layers that were passed.
+#[derive(Clone, Copy)]
+pub struct Passed {
+    /// The layer that was reached.
+    pub front: Cursor,
+    /// How many bytes the hops over them write together, from each state.
+    pub len: u64,
+}
+
+/// The length in bytes of each hop, where no state changes its place over a step of `width` states, and the layer
+/// before it is left out in this format.
+#[inline(always)]
+fn still_over(step: &Step, format: Format, width: usize) -> Option<u64>
+    ensures still { IfSome result (λ len. AreStill len step.now) }
+    ensures width { IsSome result → length step.now ≡ width }
+    ensures out { IsSome result → leaves_out format step.now ≡ true }
+    ensures low { IsLowStep step.now → IfSome result (λ len. len < 2 ^ 33) }
+{
+    if step.width() == width && step.is_left_out(format) {
+        step.still()
+    } else {
+        None
+    }
+}
+
+impl Model for Graph {
+    ghost use Rattle.hm_graph.specs.Graphs.{GraphView};
+
+    ghost Value = { GraphView };
+
+    ghost use Rattle.std.specs.Prelude.{◌≡◌, ◌<◌, ◌^◌, length};
+    ghost use Rattle.hm_graph.specs.Graphs.{AreLow, AreNumbers, spread};
+    ghost use Rattle.hm_graph.specs.Runs.{AreRuns, unroll};
+
+    ghost view = { λ g. record { steps = spread g.steps.items (unroll g.runs.items); runs = g.runs.items; last = g.last } };
+
+    ghost invariant = { λ g. AreNumbers g.steps.items (unroll g.runs.items) × AreLow (spread g.steps.items (unroll g.runs.items)) × (g.len ≡ length (unroll g.runs.items)) × (g.len < 2 ^ 29) × AreRuns g.runs.items };
+}
+
+impl Graph {
+    /// The graph with the steps of the numbers of these runs.
+    pub(crate) fn from_parts(steps: Vec<Step>, runs: Vec<Run>, len: usize, last: usize) -> Graph
+        requires numbers { AreNumbers steps.items (unroll runs.items) }
+        requires low { AreLow (spread steps.items (unroll runs.items)) }
+        requires len { len ≡ length (unroll runs.items) }
+        requires few { len < 2 ^ 29 }
+        requires runs { AreRuns runs.items }
+        ensures steps { result.steps ≡ spread steps.items (unroll runs.items) }
+        ensures last { result.last ≡ last }
+    {
+        Graph {
+            steps,
+            runs,
+            len,
+            last,
+        }
+    }
+
+    /// How many steps there are: one less than the layers.
+    pub fn len(&self) -> usize
+        ensures { result ≡ length self.now.steps }
+    {
+        self.len
+    }
+
+    /// How many states the last layer has.
+    pub fn last(&self) -> usize
+        ensures { result ≡ self.now.last }
+    {
+        self.last
+    }
+
+    /// The first layer.
+    pub fn first_layer(&self) -> Cursor
+        ensures place { IsPlace self.now result }
+        ensures layer { result.layer ≡ 0 }
+    {
+        let _runs = &self.runs;
+        Cursor {
+            run: 0,
+            used: 0,
+            layer: 0,
+        }
+    }
+
+    /// The last layer.
+    pub fn last_layer(&self) -> Cursor
+        ensures place { IsPlace self.now result }
+        ensures layer { result.layer ≡ length self.now.steps }
+    {
+        Cursor {
+            run: self.runs.len(),
+            used: 0,
+            layer: self.len,
+        }
+    }
+
+    /// The step after a layer.
+    pub fn step(&self, at: Cursor) -> &Step
+        requires place { IsPlace self.now at }
+        requires inside { at.layer < length self.now.steps }
+        ensures { result.now ≡ slice_index_or self.now.steps at.layer [] }
+    {
+        &self.steps[self.runs[at.run].number as usize]
+    }
+
+    /// The next layer.
+    pub fn next(&self, at: Cursor) -> Cursor
+        requires place { IsPlace self.now at }
+        requires inside { at.layer < length self.now.steps }
+        ensures place { IsPlace self.now result }
+        ensures layer { result.layer ≡ at.layer + 1 }
+    {
+        let count = self.runs[at.run].count as usize;
+        let layer = at.layer + 1;
+        let used = at.used + 1;
+        if used < count {
+            return Cursor {
+                run: at.run,
+                used,
+                layer,
+            };
+        }
+        Cursor {
+            run: at.run + 1,
+            used: 0,
+            layer,
+        }
+    }
+
+    /// The previous layer.
+    pub fn back(&self, at: Cursor) -> Cursor
+        requires place { IsPlace self.now at }
+        requires some { 0 < at.layer }
+        ensures place { IsPlace self.now result }
+        ensures layer { result.layer ≡ at.layer - 1 }
+    {
+        let _runs = &self.runs;
+        let layer = at.layer - 1;
+        if at.used > 0 {
+            return Cursor {
+                run: at.run,
+                used: at.used - 1,
+                layer,
+            };
+        }
+        let run = at.run - 1;
+        Cursor {
+            run,
+            used: self.runs[run].count as usize - 1,
+            layer,
+        }
+    }
+
+    /// Goes back over at most `limit` layers that have the same step after them as this one.
+    pub fn back_alike(&self, at: Cursor, limit: usize) -> Cursor
+        requires place { IsPlace self.now at }
+        requires inside { at.layer < length self.now.steps }
+        ensures place { IsPlace self.now result }
+        ensures layer { (result.layer ≤ at.layer) × (at.layer ≤ result.layer + limit) }
+        ensures alike { (k : ℕ) → result.layer ≤ k → k < at.layer → slice_index_or self.now.steps k [] ≡ slice_index_or self.now.steps at.layer [] }
+    {
+        let _runs = &self.runs;
+        let count = at.used.min(limit);
+        Cursor {
+            run: at.run,
+            used: at.used - count,
+            layer: at.layer - count,
+        }
+    }
+
+    /// Goes on over at most `limit` layers that have the same step after them as this one.
+    pub fn next_alike(&self, at: Cursor, limit: usize) -> Cursor
+        requires place { IsPlace self.now at }
+        requires inside { at.layer < length self.now.steps }
+        ensures place { IsPlace self.now result }
+        ensures layer { (at.layer ≤ result.layer) × (result.layer ≤ at.layer + limit) }
+        ensures alike { (k : ℕ) → at.layer ≤ k → k < result.layer → slice_index_or self.now.steps k [] ≡ slice_index_or self.now.steps at.layer [] }
+    {
+        let left = self.runs[at.run].count as usize - at.used;
+        if limit < left {
+            return Cursor {
+                run: at.run,
+                used: at.used + limit,
+                layer: at.layer + limit,
+            };
+        }
+        Cursor {
+            run: at.run + 1,
+            used: 0,
+            layer: at.layer + left,
+        }
+    }
+
+    /// Goes back from a layer over layers that a certificate of this format leaves out, but not to the first layer.
+    /// Each of them has `width` states, and none changes its place.
+    pub fn back_still(&self, at: Cursor, format: Format, width: usize) -> Passed
+        requires place { IsPlace self.now at }
+        requires within { at.layer ≤ length self.now.steps }
+        ensures place { IsPlace self.now result.front }
+        ensures layer { result.front.layer ≤ at.layer }
+        ensures first { 0 < at.layer → 0 < result.front.layer }
+        ensures still { AreStillOver format (drop result.front.layer self.now.steps) (at.layer - result.front.layer) width result.len }
+        ensures low { result.len < 2 ^ 62 }
+    {
+        self.is_small();
+        let mut front = at;
+        let mut len = 0;
+        while front.layer > 1 {
+            let next = self.back(front);
+            let own = match still_over(self.step(next), format, width) {
+                Some(own) => own,
+                None => return Passed { front, len },
+            };
+            front = self.back_alike(next, next.layer - 1);
+            len += (next.layer - front.layer + 1) as u64 * own;
+        }
+        Passed { front, len }
+    }
+
+    /// How many layers a certificate of this format writes: the last one isn't counted, and the first one only where its step
+    /// isn't left out.
+    pub fn count_kept(&self, format: Format) -> usize
+        ensures { result ≡ kept_count format self.now.steps }
+    {
+        let mut count = 0;
+        for run in &self.runs {
+            if !self.steps[run.number as usize].is_left_out(format) {
+                count += run.count as usize;
+            }
+        }
+        count
+    }
+
+    /// A graph has fewer than 2^29 steps, and no edge writes 2^33 bytes. The call does nothing.
+    pub fn is_small(&self)
+        ensures low { AreLow self.now.steps }
+        ensures few { length self.now.steps < 2 ^ 29 }
+    {
+        let _count = self.len;
+    }
+}

@@ -1,0 +1,130 @@
+//! The step of a unit from the states before it, and the states after it.
+ghost use Rattle.std.specs.Prelude.{◌≡◌, ◌↔◌, map, IfOk, IsTrue};
+ghost use Rattle.hm_refs.specs.Tables.{TableView};
+ghost use Rattle.hm_edges.specs.Pieces.{AreOfTable, IsOfTable};
+ghost use Rattle.hm_edges.specs.States.{HasNodes, state_of};
+ghost use Rattle.hm_graph.specs.Fits.{place_of};
+ghost use Rattle.hm_graph.specs.Layers.{AreEdgesUnder, AreHops, HaveNodes, IsHop, IsLayer, IsPlaced, states_of};
+
+use crate::Hop;
+use crate::outdone::edges_in;
+use crate::rules::EdgeRules;
+use hm_base::Memory;
+use hm_edges::{Edge, State, Unit, find_edges, piece_len};
+use hm_refs::Table;
+use std::alloc::Global;
+
+/// More bytes than an edge may write: from here on memory counts as refused.
+const LEN_LIMIT: u64 = 1 << 33;
+
+/// Whether the two are equal.
+pub(crate) fn is_state(one: &State, other: &State) -> bool
+    ensures { IsTrue result ↔ (one.now ≡ other.now) }
+{
+    one == other
+}
+
+/// The place of a state among these, where it is one of them.
+fn place_in(states: &[State], state: &State) -> Option<usize>
+    ensures { (v : TableView) → HaveNodes v states.now → HasNodes v state.now.pending → result ≡ place_of (states_of v states.now) (state_of v state.now) }
+{
+    for (place, other) in states.iter().enumerate() {
+        if is_state(other, state) {
+            return Some(place);
+        }
+    }
+    None
+}
+
+/// The place of a state among these. It is added at the end where it isn't one of them.
+fn place(states: &mut Vec<State>, state: &State) -> Result<usize, Memory>
+    ensures { (v : TableView) → HaveNodes v states.old.items → HasNodes v state.now.pending → IfOk result (IsPlaced v state.now states.old.items states.new.items) }
+{
+    if let Some(place) = place_in(states.as_slice(), state) {
+        return Ok(place);
+    }
+    let place = states.len();
+    states.push(*state)?;
+    Ok(place)
+}
+
+/// The hop of an edge of the unit. Its end is added to the next layer's states, where it isn't one of them.
+fn hop_of(table: &Table, unit: Unit, edge: &Edge, behind: &mut Vec<State>) -> Result<Hop, Memory>
+    requires edge { IsOfTable table.now edge.now }
+    requires nodes { HaveNodes table.now behind.old.items }
+    ensures { IfOk result (IsHop table.now unit edge.now behind.old.items behind.new.items) }
+{
+    let len = piece_len(unit, edge.piece, table);
+    if len >= LEN_LIMIT {
+        return Err(Memory);
+    }
+    let to = place(behind, &edge.to)?;
+    Ok(Hop {
+        piece: edge.piece,
+        len,
+        to,
+    })
+}
+
+/// The hops of these edges of the unit, in their order. Their ends are added to the next layer's states.
+fn hops_of(
+    alloc: Global,
+    table: &Table,
+    unit: Unit,
+    edges: &[Edge],
+    behind: &mut Vec<State>,
+) -> Result<Vec<Hop>, Memory>
+    requires edges { AreOfTable table.now edges.now }
+    requires nodes { HaveNodes table.now behind.old.items }
+    ensures { IfOk result (λ hops. AreHops table.now unit edges.now behind.old.items behind.new.items hops.items) }
+{
+    let mut hops = Vec::new(alloc);
+    for edge in edges {
+        hops.push(hop_of(table, unit, edge, behind)?)?;
+    }
+    Ok(hops)
+}
+
+/// What a unit leads to from some states: the hops of each, and the next layer's states.
+#[derive(Drop)]
+pub(crate) struct Layer {
+    pub(crate) hops: Vec<Vec<Hop>>,
+    pub(crate) behind: Vec<State>,
+}
+
+/// The edges of a unit from a state.
+fn edges_from(
+    alloc: Global,
+    table: &Table,
+    rules: EdgeRules,
+    unit: Unit,
+    from: State,
+) -> Result<Vec<Edge>, Memory>
+    requires { HasNodes table.now from.pending }
+    ensures edges { IfOk result (λ edges. AreEdgesUnder table.now rules unit from edges.items) }
+    ensures known { IfOk result (λ edges. AreOfTable table.now edges.items) }
+{
+    let mut edges = Vec::new(alloc);
+    find_edges(table, rules.spell, unit, from, &mut edges)?;
+    edges_in(alloc, table, rules.format, unit, edges)
+}
+
+/// Finds the hops of each of these states, and the next layer's states.
+pub(crate) fn find_layer(
+    alloc: Global,
+    table: &Table,
+    rules: EdgeRules,
+    unit: Unit,
+    from: &[State],
+) -> Result<Layer, Memory>
+    requires { HaveNodes table.now from.now }
+    ensures { IfOk result (λ layer. IsLayer table.now rules unit from.now layer.behind.items (map (λ hops. hops.items) layer.hops.items)) }
+{
+    let mut behind = Vec::new(alloc);
+    let mut hops = Vec::new(alloc);
+    for state in from {
+        let edges = edges_from(alloc, table, rules, unit, *state)?;
+        hops.push(hops_of(alloc, table, unit, edges.as_slice(), &mut behind)?)?;
+    }
+    Ok(Layer { hops, behind })
+}

@@ -1,0 +1,158 @@
+//! The edges that no other one dominates (outdoes).
+ghost use Rattle.std.specs.Prelude.{◌≡◌, ◌||◌, ◌++◌, ◌∷◌, [], if◌then◌else◌, IfOk, OnOk};
+ghost use Rattle.std.specs.List.{list_any};
+ghost use Rattle.hm_edges.specs.Pieces.{AreOfTable, IsOfTable, edge_of, edges_seen};
+ghost use Rattle.hm_edges.specs.States.{HasNodes, state_of};
+ghost use Rattle.hm_edges.specs.Units.{StandsFor};
+ghost use Rattle.hm_optimality_laws.specs.Outdone as outdone;
+ghost use Rattle.hm_optimality_laws.specs.Outdone.{kept_edges};
+ghost use Rattle.hm_refs.specs.Tables.{TableView};
+ghost use Rattle.hm_optimality_laws.specs.Formats.{kept_by};
+ghost use Rattle.hm_graph_laws.specs.States.{same_state};
+ghost use Rattle.hm_graph_laws.specs.Units as units;
+
+use crate::layer::is_state;
+use hm_base::Memory;
+use hm_cert::Format;
+use hm_edges::{Edge, Pending, State, Unit, Where, piece_len};
+use hm_refs::Table;
+use std::alloc::Global;
+
+/// Whether what is pending in a state may be forgotten.
+fn may_forget(state: &State) -> bool
+    ensures { (v : TableView) → result ≡ outdone.may_forget (state_of v state.now) }
+{
+    match (state.at, state.pending) {
+        (Where::InSection, _) => false,
+        (_, Pending::Half { left: _ }) => false,
+        _ => true,
+    }
+}
+
+/// Whether two states mean the same.
+fn is_same(one: &State, other: &State) -> bool
+    ensures { (v : TableView) → HasNodes v one.now.pending → HasNodes v other.now.pending → result ≡ same_state (state_of v one.now) (state_of v other.now) }
+{
+    is_state(one, other)
+}
+
+/// Whether the first state serves as well as the other.
+fn serves(one: &State, other: &State) -> bool
+    ensures { (v : TableView) → HasNodes v one.now.pending → HasNodes v other.now.pending → result ≡ outdone.serves (state_of v one.now) (state_of v other.now) }
+{
+    let forgotten = State {
+        at: other.at,
+        pending: Pending::Nothing,
+    };
+    is_same(one, other) || (may_forget(other) && is_same(one, &forgotten))
+}
+
+/// Whether an edge is outdone by this one before it.
+fn outdoes_in_front(table: &Table, unit: Unit, edge: &Edge, other: &Edge) -> bool
+    requires edge { IsOfTable table.now edge.now }
+    requires other { IsOfTable table.now other.now }
+    ensures { (u : units.Unit) → StandsFor table.now.entries unit u → result ≡ outdone.outdoes_in_front (edge_of table.now u edge.now) (edge_of table.now u other.now) }
+{
+    serves(&other.to, &edge.to)
+        && piece_len(unit, other.piece, table) <= piece_len(unit, edge.piece, table)
+}
+
+/// Whether an edge is outdone by this one after it.
+fn outdoes_behind(table: &Table, unit: Unit, edge: &Edge, other: &Edge) -> bool
+    requires edge { IsOfTable table.now edge.now }
+    requires other { IsOfTable table.now other.now }
+    ensures { (u : units.Unit) → StandsFor table.now.entries unit u → result ≡ outdone.outdoes_behind (edge_of table.now u edge.now) (edge_of table.now u other.now) }
+{
+    serves(&other.to, &edge.to)
+        && piece_len(unit, other.piece, table) < piece_len(unit, edge.piece, table)
+}
+
+/// Whether an edge is outdone by one of these before it.
+fn some_outdoes_in_front(table: &Table, unit: Unit, edge: &Edge, others: &[Edge]) -> bool
+    requires edge { IsOfTable table.now edge.now }
+    requires others { AreOfTable table.now others.now }
+    ensures { (u : units.Unit) → StandsFor table.now.entries unit u → result ≡ list_any (outdone.outdoes_in_front (edge_of table.now u edge.now)) (edges_seen table.now u others.now) }
+{
+    for other in others {
+        if outdoes_in_front(table, unit, edge, other) {
+            return true;
+        }
+    }
+    false
+}
+
+/// Whether an edge is outdone by one of these after it.
+fn some_outdoes_behind(table: &Table, unit: Unit, edge: &Edge, others: &[Edge]) -> bool
+    requires edge { IsOfTable table.now edge.now }
+    requires others { AreOfTable table.now others.now }
+    ensures { (u : units.Unit) → StandsFor table.now.entries unit u → result ≡ list_any (outdone.outdoes_behind (edge_of table.now u edge.now)) (edges_seen table.now u others.now) }
+{
+    for other in others {
+        if outdoes_behind(table, unit, edge, other) {
+            return true;
+        }
+    }
+    false
+}
+
+/// Whether an edge is outdone by one of those before it or after it.
+fn is_outdone(table: &Table, unit: Unit, edge: &Edge, front: &[Edge], behind: &[Edge]) -> bool
+    requires edge { IsOfTable table.now edge.now }
+    requires front { AreOfTable table.now front.now }
+    requires behind { AreOfTable table.now behind.now }
+    ensures { (u : units.Unit) → StandsFor table.now.entries unit u → result ≡ (list_any (outdone.outdoes_in_front (edge_of table.now u edge.now)) (edges_seen table.now u front.now)
+        || list_any (outdone.outdoes_behind (edge_of table.now u edge.now)) (edges_seen table.now u behind.now)) }
+{
+    some_outdoes_in_front(table, unit, edge, front)
+        || some_outdoes_behind(table, unit, edge, behind)
+}
+
+/// Keeps an edge after the others, unless it is outdone.
+fn keep(kept: &mut Vec<Edge>, edge: Edge, outdone: bool) -> Result<(), Memory>
+    ensures { OnOk result (kept.new.items ≡ kept.old.items ++ (if outdone then [] else edge ∷ [])) }
+{
+    if outdone {
+        return Ok(());
+    }
+    let Edge { piece, to } = edge;
+    kept.push(Edge { piece, to })?;
+    Ok(())
+}
+
+/// The edges of a state that no other one outdoes, in their order.
+fn without_outdone(
+    alloc: Global,
+    table: &Table,
+    unit: Unit,
+    edges: &[Edge],
+) -> Result<Vec<Edge>, Memory>
+    requires { AreOfTable table.now edges.now }
+    ensures edges { IfOk result (λ kept. (u : units.Unit) → StandsFor table.now.entries unit u → edges_seen table.now u kept.items ≡ kept_edges (edges_seen table.now u edges.now)) }
+    ensures known { IfOk result (λ kept. AreOfTable table.now kept.items) }
+{
+    let mut kept = Vec::new(alloc);
+    for place in 0..edges.len() {
+        let edge = &edges[place];
+        let outdone = is_outdone(table, unit, edge, &edges[..place], &edges[place + 1..]);
+        keep(&mut kept, *edge, outdone)?;
+    }
+    Ok(kept)
+}
+
+/// Of the edges of a state, those that a format's graph has.
+pub(crate) fn edges_in(
+    alloc: Global,
+    table: &Table,
+    format: Format,
+    unit: Unit,
+    edges: Vec<Edge>,
+) -> Result<Vec<Edge>, Memory>
+    requires { AreOfTable table.now edges.items }
+    ensures edges { IfOk result (λ kept. (u : units.Unit) → StandsFor table.now.entries unit u → edges_seen table.now u kept.items ≡ kept_by format (edges_seen table.now u edges.items)) }
+    ensures known { IfOk result (λ kept. AreOfTable table.now kept.items) }
+{
+    match format {
+        Format::One | Format::Two => Ok(edges),
+        Format::Three => without_outdone(alloc, table, unit, edges.as_slice()),
+    }
+}

@@ -1,0 +1,236 @@
+//! Steps of plain characters, in rows.
+ghost use Rattle.std.specs.Prelude.{◌≡◌, ◌<◌, ◌≤◌, ℕ, Bool, length, take, slice_index_or, IfOk, IfSome, IsTrue};
+ghost use Rattle.std.specs.List.{All};
+ghost use Rattle.hm_graph.specs.Met.{IsKnown, IsRow, IsToward, Leads, MetView, unknown};
+
+use crate::made::{Reached, is_kind};
+use hm_base::Memory;
+use hm_edges::TextKind;
+use std::alloc::Global;
+
+/// Where characters of ASCII lead from a list in such a text, each at its place, as far as it is known.
+#[derive(Drop)]
+pub(crate) struct PlainRow {
+    pub(crate) list: u32,
+    pub(crate) kind: TextKind,
+    pub(crate) steps: Vec<Reached>,
+}
+
+/// Where some characters lead, each from the list that the one before leads to, and how many they are.
+#[derive(Clone, Copy)]
+pub(crate) struct Alike {
+    pub(crate) to: Reached,
+    pub(crate) count: usize,
+}
+
+/// It isn't known where a character leads: no step has this number.
+fn no_step() -> Reached
+    ensures { result ≡ unknown }
+{
+    Reached {
+        number: u32::MAX,
+        behind: 0,
+    }
+}
+
+/// Whether it is known where a character leads.
+fn is_known(to: Reached) -> bool
+    ensures { IsTrue result → IsKnown to }
+{
+    to.number < u32::MAX
+}
+
+/// Where a character leads.
+fn step_at(steps: &[Reached], byte: u8) -> Reached
+    ensures { result ≡ slice_index_or steps.now byte unknown }
+{
+    match steps.get(byte as usize) {
+        Some(to) => *to,
+        None => no_step(),
+    }
+}
+
+/// Whether a character leads there. One step leads to one list, so its number alone is looked at.
+fn is_toward(steps: &[Reached], to: Reached, byte: u8) -> bool
+    ensures { IsTrue result → IsToward steps.now to byte }
+{
+    step_at(steps, byte).number == to.number
+}
+
+/// How many characters at the start of a text lead where the first one does, each with another one after it.
+#[inline(always)]
+fn alike_run(steps: &[Reached], to: Reached, text: &[u8]) -> usize
+    requires some { 1 < length text.now }
+    requires first { IsToward steps.now to (slice_index_or text.now 0 0) }
+    ensures some { 0 < result }
+    ensures short { result < length text.now }
+    ensures toward { All (IsToward steps.now to) (take result text.now) }
+{
+    let mut count = 1;
+    while count + 1 < text.len() && is_toward(steps, to, text[count]) {
+        count += 1;
+    }
+    count
+}
+
+/// No characters.
+pub(crate) fn none_alike() -> Alike
+    ensures { result.count ≡ 0 }
+{
+    Alike {
+        to: no_step(),
+        count: 0,
+    }
+}
+
+impl PlainRow {
+    /// Nothing is known.
+    fn of(alloc: Global, list: u32, kind: TextKind) -> Result<PlainRow, Memory>
+        ensures list { IfOk result (λ row. row.list ≡ list) }
+        ensures kind { IfOk result (λ row. row.kind ≡ kind) }
+        ensures row { IfOk result (λ row. (m : MetView) (more : Bool) → IsRow m more row) }
+    {
+        Ok(PlainRow {
+            list,
+            kind,
+            steps: vec![in alloc; no_step(); 128]?,
+        })
+    }
+
+    /// Whether it is of this list.
+    pub(crate) fn is_of(&self, list: u32, kind: TextKind) -> bool
+        ensures list { IsTrue result → self.now.list ≡ list }
+        ensures kind { IsTrue result → self.now.kind ≡ kind }
+    {
+        self.list == list && is_kind(self.kind, kind)
+    }
+
+    /// Puts where a character leads.
+    fn put(&mut self, c: char, to: Reached)
+        ensures { (m : MetView) (more : Bool) → IsRow m more self.old → Leads m self.old.list self.old.kind more to c → IsRow m more self.new }
+    {
+        if let Some(step) = self.steps.get_mut(c as usize) {
+            *step = to;
+        }
+    }
+
+    /// Where a character leads, if it is known.
+    pub(crate) fn step(&self, c: char) -> Option<Reached>
+        ensures { IfSome result (λ to. (m : MetView) (more : Bool) → IsRow m more self.now → Leads m self.now.list self.now.kind more to c) }
+    {
+        let to = *self.steps.get(c as usize)?;
+        if is_known(to) { Some(to) } else { None }
+    }
+
+    /// Where the characters at the start of a text lead, as far as they lead to one place, each with another one after
+    /// it. They are more than one only where that place is the list itself.
+    #[inline(always)]
+    pub(crate) fn alike(&self, text: &[u8]) -> Alike
+        ensures within { result.count ≤ length text.now }
+        ensures short { 0 < result.count → result.count < length text.now }
+        ensures back { 1 < result.count → result.to.behind ≡ self.now.list }
+        ensures leads { (m : MetView) (more : Bool) → IsRow m more self.now → All (Leads m self.now.list self.now.kind more result.to) (take result.count text.now) }
+    {
+        if text.len() < 2 {
+            return none_alike();
+        }
+        let to = step_at(self.steps.as_slice(), text[0]);
+        if !is_known(to) {
+            return none_alike();
+        }
+        if to.behind != self.list {
+            return Alike { to, count: 1 };
+        }
+        let count = alike_run(self.steps.as_slice(), to, text);
+        Alike { to, count }
+    }
+}
+
+/// How many rows there are for texts' characters.
+const ROWS: usize = 128;
+
+/// The list number of a row that belongs to no list.
+const NO_LIST: u32 = u32::MAX;
+
+/// Rows in which nothing is known.
+pub(crate) fn no_rows(alloc: Global) -> Result<Vec<PlainRow>, Memory>
+    ensures { IfOk result (λ rows. (m : MetView) (more : Bool) → All (IsRow m more) rows.items) }
+{
+    let mut rows = Vec::with_capacity(alloc, ROWS)?;
+    for _place in 0..ROWS {
+        rows.push(PlainRow {
+            list: NO_LIST,
+            kind: TextKind::Text,
+            steps: Vec::new(alloc),
+        })?;
+    }
+    Ok(rows)
+}
+
+/// A number for such texts.
+fn kind_place(kind: TextKind) -> u32 {
+    match kind {
+        TextKind::Text => 0,
+        TextKind::Rcdata => 1,
+        TextKind::Foreign => 2,
+        TextKind::Value => 3,
+    }
+}
+
+/// The place of the row of a list.
+pub(crate) fn row_place(list: u32, kind: TextKind) -> usize {
+    (list.wrapping_mul(4) ^ kind_place(kind)) as usize % ROWS
+}
+
+/// The row of a list, if it is there.
+pub(crate) fn row_of(rows: &[PlainRow], list: u32, kind: TextKind) -> Option<&PlainRow>
+    ensures list { IfSome result (λ row. row.now.list ≡ list) }
+    ensures kind { IfSome result (λ row. row.now.kind ≡ kind) }
+    ensures row { IfSome result (λ row. (m : MetView) (more : Bool) → All (IsRow m more) rows.now → IsRow m more row.now) }
+{
+    let row = rows.get(row_place(list, kind))?;
+    if row.is_of(list, kind) {
+        Some(row)
+    } else {
+        None
+    }
+}
+
+/// Keeps where a character leads from a list, in its row. If the row is another list's, that one's steps are dropped.
+fn keep_in(
+    alloc: Global,
+    row: &mut PlainRow,
+    list: u32,
+    kind: TextKind,
+    c: char,
+    to: Reached,
+) -> Result<(), Memory>
+    ensures { (m : MetView) (more : Bool) → IsRow m more row.old → Leads m list kind more to c → IsRow m more row.new }
+{
+    if row.is_of(list, kind) {
+        row.put(c, to);
+        return Ok(());
+    }
+    let mut own = PlainRow::of(alloc, list, kind)?;
+    own.put(c, to);
+    *row = own;
+    Ok(())
+}
+
+/// Keeps where a character leads from a list.
+pub(crate) fn keep(
+    alloc: Global,
+    rows: &mut Vec<PlainRow>,
+    list: u32,
+    kind: TextKind,
+    c: char,
+    to: Reached,
+) -> Result<(), Memory>
+    ensures { (m : MetView) (more : Bool) → All (IsRow m more) rows.old.items → Leads m list kind more to c → All (IsRow m more) rows.new.items }
+{
+    let place = row_place(list, kind);
+    if place >= rows.len() {
+        return Ok(());
+    }
+    keep_in(alloc, &mut rows[place], list, kind, c, to)
+}

@@ -1,0 +1,8 @@
+//! The layered graph of the spellings of a tree: its units, states and edges, its paths and prices. Definitions and laws alone.
+#![tactic(auto)]
+
+pub mod attributes;
+pub mod characters;
+pub mod pending;
+pub mod plain_characters;
+pub mod prices;

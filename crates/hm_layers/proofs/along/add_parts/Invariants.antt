@@ -1,5 +1,0 @@
-use Rattle.hm_layers.proofs.Going.{PartsAdded}
-use Rattle.hm_layers.proofs.along.add_parts.Given as goal
-
-abbrev pub invariant-loop-part : goal.invariant-loop-part
-invariant-loop-part g l = PartsAdded (g.F.Follower.goes_on l.table.entries) l.parts l.part-index l.initial.along l.along

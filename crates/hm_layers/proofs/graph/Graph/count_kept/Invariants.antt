@@ -1,5 +1,0 @@
-use Rattle.hm_layers.proofs.Counts.{RunsCounted}
-use Rattle.hm_layers.proofs.graph.Graph.count_kept.Given as goal
-
-abbrev pub invariant-loop-run : goal.invariant-loop-run
-invariant-loop-run l = RunsCounted l.format l.self-inside.steps.items l.run-items l.run-index l.count

@@ -1,6 +1,0 @@
-use Rattle.std.proofs.Common.{take, map}
-use Rattle.hm_layers.specs.Layers.{IsLayer}
-use Rattle.hm_layers.proofs.layer.find_layer.Given as goal
-
-abbrev pub invariant-loop-state : goal.invariant-loop-state
-invariant-loop-state l = IsLayer l.table l.rules l.unit (take l.state-index l.from) l.behind.items (map (λ hops. hops.items) l.hops.items)

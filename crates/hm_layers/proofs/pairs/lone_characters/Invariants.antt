@@ -1,9 +1,0 @@
-use Rattle.std.proofs.Common.{◌≡◌, length}
-use Rattle.hm_layers.specs.Met.{AreLone}
-use Rattle.hm_layers.proofs.pairs.lone_characters.Given as goal
-
-abbrev pub invariant-loop-c : goal.invariant-loop-c
-invariant-loop-c l = record {
-  marked : AreLone l.table.entries l.lone.items;
-  count : length l.lone.items ≡ l.c;
-}

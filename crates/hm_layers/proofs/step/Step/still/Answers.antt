@@ -1,8 +1,0 @@
-use Rattle.std.proofs.Common.{subst}
-use Rattle.std.specs.Prelude.{IfSome}
-use Rattle.hm_steps.specs.Still.{IsStill}
-use Rattle.hm_layers.proofs.StillLengths.{still_low}
-use Rattle.hm_layers.proofs.step.Step.still.Goals as goal
-
-pub returns-clause-low : goal.returns-clause-low
-returns-clause-low c = λ low. still_low c.self.inside.still c.args.self.now (subst (λ s. IfSome c.self.inside.still (λ len. IsStill len s)) c.self.view_is c.self.invariant.2) low

@@ -1,9 +1,0 @@
-pub mod Runs
-pub mod Graphs
-pub mod Layers
-pub mod Met
-pub mod Building
-pub mod Going
-pub mod Copied
-pub mod Kept
-pub mod StillRuns

@@ -1,5 +1,0 @@
-use Rattle.hm_mark_scan.proofs.Extended.{cdata_extends}
-use Rattle.hm_mark_scan.proofs.laws.cdata_extends.Goals as goal
-
-pub returns : goal.returns
-returns c = cdata_extends

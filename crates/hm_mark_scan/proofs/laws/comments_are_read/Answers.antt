@@ -1,5 +1,0 @@
-use Rattle.hm_mark_scan.proofs.WrittenComments.{comment_is_read}
-use Rattle.hm_mark_scan.proofs.laws.comments_are_read.Goals as goal
-
-pub returns : goal.returns
-returns c = comment_is_read

@@ -1,5 +1,0 @@
-use Rattle.hm_mark_scan.proofs.WrittenDoctypes.{doctype_is_read}
-use Rattle.hm_mark_scan.proofs.laws.doctypes_are_read.Goals as goal
-
-pub returns : goal.returns
-returns c = doctype_is_read

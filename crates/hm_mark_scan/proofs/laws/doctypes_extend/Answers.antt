@@ -1,5 +1,0 @@
-use Rattle.hm_mark_scan.proofs.Extended.{doctype_extends}
-use Rattle.hm_mark_scan.proofs.laws.doctypes_extend.Goals as goal
-
-pub returns : goal.returns
-returns c = doctype_extends

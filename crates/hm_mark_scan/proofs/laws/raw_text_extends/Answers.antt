@@ -1,5 +1,0 @@
-use Rattle.hm_mark_scan.proofs.RawTextLaws.{raw_extends}
-use Rattle.hm_mark_scan.proofs.laws.raw_text_extends.Goals as goal
-
-pub returns : goal.returns
-returns c = raw_extends

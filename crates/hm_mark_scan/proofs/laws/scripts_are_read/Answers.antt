@@ -1,5 +1,0 @@
-use Rattle.hm_mark_scan.proofs.ScriptLaws.{script_read}
-use Rattle.hm_mark_scan.proofs.laws.scripts_are_read.Goals as goal
-
-pub returns : goal.returns
-returns c = λ t some each ends begins. script_read t some each begins ends

@@ -1,0 +1,213 @@
+-- What the loaded prefix of a file says about the file.
+use Rattle.std.proofs.Common.{◌≡◌, ℕ, ◌+◌, ◌≤◌, ◌<◌, Bool, true, false, not, ◌||◌, cond, List, [], length, take, Some, None, IsSome, refl, sym, ap, ◌∙◌, subst, arith}
+use Rattle.std.proofs.lemmas.Bool.Decides.{nat_tests}
+use Rattle.std.proofs.lemmas.Grind.{common_steps}
+use Rattle.std.proofs.lemmas.List.{take_all}
+use Rattle.std.specs.Bool.{nat_lt}
+use Rattle.std.specs.Str.{bytes_eq}
+use Rattle.std.specs.Prelude.{Result, Ok, Err}
+use Rattle.std.specs.declared.option.Option.{Option}
+use Rattle.hm_base.specs.Faults.{HasText}
+use Rattle.hm_base.specs.Source.{Source, Refusal, source_of, text_fault}
+use Rattle.hm_base.specs.Walks.{Event}
+use Rattle.hm_base.specs.declared.limits.TheConstants.{PAGE_LIMIT, TABLE_LIMIT}
+use Rattle.hm_base.specs.declared.plain.TreeOptions.{TreeOptions}
+use Rattle.hm_base.specs.declared.rules.Rule.{Rule}
+use Rattle.hm_base.specs.declared.rules.Rule.TheVariants as rules
+use Rattle.hm_store.specs.Files.{FileMap, file_of}
+use Rattle.hm_refs.proofs.Places.{same_bytes}
+use Rattle.hm_refs.specs.Json.{names}
+use Rattle.hm_refs.specs.Names.{Entry}
+use Rattle.hm_refs.specs.declared.fault.TableFault.{TableFault}
+use Rattle.hm_refs.specs.declared.fault.TableFault.TheVariants.{TooLong}
+use Rattle.hm_construction_laws.specs.Trees.{Outcome, built, refused_by, page_tree, tree_of_source}
+use Rattle.hm_words.specs.Words.{are_apart}
+use Rattle.hm_minify.specs.Inputs.{Input, IsInput, tree, bad_table, bad_page, is_none, table_names, page_outcome, rewritten_input, input_from}
+use Rattle.hm_minify.specs.Loads.{IsLoaded, IsTableOf, IsTextIn, IsTextOf, IsRefusedPage, IsTreeRead, NoTable, NoText, NoTextIn, NoTreeRead, NoInput}
+use Rattle.hm_minify.specs.declared.unread.Unread.{Unread}
+use Rattle.hm_minify.specs.declared.unread.Unread.TheVariants as reasons
+
+-- ---- a table
+
+long_table : (content : List ℕ) → TABLE_LIMIT < length content → names content ≡ Err TooLong
+unfolding names
+long_table content h =
+    let long : nat_lt TABLE_LIMIT (length content) ≡ true = grind (arith, nat_tests) in
+    rw long refl
+
+still_long : (content : List ℕ) (n : ℕ) → n < length content → n < length (take (n + 1) content)
+still_long content n h = grind (arith, common_steps)
+
+long_by_test : (n m : ℕ) → nat_lt n m ≡ true → n < m
+long_by_test n m e = grind (arith, nat_tests)
+
+short_by_test : (n m : ℕ) → nat_lt n m ≡ false → m ≤ n + 1
+short_by_test n m e = grind (arith, nat_tests)
+
+names_front : (content : List ℕ) → names (take (TABLE_LIMIT + 1) content) ≡ names content
+names_front content = by_length (nat_lt TABLE_LIMIT (length content)) refl
+  where
+    by_length : (long : Bool) → nat_lt TABLE_LIMIT (length content) ≡ long → names (take (TABLE_LIMIT + 1) content) ≡ names content
+    by_length true e =
+        let h : TABLE_LIMIT < length content = long_by_test TABLE_LIMIT (length content) e in
+        long_table (take (TABLE_LIMIT + 1) content) (still_long content TABLE_LIMIT h) ∙ sym (long_table content h)
+    by_length false e = ap names (take_all (TABLE_LIMIT + 1) content (short_by_test TABLE_LIMIT (length content) e))
+
+pub table_of_bytes : (told : Option FileMap) (name bytes : List ℕ) (read : Result (List Entry) TableFault) → is_none name ≡ false → IsLoaded told name TABLE_LIMIT bytes → names bytes ≡ read → IsTableOf told name read
+table_of_bytes told name bytes read none l e = record {
+  content = Some l.content;
+  there = l.there;
+  is = ap (λ b. table_names b (Some l.content)) none ∙ ap Some (sym (names_front l.content) ∙ ap names (sym l.front) ∙ e);
+}
+
+pub table_of_none : (told : Option FileMap) (name : List ℕ) (t : List Entry) → is_none name ≡ true → t ≡ [] → IsTableOf told name (Ok t)
+table_of_none told name t none e = record {
+  content = file_of told name;
+  there = λ i. refl;
+  is = ap (λ b. table_names b (file_of told name)) none ∙ ap (λ x. Some (Ok x)) (sym e);
+}
+
+-- ---- a page
+
+pub long_page : (t : List Entry) (content : List ℕ) → PAGE_LIMIT < length content → page_outcome t content ≡ refused_by rules.TooLong PAGE_LIMIT
+unfolding page_outcome
+long_page t content h =
+    let long : nat_lt PAGE_LIMIT (length content) ≡ true = grind (arith, nat_tests) in
+    rw long refl
+
+faulty_page : (t : List Entry) (content : List ℕ) (r : Refusal) → nat_lt PAGE_LIMIT (length content) ≡ false → text_fault content ≡ Some r → page_outcome t content ≡ refused_by r.rule r.at
+unfolding page_outcome page_tree
+faulty_page t content r short e = rw (short, e) refl
+
+-- where no more than the limit was loaded, all of the file was
+whole : (content : List ℕ) (n : ℕ) → length (take (n + 1) content) ≤ n → length content ≤ n
+whole content n h = grind (arith, common_steps)
+
+short_test : (n m : ℕ) → m ≤ n → nat_lt n m ≡ false
+short_test n m h = grind (arith, nat_tests)
+
+within_one : (n m : ℕ) → m ≤ n → m ≤ n + 1
+within_one n m h = omega arith
+
+pub whole_content : (told : Option FileMap) (name bytes : List ℕ) → (l : IsLoaded told name PAGE_LIMIT bytes) → length bytes ≤ PAGE_LIMIT → (bytes ≡ l.content) × (nat_lt PAGE_LIMIT (length l.content) ≡ false)
+whole_content told name bytes l h =
+    let cut : length (take (PAGE_LIMIT + 1) l.content) ≤ PAGE_LIMIT = subst (λ x. length x ≤ PAGE_LIMIT) l.front h in
+    let all : length l.content ≤ PAGE_LIMIT = whole l.content PAGE_LIMIT cut in
+    (l.front ∙ take_all (PAGE_LIMIT + 1) l.content (within_one PAGE_LIMIT (length l.content) all), short_test PAGE_LIMIT (length l.content) all)
+
+short_by_limit : (n m : ℕ) → nat_lt n m ≡ false → m ≤ n
+short_by_limit n m e = grind (arith, nat_tests)
+
+pub text_in : (page : List ℕ) (text : Source) → HasText PAGE_LIMIT page → text ≡ source_of page → IsTextIn page text
+text_in page text h e = record { short = short_test PAGE_LIMIT (length page) h.short; sound = h.sound; is = e }
+
+pub faulty_text : (page : List ℕ) (r : Refusal) → length page ≤ PAGE_LIMIT → text_fault page ≡ Some r → (t : List Entry) → page_outcome t page ≡ refused_by r.rule r.at
+faulty_text page r h e t = faulty_page t page r (short_test PAGE_LIMIT (length page) h) e
+
+-- what is found of the prefix that is loaded is found of the page
+page_front : (t : List Entry) (content : List ℕ) → page_outcome t (take (PAGE_LIMIT + 1) content) ≡ page_outcome t content
+page_front t content = by_length (nat_lt PAGE_LIMIT (length content)) refl
+  where
+    by_length : (long : Bool) → nat_lt PAGE_LIMIT (length content) ≡ long → page_outcome t (take (PAGE_LIMIT + 1) content) ≡ page_outcome t content
+    by_length true e =
+        let h : PAGE_LIMIT < length content = long_by_test PAGE_LIMIT (length content) e in
+        long_page t (take (PAGE_LIMIT + 1) content) (still_long content PAGE_LIMIT h) ∙ sym (long_page t content h)
+    by_length false e = ap (page_outcome t) (take_all (PAGE_LIMIT + 1) content (short_by_test PAGE_LIMIT (length content) e))
+
+pub text_of_bytes : (told : Option FileMap) (name bytes : List ℕ) (text : Source) → IsLoaded told name PAGE_LIMIT bytes → IsTextIn bytes text → IsTextOf told name text
+text_of_bytes told name bytes text l r =
+    let w = whole_content told name bytes l (short_by_limit PAGE_LIMIT (length bytes) r.short) in
+    record { page = l.content; there = l.there; read = subst (λ x. IsTextIn x text) w.0 r }
+
+pub no_text_of_bytes : (told : Option FileMap) (name bytes : List ℕ) (unread : Unread) → IsLoaded told name PAGE_LIMIT bytes → NoTextIn bytes unread → NoText told name unread
+no_text_of_bytes told name bytes (reasons.Table fault) l n = absurd n
+no_text_of_bytes told name bytes (reasons.Page rule at) l n = record { page = l.content; there = l.there; refused = λ t. sym (page_front t l.content) ∙ ap (page_outcome t) (sym l.front) ∙ n t }
+no_text_of_bytes told name bytes reasons.Store l n = absurd n
+no_text_of_bytes told name bytes reasons.Memory l n = tt
+
+-- ---- both
+
+-- the tree of a page is that of its text
+pub page_read : (t : List Entry) (text : Source) (page : List ℕ) (outcome : Outcome) → IsTextIn page text → tree_of_source t text ≡ outcome → page_outcome t page ≡ outcome
+unfolding page_outcome page_tree
+page_read t text page outcome r e = rw (r.short, r.sound) (ap (tree_of_source t) (sym r.is) ∙ e)
+
+-- contents of two files that differ, or of a page alone, are contents that can be those of all files
+pub seen_input : (told : Option FileMap) (table page : List ℕ) (o : TreeOptions) (table_content page_content : Option (List ℕ)) (input : Input) → are_apart table page ≡ true
+    → (IsSome told → file_of told table ≡ table_content) → (IsSome told → file_of told page ≡ page_content) → input_from o (table_names (is_none table) table_content) page_content ≡ input → IsInput told table page o input
+seen_input (Some files) table page o table_content page_content input apart is_table is_page is = record {
+  seen = file_of (Some files);
+  are_told = λ _ _. refl;
+  holds = ap (λ c. input_from o (table_names (is_none table) c) (file_of (Some files) page)) (is_table refl) ∙ ap (input_from o (table_names (is_none table) table_content)) (is_page refl) ∙ is;
+}
+seen_input None table page o table_content page_content input apart is_table is_page is = by_none (is_none table) refl
+  where
+    apart_by : (b : Bool) → is_none table ≡ b → (b || not (bytes_eq table page)) ≡ true
+    apart_by b e = ap (λ x. x || not (bytes_eq table page)) (sym e) ∙ apart
+
+    differ : (b : Bool) → (false || not b) ≡ true → b ≡ false
+    differ true h = cc
+    differ false h = refl
+
+    by_none : (none : Bool) → is_none table ≡ none → IsInput None table page o input
+    by_none true e = record {
+      seen = λ _. page_content;
+      are_told = λ h. cc;
+      holds = ap (λ b. input_from o (table_names b page_content) page_content) e ∙ ap (λ b. input_from o (table_names b table_content) page_content) (sym e) ∙ is;
+    }
+    by_none false e = record {
+      seen = λ name. cond (bytes_eq table name) table_content page_content;
+      are_told = λ h. cc;
+      holds = ap (λ b. input_from o (table_names (is_none table) (cond b table_content page_content)) (cond (bytes_eq table page) table_content page_content)) (same_bytes table)
+          ∙ ap (λ b. input_from o (table_names (is_none table) table_content) (cond b table_content page_content)) (differ (bytes_eq table page) (apart_by false e)) ∙ is;
+    }
+
+pub input_of_tree : (told : Option FileMap) (table page : List ℕ) (o : TreeOptions) (t : List Entry) (text : Source) (w : List Event) → are_apart table page ≡ true → IsTableOf told table (Ok t) → IsTextOf told page text → IsTreeRead t text o w → IsInput told table page o (tree t w)
+input_of_tree told table page o t text w apart a b r = seen_input told table page o a.content (Some b.page) (tree t w) apart a.there b.there
+    (ap (λ x. input_from o x (Some b.page)) a.is ∙ ap (rewritten_input t o) (page_read t text b.page (built r.walk) b.read r.reads) ∙ ap (tree t) (sym r.is))
+
+pub input_of_no_tree : (told : Option FileMap) (table page : List ℕ) (o : TreeOptions) (t : List Entry) (text : Source) (rule : Rule) (at : ℕ) → are_apart table page ≡ true → IsTableOf told table (Ok t) → IsTextOf told page text → tree_of_source t text ≡ refused_by rule at → IsInput told table page o (bad_page rule at)
+input_of_no_tree told table page o t text rule at apart a b e = seen_input told table page o a.content (Some b.page) (bad_page rule at) apart a.there b.there
+    (ap (λ x. input_from o x (Some b.page)) a.is ∙ ap (rewritten_input t o) (page_read t text b.page (refused_by rule at) b.read e))
+
+pub input_of_page : (told : Option FileMap) (table page : List ℕ) (o : TreeOptions) (t : List Entry) (rule : Rule) (at : ℕ) → are_apart table page ≡ true → IsTableOf told table (Ok t) → IsRefusedPage told page rule at → IsInput told table page o (bad_page rule at)
+input_of_page told table page o t rule at apart a b = seen_input told table page o a.content (Some b.page) (bad_page rule at) apart a.there b.there
+    (ap (λ x. input_from o x (Some b.page)) a.is ∙ ap (rewritten_input t o) (b.refused t))
+
+pub input_of_table : (told : Option FileMap) (table page : List ℕ) (o : TreeOptions) (fault : TableFault) → are_apart table page ≡ true → IsTableOf told table (Err fault) → IsInput told table page o (bad_table fault)
+input_of_table told table page o fault apart a = seen_input told table page o a.content (file_of told page) (bad_table fault) apart a.there (λ i. refl)
+    (ap (λ x. input_from o x (file_of told page)) a.is)
+
+-- ---- by the reason why there is no tree
+
+pub no_table : (told : Option FileMap) (table page : List ℕ) (o : TreeOptions) (unread : Unread) → are_apart table page ≡ true → NoTable told table unread → NoInput told table page o unread
+no_table told table page o (reasons.Table fault) apart n = input_of_table told table page o fault apart n
+no_table told table page o (reasons.Page rule at) apart n = absurd n
+no_table told table page o reasons.Store apart n = tt
+no_table told table page o reasons.Memory apart n = tt
+
+pub no_text : (told : Option FileMap) (table page : List ℕ) (o : TreeOptions) (t : List Entry) (unread : Unread) → are_apart table page ≡ true → IsTableOf told table (Ok t) → NoText told page unread → NoInput told table page o unread
+no_text told table page o t (reasons.Table fault) apart a n = absurd n
+no_text told table page o t (reasons.Page rule at) apart a n = input_of_page told table page o t rule at apart a n
+no_text told table page o t reasons.Store apart a n = tt
+no_text told table page o t reasons.Memory apart a n = tt
+
+no_tree : (told : Option FileMap) (table page : List ℕ) (o : TreeOptions) (t : List Entry) (text : Source) (unread : Unread) → are_apart table page ≡ true → IsTableOf told table (Ok t) → IsTextOf told page text → NoTreeRead t text unread → NoInput told table page o unread
+no_tree told table page o t text (reasons.Table fault) apart a b n = absurd n
+no_tree told table page o t text (reasons.Page rule at) apart a b n = input_of_no_tree told table page o t text rule at apart a b n
+no_tree told table page o t text reasons.Store apart a b n = tt
+no_tree told table page o t text reasons.Memory apart a b n = tt
+
+pub no_tree_answer : (told : Option FileMap) (table page : List ℕ) (o : TreeOptions) (t : List Entry) (text : Source) (unread : Unread) → are_apart table page ≡ true → IsTableOf told table (Ok t) → IsTextOf told page text → NoTreeRead t text unread → NoInput told table page o unread
+no_tree_answer told table page o t text unread apart a b h = no_tree told table page o t text unread apart a b h
+
+-- the slice of a vector has its bytes
+pub of_slice : (told : Option FileMap) (name : List ℕ) (limit : ℕ) (items bytes : List ℕ) → bytes ≡ items → IsLoaded told name limit items → IsLoaded told name limit bytes
+of_slice told name limit items bytes e l = subst (IsLoaded told name limit) (sym e) l
+
+-- the files are as they were
+pub told_text : (old new : Option FileMap) (name : List ℕ) (unread : Unread) → new ≡ old → NoText new name unread → NoText old name unread
+told_text old new name unread e n = subst (λ told. NoText told name unread) e n
+
+pub told_page : (old new : Option FileMap) (name : List ℕ) (text : Source) → new ≡ old → IsTextOf new name text → IsTextOf old name text
+told_page old new name text e n = subst (λ told. IsTextOf told name text) e n

@@ -1,0 +1,78 @@
+-- What the files of a command give: a table of names with the tree of a page, rewritten, or the first reason why there is none.
+use Rattle.std.specs.Prelude.{ℕ, ◌≡◌, Bool, true, false, nat_lt, List, [], length, Option, Some, None, option_map, Result, Ok, Err, if◌then◌else◌, codes, bytes_eq}
+use Rattle.hm_base.specs.Walks.{Event}
+use Rattle.hm_base.specs.declared.limits.TheConstants.{PAGE_LIMIT}
+use Rattle.hm_base.specs.declared.plain.TreeOptions.{TreeOptions}
+use Rattle.hm_base.specs.declared.rules.Rule.{Rule}
+use Rattle.hm_base.specs.declared.rules.Rule.TheVariants.{TooLong}
+use Rattle.hm_store.specs.Contents.{Contents, Sees}
+use Rattle.hm_store.specs.Files.{FileMap}
+use Rattle.hm_refs.specs.Json.{names}
+use Rattle.hm_refs.specs.Names.{Entry}
+use Rattle.hm_refs.specs.declared.fault.TableFault.{TableFault}
+use Rattle.hm_construction_laws.specs.Trees.{Outcome, built, refused_by, page_tree}
+use Rattle.hm_gen.specs.Pages.{page as made_page}
+use Rattle.hm_options.specs.Rewrites.{rewrite}
+use Rattle.hm_words.specs.Words.{Command, minify, check, tree as show_tree, measure}
+
+pub data Input : Type 0 where
+  missing : Input  -- a file isn't there
+  bad_table : TableFault → Input
+  bad_page : Rule → ℕ → Input  -- at a byte of the page
+  tree : List Entry → List Event → Input  -- the names of the table, and the tree
+
+-- ---- a table
+
+-- the name of the table without names, which is no file
+abbrev pub is_none : List ℕ → Bool
+is_none name = bytes_eq name (codes "none")
+
+-- the names that the content of a file gives, where it is there
+abbrev pub table_names : Bool → Option (List ℕ) → Option (Result (List Entry) TableFault)
+table_names true content = Some (Ok [])
+table_names false content = option_map names content
+
+-- ---- a page
+
+-- the tree of a page within the limit
+unfoldable pub page_outcome : List Entry → List ℕ → Outcome
+page_outcome t page = if nat_lt PAGE_LIMIT (length page) then refused_by TooLong PAGE_LIMIT else page_tree t page
+
+abbrev pub rewritten_input : List Entry → TreeOptions → Outcome → Input
+rewritten_input t o (built w) = tree t (rewrite o w)
+rewritten_input t o (refused_by rule at) = bad_page rule at
+
+abbrev pub page_input : TreeOptions → List Entry → Option (List ℕ) → Input
+page_input o t None = missing
+page_input o t (Some page) = rewritten_input t o (page_outcome t page)
+
+-- ---- both
+
+-- what the contents of two files give: the table is read first
+abbrev pub input_from : TreeOptions → Option (Result (List Entry) TableFault) → Option (List ℕ) → Input
+input_from o None page = missing
+input_from o (Some (Err fault)) page = bad_table fault
+input_from o (Some (Ok t)) page = page_input o t page
+
+-- what a table and a page give
+abbrev pub page_with_table : List ℕ → List ℕ → TreeOptions → Contents → Input
+page_with_table table page o seen = input_from o (table_names (is_none table) (seen table)) (seen page)
+
+-- what a table gives with the page that is made of a number, with `size` blocks
+abbrev pub made_with_table : List ℕ → ℕ → ℕ → TreeOptions → Contents → Input
+made_with_table table number size o seen = input_from o (table_names (is_none table) (seen table)) (Some (made_page number size))
+
+-- what the files of a command give
+abbrev pub input_of : Command → TreeOptions → Contents → Input
+input_of (minify table page out cert) o seen = page_with_table table page o seen
+input_of (check table page out cert) o seen = page_with_table table page o seen
+input_of (show_tree table page) o seen = page_with_table table page o seen
+input_of (measure table number size) o seen = made_with_table table number size o seen
+
+-- A table and a page give this, as far as the store's files are known.
+abbrev pub IsInput : Option FileMap → List ℕ → List ℕ → TreeOptions → Input → Type 0
+IsInput told table page o input = Sees told (λ seen. page_with_table table page o seen ≡ input)
+
+-- So does a table with the page of a number.
+abbrev pub IsMadeInput : Option FileMap → List ℕ → ℕ → ℕ → TreeOptions → Input → Type 0
+IsMadeInput told table number size o input = Sees told (λ seen. made_with_table table number size o seen ≡ input)

@@ -1,0 +1,106 @@
+-- What is known of a file that was loaded.
+use Rattle.std.specs.Prelude.{ℕ, ◌≡◌, ◌⊎◌, ◌+◌, false, nat_lt, List, length, take, Option, Some, None, IsSome, Result, Ok, Err}
+use Rattle.hm_base.specs.Source.{Source, source_of, text_fault}
+use Rattle.hm_base.specs.Walks.{Event}
+use Rattle.hm_base.specs.declared.limits.TheConstants.{PAGE_LIMIT}
+use Rattle.hm_base.specs.declared.plain.TreeOptions.{TreeOptions}
+use Rattle.hm_base.specs.declared.rules.Rule.{Rule}
+use Rattle.hm_store.specs.Files.{FileMap, file_of, IsMissing}
+use Rattle.hm_refs.specs.Names.{Entry}
+use Rattle.hm_refs.specs.declared.fault.TableFault.{TableFault}
+use Rattle.hm_construction_laws.specs.Trees.{built, refused_by, tree_of_source}
+use Rattle.hm_options.specs.Rewrites.{rewrite}
+use Rattle.hm_minify.specs.Inputs.{Input, IsInput, IsMadeInput, bad_table, bad_page, is_none, table_names, page_outcome}
+use Rattle.hm_minify.specs.declared.unread.Unread.{Unread}
+use Rattle.hm_minify.specs.declared.unread.Unread.TheVariants as reasons
+
+-- the bytes that were loaded of a file with this content, one more than the limit at most
+pub record IsLoaded (told : Option FileMap) (name : List ℕ) (limit : ℕ) (bytes : List ℕ) : Type 0 where
+  pub content : List ℕ
+  pub there : IsSome told → file_of told name ≡ Some content
+  pub front : bytes ≡ take (limit + 1) content
+
+-- what a table gives
+pub record IsTableOf (told : Option FileMap) (name : List ℕ) (read : Result (List Entry) TableFault) : Type 0 where
+  pub content : Option (List ℕ)
+  pub there : IsSome told → file_of told name ≡ content
+  pub is : table_names (is_none name) content ≡ Some read
+
+-- the text of a page within the limit
+pub record IsTextIn (page : List ℕ) (text : Source) : Type 0 where
+  pub short : nat_lt PAGE_LIMIT (length page) ≡ false
+  pub sound : text_fault page ≡ None
+  pub is : text ≡ source_of page
+
+-- the text of the page that a file holds
+pub record IsTextOf (told : Option FileMap) (name : List ℕ) (text : Source) : Type 0 where
+  pub page : List ℕ
+  pub there : IsSome told → file_of told name ≡ Some page
+  pub read : IsTextIn page text
+
+-- the text of the page that is made of a number, with how many bytes the page has
+pub record IsMadeText (page : List ℕ) (text : Source) (bytes : ℕ) : Type 0 where
+  pub read : IsTextIn page text
+  pub all : bytes ≡ length page
+
+-- a page is refused, whatever the names of references
+pub record IsRefusedPage (told : Option FileMap) (name : List ℕ) (rule : Rule) (at : ℕ) : Type 0 where
+  pub page : List ℕ
+  pub there : IsSome told → file_of told name ≡ Some page
+  pub refused : (t : List Entry) → page_outcome t page ≡ refused_by rule at
+
+-- the rewritten tree of a text
+pub record IsTreeRead (t : List Entry) (text : Source) (o : TreeOptions) (tree : List Event) : Type 0 where
+  pub walk : List Event
+  pub reads : tree_of_source t text ≡ built walk
+  pub is : tree ≡ rewrite o walk
+
+-- why a text has no tree
+abbrev pub NoTreeRead : List Entry → Source → Unread → Type 0
+NoTreeRead t text (reasons.Table fault) = ⊥
+NoTreeRead t text (reasons.Page rule at) = tree_of_source t text ≡ refused_by rule at
+NoTreeRead t text reasons.Store = ⊥
+NoTreeRead t text reasons.Memory = Unit {0}
+
+-- a table that can be read
+pub record HasNames (told : Option FileMap) (name : List ℕ) : Type 0 where
+  pub entries : List Entry
+  pub read : IsTableOf told name (Ok entries)
+
+-- a file that is read isn't there: the table, or where there is one that can be read, the page
+abbrev pub IsFileMissing : Option FileMap → List ℕ → List ℕ → Type 0
+IsFileMissing told table page = ((is_none table ≡ false) × IsMissing told table) ⊎ (HasNames told table × IsMissing told page)
+
+-- why there is no table; failed calls and lack of memory have other causes
+abbrev pub NoTable : Option FileMap → List ℕ → Unread → Type 0
+NoTable told name (reasons.Table fault) = IsTableOf told name (Err fault)
+NoTable told name (reasons.Page rule at) = ⊥
+NoTable told name reasons.Store = Unit {0}
+NoTable told name reasons.Memory = Unit {0}
+
+-- why a page has no text, whatever the names of references
+abbrev pub NoTextIn : List ℕ → Unread → Type 0
+NoTextIn page (reasons.Table fault) = ⊥
+NoTextIn page (reasons.Page rule at) = (t : List Entry) → page_outcome t page ≡ refused_by rule at
+NoTextIn page reasons.Store = ⊥
+NoTextIn page reasons.Memory = Unit {0}
+
+-- why there is no text in a file
+abbrev pub NoText : Option FileMap → List ℕ → Unread → Type 0
+NoText told name (reasons.Table fault) = ⊥
+NoText told name (reasons.Page rule at) = IsRefusedPage told name rule at
+NoText told name reasons.Store = Unit {0}
+NoText told name reasons.Memory = Unit {0}
+
+-- why there is no tree, by what is said of an input
+abbrev pub NoInputWhere : (Input → Type 0) → Unread → Type 0
+NoInputWhere Is (reasons.Table fault) = Is (bad_table fault)
+NoInputWhere Is (reasons.Page rule at) = Is (bad_page rule at)
+NoInputWhere Is reasons.Store = Unit {0}
+NoInputWhere Is reasons.Memory = Unit {0}
+
+abbrev pub NoInput : Option FileMap → List ℕ → List ℕ → TreeOptions → Unread → Type 0
+NoInput told table page o unread = NoInputWhere (IsInput told table page o) unread
+
+abbrev pub NoMadeInput : Option FileMap → List ℕ → ℕ → ℕ → TreeOptions → Unread → Type 0
+NoMadeInput told table number size o unread = NoInputWhere (IsMadeInput told table number size o) unread

@@ -1,0 +1,5 @@
+pub mod SpellingLaws
+pub mod Outdone
+pub mod Formats
+pub mod SparseLaws
+pub mod SparseExamples

@@ -1,0 +1,34 @@
+//! Laws over the graph of sparse certificates. The functions do nothing.
+ghost use Rattle.hm_optimality_laws.specs.SparseLaws.{ForgettingIsNoLoss, OutdoneEdgesAreNeedless, SparseFirstWayIsFirst, SparseLeastIsLeast, SparsePricesBound, SparsePricesShow};
+
+/// Wherever what is pending may be forgotten, nothing pending is no worse.
+pub fn forgetting_is_no_loss()
+    ensures { ForgettingIsNoLoss }
+{}
+
+/// Over any edges where forgetting is no loss, those that are dominated (outdone) change neither prices nor the first way.
+/// Prices that keep the rules without them bound every way.
+pub fn outdone_edges_are_needless()
+    ensures { OutdoneEdgesAreNeedless }
+{}
+
+/// The least prices are the same without the edges that are dominated.
+pub fn sparse_least_is_least()
+    ensures { SparseLeastIsLeast }
+{}
+
+/// The first way is the same without the edges that are dominated.
+pub fn sparse_first_way_is_first()
+    ensures { SparseFirstWayIsFirst }
+{}
+
+/// Prices from any source that keep the rules without the edges that are dominated bound every way.
+pub fn sparse_prices_bound()
+    ensures { SparsePricesBound }
+{}
+
+/// Prices from any source that keep the rules without the dominated edges show a bound: no spelling of a settled tree has
+/// fewer bytes than the first price.
+pub fn sparse_prices_show()
+    ensures { SparsePricesShow }
+{}

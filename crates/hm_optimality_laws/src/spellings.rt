@@ -1,0 +1,28 @@
+//! Laws between the ways of the graph and the spellings of a tree. The functions do nothing.
+ghost use Rattle.hm_optimality_laws.specs.SpellingLaws.{FeasiblePricesShow, FirstWaysAreBest, SpellingsHaveWays, TreesHaveSpellings, TreesHaveWays, WaysSpellTrees};
+
+/// The bytes of each way through the units of a settled tree are a spelling of it.
+pub fn ways_spell_trees()
+    ensures { WaysSpellTrees }
+{}
+
+/// Each spelling of a settled tree has a way with no more bytes.
+pub fn spellings_have_ways()
+    ensures { SpellingsHaveWays }
+{}
+
+/// Each tree has a way, so a settled one has a spelling.
+pub fn trees_have_ways()
+    ensures ways { TreesHaveWays }
+    ensures spellings { TreesHaveSpellings }
+{}
+
+/// Prices from any source that keep the rules of a certificate show that no spelling has fewer bytes than the first price.
+pub fn feasible_prices_show()
+    ensures { FeasiblePricesShow }
+{}
+
+/// The first way is a spelling, as long as the first of the least prices, and no spelling has fewer bytes.
+pub fn first_ways_are_best()
+    ensures { FirstWaysAreBest }
+{}

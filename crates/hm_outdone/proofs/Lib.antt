@@ -1,4 +1,0 @@
-pub mod Least
-pub mod Forgetting
-pub mod Shown
-pub mod Formats

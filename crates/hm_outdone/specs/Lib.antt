@@ -1,4 +1,0 @@
-pub mod Outdone
-pub mod Formats
-pub mod Laws
-pub mod Examples

@@ -1,0 +1,48 @@
+//! The shortest text of a tree, and its certificate.
+ghost use Rattle.std.specs.Prelude.{IfOk};
+ghost use Rattle.hm_cert.specs.Certificate.{AreRows};
+ghost use Rattle.hm_elements.specs.Settled.{Settled};
+ghost use Rattle.hm_plan.specs.Minified.{IsMinifiedBy};
+ghost use Rattle.hm_plan.specs.Shortest.{certified_rows};
+
+use crate::{backward, write_path};
+use hm_base::{Memory, SpellRules};
+use hm_cert::Format;
+use hm_graph::Graph;
+use hm_refs::Table;
+use hm_refs::laws::every_table;
+use hm_tree::Tree;
+use std::alloc::Global;
+
+/// A tree's shortest text, and the text of the certificate of its least prices.
+#[derive(Drop)]
+pub struct Minified {
+    pub out: Vec<u8>,
+    pub certificate: Vec<u8>,
+    /// How many layers the tree's graph has: one more than its units.
+    pub layers: usize,
+}
+
+/// Writes a tree shortest by a table and these rules, and certifies that in a format. The text is the same in each format. What
+/// is written of a settled tree is a certificate that can be read.
+pub fn minify_tree(
+    alloc: Global,
+    tree: &Tree,
+    table: &Table,
+    rules: SpellRules,
+    format: Format,
+) -> Result<Minified, Memory>
+    ensures made { IfOk result (IsMinifiedBy table.now.entries rules format tree.now) }
+    ensures readable { IfOk result (λ made. Settled tree.now → AreRows (certified_rows table.now.entries rules format tree.now)) }
+{
+    every_table(table);
+    let graph = Graph::of(alloc, tree, table, rules, format)?;
+    graph.is_small();
+    let plan = backward(alloc, &graph, format, rules)?;
+    let out = write_path(alloc, tree, table, rules, &graph, plan.choices.as_slice())?;
+    Ok(Minified {
+        out,
+        certificate: plan.certificate,
+        layers: graph.len() + 1,
+    })
+}

@@ -1,0 +1,151 @@
+//! The parts of an attribute as it is written, by their places in the text.
+ghost use Rattle.std.specs.Prelude.{◌≡◌, ◌+◌, ◌≤◌, ◌<◌, length, drop, true, false, slice_index, slice_range, IsUtf8, IsCharBoundary};
+ghost use Rattle.hm_base.specs.Bytes.{behind, is_space};
+ghost use Rattle.hm_scan.specs.Tags as tags;
+ghost use Rattle.hm_scan.specs.Tags.{cut_assigned, cut_quoted, cut_value};
+ghost use Rattle.hm_scan.specs.TagPlaces.{IsAttributeAt, IsCutAt, IsOrdinaryName};
+ghost use Rattle.hm_refs.specs.Reads.{IsEndOf};
+
+use crate::names::is_tag_byte;
+use crate::tag_runs::{ByteRun, run_end};
+use memchr::memchr;
+
+/// A value from `from` up to `to`. What follows it and its quote begins at `behind`.
+#[derive(Clone, Copy)]
+pub(crate) struct Value {
+    pub(crate) from: usize,
+    pub(crate) to: usize,
+    pub(crate) behind: usize,
+}
+
+/// An attribute whose name ends at `name_to`. `plain` says that its name isn't refused, and is read as it is written.
+#[derive(Clone, Copy)]
+pub(crate) struct WrittenAttribute {
+    pub(crate) name_to: usize,
+    pub(crate) plain: bool,
+    pub(crate) value: Value,
+}
+
+/// Where the name of an attribute ends. `plain` says that it isn't refused, and is read as it is written.
+#[derive(Clone, Copy)]
+struct NamePart {
+    to: usize,
+    plain: bool,
+}
+
+/// An empty value at a place.
+fn empty(at: usize) -> Value
+    ensures { result ≡ record { from = at; to = at; behind = at } }
+{
+    Value {
+        from: at,
+        to: at,
+        behind: at,
+    }
+}
+
+#[tactic(auto, unfolding(crate::specs::Tags::is_quote))]
+fn is_quote(byte: u8) -> bool
+    ensures { result ≡ tags.is_quote byte }
+{
+    byte == b'"' || byte == b'\''
+}
+
+/// The value that begins after a quote.
+fn quoted_value(bytes: &[u8], from: usize, quote: u8) -> Value
+    requires utf8 { IsUtf8 bytes.now }
+    requires quote { tags.is_quote quote ≡ true }
+    requires boundary { IsCharBoundary bytes.now from }
+    ensures cut { IsCutAt (cut_quoted quote (drop from bytes.now)) bytes.now result }
+    ensures forward { from ≤ result.behind }
+{
+    match memchr(quote, &bytes[from..]) {
+        Some(len) => Value {
+            from,
+            to: from + len,
+            behind: from + len + 1,
+        },
+        None => Value {
+            from,
+            to: bytes.len(),
+            behind: bytes.len(),
+        },
+    }
+}
+
+/// The value that begins after `=` and whitespace (#before-attribute-value-state to #attribute-value-(unquoted)-state).
+fn value_at(bytes: &[u8], from: usize) -> Value
+    requires utf8 { IsUtf8 bytes.now }
+    requires boundary { IsCharBoundary bytes.now from }
+    ensures cut { IsCutAt (cut_value (drop from bytes.now)) bytes.now result }
+    ensures forward { from ≤ result.behind }
+{
+    if from == bytes.len() {
+        return empty(from);
+    }
+    let quote = bytes[from];
+    if is_quote(quote) {
+        return quoted_value(bytes, from + 1, quote);
+    }
+    let to = run_end(bytes, from, ByteRun::Unquoted);
+    Value {
+        from,
+        to,
+        behind: to,
+    }
+}
+
+/// The value of an attribute whose name ends at `from` (#after-attribute-name-state).
+fn assigned_value(bytes: &[u8], from: usize) -> Value
+    requires utf8 { IsUtf8 bytes.now }
+    requires boundary { IsCharBoundary bytes.now from }
+    ensures cut { IsCutAt (cut_assigned (drop from bytes.now) (behind is_space (drop from bytes.now))) bytes.now result }
+    ensures forward { from ≤ result.behind }
+{
+    let equals = run_end(bytes, from, ByteRun::Space);
+    if equals == bytes.len() {
+        return empty(equals);
+    }
+    if bytes[equals] != b'=' {
+        return empty(from);
+    }
+    value_at(bytes, run_end(bytes, equals + 1, ByteRun::Space))
+}
+
+/// Whether a byte stands at `to` that ends the name of an attribute.
+fn ends_name(bytes: &[u8], to: usize) -> bool
+    ensures inside { result ≡ true → to < length bytes.now }
+    ensures ends { result ≡ true → tags.is_later_byte (slice_index bytes.now to) ≡ false }
+{
+    to < bytes.len() && !ByteRun::AttributeName.has(bytes[to])
+}
+
+/// Where the name of the attribute ends that begins at `at`.
+fn name_part(bytes: &[u8], at: usize) -> NamePart
+    requires { at < length bytes.now }
+    ensures end { IsEndOf tags.is_later_byte bytes.now (at + 1) result.to }
+    ensures plain { result.plain ≡ true → IsOrdinaryName (slice_range bytes.now at result.to) }
+{
+    let to = run_end(bytes, at + 1, ByteRun::PlainName);
+    if is_tag_byte(bytes[at]) && ends_name(bytes, to) {
+        return NamePart { to, plain: true };
+    }
+    NamePart {
+        to: run_end(bytes, at + 1, ByteRun::AttributeName),
+        plain: false,
+    }
+}
+
+/// The attribute that begins at `at` (#attribute-name-state).
+pub(crate) fn attribute_at(bytes: &[u8], at: usize) -> WrittenAttribute
+    requires utf8 { IsUtf8 bytes.now }
+    requires inside { at < length bytes.now }
+    ensures { IsAttributeAt bytes.now at result }
+{
+    let name = name_part(bytes, at);
+    WrittenAttribute {
+        name_to: name.to,
+        plain: name.plain,
+        value: assigned_value(bytes, name.to),
+    }
+}

@@ -1,0 +1,123 @@
+//! The attributes that were read of a tag.
+ghost use Rattle.std.specs.Prelude.{◌≡◌, ◌+◌, ◌^◌, ◌<◌, ◌≤◌, ◌&&◌, nat_le, not, true, false, [], ◌∷◌, ◌++◌, List, length, map, OnOk};
+ghost use Rattle.hm_base.specs.Walks.{Attribute};
+ghost use Rattle.hm_scan.specs.Collected.{IsCollected, added};
+ghost use Rattle.hm_base.specs.Bytes.{lower};
+ghost use Rattle.hm_scan.specs.TagPlaces.{IsOrdinaryName};
+ghost use Rattle.hm_scan.specs.Reading as reading;
+
+use crate::names::{is_bad_name, lowered};
+use crate::values::{has_reference, read_value};
+use hm_base::{ATTRIBUTE_LIMIT, Memory};
+use hm_refs::Table;
+use hm_tree::Attrs;
+use std::alloc::Global;
+
+/// How many attributes were written, and whether one of them has a name that isn't read. The first attribute of each
+/// name is kept beside it, unless the tag is refused anyway. An end tag keeps none.
+#[derive(Clone, Copy)]
+pub(crate) struct Collected {
+    pub(crate) keeps: bool,
+    pub(crate) count: u32,
+    pub(crate) has_bad_name: bool,
+}
+
+impl Collected {
+    pub(crate) fn new(keeps: bool) -> Collected
+        ensures { result ≡ record { keeps = keeps; count = 0; has_bad_name = false } }
+    {
+        Collected {
+            keeps,
+            count: 0,
+            has_bad_name: false,
+        }
+    }
+
+    /// Whether the attribute that is read next is wanted.
+    fn wants(&self) -> bool
+        ensures { result
+            ≡ (self.now.keeps && not self.now.has_bad_name && nat_le self.now.count ATTRIBUTE_LIMIT) }
+    {
+        self.keeps && !self.has_bad_name && self.count <= ATTRIBUTE_LIMIT
+    }
+
+    /// Takes one more attribute, name and value as they are written. `plain` says that its name isn't refused, and is
+    /// read as it is written.
+    pub(crate) fn take(
+        &mut self,
+        alloc: Global,
+        name: &str,
+        plain: bool,
+        value: &str,
+        table: &Table,
+        attrs: &mut Attrs,
+    ) -> Result<(), Memory>
+        requires room { self.old.count + 1 < 2 ^ 32 }
+        requires plain { plain ≡ true → IsOrdinaryName name.now }
+        requires few { length attrs.old ≤ self.old.count }
+        ensures taken { OnOk result
+            ((written : List Attribute) → IsCollected table.now.entries written self.old attrs.old
+            → IsCollected table.now.entries (written ++ record { name = name.now; value = value.now } ∷ []) self.new attrs.new) }
+        ensures keeps { self.new.keeps ≡ self.old.keeps }
+    {
+        self.count += 1;
+        self.has_bad_name = self.has_bad_name || is_refused(name, plain);
+        if self.wants() {
+            keep(attrs, alloc, name, plain, value, table)?;
+        }
+        Ok(())
+    }
+}
+
+/// Whether this name of an attribute isn't read; `plain` says that it is.
+fn is_refused(name: &str, plain: bool) -> bool
+    requires { plain ≡ true → IsOrdinaryName name.now }
+    ensures { result ≡ reading.is_bad_name name.now }
+{
+    !plain && is_bad_name(name.as_bytes())
+}
+
+/// Adds an attribute as it is read, unless its name is there. A name that is read as it is written isn't copied before.
+fn keep(
+    attrs: &mut Attrs,
+    alloc: Global,
+    name: &str,
+    plain: bool,
+    value: &str,
+    table: &Table,
+) -> Result<(), Memory>
+    requires room { length attrs.old + 1 < 2 ^ 32 }
+    requires plain { plain ≡ true → IsOrdinaryName name.now }
+    ensures { OnOk result
+        (attrs.new ≡ added attrs.old (reading.read_attribute table.now.entries (record { name = name.now; value = value.now }))) }
+{
+    if plain {
+        return keep_plain(attrs, alloc, name, value, table);
+    }
+    let name = lowered(alloc, name)?;
+    let value = read_value(alloc, value, table)?;
+    attrs.add(name, value)?;
+    Ok(())
+}
+
+/// The same where the name is read as it is written. A value that is isn't copied before either.
+fn keep_plain(
+    attrs: &mut Attrs,
+    alloc: Global,
+    name: &str,
+    value: &str,
+    table: &Table,
+) -> Result<(), Memory>
+    requires room { length attrs.old + 1 < 2 ^ 32 }
+    requires plain { map lower name.now ≡ name.now }
+    ensures { OnOk result
+        (attrs.new ≡ added attrs.old (reading.read_attribute table.now.entries (record { name = name.now; value = value.now }))) }
+{
+    if !has_reference(value, table) {
+        attrs.put(name, value)?;
+        return Ok(());
+    }
+    let value = read_value(alloc, value, table)?;
+    attrs.put(name, value.as_str())?;
+    Ok(())
+}

@@ -1,0 +1,120 @@
+//! Names of tags and attributes.
+ghost use Rattle.std.specs.Prelude.{◌≡◌, map, string_bytes, true, IfOk, OnOk};
+ghost use Rattle.hm_base.specs.Bytes.{lower, all_pass, some_passes, is_digit};
+ghost use Rattle.hm_base.specs.Forms as forms;
+ghost use Rattle.hm_scan.specs.TagPlaces.{IsPlainName};
+ghost use Rattle.hm_scan.specs.Reading as reading;
+
+use hm_base::Memory;
+use std::alloc::Global;
+
+/// Puts the name with its ASCII uppercase letters as lowercase letters in place of a text.
+#[tactic(auto, using(crate::proofs::NameReads::lowercase_is))]
+pub(crate) fn put_lowered(text: &mut String, name: &str) -> Result<(), Memory>
+    ensures { OnOk result (string_bytes text.new ≡ map lower name.now) }
+{
+    text.clear();
+    text.push_str(name)?;
+    text.make_ascii_lowercase();
+    Ok(())
+}
+
+/// Puts the name as it is read in place of a text; `plain` says that it is read as it is written.
+pub(crate) fn put_name(text: &mut String, name: &str, plain: bool) -> Result<(), Memory>
+    requires { plain ≡ true → IsPlainName name.now }
+    ensures { OnOk result (string_bytes text.new ≡ map lower name.now) }
+{
+    if !plain {
+        return put_lowered(text, name);
+    }
+    text.clear();
+    text.push_str(name)?;
+    Ok(())
+}
+
+/// The name with its ASCII uppercase letters as lowercase letters.
+pub(crate) fn lowered(alloc: Global, name: &str) -> Result<String, Memory>
+    ensures { IfOk result (λ text. string_bytes text ≡ map lower name.now) }
+{
+    let mut text = String::new(alloc);
+    put_lowered(&mut text, name)?;
+    Ok(text)
+}
+
+/// Whether the byte is an ASCII lowercase letter.
+#[tactic(auto, unfolding(hm_base::specs::Forms::is_small))]
+pub(crate) fn is_small(byte: u8) -> bool
+    ensures { result ≡ forms.is_small byte }
+{
+    byte >= b'a' && byte <= b'z'
+}
+
+/// Whether the byte is an ASCII digit.
+#[tactic(auto, using(hm_refs::proofs::Digits::digit_is))]
+fn is_digit(byte: u8) -> bool
+    ensures { result ≡ is_digit byte }
+{
+    byte.is_ascii_digit()
+}
+
+/// Whether the byte may stand in the name of an element.
+#[tactic(auto, unfolding(hm_base::specs::Forms::is_tag_byte))]
+pub(crate) fn is_tag_byte(byte: u8) -> bool
+    ensures { result ≡ forms.is_tag_byte byte }
+{
+    is_small(byte) || is_digit(byte) || byte == b'.' || byte == b'_' || byte == b':' || byte == b'-'
+}
+
+/// Whether the bytes may stand in the name of an element.
+fn are_tag_bytes(name: &[u8]) -> bool
+    ensures { result ≡ all_pass forms.is_tag_byte name.now }
+{
+    for byte in name {
+        if !is_tag_byte(*byte) {
+            return false;
+        }
+    }
+    true
+}
+
+/// Whether this is a name of an element that is read: a lowercase letter, and lowercase letters, digits, `.`, `_`, `:`
+/// and `-` after it.
+#[tactic(auto, unfolding(hm_base::specs::Forms::is_tag_name))]
+pub(crate) fn is_tag_name(name: &[u8]) -> bool
+    ensures { result ≡ forms.is_tag_name name.now }
+{
+    match name {
+        [first, rest @ ..] => is_small(*first) && are_tag_bytes(rest),
+        [] => false,
+    }
+}
+
+/// Whether the byte is a quote or `<`.
+#[tactic(auto, unfolding(crate::specs::Reading::is_bad_byte))]
+fn is_bad_byte(byte: u8) -> bool
+    ensures { result ≡ reading.is_bad_byte byte }
+{
+    byte == b'"' || byte == b'\'' || byte == b'<'
+}
+
+/// Whether a quote or `<` is among the bytes.
+fn has_bad_byte(name: &[u8]) -> bool
+    ensures { result ≡ some_passes reading.is_bad_byte name.now }
+{
+    for byte in name {
+        if is_bad_byte(*byte) {
+            return true;
+        }
+    }
+    false
+}
+
+/// Whether this name of an attribute isn't read: it begins with `=`, or holds a quote or `<`.
+pub(crate) fn is_bad_name(name: &[u8]) -> bool
+    ensures { result ≡ reading.is_bad_name name.now }
+{
+    match name {
+        [first, ..] => *first == b'=' || has_bad_byte(name),
+        [] => false,
+    }
+}

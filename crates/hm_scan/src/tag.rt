@@ -1,0 +1,221 @@
+//! The tag at a place of a text.
+ghost use Rattle.std.specs.Prelude.{◌≡◌, ◌≢◌, ℕ, ◌^◌, ◌<◌, ◌≤◌, List, drop, length, slice_index, slice_range, true, false, Some, IfOk, IfErr, IsCharBoundary};
+ghost use Rattle.hm_base.specs.Walks.{Attribute};
+ghost use Rattle.hm_refs.specs.Names.{Entry};
+ghost use Rattle.hm_tree.specs.Lexemes.{token_of};
+ghost use Rattle.hm_tree.specs.Tokens.{BeginsAt, Reads, refused};
+ghost use Rattle.hm_scan.specs.Collected.{IsCollected};
+ghost use Rattle.hm_refs.specs.Reads.{IsEndOf};
+ghost use Rattle.hm_base.specs.Forms as forms;
+ghost use Rattle.hm_scan.specs.TagPlaces.{IsPlainName};
+ghost use Rattle.hm_scan.specs.Tags.{is_name_byte};
+ghost use Rattle.hm_scan.specs.Wholes.{IsWhole, fault_at};
+ghost use Rattle.hm_scan.specs.Reading.{begins_tag, read_end, read_start, read_tag, tag_fault};
+
+use crate::collected::Collected;
+use crate::names::{is_small, is_tag_name, put_name};
+use crate::tag_body::read_body;
+use crate::tag_runs::{ByteRun, run_end};
+use hm_base::ATTRIBUTE_LIMIT;
+use hm_refs::Table;
+use hm_tree::{Lexeme, ScanFault, Tag, Token};
+use std::alloc::Global;
+
+/// What is known of a tag beside its name and its attributes: whether a `/` stands directly before its `>`. What
+/// follows it begins at `behind`.
+#[derive(Clone, Copy)]
+struct Whole {
+    slash: bool,
+    behind: u32,
+}
+
+/// Whether a name of a tag, in lowercase letters, is one that is read. `plain` says that it is.
+fn is_read(name: &str, plain: bool) -> bool
+    requires { plain ≡ true → forms.is_tag_name name.now ≡ true }
+    ensures { result ≡ forms.is_tag_name name.now }
+{
+    plain || is_tag_name(name.as_bytes())
+}
+
+/// Why a tag with this name, in lowercase letters, and these attributes is refused; None where it isn't. `plain` says
+/// that the name is read.
+fn fault_of(name: &str, plain: bool, collected: &Collected) -> Option<ScanFault>
+    requires { plain ≡ true → forms.is_tag_name name.now ≡ true }
+    ensures { (t : List Entry) (written kept : List Attribute) → IsCollected t written collected.now kept
+        → result ≡ tag_fault name.now written }
+{
+    if !is_read(name, plain) {
+        return Some(ScanFault::BadName);
+    }
+    if collected.has_bad_name {
+        return Some(ScanFault::BadName);
+    }
+    if collected.count > ATTRIBUTE_LIMIT {
+        return Some(ScanFault::TooManyAttributes);
+    }
+    None
+}
+
+/// Where the name of a tag ends. `plain` says that it is one that is read, and as it is written.
+#[derive(Clone, Copy)]
+struct NameEnd {
+    to: usize,
+    plain: bool,
+}
+
+/// Whether a lowercase letter stands at `from`, and at `to` a byte that ends the name of a tag.
+fn is_plain_between(bytes: &[u8], from: usize, to: usize) -> bool
+    requires { to ≤ length bytes.now }
+    ensures from { result ≡ true → from < to }
+    ensures to { result ≡ true → to < length bytes.now }
+    ensures begins { result ≡ true → forms.is_small (slice_index bytes.now from) ≡ true }
+    ensures ends { result ≡ true → is_name_byte (slice_index bytes.now to) ≡ false }
+{
+    if from >= to || to == bytes.len() {
+        return false;
+    }
+    is_small(bytes[from]) && !ByteRun::TagName.has(bytes[to])
+}
+
+/// Where the name of a tag ends that begins at `from`.
+fn name_end(text: &str, from: usize) -> NameEnd
+    requires { IsCharBoundary text.now from }
+    ensures end { IsEndOf is_name_byte text.now from result.to }
+    ensures boundary { IsCharBoundary text.now result.to }
+    ensures plain { result.plain ≡ true → IsPlainName (slice_range text.now from result.to) }
+{
+    let bytes = text.as_bytes();
+    let to = run_end(bytes, from, ByteRun::PlainName);
+    if is_plain_between(bytes, from, to) {
+        return NameEnd { to, plain: true };
+    }
+    NameEnd {
+        to: run_end(bytes, from, ByteRun::TagName),
+        plain: false,
+    }
+}
+
+/// Reads the tag whose name begins at `from`, and puts its name, in lowercase letters, and its attributes into `tag`;
+/// `keeps` says whether its attributes are wanted.
+fn read_whole(
+    alloc: Global,
+    text: &str,
+    from: usize,
+    table: &Table,
+    keeps: bool,
+    tag: &mut Tag,
+) -> Result<Whole, ScanFault>
+    requires boundary { IsCharBoundary text.now from }
+    requires size { length text.now < 2 ^ 32 }
+    ensures ok { IfOk result (IsWhole table.now.entries keeps text.now from tag.new) }
+    ensures err { IfErr result
+        (λ fault. fault ≢ ScanFault.Memory → fault_at (drop from text.now) ≡ Some fault) }
+{
+    let end = name_end(text, from);
+    let body = read_body(alloc, text, end.to, table, keeps, &mut tag.attrs)?;
+    put_name(&mut tag.name, &text[from..end.to], end.plain)?;
+    match fault_of(&tag.name, end.plain, &body.collected) {
+        Some(fault) => Err(fault),
+        None => Ok(Whole {
+            slash: body.slash,
+            behind: body.behind as u32,
+        }),
+    }
+}
+
+/// Reads the start tag whose name begins at `from`.
+fn scan_start(
+    alloc: Global,
+    text: &str,
+    from: usize,
+    table: &Table,
+    tag: &mut Tag,
+) -> Result<(Lexeme, u32), ScanFault>
+    requires boundary { IsCharBoundary text.now from }
+    requires size { length text.now < 2 ^ 32 }
+    ensures ok { IfOk result
+        (λ r. Reads (read_start table.now.entries (drop from text.now)) text.now (token_of r.0 tag.new) r.1) }
+    ensures err { IfErr result
+        (λ fault. fault ≢ ScanFault.Memory → read_start table.now.entries (drop from text.now) ≡ refused fault) }
+    ensures forward { IfOk result (λ r. from < r.1) }
+    ensures placed { IfOk result (λ r. (place : ℕ) → BeginsAt place (token_of r.0 tag.new)) }
+{
+    let whole = read_whole(alloc, text, from, table, true, tag)?;
+    let lexeme = Lexeme::StartTag { slash: whole.slash };
+    Ok((lexeme, whole.behind))
+}
+
+/// Reads the end tag whose name begins at `from`. Its attributes are judged, and dropped with its `/`.
+fn scan_end(
+    alloc: Global,
+    text: &str,
+    from: usize,
+    table: &Table,
+    tag: &mut Tag,
+) -> Result<(Lexeme, u32), ScanFault>
+    requires boundary { IsCharBoundary text.now from }
+    requires size { length text.now < 2 ^ 32 }
+    ensures ok { IfOk result (λ r. Reads (read_end (drop from text.now)) text.now (token_of r.0 tag.new) r.1) }
+    ensures err { IfErr result
+        (λ fault. fault ≢ ScanFault.Memory → read_end (drop from text.now) ≡ refused fault) }
+    ensures forward { IfOk result (λ r. from < r.1) }
+    ensures placed { IfOk result (λ r. (place : ℕ) → BeginsAt place (token_of r.0 tag.new)) }
+{
+    let whole = read_whole(alloc, text, from, table, false, tag)?;
+    Ok((Lexeme::EndTag, whole.behind))
+}
+
+/// Reads the start or end tag that begins at byte `at` of the text (#tag-name-state and #before-attribute-name-state to
+/// #self-closing-start-tag-state), and returns where what follows it begins. Names are in lowercase letters, of
+/// attributes with one name the first is kept, and character references in values are read.
+///
+/// `Cut` comes where the text ends before the tag's `>`. Otherwise `BadName` comes where its name isn't an ASCII letter
+/// with ASCII letters, digits, `.`, `_`, `:` and `-` after it, or an attribute's name begins with `=` or holds a quote
+/// or `<`. Otherwise `TooManyAttributes` comes where more than 256 attributes are written. End tags are judged alike.
+pub fn scan_tag(
+    alloc: Global,
+    text: &str,
+    at: u32,
+    table: &Table,
+) -> Result<(Token, u32), ScanFault>
+    requires begins { begins_tag (drop at text.now) ≡ true }
+    requires size { length text.now < 2 ^ 32 }
+    ensures ok { IfOk result
+        (λ r. Reads (read_tag table.now.entries (drop at text.now)) text.now r.0 r.1) }
+    ensures err { IfErr result
+        (λ fault. fault ≢ ScanFault.Memory → read_tag table.now.entries (drop at text.now) ≡ refused fault) }
+    ensures forward { IfOk result (λ r. at < r.1) }
+    ensures placed { IfOk result (λ r. (place : ℕ) → BeginsAt place r.0) }
+{
+    let mut tag = Tag::new(alloc);
+    match scan_tag_into(alloc, text, at, table, &mut tag) {
+        Ok((lexeme, behind)) => Ok((lexeme.token(tag), behind)),
+        Err(fault) => Err(fault),
+    }
+}
+
+/// The same, with the tag's name and attributes put into `tag`, in place of what was there. After an error nothing is
+/// said of what stands in it.
+pub fn scan_tag_into(
+    alloc: Global,
+    text: &str,
+    at: u32,
+    table: &Table,
+    tag: &mut Tag,
+) -> Result<(Lexeme, u32), ScanFault>
+    requires begins { begins_tag (drop at text.now) ≡ true }
+    requires size { length text.now < 2 ^ 32 }
+    ensures ok { IfOk result
+        (λ r. Reads (read_tag table.now.entries (drop at text.now)) text.now (token_of r.0 tag.new) r.1) }
+    ensures err { IfErr result
+        (λ fault. fault ≢ ScanFault.Memory → read_tag table.now.entries (drop at text.now) ≡ refused fault) }
+    ensures forward { IfOk result (λ r. at < r.1) }
+    ensures placed { IfOk result (λ r. (place : ℕ) → BeginsAt place (token_of r.0 tag.new)) }
+{
+    let start = at as usize;
+    if text.as_bytes()[start + 1] == b'/' {
+        scan_end(alloc, text, start + 2, table, tag)
+    } else {
+        scan_start(alloc, text, start + 1, table, tag)
+    }
+}

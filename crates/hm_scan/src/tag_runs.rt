@@ -1,0 +1,60 @@
+//! Runs of bytes of one kind.
+ghost use Rattle.std.specs.Prelude.{◌≡◌, ◌≤◌, length};
+ghost use Rattle.hm_base.specs.Bytes as bytes;
+ghost use Rattle.hm_refs.specs.Reads.{IsEndOf};
+ghost use Rattle.hm_scan.specs.TagPlaces.{test_of};
+
+use crate::names::is_tag_byte;
+
+/// The bytes that a run is made of.
+#[derive(Clone, Copy)]
+pub(crate) enum ByteRun {
+    /// Whitespace.
+    Space,
+    /// Whitespace and `/`.
+    Gap,
+    /// Neither whitespace nor `/` nor `>`.
+    TagName,
+    /// Small letters, digits, `.`, `_`, `:` and `-`.
+    PlainName,
+    /// Neither whitespace nor `/`, `>` or `=`.
+    AttributeName,
+    /// Neither whitespace nor `>`.
+    Unquoted,
+}
+
+impl ByteRun {
+    #[tactic(auto, unfolding(crate::specs::Places::is_gap_byte, crate::specs::Tags::is_name_byte, crate::specs::Tags::is_later_byte, crate::specs::Tags::is_unquoted_byte, hm_base::specs::RawText::is_name_end))]
+    pub(crate) fn has(self, byte: u8) -> bool
+        ensures { result ≡ test_of self byte }
+    {
+        match self {
+            ByteRun::Space => is_space(byte),
+            ByteRun::Gap => is_space(byte) || byte == b'/',
+            ByteRun::TagName => !(is_space(byte) || byte == b'/' || byte == b'>'),
+            ByteRun::PlainName => is_tag_byte(byte),
+            ByteRun::AttributeName => {
+                !(is_space(byte) || byte == b'/' || byte == b'>' || byte == b'=')
+            }
+            ByteRun::Unquoted => !(is_space(byte) || byte == b'>'),
+        }
+    }
+}
+
+fn is_space(byte: u8) -> bool
+    ensures { result ≡ bytes.is_space byte }
+{
+    hm_base::is_space(char::from(byte))
+}
+
+/// Where the run ends that begins at `from`.
+pub(crate) fn run_end(bytes: &[u8], from: usize, run: ByteRun) -> usize
+    requires { from ≤ length bytes.now }
+    ensures { IsEndOf (test_of run) bytes.now from result }
+{
+    let mut at = from;
+    while at < bytes.len() && run.has(bytes[at]) {
+        at += 1;
+    }
+    at
+}

@@ -1,3 +1,0 @@
-pub mod Headline
-pub mod Graphs
-pub mod Written

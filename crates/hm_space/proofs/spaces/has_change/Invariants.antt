@@ -1,7 +1,0 @@
-use Rattle.std.proofs.Common.{◌≡◌, ◌<◌, ℕ, false, get_or}
-use Rattle.hm_base.specs.Bytes.{is_space}
-use Rattle.hm_space.specs.Fronts.{changes}
-use Rattle.hm_space.proofs.spaces.has_change.Given as goal
-
-abbrev pub invariant-loop-i : goal.invariant-loop-i
-invariant-loop-i l = l.found ≡ false → (k : ℕ) → k < l.i → changes (is_space (get_or l.earlier k 0)) (get_or l.here k 0) ≡ false

@@ -1,7 +1,0 @@
-//! The law of collapsed whitespace. The call does nothing: its contract is the law.
-ghost use Rattle.hm_space.specs.Laws.{CollapsedIsSettled};
-
-/// A settled walk stays settled where its whitespace is collapsed.
-pub fn collapsed_is_settled()
-    ensures { CollapsedIsSettled }
-{}

@@ -1,5 +1,0 @@
-use Rattle.hm_steps.proofs.laws.full_rows_agree.Goals as goal
-use Rattle.hm_steps.proofs.Written.{full_agrees}
-
-pub returns : goal.returns
-returns c = full_agrees

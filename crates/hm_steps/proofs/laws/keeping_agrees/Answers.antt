@@ -1,5 +1,0 @@
-use Rattle.hm_steps.proofs.laws.keeping_agrees.Goals as goal
-use Rattle.hm_steps.proofs.Keeping.{keeps_feasible, feasible_keeps}
-
-pub returns : goal.returns
-returns c = λ edges bytes units states steps last rows h. (keeps_feasible edges bytes units states steps last rows h, feasible_keeps edges bytes units states steps last rows h)

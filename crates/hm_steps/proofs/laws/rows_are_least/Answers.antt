@@ -1,5 +1,0 @@
-use Rattle.hm_steps.proofs.laws.rows_are_least.Goals as goal
-use Rattle.hm_steps.proofs.Rows.{rows_least}
-
-pub returns : goal.returns
-returns c = rows_least

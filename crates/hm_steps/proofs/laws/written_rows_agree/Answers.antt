@@ -1,5 +1,0 @@
-use Rattle.hm_steps.proofs.laws.written_rows_agree.Goals as goal
-use Rattle.hm_steps.proofs.Written.{written_agrees}
-
-pub returns : goal.returns
-returns c = written_agrees

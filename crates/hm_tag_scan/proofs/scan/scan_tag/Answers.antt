@@ -1,4 +1,0 @@
-use Rattle.hm_tag_scan.proofs.scan.scan_tag.Goals as goal
-
-pub returns-in-Ok-clause-placed : goal.returns-in-Ok-clause-placed
-returns-in-Ok-clause-placed c = λ place. rw c.token.ensures (c.in-Ok.ensures.placed place)

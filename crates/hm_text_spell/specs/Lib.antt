@@ -1,3 +1,0 @@
-pub mod CharacterEdges
-pub mod Laws
-pub mod Examples

@@ -1,9 +1,0 @@
-use Rattle.hm_tokens.proofs.Longer.{next_tokens_extend}
-use Rattle.hm_tokens.proofs.Readings.{whole_readings_extend}
-use Rattle.hm_tokens.proofs.laws.tokens_extend.Goals as goal
-
-pub returns-clause-next : goal.returns-clause-next
-returns-clause-next c = next_tokens_extend
-
-pub returns-clause-readings : goal.returns-clause-readings
-returns-clause-readings c = whole_readings_extend

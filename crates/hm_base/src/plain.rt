@@ -73,6 +73,17 @@ pub struct SpellRules {
     pub frame: bool,
 }
 
+/// Which layers a certificate writes, and of which graph.
+#[derive(Clone, Copy, Debug, PartialEq, Eq)]
+pub enum Format {
+    /// Every layer.
+    One,
+    /// The first, the last, and all others but those with exactly one state that has exactly one edge.
+    Two,
+    /// In the graph without dominated edges: the first, the last, and those in which some state doesn't have exactly one edge.
+    Three,
+}
+
 /// Whether `c` is ASCII whitespace: TAB, LF, FF, CR or SPACE.
 #[tactic(auto, unfolding(crate::specs::Bytes::is_space))]
 pub fn is_space(c: char) -> bool

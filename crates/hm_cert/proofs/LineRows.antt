@@ -2,7 +2,7 @@
 use Rattle.std.proofs.Common.{◌≡◌, ◌+◌, ◌<◌, ℕ, Bool, true, false, cond, List, [], ◌∷◌, ◌++◌, length, refl, ap, ◌∙◌, append_assoc, arith}
 use Rattle.std.specs.Prelude.{Option, Some, None, option_map, Result, Ok, Err}
 use Rattle.std.proofs.lemmas.List.{append-nil}
-use Rattle.hm_cert.specs.declared.text.Format.{Format}
+use Rattle.hm_base.specs.declared.plain.Format.{Format}
 use Rattle.hm_cert.specs.Certificate.{Row}
 use Rattle.hm_cert.specs.Reading.{pieces, word_price, line_row, line_format, line_rules, and_row, with_row, rows_in, given, given_lines, behind_rules}
 use Rattle.hm_cert.proofs.Pieces.{one_piece}

@@ -6,8 +6,8 @@ use Rattle.std.proofs.lemmas.List.Splits.{join_with_byte-slice_split}
 use Rattle.std.proofs.lemmas.Slice.Eq.{bytes_eq-Decides}
 use Rattle.std.proofs.lemmas.List.{length-map}
 use Rattle.hm_base.specs.declared.plain.SpellRules.{SpellRules}
-use Rattle.hm_cert.specs.declared.text.Format.{Format}
-use Rattle.hm_cert.specs.declared.text.Format.TheVariants.{One, Two, Three}
+use Rattle.hm_base.specs.declared.plain.Format.{Format}
+use Rattle.hm_base.specs.declared.plain.Format.TheVariants.{One, Two, Three}
 use Rattle.hm_cert.specs.declared.certificate.Certificate.{Certificate}
 use Rattle.hm_cert.specs.Certificate.{Row, ArePrices, AreRows, price_text, row_text, row_lines, format_text, rules_text, certificate_text}
 use Rattle.hm_cert.specs.Layout.{told}

@@ -2,7 +2,7 @@
 use Rattle.std.specs.Prelude.{◌≡◌, ℕ, true, false, List, [], ◌∷◌, ◌++◌, Some, None, Ok, Err, codes, length, refl}
 use Rattle.std.specs.Fmt.{digits}
 use Rattle.hm_base.specs.declared.plain.SpellRules.{SpellRules}
-use Rattle.hm_cert.specs.declared.text.Format.TheVariants.{One, Two, Three}
+use Rattle.hm_base.specs.declared.plain.Format.TheVariants.{One, Two, Three}
 use Rattle.hm_cert.specs.Certificate.{Row, certificate_text}
 use Rattle.hm_cert.specs.Reading.{given}
 

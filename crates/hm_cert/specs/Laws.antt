@@ -1,7 +1,7 @@
 -- Texts of certificates and what they are texts of are one to one.
 use Rattle.std.specs.Prelude.{ℕ, ◌≡◌, List, Ok}
 use Rattle.hm_base.specs.declared.plain.SpellRules.{SpellRules}
-use Rattle.hm_cert.specs.declared.text.Format.{Format}
+use Rattle.hm_base.specs.declared.plain.Format.{Format}
 use Rattle.hm_cert.specs.declared.certificate.Certificate.{Certificate}
 use Rattle.hm_cert.specs.Certificate.{Row, AreRows, certificate_text}
 use Rattle.hm_cert.specs.Reading.{given}

@@ -5,8 +5,8 @@ use Rattle.std.specs.Str.Parse.{digits_value}
 use Rattle.hm_base.specs.Bytes.{is_null}
 use Rattle.hm_base.specs.declared.plain.SpellRules.{SpellRules}
 use Rattle.hm_base.specs.declared.limits.TheConstants.{CERTIFICATE_LIMIT}
-use Rattle.hm_cert.specs.declared.text.Format.{Format}
-use Rattle.hm_cert.specs.declared.text.Format.TheVariants.{One, Two, Three}
+use Rattle.hm_base.specs.declared.plain.Format.{Format}
+use Rattle.hm_base.specs.declared.plain.Format.TheVariants.{One, Two, Three}
 use Rattle.hm_cert.specs.declared.certificate.Certificate.{Certificate}
 use Rattle.hm_cert.specs.declared.lines.CertificateFault.{CertificateFault}
 use Rattle.hm_cert.specs.declared.lines.CertificateFault.TheVariants.{TooLong, BadLine, Memory}

@@ -5,8 +5,7 @@ ghost use Rattle.hm_cert.specs.Reading.{ReadsAs};
 
 use crate::kept::WrittenRows;
 use crate::lines::{CertificateFault, read_head};
-use crate::text::Format;
-use hm_base::SpellRules;
+use hm_base::{Format, SpellRules};
 use std::alloc::Global;
 
 /// A certificate: its format, the rules that it is about, and the prices of the layers that are written.

@@ -10,8 +10,8 @@ ghost use Rattle.hm_cert.specs.Reading.{IsBadHead, IsNext, IsPassed, given, line
 use crate::leading::LeadingDigits;
 use crate::prices::CLOSED;
 use crate::short::short_line;
-use crate::text::Format;
-use hm_base::{CERTIFICATE_LIMIT, Memory, SpellRules};
+use crate::text::format_text;
+use hm_base::{CERTIFICATE_LIMIT, Format, Memory, SpellRules};
 use memchr::memchr;
 
 /// Why bytes aren't a certificate.
@@ -149,11 +149,11 @@ fn cut(text: &[u8], mark: u8) -> Option<(&[u8], &[u8])>
 fn read_format(line: &[u8]) -> Option<Format>
     ensures { result ≡ line_format line.now }
 {
-    if line == Format::One.text() {
+    if line == format_text(Format::One) {
         Some(Format::One)
-    } else if line == Format::Two.text() {
+    } else if line == format_text(Format::Two) {
         Some(Format::Two)
-    } else if line == Format::Three.text() {
+    } else if line == format_text(Format::Three) {
         Some(Format::Three)
     } else {
         None

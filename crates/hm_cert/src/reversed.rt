@@ -5,8 +5,8 @@ ghost use Rattle.hm_cert.specs.Layout.{told};
 
 use crate::hundreds::{Hundreds, put_number};
 use crate::prices::CLOSED;
-use crate::text::Format;
-use hm_base::{Memory, SpellRules};
+use crate::text::format_text;
+use hm_base::{Format, Memory, SpellRules};
 use std::alloc::Global;
 use std::marker::Model;
 
@@ -142,7 +142,7 @@ fn put_head_reversed(out: &mut Vec<u8>, format: Format, rules: SpellRules) -> Re
     put_flag(out, rules.unquote, b"unquote")?;
     put_flag(out, rules.omit, b"omit")?;
     put_bytes(out, b"\nrules")?;
-    put_bytes(out, format.text())
+    put_bytes(out, format_text(format))
 }
 
 /// Appends the line of a row, the last byte first. Where memory is refused, a part may have been appended.

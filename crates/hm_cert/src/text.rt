@@ -5,31 +5,18 @@ ghost use Rattle.hm_cert.specs.Certificate as text;
 ghost use Rattle.hm_cert.specs.Layout.{told};
 
 use crate::prices::{CLOSED, Prices};
-use hm_base::{Memory, SpellRules};
+use hm_base::{Format, Memory, SpellRules};
 use itoa::Buffer;
 use std::alloc::Global;
 
-/// Which layers a certificate writes.
-#[derive(Clone, Copy, Debug, PartialEq, Eq)]
-pub enum Format {
-    /// Every layer.
-    One,
-    /// The first, the last, and those with a choice: with more than one state, or with more than one edge.
-    Two,
-    /// The first, the last, and those in which some state has a choice, in the graph without dominated (outdone) edges.
-    Three,
-}
-
-impl Format {
-    /// The first line of a certificate, without its line feed.
-    pub fn text(self) -> &'static [u8]
-        ensures { result.now ≡ text.format_text self }
-    {
-        match self {
-            Format::One => b"html-cert 1",
-            Format::Two => b"html-cert 2",
-            Format::Three => b"html-cert 3",
-        }
+/// The first line of a certificate of this format, without its line feed.
+pub(crate) fn format_text(format: Format) -> &'static [u8]
+    ensures { result.now ≡ text.format_text format }
+{
+    match format {
+        Format::One => b"html-cert 1",
+        Format::Two => b"html-cert 2",
+        Format::Three => b"html-cert 3",
     }
 }
 
@@ -54,7 +41,7 @@ pub fn write_certificate(
 fn put_head(out: &mut Vec<u8>, format: Format, rules: SpellRules) -> Result<(), Memory>
     ensures { OnOk result (out.new.items ≡ out.old.items ++ head_lines format rules) }
 {
-    out.extend_from_slice(format.text())?;
+    out.extend_from_slice(format_text(format))?;
     out.extend_from_slice(b"\nrules")?;
     put_flag(out, rules.omit, b"omit")?;
     put_flag(out, rules.unquote, b"unquote")?;

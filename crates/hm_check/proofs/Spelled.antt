@@ -5,8 +5,8 @@ use Rattle.hm_base.specs.Walks.{Event}
 use Rattle.hm_base.specs.declared.limits.TheConstants.{OUTPUT_LIMIT}
 use Rattle.hm_base.specs.declared.plain.SpellRules.{SpellRules}
 use Rattle.hm_cert.specs.declared.certificate.Certificate.{Certificate}
-use Rattle.hm_cert.specs.declared.text.Format.{Format}
-use Rattle.hm_cert.specs.declared.text.Format.TheVariants.{One, Two, Three}
+use Rattle.hm_base.specs.declared.plain.Format.{Format}
+use Rattle.hm_base.specs.declared.plain.Format.TheVariants.{One, Two, Three}
 use Rattle.hm_edges.specs.Pieces.{piece_bytes}
 use Rattle.hm_elements.specs.Settled.{Settled}
 use Rattle.hm_graph_laws.specs.Layers.{first_layer}

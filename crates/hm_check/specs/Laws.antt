@@ -5,7 +5,7 @@ use Rattle.hm_base.specs.declared.limits.TheConstants.{OUTPUT_LIMIT}
 use Rattle.hm_base.specs.declared.plain.SpellRules.{SpellRules}
 use Rattle.hm_base.specs.declared.rules.Rule.{Rule}
 use Rattle.hm_cert.specs.declared.certificate.Certificate.{Certificate}
-use Rattle.hm_cert.specs.declared.text.Format.{Format}
+use Rattle.hm_base.specs.declared.plain.Format.{Format}
 use Rattle.hm_construction_laws.specs.Trees.{built, page_tree}
 use Rattle.hm_edges.specs.Found.{spelling}
 use Rattle.hm_elements.specs.Settled.{Settled}

@@ -1,6 +1,6 @@
 -- What is found of the rows of a certificate, over the steps of the graph.
 use Rattle.std.specs.Prelude.{ℕ, suc, ◌==◌, List, [], ◌∷◌, length, Option, Some, None, if◌then◌else◌}
-use Rattle.hm_cert.specs.declared.text.Format.{Format}
+use Rattle.hm_base.specs.declared.plain.Format.{Format}
 use Rattle.hm_graph_laws.specs.Prices.{Row}
 use Rattle.hm_graph.specs.Prices.{row_over, is_left_out, full_rows}
 use Rattle.hm_graph.specs.Steps.{Step}

@@ -13,8 +13,7 @@ ghost use Rattle.hm_graph_laws.specs.Units as units;
 ghost use Rattle.hm_graph_laws.specs.Units.{units_of};
 ghost use Rattle.hm_check.specs.Following.{GoesOverAlike, IsOver, IsWayOn, LeadsTo};
 
-use hm_base::{Memory, SpellRules};
-use hm_cert::Format;
+use hm_base::{Format, Memory, SpellRules};
 use hm_edges::{Form, Piece};
 use hm_graph::{Follower, Graph, Hop, Step};
 use hm_parts::{Own, put_piece};

@@ -3,7 +3,7 @@ ghost use Rattle.std.specs.Prelude.{◌≡◌};
 ghost use Rattle.hm_graph.specs.Prices as steps;
 ghost use Rattle.hm_check.specs.Steps.{count_over};
 
-use hm_cert::Format;
+use hm_base::Format;
 use hm_graph::{Graph, Step};
 
 /// Whether layer `k`, the one before the step, is left out.

@@ -10,8 +10,8 @@ ghost use Rattle.hm_check.specs.Verdicts as verdicts;
 use crate::layers::count_layers;
 use crate::sweep::Sweep;
 use crate::{Verdict, Why};
-use hm_base::Memory;
-use hm_cert::{Format, WrittenRows, price_of};
+use hm_base::{Format, Memory};
+use hm_cert::{WrittenRows, price_of};
 use hm_graph::Graph;
 use std::alloc::Global;
 

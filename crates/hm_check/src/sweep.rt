@@ -12,8 +12,8 @@ ghost use Rattle.hm_check.specs.Sweeps.{AreInPlace, IsStillOver, IsSwept, judged
 use crate::Why;
 use crate::bounds::{are_within, best_price, find_high, find_high_at_end};
 use crate::layers::is_left_out;
-use hm_base::Memory;
-use hm_cert::{Format, RowPlace, WrittenRows, add_each};
+use hm_base::{Format, Memory};
+use hm_cert::{RowPlace, WrittenRows, add_each};
 use hm_graph::{Cursor, Graph, Step};
 use std::alloc::Global;
 use std::mem;

@@ -2,7 +2,7 @@
 use Rattle.std.proofs.Common.{◌≡◌, ◌∙◌, ℕ, zero, suc, ◌+◌, ◌<◌, ◌≤◌, Bool, true, false, cond, List, [], ◌∷◌, ◌++◌, ◌-◌, length, length-append, get_or, drop, refl, sym, ap, subst, arith}
 use Rattle.std.proofs.Math.ListN.{replicate}
 use Rattle.std.proofs.lemmas.List.{drop_all, drop_more, get_or-append_right, get_or-replicate, get_or_append_left, get_or_default, length-map, length-replicate}
-use Rattle.hm_cert.specs.declared.text.Format.{Format}
+use Rattle.hm_base.specs.declared.plain.Format.{Format}
 use Rattle.hm_graph.specs.Steps.{Step, leaves_out}
 use Rattle.hm_graph.specs.Graphs.{AreNumbers, spread}
 use Rattle.hm_graph.specs.Kept.{kept_count}

@@ -1,6 +1,6 @@
 -- How many layers a certificate writes.
 use Rattle.std.specs.Prelude.{ℕ, suc, List, [], ◌∷◌, if◌then◌else◌}
-use Rattle.hm_cert.specs.declared.text.Format.{Format}
+use Rattle.hm_base.specs.declared.plain.Format.{Format}
 use Rattle.hm_graph.specs.Steps.{Step, leaves_out}
 
 -- how many of these steps stand after a layer that is written in a format, where none of these layers is the first one

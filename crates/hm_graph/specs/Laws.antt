@@ -1,6 +1,6 @@
 -- What steps say about the graph that they are the steps of.
 use Rattle.std.specs.Prelude.{◌≡◌, ℕ, List, Some}
-use Rattle.hm_cert.specs.declared.text.Format.{Format}
+use Rattle.hm_base.specs.declared.plain.Format.{Format}
 use Rattle.hm_graph_laws.specs.Prices as graph
 use Rattle.hm_graph_laws.specs.Prices.{Row, least_prices, FeasibleFrom, full_from}
 use Rattle.hm_graph_laws.specs.Ways.{Edges, Way, first_way}

@@ -2,7 +2,7 @@
 -- those that show a bound.
 use Rattle.std.specs.Prelude.{◌≡◌, ℕ, suc, Bool, not, ◌&&◌, ◌==◌, List, [], ◌∷◌, length, map, Option, Some, None, if◌then◌else◌, slice_index_or}
 use Rattle.std.proofs.Math.ListN.{replicate}
-use Rattle.hm_cert.specs.declared.text.Format.{Format}
+use Rattle.hm_base.specs.declared.plain.Format.{Format}
 use Rattle.hm_graph_laws.specs.Prices.{Row, KeepsEdge, with_row}
 use Rattle.hm_graph_laws.specs.Ways.{lesser, over}
 use Rattle.hm_graph.specs.Steps.{Step, leaves_out}

@@ -1,8 +1,8 @@
 -- A step: the edges of a unit from each state of a layer, by numbers alone.
 use Rattle.std.specs.Prelude.{Bool, false, ◌&&◌, List}
 use Rattle.std.specs.List.{list_all}
-use Rattle.hm_cert.specs.declared.text.Format.{Format}
-use Rattle.hm_cert.specs.declared.text.Format.TheVariants.{One, Two, Three}
+use Rattle.hm_base.specs.declared.plain.Format.{Format}
+use Rattle.hm_base.specs.declared.plain.Format.TheVariants.{One, Two, Three}
 use Rattle.hm_graph_laws.specs.Layers.{is_single}
 use Rattle.hm_graph.specs.declared.hops.Hop.{Hop}
 

@@ -1,6 +1,6 @@
 -- Steps over which no state changes its place, one after the other.
 use Rattle.std.specs.Prelude.{◌≡◌, ℕ, zero, suc, ◌+◌, true, List, [], ◌∷◌, length}
-use Rattle.hm_cert.specs.declared.text.Format.{Format}
+use Rattle.hm_base.specs.declared.plain.Format.{Format}
 use Rattle.hm_graph.specs.Steps.{Step, leaves_out}
 use Rattle.hm_graph.specs.Still.{AreStill}
 

@@ -9,7 +9,7 @@ ghost use Rattle.hm_graph.specs.Still.{AreStill};
 
 use crate::numbers::Run;
 use crate::step::Step;
-use hm_cert::Format;
+use hm_base::Format;
 use std::marker::Model;
 
 /// The steps between the layers of a tree's graph, in their order, and how many states the last layer has. Each different

@@ -12,8 +12,7 @@ ghost use Rattle.hm_graph_laws.specs.States.{same_state};
 ghost use Rattle.hm_graph_laws.specs.Units as units;
 
 use crate::layer::is_state;
-use hm_base::Memory;
-use hm_cert::Format;
+use hm_base::{Format, Memory};
 use hm_edges::{Edge, Pending, State, Unit, Where, piece_len};
 use hm_refs::Table;
 use std::alloc::Global;

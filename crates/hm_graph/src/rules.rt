@@ -1,6 +1,5 @@
 //! By which rules the edges of a graph are found.
-use hm_base::SpellRules;
-use hm_cert::Format;
+use hm_base::{Format, SpellRules};
 
 /// The rules by which a tree may be written, and the format whose graph is made.
 #[derive(Clone, Copy)]

@@ -7,7 +7,7 @@ ghost use Rattle.hm_graph.specs.Graphs as graphs;
 
 use crate::Hop;
 use crate::still::still_len;
-use hm_cert::Format;
+use hm_base::Format;
 use hm_edges::Piece;
 use std::marker::Model;
 

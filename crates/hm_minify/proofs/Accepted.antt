@@ -9,7 +9,7 @@ use Rattle.hm_cert.specs.Reading.{ReadsAs, given}
 use Rattle.hm_cert.specs.declared.lines.CertificateFault.{CertificateFault}
 use Rattle.hm_cert.specs.declared.lines.CertificateFault.TheVariants.{BadLine}
 use Rattle.hm_cert.specs.declared.certificate.Certificate.{Certificate}
-use Rattle.hm_cert.specs.declared.text.Format.{Format}
+use Rattle.hm_base.specs.declared.plain.Format.{Format}
 use Rattle.hm_check.proofs.Shown.{minified_is_accepted}
 use Rattle.hm_check.specs.Laws.{least_certificate}
 use Rattle.hm_check.specs.Verdicts.{verdict}

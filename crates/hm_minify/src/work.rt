@@ -15,7 +15,7 @@ use crate::ended::{Ended, Output, Said, Stop, says, shows};
 use crate::lines::{length_line, refused_line, table_line};
 use crate::measured::measure;
 use crate::{Input, Status, Unread, load_tree};
-use hm_cert::Format;
+use hm_base::Format;
 use hm_dump::Shown;
 use hm_plan::minify_tree;
 use hm_store::Store;

@@ -1,7 +1,7 @@
 -- What the format of a certificate says of a graph: which edges it has, and which layers are left out.
 use Rattle.std.specs.Prelude.{List}
-use Rattle.hm_cert.specs.declared.text.Format.{Format}
-use Rattle.hm_cert.specs.declared.text.Format.TheVariants.{One, Two, Three}
+use Rattle.hm_base.specs.declared.plain.Format.{Format}
+use Rattle.hm_base.specs.declared.plain.Format.TheVariants.{One, Two, Three}
 use Rattle.hm_graph_laws.specs.Layers.{LayerTest, nothing_follows, single_follows}
 use Rattle.hm_graph_laws.specs.Ways.{Edges}
 use Rattle.hm_optimality_laws.specs.Outdone.{forced_follows, kept_edges}

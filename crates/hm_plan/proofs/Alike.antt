@@ -8,7 +8,7 @@ use Rattle.std.proofs.Math.Nat.{mul-le-mul_right}
 use Rattle.hm_cert.specs.Certificate.{row_line}
 use Rattle.hm_cert.specs.Rows.{AreBelow, IsBelow}
 use Rattle.std.specs.Prelude.{Option, Some, None}
-use Rattle.hm_cert.specs.declared.text.Format.{Format}
+use Rattle.hm_base.specs.declared.plain.Format.{Format}
 use Rattle.hm_graph_laws.specs.Layers.{is_single}
 use Rattle.hm_graph_laws.specs.Prices.{Row}
 use Rattle.hm_graph_laws.specs.Ways.{over}

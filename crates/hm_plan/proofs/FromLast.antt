@@ -9,7 +9,7 @@ use Rattle.hm_base.specs.declared.plain.SpellRules.{SpellRules}
 use Rattle.hm_cert.specs.Certificate.{head_lines, row_line, row_lines}
 use Rattle.hm_cert.specs.Layout.{told}
 use Rattle.hm_cert.proofs.Below.{below_in}
-use Rattle.hm_cert.specs.declared.text.Format.{Format}
+use Rattle.hm_base.specs.declared.plain.Format.{Format}
 use Rattle.hm_graph_laws.specs.Prices.{Row, first_price}
 use Rattle.hm_graph_laws.specs.Ways.{lesser, over}
 use Rattle.hm_graph.specs.Graphs.{GraphView, AreLow, IsLowStep, AreLowHops}

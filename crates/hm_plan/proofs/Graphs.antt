@@ -3,7 +3,7 @@ use Rattle.std.proofs.Common.{◌≡◌, ◌∙◌, ℕ, suc, true, List, [], �
 use Rattle.hm_base.specs.Walks.{Event}
 use Rattle.hm_base.specs.declared.plain.SpellRules.{SpellRules}
 use Rattle.hm_cert.specs.Certificate.{certificate_text}
-use Rattle.hm_cert.specs.declared.text.Format.{Format}
+use Rattle.hm_base.specs.declared.plain.Format.{Format}
 use Rattle.hm_edges.specs.Pieces.{piece_bytes}
 use Rattle.hm_edges.specs.declared.pieces.Piece.{Piece}
 use Rattle.hm_graph_laws.specs.Layers.{first_layer, states_behind}

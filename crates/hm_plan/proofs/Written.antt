@@ -4,7 +4,7 @@ use Rattle.std.specs.Prelude.{slice_index_or}
 use Rattle.hm_base.specs.Walks.{Event}
 use Rattle.hm_base.specs.declared.plain.SpellRules.{SpellRules}
 use Rattle.hm_cert.specs.Certificate.{AreRows, ArePrices}
-use Rattle.hm_cert.specs.declared.text.Format.{Format}
+use Rattle.hm_base.specs.declared.plain.Format.{Format}
 use Rattle.hm_edges.specs.Found.{spelling}
 use Rattle.hm_edges.specs.Pieces.{piece_bytes}
 use Rattle.hm_elements.specs.Settled.{Settled}

@@ -3,7 +3,7 @@ use Rattle.std.specs.Prelude.{◌≡◌, ℕ, zero, suc, ◌*◌, List, [], ◌+
 use Rattle.hm_base.specs.declared.plain.SpellRules.{SpellRules}
 use Rattle.hm_cert.specs.Certificate.{certificate_text, row_line, row_lines}
 use Rattle.hm_cert.specs.Layout.{told}
-use Rattle.hm_cert.specs.declared.text.Format.{Format}
+use Rattle.hm_base.specs.declared.plain.Format.{Format}
 use Rattle.hm_graph_laws.specs.Prices.{Row, first_price}
 use Rattle.hm_graph_laws.specs.Ways.{over}
 use Rattle.hm_graph.specs.Graphs.{GraphView}

@@ -6,8 +6,7 @@ ghost use Rattle.hm_plan.specs.Minified.{IsMinifiedBy};
 ghost use Rattle.hm_plan.specs.Shortest.{certified_rows};
 
 use crate::{backward, write_path};
-use hm_base::{Memory, SpellRules};
-use hm_cert::Format;
+use hm_base::{Format, Memory, SpellRules};
 use hm_graph::Graph;
 use hm_refs::Table;
 use hm_refs::laws::every_table;

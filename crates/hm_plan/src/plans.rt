@@ -13,8 +13,8 @@ ghost use Rattle.hm_cert.specs.Rows.{AreBelow};
 ghost use Rattle.hm_plan.specs.Plans.{IsFound, IsPlan, raised_lines};
 
 use crate::turned::turn;
-use hm_base::{Memory, SpellRules};
-use hm_cert::{CLOSED, Format, ReversedText, add_each, more};
+use hm_base::{Format, Memory, SpellRules};
+use hm_cert::{CLOSED, ReversedText, add_each, more};
 use hm_graph::{Cursor, Graph, Hop, Step};
 use std::alloc::Global;
 use std::mem;

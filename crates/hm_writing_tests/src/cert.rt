@@ -1,8 +1,7 @@
 use crate::made::LOOSE_RULES as RULES;
-use hm_base::{Memory, SpellRules};
+use hm_base::{Format, Memory, SpellRules};
 use hm_cert::{
-    CLOSED, Certificate, CertificateFault, Format, Prices, ReversedText, add_each,
-    write_certificate,
+    CLOSED, Certificate, CertificateFault, Prices, ReversedText, add_each, write_certificate,
 };
 use std::alloc::Global;
 

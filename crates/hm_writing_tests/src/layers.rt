@@ -1,8 +1,7 @@
 #![tactic(auto, using(hm_tree::proofs::RoomLemmas::room))]
 
 use crate::made::{NONE, TIGHT_RULES as RULES, TWO, attributes};
-use hm_base::Memory;
-use hm_cert::Format;
+use hm_base::{Format, Memory};
 use hm_graph::Graph;
 use hm_refs::Table;
 use hm_tree::Tree;

@@ -24,7 +24,7 @@ pub(crate) enum ByteRun {
 }
 
 impl ByteRun {
-    #[tactic(auto, unfolding(crate::specs::Places::is_gap_byte, crate::specs::Tags::is_name_byte, crate::specs::Tags::is_later_byte, crate::specs::Tags::is_unquoted_byte, hm_base::specs::RawText::is_name_end))]
+    #[tactic(auto, unfolding(crate::specs::TagPlaces::is_gap_byte, crate::specs::Tags::is_name_byte, crate::specs::Tags::is_later_byte, crate::specs::Tags::is_unquoted_byte, hm_base::specs::RawText::is_name_end))]
     pub(crate) fn has(self, byte: u8) -> bool
         ensures { result ≡ test_of self byte }
     {

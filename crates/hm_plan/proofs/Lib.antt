@@ -4,7 +4,7 @@ pub mod FromLast
 pub mod FirstWay
 mod Forced
 pub mod Alike
-mod Copied
+mod CopiedWay
 pub mod Ends
 pub mod Headline
 pub mod Graphs

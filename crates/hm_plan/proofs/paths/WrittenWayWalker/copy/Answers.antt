@@ -1,6 +1,6 @@
 use Rattle.std.proofs.Common.{length, refl}
 use Rattle.hm_plan.specs.declared.paths.WrittenWay.{WrittenWay}
-use Rattle.hm_plan.proofs.Copied.{comes_copied, copied_choices}
+use Rattle.hm_plan.proofs.CopiedWay.{comes_copied, copied_choices}
 use Rattle.hm_plan.proofs.paths.WrittenWayWalker.copy.Goals as goal
 
 pub returns-clause-stands : goal.returns-clause-stands

@@ -1,4 +1,4 @@
-//! What all crates of hminify share: rules of refusal, limits, plain types, and the text of a page.
+//! What all crates share: rules of refusal, limits, plain types, and the text of a page.
 #![tactic(auto)]
 
 mod limits;

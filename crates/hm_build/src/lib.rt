@@ -1,4 +1,4 @@
-//! `parse`: the tree of a page, built token by token by the insertion modes of the HTML Standard.
+//! The tree of a page: `parse` builds it token by token, by the insertion modes of the HTML Standard.
 #![tactic(auto)]
 
 mod before_body;

@@ -1,4 +1,4 @@
-//! The text of a certificate: the prices of the layers that are written, and how they are written and read.
+//! The text of a certificate: how prices of layers are written and read. It knows no graph.
 #![tactic(auto)]
 
 mod certificate;

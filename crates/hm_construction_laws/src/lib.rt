@@ -1,4 +1,4 @@
-//! How a tree is built, token by token, what the tree of a page is, and laws about it.
+//! Laws of tree construction: what each token does, what the tree of a page is, and that it is settled. Nothing runs.
 #![tactic(auto)]
 
 pub mod laws;

@@ -1,4 +1,4 @@
-//! The edges of a unit from a state: states, units and pieces as a writer holds them, and what a byte does to what is pending.
+//! The edges of one unit from one state, in code: states, units and pieces as a writer holds them, and steps over bytes.
 #![tactic(auto)]
 
 mod characters;

@@ -1,4 +1,4 @@
-//! The tables of names of elements and attributes, and which pages are settled.
+//! The tables of names of elements and attributes, and which trees are settled.
 #![tactic(auto)]
 
 mod class;

@@ -1,4 +1,4 @@
-//! A page that is made from a number, of any size that is asked for: it is measured where no page is loaded.
+//! A page made from a number, of any size that is asked for: the page of `measure`.
 #![tactic(auto)]
 
 mod block;

@@ -1,4 +1,5 @@
-//! The layered graph of a tree in code: each step between two layers is made once and numbered, and kept as runs of equal ones.
+//! The layered graph of one tree, as the program holds it: each step between two layers is made once and numbered, and kept as runs
+//! of equal ones.
 #![tactic(auto)]
 
 mod along;

@@ -1,4 +1,5 @@
-//! The layered graph of the spellings of a tree: its units, states and edges, its paths and prices. Definitions and laws alone.
+//! What the layered graph of the spellings of a tree is: its units, states and edges, its paths and prices. Definitions and laws
+//! alone; nothing runs.
 #![tactic(auto)]
 
 pub mod attributes;

@@ -1,2 +1,3 @@
-//! How a doctype and a tag may be written, for a reader of existing pages and for the written rules.
+//! Specification of markup: how a doctype and a tag may be written, for a reader of existing pages and for the written rules.
+//! Nothing runs.
 #![tactic(auto)]

@@ -1,4 +1,4 @@
-//! What a run is to do, done: the top call `run` over any files and any output, its endings, lines and statuses.
+//! One whole run: the top call `run` over any files and any output, with its endings, lines and statuses.
 #![tactic(auto)]
 
 mod checked;

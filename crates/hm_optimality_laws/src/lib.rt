@@ -1,5 +1,5 @@
-//! Between the layered graph and the spellings of a settled tree: prices that keep the rules bound every spelling, and the first
-//! least path is a shortest one; the graph without dominated edges loses nothing. Laws alone.
+//! Laws of optimality: prices that keep the rules bound every spelling of a settled tree, and the first least path is a shortest
+//! one; the graph without dominated edges loses nothing. Nothing runs.
 #![tactic(auto)]
 
 pub mod sparse;

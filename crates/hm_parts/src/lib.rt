@@ -1,5 +1,5 @@
-//! The parts of an event of a tree as the writer takes them: units with their own bytes and runs of characters, which tags may be
-//! left out, and the bytes that the pieces of edges write.
+//! One event of a tree as the writer takes it: its units with their own bytes and runs of characters, which tags may be left out,
+//! and the bytes that the pieces of edges write.
 #![tactic(auto)]
 
 mod adding;

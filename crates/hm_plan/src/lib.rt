@@ -1,4 +1,5 @@
-//! A tree written shortest, with its certificate: prices and choices from the last layer on, then the text of the first least path.
+//! The writer: a tree written shortest, with its certificate. Prices and choices are found from the last layer to the first, then
+//! the text of the first least path is written.
 #![tactic(auto)]
 
 mod copied;

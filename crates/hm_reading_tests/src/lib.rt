@@ -1,4 +1,4 @@
-//! The tests of the crates that read a page and keep a tree, apart from those crates, so that each of them is proved once.
+//! Tests of the crates that read a page and keep a tree, apart from those crates, so that each of them is proved once.
 #![tactic(auto)]
 
 #[cfg(test)]

@@ -1,4 +1,4 @@
-//! Round trip: every spelling of a settled tree by the written rules is a page whose tree it is. Laws alone.
+//! Laws of the round trip: every spelling of a settled tree by the written rules is a page whose tree it is. Nothing runs.
 #![tactic(auto)]
 
 pub mod line_ends;

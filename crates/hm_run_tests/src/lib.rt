@@ -1,4 +1,4 @@
-//! The tests of words, stores and whole runs.
+//! Tests of words, stores and whole runs.
 #![tactic(auto)]
 
 #[cfg(test)]

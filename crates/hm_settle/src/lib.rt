@@ -1,4 +1,4 @@
-//! Open elements, and what a start tag or an end tag does to them.
+//! The open elements, and what a start tag or an end tag does to them.
 #![tactic(auto)]
 
 mod element;

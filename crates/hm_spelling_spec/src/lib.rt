@@ -1,2 +1,2 @@
-//! Every way to write a tree: the relation that "shortest" refers to.
+//! Specification of spellings: every way to write a tree, the relation that "shortest" refers to. Nothing runs.
 #![tactic(auto)]

@@ -1,4 +1,4 @@
-//! What the next token of a text is, in a mode, and laws about it.
+//! Laws of tokens: what the next token of a text is, in a mode. Nothing runs.
 #![tactic(auto)]
 
 pub mod laws;

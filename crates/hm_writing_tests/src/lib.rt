@@ -1,4 +1,4 @@
-//! The tests of the crates that write the shortest text and check it.
+//! Tests of the crates that write the shortest text of a tree and check it.
 #![tactic(auto)]
 
 #[cfg(test)]

@@ -1,5 +1,5 @@
-//! The program: `hminify minify TABLE PAGE OUT CERT`, `check` with the same names, `tree TABLE PAGE` and `measure TABLE NUMBER
-//! SIZE`, with flags.
+//! The program: `main` calls `run` of `hm_minify` over real files. Its words are `minify TABLE PAGE OUT CERT`, `check` with the same
+//! names, `tree TABLE PAGE` or `measure TABLE NUMBER SIZE`, and flags.
 #![tactic(auto)]
 
 use hm_base::Word;

@@ -210,14 +210,16 @@ def try_paths(known):
 
 
 def transcripts(text):
-    """The commands of each block of a document, with the lines that they print."""
+    """The commands of each block of a document, with the lines that they print. After `\\` a command goes on in the next line."""
     found = []
     for block in re.findall(r'(?:^    .*\n)+', text + '\n', re.M):
         lines = [line[4:] for line in block.splitlines()]
         if not lines[0].startswith('$ '):
             continue
         for line in lines:
-            if line.startswith('$ '):
+            if found and found[-1][0].endswith('\\') and not found[-1][1]:
+                found[-1] = (f'{found[-1][0]}\n{line}', [])
+            elif line.startswith('$ '):
                 found.append((line[2:], []))
             else:
                 found[-1][1].append(line)

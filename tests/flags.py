@@ -103,8 +103,9 @@ def behaviour_flags():
 
 
 def behaviour_commands():
-    lines = re.findall(r'^    hminify ([a-z]+)(.*)$', section('docs/BEHAVIOUR.md', 'The commands'), re.M)
-    return {name: re.findall(r'\b[A-Z]+\b(?!\])', words) for name, words in lines}
+    """Each command with its words; a line with a flag is an example."""
+    lines = re.findall(r'^    hminify ([a-z]+)((?: [A-Z]+)*)(?: \[FLAGS\])?$', section('docs/BEHAVIOUR.md', 'The commands'), re.M)
+    return {name: words.split() for name, words in lines}
 
 
 def manual_flags():

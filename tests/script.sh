@@ -43,7 +43,7 @@ builds() {
 }
 
 # A repository of three crates and one that the program isn't made of. Its rt notes each call, fails in a crate with a file
-# `bad`, leaves a broken program and fails in one with a file `worse`, is slow in one with a file `slow`, and leaves a
+# `bad`, leaves a broken program and fails in one with a file `worse`, sleeps for the seconds that a file `slow` has, and leaves a
 # program that is there. Its program prints its words and its folder, and ends with 3. What it tries prints its words, says a
 # line on standard error, and ends with 3.
 repository() {
@@ -63,7 +63,7 @@ repository() {
 crate=$(basename "$PWD")
 echo "$1 $crate" >>"$CALLS"
 [ "$1" = try ] || echo 'rt: noise'
-[ ! -e slow ] || sleep 5
+[ ! -e slow ] || sleep "$(cat slow)"
 if [ "$1" = try ]; then
     if [ -e bad ]; then
         printf '%s\n' 'error: no such name' 'run=none proved=no' >&2
@@ -75,8 +75,8 @@ if [ "$1" = try ]; then
     exit 3
 fi
 [ ! -e bad ] || exit 1
-[ "$1" = run ] || exit 0
 mkdir -p out
+[ "$1" = run ] || exit 0
 if [ -e worse ]; then
     : >out/hminify
     exit 1
@@ -145,9 +145,14 @@ wants 'a build where nothing changed calls rt once' is "$(cat calls)" 'run hmini
 touch "$top/crates.txt"
 : >calls
 call "$top/hminify" --build
-wants 'other crates: each is built' is "$(tr '\n' ' ' <calls)" 'lib hm_base lib hm_tree run hminify '
+wants 'another crates.txt: each is built' is "$(tr '\n' ' ' <calls)" 'lib hm_base lib hm_tree run hminify '
 call "$top/hminify" --build x
 wants '--build beside other words is a word of the program' is "$(cat out)$status" "<--build><x>${room}3"
+
+rmdir "$top/crates/hm_tree/out"
+: >calls
+call "$top/hminify" --build
+wants 'a crate that was never built is' is "$(tr '\n' ' ' <calls)" 'lib hm_tree run hminify '
 
 touch "$top/crates/hm_tree/bad" "$top/crates/hm_tree/src/lib.rt"
 call "$top/hminify" --build
@@ -167,7 +172,7 @@ call "$top/hminify" x
 wants 'a first build that fails' is "$(cat out)$status" 70
 
 repository
-touch "$top/crates/hm_tree/slow"
+echo 5 >"$top/crates/hm_tree/slow"
 "$top/hminify" one >"$room/out1" 2>"$room/err1" &
 until grep -q 'lib hm_tree' calls; do sleep 1; done
 call "$top/hminify" two
@@ -178,7 +183,7 @@ wants 'how long it will take is told after a crate that took long' grep -q 'prov
 wants 'two at once: both run' is "$(cat out1)$(cat out)$status" "<one>$room<two>${room}3"
 
 repository
-touch "$top/crates/hm_tree/slow"
+echo 2 >"$top/crates/hm_tree/slow"
 "$top/hminify" one >"$room/out1" 2>"$room/err1" &
 until grep -q 'lib hm_tree' calls; do sleep 1; done
 kill -KILL $!

@@ -1,11 +1,12 @@
 #!/usr/bin/env python3
-"""Tries what the documents name: crates, files, calls, definitions, links, and their transcripts.
+"""Tries what the documents name: crates, files, calls, definitions, links, the version, and their transcripts.
 
     python3 tests/docs.py
 
-prints each name that isn't there, each crate without a README or without a line in the map, and each transcript that the
-program answers in another way, and then ends with 1. Where all is well it prints one line. The transcripts are run where
-the program was built (crates/hminify/out/hminify); where it wasn't, that is said, and is a fault if CI is `true`."""
+prints each name that isn't there, each crate without a README or without a line in the map, each document that doesn't have
+the version of the file VERSION, and each transcript that the program answers in another way, and then ends with 1. Where
+all is well it prints one line. The transcripts are run where the program was built (crates/hminify/out/hminify); where it
+wasn't, that is said, and is a fault if CI is `true`."""
 import os
 import re
 import shutil
@@ -27,7 +28,7 @@ CRATE = re.compile(r'\bhm_\w+')
 CRATE_FILE = re.compile(r'\b(hm_\w+|hminify)/((?:src|specs|proofs|must-fail|data)\b(?:/' + WORDS + r')?)')
 CALL = re.compile(r'`(hm_\w+)::([\w:]+)`')
 # a file of this repository from its top
-TOP_FILE = re.compile(r'(?<![\w/.])((?:docs|tests|tables|compare|crates|\.ci)/' + WORDS + r'|crates\.txt)')
+TOP_FILE = re.compile(r'(?<![\w/.])((?:docs|tests|tables|compare|completions|crates|\.ci)/' + WORDS + r'|crates\.txt)')
 # a file of a crate that the text names elsewhere
 LONE_FILE = re.compile(r'`(?:(src|specs|proofs)/)?(\w+\.(?:rt|antt))`')
 # `hm_x/specs/File.antt`: `name`, `name`; in the README of a crate the crate's name is left out
@@ -63,7 +64,7 @@ def crates():
 
 def documents():
     """Every document, from the top."""
-    found = [TOP / 'README.md', *sorted((TOP / 'docs').glob('*.md')), *sorted((TOP / 'crates').glob('*/README.md'))]
+    found = [*sorted(TOP.glob('*.md')), *sorted((TOP / 'docs').glob('*.md')), *sorted((TOP / 'crates').glob('*/README.md'))]
     found += [TOP / 'compare/README.md', TOP / 'tables/README.md']
     return [it.relative_to(TOP) for it in found if it.is_file()]
 
@@ -188,6 +189,17 @@ def try_map(known):
             fault('README.md', f'no link to {name}')
 
 
+def try_version():
+    """The version stands in VERSION; the manual page tells of it, and it is the first of the changelog."""
+    version = read(TOP / 'VERSION').strip()
+    if not re.fullmatch(r'\d+\.\d+\.\d+', version):
+        fault('VERSION', f'{version!r} is no version')
+    for path, form in [('CHANGELOG.md', r'^## \[([^\]]*)\]'), ('docs/hminify.1', r'^\.Nm\n([\d.]+)\.$')]:
+        told = re.search(form, read(TOP / path), re.M)
+        if told is None or told[1] != version:
+            fault(path, f'its version is {told and told[1]}, wanted {version}')
+
+
 def try_paths(known):
     @cache
     def paths(name):
@@ -198,14 +210,16 @@ def try_paths(known):
 
 
 def transcripts(text):
-    """The commands of each block of a document, with the lines that they print."""
+    """The commands of each block of a document, with the lines that they print. After `\\` a command goes on in the next line."""
     found = []
     for block in re.findall(r'(?:^    .*\n)+', text + '\n', re.M):
         lines = [line[4:] for line in block.splitlines()]
         if not lines[0].startswith('$ '):
             continue
         for line in lines:
-            if line.startswith('$ '):
+            if found and found[-1][0].endswith('\\') and not found[-1][1]:
+                found[-1] = (f'{found[-1][0]}\n{line}', [])
+            elif line.startswith('$ '):
                 found.append((line[2:], []))
             else:
                 found[-1][1].append(line)
@@ -248,6 +262,7 @@ def main():
         try_names(document, text, known)
         try_links(document, text)
     try_map(known)
+    try_version()
     try_paths(known)
     if has_program():
         for document in documents():

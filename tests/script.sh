@@ -43,8 +43,9 @@ builds() {
 }
 
 # A repository of three crates and one that the program isn't made of. Its rt notes each call, fails in a crate with a file
-# `bad`, leaves a broken program and fails in one with a file `worse`, is slow in one with a file `slow`, and leaves a
-# program that is there. Its program prints its words and its folder, and ends with 3.
+# `bad`, leaves a broken program and fails in one with a file `worse`, sleeps for the seconds that a file `slow` has, and leaves a
+# program that is there. Its program prints its words and its folder, and ends with 3. What it tries prints its words, says a
+# line on standard error, and ends with 3.
 repository() {
     rm -rf "$room/a place"
     top="$room/a place/of mine"
@@ -53,6 +54,7 @@ repository() {
     printf '%s\n' '# crates' 'hm_tree: hm_base std' 'hm_cases: hm_tree' 'hminify may_abort=2: hm_tree hm_base' 'hm_base:' >"$top/crates.txt"
     for crate in hm_base hm_tree hminify hm_cases; do
         mkdir -p "$top/crates/$crate/src"
+        echo '// a line' >"$top/crates/$crate/src/lib.rt"
         touch -t 200101010000 "$top/crates/$crate/src/lib.rt"
     done
     touch -t 200101010000 "$top/crates.txt"
@@ -60,11 +62,21 @@ repository() {
 #!/bin/sh
 crate=$(basename "$PWD")
 echo "$1 $crate" >>"$CALLS"
-echo 'rt: noise'
-[ ! -e slow ] || sleep 3
+[ "$1" = try ] || echo 'rt: noise'
+[ ! -e slow ] || sleep "$(cat slow)"
+if [ "$1" = try ]; then
+    if [ -e bad ]; then
+        printf '%s\n' 'error: no such name' 'run=none proved=no' >&2
+        exit 1
+    fi
+    shift 4
+    printf '<%s>' "$@"
+    printf '%s\n' 'a fault' 'checked: ended status=3' 'run=ended status=3 runners=1 proved=no' >&2
+    exit 3
+fi
 [ ! -e bad ] || exit 1
-[ "$1" = run ] || exit 0
 mkdir -p out
+[ "$1" = run ] || exit 0
 if [ -e worse ]; then
     : >out/hminify
     exit 1
@@ -86,7 +98,7 @@ repository
 call "$top/hminify" tree 'a b' ''
 wants 'the first call builds: exit status' is "$status" 3
 wants 'the first call builds: output' is "$(cat out)" "<tree><a b><>$room"
-wants 'each crate behind those that it uses' is "$(tr '\n' ' ' <calls)" 'lib hm_base lib hm_tree run hminify '
+wants 'each crate after those that it uses' is "$(tr '\n' ' ' <calls)" 'lib hm_base lib hm_tree run hminify '
 wants 'a line for each crate' says 'hminify: proving hm_tree (2 of 3)'
 call "$top/hminify" x
 wants 'the next call builds nothing' is "$(builds)" 1
@@ -117,6 +129,8 @@ wants 'a newer source: nothing is built' is "$(builds)" 1
 wants 'a newer source: output and status' is "$(cat out)$status" "<x>${room}3"
 call "$top/hminify" --build
 wants '--build builds and runs nothing' is "$(builds)$status$(cat out)" 20
+wants '--build: what changed, and what uses it' is "$(tail -n 2 calls | tr '\n' ' ')" 'lib hm_tree run hminify '
+wants '--build: these alone are counted' says 'hminify: proving hminify (2 of 2), 0:0'
 call "$top/hminify" x
 wants 'what changed since the build began is still newer' says 'crates/hm_tree/src/lib.rt; to build it again'
 touch "$top/crates/hm_tree/src/lib.rt"
@@ -124,11 +138,23 @@ call "$top/hminify" x
 wants 'what changed since the last build is newer' says 'crates/hm_tree/src/lib.rt; to build it again'
 call "$top/hminify" --build
 call "$top/hminify" x
-wants 'behind a build that changed nothing, nothing is newer' says_nothing
+wants 'after a build, nothing is newer' says_nothing
+: >calls
+call "$top/hminify" --build
+wants 'a build where nothing changed calls rt once' is "$(cat calls)" 'run hminify'
+touch "$top/crates.txt"
+: >calls
+call "$top/hminify" --build
+wants 'another crates.txt: each is built' is "$(tr '\n' ' ' <calls)" 'lib hm_base lib hm_tree run hminify '
 call "$top/hminify" --build x
 wants '--build beside other words is a word of the program' is "$(cat out)$status" "<--build><x>${room}3"
 
-touch "$top/crates/hm_tree/bad"
+rmdir "$top/crates/hm_tree/out"
+: >calls
+call "$top/hminify" --build
+wants 'a crate that was never built is' is "$(tr '\n' ' ' <calls)" 'lib hm_tree run hminify '
+
+touch "$top/crates/hm_tree/bad" "$top/crates/hm_tree/src/lib.rt"
 call "$top/hminify" --build
 wants 'a build that fails: exit status' is "$status" 70
 wants 'a build that fails: where' says 'hminify: the build failed at hm_tree'
@@ -146,17 +172,18 @@ call "$top/hminify" x
 wants 'a first build that fails' is "$(cat out)$status" 70
 
 repository
-touch "$top/crates/hm_tree/slow"
+echo 5 >"$top/crates/hm_tree/slow"
 "$top/hminify" one >"$room/out1" 2>"$room/err1" &
 until grep -q 'lib hm_tree' calls; do sleep 1; done
 call "$top/hminify" two
 wait
 wants 'two at once: one waits, and says so' says 'hminify: another call builds the program; waiting for it'
 wants 'two at once: one build' is "$(builds)" 1
+wants 'how long it will take is told after a crate that took long' grep -q 'proving hminify (3 of 3), 0:[01][0-9], about 1 min left$' err1
 wants 'two at once: both run' is "$(cat out1)$(cat out)$status" "<one>$room<two>${room}3"
 
 repository
-touch "$top/crates/hm_tree/slow"
+echo 2 >"$top/crates/hm_tree/slow"
 "$top/hminify" one >"$room/out1" 2>"$room/err1" &
 until grep -q 'lib hm_tree' calls; do sleep 1; done
 kill -KILL $!
@@ -165,14 +192,34 @@ call "$top/hminify" two
 wants 'a build that was killed holds up no other' is "$(cat out)$status" "<two>${room}3"
 
 repository
+call "$top/hminify" --try minify none 'a page' --omit none /tmp/cert ''
+wants '--try: names of files from the root' is "$(cat out)" "<minify><none><$room/a page><--omit><$room/none></tmp/cert><>"
+wants '--try: exit status' is "$status" 3
+wants '--try: nothing is built' is "$(cat calls)" 'try hminify'
+wants '--try: one line that nothing was proved' is "$(grep -c '^hminify: nothing is proved' err)" 1
+wants '--try: and what the program says' is "$(sed 1d err)" 'a fault'
+call "$top/hminify" --try measure table 7 20
+wants '--try: numbers are no files' is "$(cat out)" "<measure><$room/table><7><20>"
+call "$top/hminify" --try tree html none
+wants '--try: a page may be named as a table is' is "$(cat out)" "<tree><html><$room/none>"
+call "$top/hminify" tree --try
+wants '--try after another word is a word of the program' is "$(cat out)" "<tree><--try>$room"
+touch "$top/crates/hminify/bad"
+call "$top/hminify" --try tree none page
+wants '--try: what rt refuses' is "$status$(cat out)" 70
+wants '--try: what rt refuses is said' says 'error: no such name'
+
+repository
 mkdir "$room/no_rt"
-for tool in sh awk basename cat chmod cp dirname find flock grep head mkdir mv pwd readlink rm sed sleep tail touch; do
+for tool in sh awk basename cat chmod cp date dirname find flock grep head mkdir mv pwd readlink rm sed sleep tail touch tr wc; do
     ln -s "$(command -v "$tool")" "$room/no_rt/$tool"
 done
 call env PATH="$room/no_rt" "$top/hminify" x
 wants 'without rt' is "$status" 70
 wants 'without rt: it is said' says 'hminify: no rt: the Rattle toolchain'
 rm "$room/no_rt/flock"
+call env PATH="$room/no_rt" "$top/hminify" --try x
+wants 'without rt: --try' is "$status" 70
 cp "$top/bin/rt" "$room/no_rt/rt"
 call env PATH="$room/no_rt" "$top/hminify" x
 wants 'without flock it builds too' is "$(cat out)$status" "<x>${room}3"

@@ -10,7 +10,7 @@ use Rattle.hm_elements.proofs.Events.{same_is}
 use Rattle.hm_elements.proofs.Listed.{listed, is_listed, no_class, no_void, no_rcdata, no_raw, not_refused}
 
 -- a test that holds of listed names and of all others holds of every name
-by_list : (test : List ℕ → Bool) (n : List ℕ) → list_all test listed ≡ true → (is_listed n ≡ false → test n ≡ true) → test n ≡ true
+pub by_list : (test : List ℕ → Bool) (n : List ℕ) → list_all test listed ≡ true → (is_listed n ≡ false → test n ≡ true) → test n ≡ true
 by_list test n all other = by (is_listed n) refl
   where
     by : (b : Bool) → is_listed n ≡ b → test n ≡ true

@@ -12,3 +12,4 @@ pub mod Listed
 pub mod KnownFacts
 pub mod ClassFacts
 pub mod Defaults
+pub mod OmissionFacts

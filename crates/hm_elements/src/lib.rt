@@ -9,6 +9,7 @@ pub mod laws;
 mod lists;
 mod look_up;
 mod nesting;
+mod omission;
 
 pub use class::{
     Class, class_of, closes_p, holds_text, is_block, is_boolean, is_boundary, is_heading, is_raw,
@@ -17,8 +18,9 @@ pub use class::{
 pub use kind::{Kind, Named, kind_of};
 pub use known_name::KnownName;
 pub use lists::{
-    is_blank_parent, is_cell, is_metadata, is_preformatted, is_redundant, is_root, is_section,
-    is_space_parent, says_nothing_blank,
+    is_blank_parent, is_cell, is_metadata, is_preformatted, is_rcdata, is_redundant, is_root,
+    is_section, is_space_parent, says_nothing_blank,
 };
 pub use look_up::{is_one_of, same_name};
 pub use nesting::{ends_with, may_stand, yields};
+pub use omission::{bars_start, goes_before, goes_up, is_head_taker, start_goes_before};

@@ -17,6 +17,14 @@ pub fn is_root(name: &str) -> bool
     is_one_of(name, &["html", "head", "body"])
 }
 
+/// Whether the HTML element holds one text, in which character references are read.
+#[tactic(auto, unfolding(crate::specs::Tables::is_rcdata, crate::specs::Tables::rcdata_names))]
+pub fn is_rcdata(name: &str) -> bool
+    ensures { result ≡ tables.is_rcdata name.now }
+{
+    is_one_of(name, &["title", "textarea"])
+}
+
 /// Whether the element is a section of a table.
 #[tactic(auto, unfolding(crate::specs::Tables::is_section, crate::specs::Tables::sections))]
 pub fn is_section(name: &str) -> bool

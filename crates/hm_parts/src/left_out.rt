@@ -13,9 +13,8 @@ ghost use Rattle.hm_parts.specs.Events.{previous_at};
 
 use crate::likely::{is_like_ended, is_like_part};
 use crate::neighbours::{next_event, parent_name, previous_event};
-use crate::omission::{bars_start, goes_before, goes_up, head_takes, start_goes_before};
 use hm_base::{SpellRules, is_space};
-use hm_elements::same_name;
+use hm_elements::{bars_start, goes_before, goes_up, is_head_taker, same_name, start_goes_before};
 use hm_tree::{EventView, Tree};
 
 fn is_comment(next: Option<EventView<'_>>) -> bool
@@ -72,11 +71,12 @@ fn is_space_first(next: Option<EventView<'_>>) -> bool
 }
 
 /// Whether the event is the start of an element that is taken into `head` where no start tag of `body` stands before it.
+#[tactic(auto, unfolding(hm_spelling_spec::specs::Omission::head_takes))]
 fn is_for_head(next: Option<EventView<'_>>) -> bool
     ensures { result ≡ spellings.begins_for_head (shown next.entry) }
 {
     match next {
-        Some(EventView::Start { name, foreign, .. }) => !foreign && head_takes(name),
+        Some(EventView::Start { name, foreign, .. }) => !foreign && is_head_taker(name),
         _ => false,
     }
 }

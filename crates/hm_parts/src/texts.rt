@@ -9,9 +9,8 @@ ghost use Rattle.hm_parts.specs.Around.{IsAround, previous_shown};
 ghost use Rattle.hm_parts.specs.Events.{previous_at};
 
 use crate::neighbours::{Around, previous_event};
-use crate::omission::is_rcdata;
 use hm_edges::TextKind;
-use hm_elements::is_preformatted;
+use hm_elements::{is_preformatted, is_rcdata};
 use hm_tree::{EventView, Tree};
 
 /// In what kind of text the characters stand directly in this element.

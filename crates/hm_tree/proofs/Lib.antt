@@ -1,10 +1,10 @@
 pub mod ApartLemmas
 pub mod AttributeLemmas
-pub mod BucketLemmas
 pub mod EndLemmas
 pub mod LastLemmas
 pub mod MakingLemmas
 pub mod ListLemmas
+pub mod NameLemmas
 pub mod OpenLemmas
 pub mod PairLemmas
 pub mod ParentLemmas

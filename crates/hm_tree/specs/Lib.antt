@@ -1,6 +1,6 @@
 pub mod Attributes
-pub mod Buckets
 pub mod Lexemes
+pub mod Names
 pub mod Pairs
 pub mod Parents
 pub mod Pieces

@@ -5,9 +5,10 @@ ghost use Rattle.hm_tree.specs.Attributes.{are_texts};
 ghost use Rattle.hm_tree.specs.Pairs.{HasPair, attributes_of};
 ghost use Rattle.hm_tree.specs.Pieces.{texts_of};
 
-use crate::names::{NameTable, has_among, note};
+use crate::names::{has_among, note};
 use crate::pieces::{Pair, name_in, value_in};
 use hm_base::Memory;
+use indexmap::IndexSet;
 use std::alloc::Global;
 use std::marker::Model;
 
@@ -19,7 +20,7 @@ use std::marker::Model;
 pub struct Attrs {
     text: String,
     pairs: Vec<Pair>,
-    table: Option<NameTable>,
+    table: Option<IndexSet<String>>,
 }
 
 impl Model for Attrs {
@@ -29,12 +30,12 @@ impl Model for Attrs {
     ghost Value = { List Attribute };
 
     ghost use Rattle.std.specs.Prelude.{IfSome};
-    ghost use Rattle.hm_tree.specs.Buckets.{HasFirsts};
+    ghost use Rattle.hm_tree.specs.Names.{HasNames};
     ghost use Rattle.hm_tree.specs.Pairs.{attributes_of, IsAttributeList};
 
     ghost view = { λ a. attributes_of (string_bytes a.text) a.pairs.items };
 
-    ghost invariant = { λ a. IsAttributeList (string_bytes a.text) a.pairs.items × IfSome a.table (λ firsts. HasFirsts firsts (attributes_of (string_bytes a.text) a.pairs.items)) };
+    ghost invariant = { λ a. IsAttributeList (string_bytes a.text) a.pairs.items × IfSome a.table (λ names. HasNames names (attributes_of (string_bytes a.text) a.pairs.items)) };
 }
 
 impl Attrs {
@@ -141,7 +142,7 @@ impl Attrs {
         let text = self.text.as_str();
         let pairs = self.pairs.as_slice();
         match &self.table {
-            Some(table) => table.has_among(text, pairs, name),
+            Some(table) => table.contains(name),
             None => has_among(text, pairs, name),
         }
     }

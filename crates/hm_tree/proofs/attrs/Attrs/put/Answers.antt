@@ -1,6 +1,6 @@
 use Rattle.std.proofs.Common.{◌≡◌, ◌+◌, ◌^◌, ◌<◌, false, ◌++◌, ◌∷◌, [], length, string_bytes, IfSome, sym, ap, subst, ◌∙◌, refl, arith, rules, length-append}
 use Rattle.hm_base.specs.Walks.{Attribute, has_name}
-use Rattle.hm_tree.specs.Buckets.{HasFirsts}
+use Rattle.hm_tree.specs.Names.{HasNames}
 use Rattle.hm_tree.specs.Pairs.{attributes_of}
 use Rattle.hm_tree.specs.declared.pieces.Pair.{Pair}
 use Rattle.hm_tree.proofs.AttributeLemmas.{has_distinct_names-push}
@@ -41,10 +41,10 @@ module _ (c : goal.After-unwrap-3) where
   few : length c.args.self.now + 1 < 2 ^ 32
   few = c.requires.room fresh
 
-  noted : IfSome c.note.new.table (λ firsts. HasFirsts firsts (attributes_of (string_bytes c.self.inside.text) c.self.inside.pairs.items ++ a ∷ []))
+  noted : IfSome c.note.new.table (λ names. HasNames names (attributes_of (string_bytes c.self.inside.text) c.self.inside.pairs.items ++ a ∷ []))
   noted =
-      subst (λ ps. IfSome c.note.new.table (λ firsts. HasFirsts firsts (attributes_of (string_bytes c.self.inside.text) ps ++ a ∷ []))) (c.as_slice.ensures.value ∙ c.reserve.ensures.items)
-      (subst (λ s. IfSome c.note.new.table (λ firsts. HasFirsts firsts (attributes_of s c.as_slice.result.now ++ a ∷ []))) (c.as_str.ensures.value ∙ c.reserve-2.ensures.bytes) (c.in_ok-note.ensures.ok a refl))
+      subst (λ ps. IfSome c.note.new.table (λ names. HasNames names (attributes_of (string_bytes c.self.inside.text) ps ++ a ∷ []))) (c.as_slice.ensures.value ∙ c.reserve.ensures.items)
+      (subst (λ s. IfSome c.note.new.table (λ names. HasNames names (attributes_of s c.as_slice.result.now ++ a ∷ []))) (c.as_str.ensures.value ∙ c.reserve-2.ensures.bytes) (c.in_ok-note.ensures.ok a refl))
 
 pub invariant_of-self-2 : goal.invariant_of-self-2
 invariant_of-self-2 c =

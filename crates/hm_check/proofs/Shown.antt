@@ -8,7 +8,7 @@ use Rattle.hm_base.specs.declared.rules.Rule.{Rule}
 use Rattle.hm_base.specs.declared.rules.Rule.TheVariants as rules
 use Rattle.hm_cert.specs.declared.certificate.Certificate.{Certificate}
 use Rattle.hm_construction_laws.specs.Trees.{Outcome, built, refused_by, page_tree}
-use Rattle.hm_edges.specs.Found.{spelling}
+use Rattle.hm_graph_laws.specs.ExchangeLaws.{sparing_plain}
 use Rattle.hm_elements.specs.Settled.{Settled}
 use Rattle.hm_elements.proofs.Events.{is_same}
 use Rattle.hm_graph_laws.specs.Layers.{LayerTest, first_layer, written}
@@ -201,9 +201,9 @@ rules_same r = rw (is_same r.omit r.omit refl, is_same r.unquote r.unquote refl,
 pub minified_is_accepted : MinifiedIsAccepted
 unfolding verdict
 minified_is_accepted t k r format w s short =
-    let edges : Edges = edges_of (spelling t r) in
+    let edges : Edges = edges_of (sparing_plain t r) in
     let out : List ℕ = first_way edges (units_of r w) first_state in
     let best : IsBest t r w out = first_ways_are_best t k r w s in
     ap (λ b. cond b (by_outcome t r w (length out) (least_certificate t r format w) (out_outcome t out)) (No RulesDiffer)) (rules_same r)
     ∙ spelled_verdict t k r w s out (least_certificate t r format w) best.spells short
-    ∙ least_accepted (tree_edges t r format) (follows_by format (tree_edges t r format)) (units_of r w) (length out) (same_first (spelling t r) format (units_of r w) ∙ best.price)
+    ∙ least_accepted (tree_edges t r format) (follows_by format (tree_edges t r format)) (units_of r w) (length out) (same_first (sparing_plain t r) format (units_of r w) ∙ best.price)

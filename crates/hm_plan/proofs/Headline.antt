@@ -1,6 +1,6 @@
 -- The shortest text of a tree and its certificate are what the headline asks for.
 use Rattle.std.proofs.Common.{◌∙◌, refl}
-use Rattle.hm_edges.specs.Found.{spelling}
+use Rattle.hm_graph_laws.specs.ExchangeLaws.{sparing_plain}
 use Rattle.hm_graph_laws.specs.Layers.{first_layer}
 use Rattle.hm_graph_laws.specs.Prices.{least_prices}
 use Rattle.hm_graph.specs.Graphs.{tree_edges}
@@ -30,6 +30,6 @@ shortest_is_certified t k r format w s =
         prices = least_prices (tree_edges t r format) (units_of r w) first_layer;
         full = full_is_least (tree_edges t r format) (follows_by format (tree_edges t r format)) 0 (units_of r w) first_layer;
         feasible = least_feasible (tree_edges t r format) (units_of r w) first_layer;
-        first = same_first (spelling t r) format (units_of r w) ∙ best.price;
+        first = same_first (sparing_plain t r) format (units_of r w) ∙ best.price;
       };
     }

@@ -5,7 +5,7 @@ use Rattle.hm_base.specs.declared.plain.SpellRules.{SpellRules}
 use Rattle.hm_cert.specs.Certificate.{certificate_text}
 use Rattle.hm_base.specs.declared.plain.Format.{Format}
 use Rattle.hm_construction_laws.specs.Trees.{built, page_tree}
-use Rattle.hm_edges.specs.Found.{spelling}
+use Rattle.hm_graph_laws.specs.ExchangeLaws.{sparing_plain}
 use Rattle.hm_graph_laws.specs.Layers.{first_layer}
 use Rattle.hm_graph_laws.specs.Prices.{Row, Feasible, first_price, full, least_prices, written_rows}
 use Rattle.hm_graph_laws.specs.UnitEdges.{edges_of}
@@ -19,7 +19,7 @@ use Rattle.hm_graph_laws.specs.Units.{units_of}
 
 -- the text of the first way
 unfoldable pub shortest_text : List Entry → SpellRules → List Event → List ℕ
-shortest_text t r w = first_way (edges_of (spelling t r)) (units_of r w) first_state
+shortest_text t r w = first_way (edges_of (sparing_plain t r)) (units_of r w) first_state
 
 -- the rows of the least prices that a certificate writes in a format
 abbrev pub certified_rows : List Entry → SpellRules → Format → List Event → List Row

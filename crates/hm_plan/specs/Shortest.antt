@@ -2,7 +2,7 @@
 use Rattle.std.specs.Prelude.{◌≡◌, ℕ, ◌+◌, List, length, Some}
 use Rattle.hm_base.specs.Walks.{Event}
 use Rattle.hm_base.specs.declared.plain.SpellRules.{SpellRules}
-use Rattle.hm_cert.specs.Certificate.{certificate_text}
+use Rattle.hm_cert.specs.Certificate.{AreRows, certificate_text}
 use Rattle.hm_base.specs.declared.plain.Format.{Format}
 use Rattle.hm_construction_laws.specs.Trees.{built, page_tree}
 use Rattle.hm_graph_laws.specs.ExchangeLaws.{sparing_plain}
@@ -34,9 +34,11 @@ certificate_of t r format w = certificate_text format r (certified_rows t r form
 abbrev pub layer_count : SpellRules → List Event → ℕ
 layer_count r w = length (units_of r w) + 1
 
--- The prices of a certificate show by themselves that no way is shorter than n bytes.
+-- The prices of a certificate can be written, so the certificate can be read, and they show by themselves that no way is
+-- shorter than n bytes.
 pub record Certifies (t : List Entry) (r : SpellRules) (format : Format) (w : List Event) (cert : List ℕ) (n : ℕ) : Type 0 where
   pub rows : List Row
+  pub writable : AreRows rows
   pub text : cert ≡ certificate_text format r rows
   pub prices : List Row
   pub full : full (tree_edges t r format) (follows_by format (tree_edges t r format)) (units_of r w) rows ≡ Some prices

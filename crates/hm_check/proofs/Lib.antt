@@ -6,6 +6,7 @@ pub mod SameTrees
 pub mod Feasible
 pub mod Accepted
 pub mod Shown
+pub mod Earned
 pub mod Checking
 pub mod StillLayers
 pub mod Within

@@ -5,10 +5,10 @@ use Rattle.hm_base.specs.Walks.{Event}
 use Rattle.hm_base.specs.declared.limits.TheConstants.{OUTPUT_LIMIT}
 use Rattle.hm_base.specs.declared.plain.SpellRules.{SpellRules}
 use Rattle.hm_base.specs.declared.rules.Rule.{Rule}
-use Rattle.hm_base.specs.declared.rules.Rule.TheVariants as rules
+use Rattle.hm_base.specs.declared.rules.Rule.TheVariants as faults
 use Rattle.hm_cert.specs.declared.certificate.Certificate.{Certificate}
 use Rattle.hm_construction_laws.specs.Trees.{Outcome, built, refused_by, page_tree}
-use Rattle.hm_edges.specs.Found.{spelling}
+use Rattle.hm_graph_laws.specs.ExchangeLaws.{sparing_plain}
 use Rattle.hm_elements.specs.Settled.{Settled}
 use Rattle.hm_elements.proofs.Events.{is_same}
 use Rattle.hm_graph_laws.specs.Layers.{LayerTest, first_layer, written}
@@ -39,38 +39,39 @@ use Rattle.hm_check.proofs.SameTrees.{no_difference, walks_same}
 
 -- ---- What a yes shows of the rows
 
-pub record AreShown (edges : Edges) (units : List Unit) (n m : ℕ) : Type 0 where
+pub record AreShown (edges : Edges) (follows : LayerTest) (units : List Unit) (rows : List Row) (n m : ℕ) : Type 0 where
   pub prices : List Row
+  pub full : full edges follows units rows ≡ Some prices
   pub feasible : Feasible edges units prices
   pub first : ℕ
   pub price : first_price prices ≡ Some first
   pub short : n ≤ first
   pub same : n ≡ m
 
-first_shown : (edges : Edges) (units : List Unit) (n m : ℕ) (prices : List Row) (p : Option ℕ) → Feasible edges units prices → first_price prices ≡ p → by_first n p ≡ Yes m → AreShown edges units n m
-first_shown edges units n m prices None f is h = absurd (cc)
-first_shown edges units n m prices (Some first) f is h = by_test (nat_lt first n) refl h
+first_shown : (edges : Edges) (follows : LayerTest) (units : List Unit) (rows : List Row) (n m : ℕ) (prices : List Row) (p : Option ℕ) → full edges follows units rows ≡ Some prices → Feasible edges units prices → first_price prices ≡ p → by_first n p ≡ Yes m → AreShown edges follows units rows n m
+first_shown edges follows units rows n m prices None w f is h = absurd (cc)
+first_shown edges follows units rows n m prices (Some first) w f is h = by_test (nat_lt first n) refl h
   where
-    by_test : (b : Bool) → nat_lt first n ≡ b → cond b (No (TooLong n first)) (Yes n) ≡ Yes m → AreShown edges units n m
+    by_test : (b : Bool) → nat_lt first n ≡ b → cond b (No (TooLong n first)) (Yes n) ≡ Yes m → AreShown edges follows units rows n m
     by_test true e k = absurd (cc)
-    by_test false e k = record { prices = prices; feasible = f; first = first; price = is; short = ltb-false first n e; same = cc }
+    by_test false e k = record { prices = prices; full = w; feasible = f; first = first; price = is; short = ltb-false first n e; same = cc }
 
-high_shown : (edges : Edges) (units : List Unit) (n m : ℕ) (prices : List Row) (h : Option HighPrice) → AreWide edges units first_layer prices → high_price edges 0 units first_layer prices ≡ h → by_high n prices h ≡ Yes m → AreShown edges units n m
-high_shown edges units n m prices (Some h) wide is k = absurd (cc)
-high_shown edges units n m prices None wide is k = first_shown edges units n m prices (first_price prices) (high_feasible edges 0 units first_layer prices wide is) refl k
+high_shown : (edges : Edges) (follows : LayerTest) (units : List Unit) (rows : List Row) (n m : ℕ) (prices : List Row) (h : Option HighPrice) → full edges follows units rows ≡ Some prices → AreWide edges units first_layer prices → high_price edges 0 units first_layer prices ≡ h → by_high n prices h ≡ Yes m → AreShown edges follows units rows n m
+high_shown edges follows units rows n m prices (Some h) w wide is k = absurd (cc)
+high_shown edges follows units rows n m prices None w wide is k = first_shown edges follows units rows n m prices (first_price prices) w (high_feasible edges 0 units first_layer prices wide is) refl k
 
-full_shown : (edges : Edges) (follows : LayerTest) (units : List Unit) (n m : ℕ) (rows : List Row) (p : Option (List Row)) → full edges follows units rows ≡ p → by_full edges n units p ≡ Yes m → AreShown edges units n m
+full_shown : (edges : Edges) (follows : LayerTest) (units : List Unit) (n m : ℕ) (rows : List Row) (p : Option (List Row)) → full edges follows units rows ≡ p → by_full edges n units p ≡ Yes m → AreShown edges follows units rows n m
 full_shown edges follows units n m rows None is h = absurd (cc)
-full_shown edges follows units n m rows (Some prices) is h = high_shown edges units n m prices (high_price edges 0 units first_layer prices) (full_wide edges follows 0 units first_layer rows prices is) refl h
+full_shown edges follows units n m rows (Some prices) is h = high_shown edges follows units rows n m prices (high_price edges 0 units first_layer prices) is (full_wide edges follows 0 units first_layer rows prices is) refl h
 
-width_shown : (edges : Edges) (follows : LayerTest) (units : List Unit) (n m : ℕ) (rows : List Row) (w : Option OtherWidth) → by_width edges follows n units rows w ≡ Yes m → AreShown edges units n m
+width_shown : (edges : Edges) (follows : LayerTest) (units : List Unit) (n m : ℕ) (rows : List Row) (w : Option OtherWidth) → by_width edges follows n units rows w ≡ Yes m → AreShown edges follows units rows n m
 width_shown edges follows units n m rows (Some w) h = absurd (cc)
 width_shown edges follows units n m rows None h = full_shown edges follows units n m rows (full edges follows units rows) refl h
 
-rows_shown : (edges : Edges) (follows : LayerTest) (units : List Unit) (n m : ℕ) (rows : List Row) → by_rows edges follows n units rows ≡ Yes m → AreShown edges units n m
+pub rows_shown : (edges : Edges) (follows : LayerTest) (units : List Unit) (n m : ℕ) (rows : List Row) → by_rows edges follows n units rows ≡ Yes m → AreShown edges follows units rows n m
 rows_shown edges follows units n m rows h = by_test (length rows == length (written edges follows units)) h
   where
-    by_test : (b : Bool) → cond b (by_width edges follows n units rows (other_width edges follows 0 units first_layer rows)) (No (WrongLayers (length rows) (length (written edges follows units)))) ≡ Yes m → AreShown edges units n m
+    by_test : (b : Bool) → cond b (by_width edges follows n units rows (other_width edges follows 0 units first_layer rows)) (No (WrongLayers (length rows) (length (written edges follows units)))) ≡ Yes m → AreShown edges follows units rows n m
     by_test true k = width_shown edges follows units n m rows (other_width edges follows 0 units first_layer rows) k
     by_test false k = absurd (cc)
 
@@ -78,37 +79,39 @@ rows_shown edges follows units n m rows h = by_test (length rows == length (writ
 
 -- the text of a yes has the wanted tree, and its rows are accepted
 pub record IsAccepted (t : List Entry) (r : SpellRules) (w : List Event) (out : List ℕ) (c : Certificate) (m : ℕ) : Type 0 where
+  pub rules : same_rules c.rules r ≡ true
+  pub short : length out ≤ OUTPUT_LIMIT
   pub parses : page_tree t out ≡ built w
   pub rows : by_rows (tree_edges t r c.format) (follows_by c.format (tree_edges t r c.format)) (length out) (units_of r w) c.prices ≡ Yes m
 
-difference_accepted : (t : List Entry) (r : SpellRules) (w v : List Event) (out : List ℕ) (c : Certificate) (m : ℕ) (d : Option ℕ) → page_tree t out ≡ built v → first_difference v w ≡ d → by_difference t r w (length out) c d ≡ Yes m → IsAccepted t r w out c m
-difference_accepted t r w v out c m (Some i) tree is h = absurd (cc)
-difference_accepted t r w v out c m None tree is h = record { parses = tree ∙ ap built (walks_same v w is); rows = h }
+difference_accepted : (t : List Entry) (r : SpellRules) (w v : List Event) (out : List ℕ) (c : Certificate) (m : ℕ) (d : Option ℕ) → same_rules c.rules r ≡ true → length out ≤ OUTPUT_LIMIT → page_tree t out ≡ built v → first_difference v w ≡ d → by_difference t r w (length out) c d ≡ Yes m → IsAccepted t r w out c m
+difference_accepted t r w v out c m (Some i) rules short tree is h = absurd (cc)
+difference_accepted t r w v out c m None rules short tree is h = record { rules = rules; short = short; parses = tree ∙ ap built (walks_same v w is); rows = h }
 
-outcome_accepted : (t : List Entry) (r : SpellRules) (w : List Event) (out : List ℕ) (c : Certificate) (m : ℕ) (o : Outcome) → page_tree t out ≡ o → by_outcome t r w (length out) c o ≡ Yes m → IsAccepted t r w out c m
-outcome_accepted t r w out c m (refused_by rule at) tree h = absurd (cc)
-outcome_accepted t r w out c m (built v) tree h = difference_accepted t r w v out c m (first_difference v w) tree refl h
+outcome_accepted : (t : List Entry) (r : SpellRules) (w : List Event) (out : List ℕ) (c : Certificate) (m : ℕ) (o : Outcome) → same_rules c.rules r ≡ true → length out ≤ OUTPUT_LIMIT → page_tree t out ≡ o → by_outcome t r w (length out) c o ≡ Yes m → IsAccepted t r w out c m
+outcome_accepted t r w out c m (refused_by rule at) rules short tree h = absurd (cc)
+outcome_accepted t r w out c m (built v) rules short tree h = difference_accepted t r w v out c m (first_difference v w) rules short tree refl h
 
-text_accepted : (t : List Entry) (r : SpellRules) (w : List Event) (out : List ℕ) (c : Certificate) (m : ℕ) → by_outcome t r w (length out) c (out_outcome t out) ≡ Yes m → IsAccepted t r w out c m
+text_accepted : (t : List Entry) (r : SpellRules) (w : List Event) (out : List ℕ) (c : Certificate) (m : ℕ) → same_rules c.rules r ≡ true → by_outcome t r w (length out) c (out_outcome t out) ≡ Yes m → IsAccepted t r w out c m
 unfolding out_outcome
-text_accepted t r w out c m h = by_test (nat_lt OUTPUT_LIMIT (length out)) h
+text_accepted t r w out c m rules h = by_test (nat_lt OUTPUT_LIMIT (length out)) refl h
   where
-    by_test : (b : Bool) → by_outcome t r w (length out) c (cond b (refused_by rules.TooLong OUTPUT_LIMIT) (page_tree t out)) ≡ Yes m → IsAccepted t r w out c m
-    by_test true k = absurd (cc)
-    by_test false k = outcome_accepted t r w out c m (page_tree t out) refl k
+    by_test : (b : Bool) → nat_lt OUTPUT_LIMIT (length out) ≡ b → by_outcome t r w (length out) c (cond b (refused_by faults.TooLong OUTPUT_LIMIT) (page_tree t out)) ≡ Yes m → IsAccepted t r w out c m
+    by_test true e k = absurd (cc)
+    by_test false e k = outcome_accepted t r w out c m (page_tree t out) rules (ltb-false OUTPUT_LIMIT (length out) e) refl k
 
-verdict_accepted : (t : List Entry) (r : SpellRules) (w : List Event) (out : List ℕ) (c : Certificate) (m : ℕ) → verdict t r w out c ≡ Yes m → IsAccepted t r w out c m
+pub verdict_accepted : (t : List Entry) (r : SpellRules) (w : List Event) (out : List ℕ) (c : Certificate) (m : ℕ) → verdict t r w out c ≡ Yes m → IsAccepted t r w out c m
 unfolding verdict
-verdict_accepted t r w out c m h = by_test (same_rules c.rules r) h
+verdict_accepted t r w out c m h = by_test (same_rules c.rules r) refl h
   where
-    by_test : (b : Bool) → cond b (by_outcome t r w (length out) c (out_outcome t out)) (No RulesDiffer) ≡ Yes m → IsAccepted t r w out c m
-    by_test true k = text_accepted t r w out c m k
-    by_test false k = absurd (cc)
+    by_test : (b : Bool) → same_rules c.rules r ≡ b → cond b (by_outcome t r w (length out) c (out_outcome t out)) (No RulesDiffer) ≡ Yes m → IsAccepted t r w out c m
+    by_test true e k = text_accepted t r w out c m e k
+    by_test false e k = absurd (cc)
 
 pub yes_shows : YesShows
 yes_shows t k r w s out c m h =
     let accepted : IsAccepted t r w out c m = verdict_accepted t r w out c m h in
-    let shown : AreShown (tree_edges t r c.format) (units_of r w) (length out) m = rows_shown (tree_edges t r c.format) (follows_by c.format (tree_edges t r c.format)) (units_of r w) (length out) m c.prices accepted.rows in
+    let shown : AreShown (tree_edges t r c.format) (follows_by c.format (tree_edges t r c.format)) (units_of r w) c.prices (length out) m = rows_shown (tree_edges t r c.format) (follows_by c.format (tree_edges t r c.format)) (units_of r w) (length out) m c.prices accepted.rows in
     let bound : Shortest t r w shown.first = prices_show t k r c.format w s shown.prices shown.first shown.feasible shown.price in
     record { len = sym shown.same; parses = accepted.parses; shortest = λ b spells. omega (arith, shown.short, bound b spells) }
 
@@ -195,15 +198,15 @@ spellings_are_accepted t k r w s out c spells short =
 
 -- ---- The shortest text
 
-rules_same : (r : SpellRules) → same_rules r r ≡ true
+pub rules_same : (r : SpellRules) → same_rules r r ≡ true
 rules_same r = rw (is_same r.omit r.omit refl, is_same r.unquote r.unquote refl, is_same r.tight r.tight refl, is_same r.ascii r.ascii refl) (is_same r.frame r.frame refl)
 
 pub minified_is_accepted : MinifiedIsAccepted
 unfolding verdict
 minified_is_accepted t k r format w s short =
-    let edges : Edges = edges_of (spelling t r) in
+    let edges : Edges = edges_of (sparing_plain t r) in
     let out : List ℕ = first_way edges (units_of r w) first_state in
     let best : IsBest t r w out = first_ways_are_best t k r w s in
     ap (λ b. cond b (by_outcome t r w (length out) (least_certificate t r format w) (out_outcome t out)) (No RulesDiffer)) (rules_same r)
     ∙ spelled_verdict t k r w s out (least_certificate t r format w) best.spells short
-    ∙ least_accepted (tree_edges t r format) (follows_by format (tree_edges t r format)) (units_of r w) (length out) (same_first (spelling t r) format (units_of r w) ∙ best.price)
+    ∙ least_accepted (tree_edges t r format) (follows_by format (tree_edges t r format)) (units_of r w) (length out) (same_first (sparing_plain t r) format (units_of r w) ∙ best.price)

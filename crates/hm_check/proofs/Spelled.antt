@@ -25,7 +25,7 @@ use Rattle.hm_graph_laws.specs.States.{State, first_state, same_state}
 use Rattle.hm_graph_laws.specs.Units.{Unit, units_of}
 use Rattle.hm_optimality_laws.proofs.Best.{ways_spell_trees}
 use Rattle.hm_optimality_laws.proofs.Wider.{wider}
-use Rattle.hm_optimality_laws.specs.SpellingLaws.{sparing_plain}
+use Rattle.hm_graph_laws.specs.ExchangeLaws.{sparing_plain}
 use Rattle.hm_check.specs.Steps.{by_rows_over}
 use Rattle.hm_check.specs.Verdicts.{same_rules, verdict}
 use Rattle.hm_check.specs.declared.verdicts.Verdict.{Verdict}

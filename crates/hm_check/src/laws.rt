@@ -1,5 +1,17 @@
 //! What a check's answer is worth. The functions do nothing.
-ghost use Rattle.hm_check.specs.Laws.{MinifiedIsAccepted, SpellingsAreAccepted, YesShows};
+ghost use Rattle.hm_check.specs.Laws.{MinifiedIsAccepted, NoHighPriceIsFeasible, SpellingsAreAccepted, YesIsEarned, YesShows};
+
+/// The check's rule of prices is the one that shows a bound: it finds no price above its bound exactly where the prices of all
+/// layers are feasible.
+pub fn no_high_price_is_feasible()
+    ensures { NoHighPriceIsFeasible }
+{}
+
+/// The check says yes exactly where the text parses to the tree and the prices are feasible and bound it, by the same rules and
+/// within the limit. Nothing is asked of the tree.
+pub fn yes_is_earned()
+    ensures { YesIsEarned }
+{}
 
 /// A yes on text and prices from any source shows that the text parses to the tree and that no spelling of it is
 /// shorter.

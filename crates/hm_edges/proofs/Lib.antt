@@ -10,3 +10,4 @@ pub mod SectionEdges
 pub mod Choices
 pub mod Standing
 pub mod DigitCounts
+pub mod NameLengths

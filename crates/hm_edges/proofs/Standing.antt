@@ -10,7 +10,8 @@ use Rattle.hm_edges.specs.declared.states.State.{State}
 use Rattle.hm_edges.specs.declared.units.TextKind.{TextKind}
 use Rattle.hm_edges.specs.declared.units.Unit.{Unit}
 use Rattle.hm_edges.specs.declared.units.Unit.TheVariants as code
-use Rattle.hm_edges.specs.Found.{spelling, AreEdges, AreFront, AddsEdges}
+use Rattle.hm_edges.specs.Found.{AreEdges, AreFront, AddsEdges}
+use Rattle.hm_graph_laws.specs.ExchangeLaws.{sparing_plain}
 use Rattle.hm_edges.specs.Pieces.{edges_seen, AreOfTable}
 use Rattle.hm_edges.specs.States.{state_of}
 use Rattle.hm_edges.specs.Units.{StandsFor, fixed, start_tag, tag_name, bare_attribute, attribute_name, character, attribute_end, tag_close, end_tag, kind_of, pair_of}
@@ -48,7 +49,7 @@ of_end_tag t len omits loosens P f u (end_tag n l o w e) = f n
 
 -- the edges of a unit of a tree are added
 abbrev pub AddsFor : {E : Type 0} → Result (Prim.Unit {0}) E → TableView → SpellRules → Unit → State → List Edge → List Edge → units.Unit → Type 0
-AddsFor r v rules unit from before now u = AddsEdges r v u before now (edges_of (spelling v.entries rules) u (state_of v from))
+AddsFor r v rules unit from before now u = AddsEdges r v u before now (edges_of (sparing_plain v.entries rules) u (state_of v from))
 
 -- for each that the unit stands for
 abbrev pub AddsAll : {E : Type 0} → Result (Prim.Unit {0}) E → TableView → SpellRules → Unit → State → List Edge → List Edge → Type 0
@@ -57,12 +58,12 @@ AddsAll r v rules unit from before now = (u : units.Unit) → StandsFor v.entrie
 are_edges : {E : Type 0} (r : Result (Prim.Unit {0}) E) (v : TableView) (rules : SpellRules) (unit : Unit) (from : State) (before now : List Edge) → before ≡ [] → AddsAll r v rules unit from before now → OnOk r (AreEdges v rules unit from now)
 are_edges (Err x) v rules unit from before now e all = tt
 are_edges (Ok x) v rules unit from before now e all = λ u stands.
-    (all u stands).edges ∙ ap (λ w. edges_seen v u w ++ edges_of (spelling v.entries rules) u (state_of v from)) e
+    (all u stands).edges ∙ ap (λ w. edges_seen v u w ++ edges_of (sparing_plain v.entries rules) u (state_of v from)) e
 
 are_front : {E : Type 0} (r : Result (Prim.Unit {0}) E) (v : TableView) (rules : SpellRules) (unit : Unit) (from : State) (before now : List Edge) → before ≡ [] → AddsAll r v rules unit from before now → AreFront v rules unit from now
 are_front r v rules unit from before now e all = λ u stands.
-    let h : AddsEdges r v u before now (edges_of (spelling v.entries rules) u (state_of v from)) = all u stands in
-    (h.front.0, h.front.1 ∙ ap (λ w. edges_seen v u w ++ edges_of (spelling v.entries rules) u (state_of v from)) e)
+    let h : AddsEdges r v u before now (edges_of (sparing_plain v.entries rules) u (state_of v from)) = all u stands in
+    (h.front.0, h.front.1 ∙ ap (λ w. edges_seen v u w ++ edges_of (sparing_plain v.entries rules) u (state_of v from)) e)
 
 are_known : (v : TableView) (before now : List Edge) → before ≡ [] → (AreOfTable v before → AreOfTable v now) → AreOfTable v now
 are_known v before now e h = h (subst (AreOfTable v) (sym e) tt)

@@ -1,11 +1,9 @@
 -- What a search for edges finds.
 use Rattle.std.specs.Prelude.{◌≡◌, List, ◌++◌, Result, OnOk}
 use Rattle.hm_base.specs.declared.plain.SpellRules.{SpellRules}
-use Rattle.hm_graph_laws.specs.ExchangeLaws.{needs_reference}
+use Rattle.hm_graph_laws.specs.ExchangeLaws.{sparing_plain}
 use Rattle.hm_graph_laws.specs.UnitEdges.{edges_of}
-use Rattle.hm_refs.specs.Names.{Entry}
 use Rattle.hm_refs.specs.Tables.{TableView}
-use Rattle.hm_spelling_spec.specs.Tags.{Spelling}
 use Rattle.hm_graph_laws.specs.Edges as graph
 use Rattle.hm_graph_laws.specs.Units as units
 use Rattle.hm_edges.specs.declared.pieces.Edge.{Edge}
@@ -15,17 +13,13 @@ use Rattle.hm_edges.specs.Pieces.{edges_seen, AreOfTable}
 use Rattle.hm_edges.specs.States.{state_of}
 use Rattle.hm_edges.specs.Units.{StandsFor}
 
--- the edges by a table and these rules, with references only where a character needs them
-abbrev pub spelling : List Entry → SpellRules → Spelling
-spelling t rules = record { table = t; rules = rules; refers = needs_reference t }
-
 -- for each unit of a tree that this one stands for, these are its edges, in their order
 abbrev pub AreEdges : TableView → SpellRules → Unit → State → List Edge → Type 0
-AreEdges v rules unit from es = (u : units.Unit) → StandsFor v.entries unit u → edges_seen v u es ≡ edges_of (spelling v.entries rules) u (state_of v from)
+AreEdges v rules unit from es = (u : units.Unit) → StandsFor v.entries unit u → edges_seen v u es ≡ edges_of (sparing_plain v.entries rules) u (state_of v from)
 
 -- for each of them these are a prefix of its edges
 abbrev pub AreFront : TableView → SpellRules → Unit → State → List Edge → Type 0
-AreFront v rules unit from es = (u : units.Unit) → StandsFor v.entries unit u → (rest : List graph.Edge) × (edges_seen v u es ++ rest ≡ edges_of (spelling v.entries rules) u (state_of v from))
+AreFront v rules unit from es = (u : units.Unit) → StandsFor v.entries unit u → (rest : List graph.Edge) × (edges_seen v u es ++ rest ≡ edges_of (sparing_plain v.entries rules) u (state_of v from))
 
 -- The buffer has more edges after those from before: these as edges of the unit, or, after an error, a prefix of them.
 -- They are of the table.

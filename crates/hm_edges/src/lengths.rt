@@ -9,6 +9,7 @@ ghost use Rattle.hm_edges.specs.Units.{StandsFor};
 use crate::pieces::{Form, Piece};
 use crate::units::Unit;
 use hm_refs::Table;
+use hm_refs::laws::every_table;
 
 /// How many bytes the unit's own are: of its name, of what has no choice, or of the character.
 fn own_len(unit: Unit) -> u64
@@ -70,10 +71,11 @@ fn digit_count(number: u32, base: u32) -> u64
     count
 }
 
-/// How many bytes the piece writes for the unit, which is one that `find_edges` gives for it.
+/// How many bytes the piece writes for the unit, which is one that `find_edges` gives for it: fewer than 2^33.
 pub fn piece_len(unit: Unit, piece: Piece, table: &Table) -> u64
     requires { HasName table.now.entries piece }
-    ensures { (u : units.Unit) → StandsFor table.now.entries unit u → result ≡ length (piece_bytes table.now.entries u piece) }
+    ensures value { (u : units.Unit) → StandsFor table.now.entries unit u → result ≡ length (piece_bytes table.now.entries u piece) }
+    ensures few { result < 2 ^ 33 }
 {
     match piece {
         Piece::Nothing => 0,
@@ -84,7 +86,10 @@ pub fn piece_len(unit: Unit, piece: Piece, table: &Table) -> u64
         Piece::Quote { double: _ } => 1,
         Piece::TagClose { space, closes } => 1 + u64::from(space) + u64::from(closes),
         Piece::EndTag => 3 + own_len(unit),
-        Piece::Name { id } => table.name(id).len() as u64,
+        Piece::Name { id } => {
+            every_table(table);
+            table.name(id).len() as u64
+        },
         Piece::Decimal { number, closed } => 2 + u64::from(closed) + digit_count(number, 10),
         Piece::Hexadecimal { number, closed } => 3 + u64::from(closed) + digit_count(number, 16),
         Piece::Section { opens, closes } => 9 * u64::from(opens)

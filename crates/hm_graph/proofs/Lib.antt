@@ -22,5 +22,6 @@ pub mod Runs
 pub mod Named
 pub mod Counts
 pub mod Low
+pub mod FewHops
 pub mod StillSteps
 mod StillLengths

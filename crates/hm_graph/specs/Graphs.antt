@@ -10,7 +10,7 @@ use Rattle.hm_optimality_laws.specs.Formats.{edges_by}
 use Rattle.hm_graph_laws.specs.Units.{units_of}
 use Rattle.hm_graph_laws.specs.Layers.{first_layer}
 use Rattle.hm_graph_laws.specs.UnitEdges.{edges_of}
-use Rattle.hm_edges.specs.Found.{spelling}
+use Rattle.hm_graph_laws.specs.ExchangeLaws.{sparing_plain}
 use Rattle.hm_edges.specs.Pieces.{HasName, piece_bytes}
 use Rattle.hm_graph.specs.Fits.{StepsFit}
 use Rattle.hm_graph.specs.Steps.{Step}
@@ -80,7 +80,7 @@ AreNamed t (step ∷ steps) = IsNamedStep t step × AreNamed t steps
 
 -- the edges by a table and these rules, as far as a format's graph has them
 abbrev pub tree_edges : List Entry → SpellRules → Format → Edges
-tree_edges t rules format = edges_by format (edges_of (spelling t rules))
+tree_edges t rules format = edges_by format (edges_of (sparing_plain t rules))
 
 -- the steps of a tree's graph by a table and these rules, in a format
 pub record IsGraphOf (t : List Entry) (rules : SpellRules) (format : Format) (w : List Event) (g : GraphView) : Type 0 where

@@ -6,6 +6,7 @@ pub mod Laws
 pub mod Still
 pub mod Runs
 pub mod Graphs
+pub mod FewHops
 pub mod Layers
 pub mod Met
 pub mod Building

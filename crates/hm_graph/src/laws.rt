@@ -1,4 +1,5 @@
 //! Laws of steps. The functions do nothing.
+ghost use Rattle.hm_graph.specs.FewHops.{StatesHaveFewHops};
 ghost use Rattle.hm_graph.specs.Laws.{FullRowsAgree, KeepingAgrees, RowsAreLeast, WayIsFirst, WaysAreWays, WrittenRowsAgree};
 
 /// The prices over steps are the least ones of their graph.
@@ -29,4 +30,9 @@ pub fn full_rows_agree()
 /// Prices keep the rules over steps exactly where they do in the graph.
 pub fn keeping_agrees()
     ensures { KeepingAgrees }
+{}
+
+/// Each state of a graph has at most 71 hops, so a place among them fits into a byte.
+pub fn states_have_few_hops()
+    ensures { StatesHaveFewHops }
 {}

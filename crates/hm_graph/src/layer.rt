@@ -14,9 +14,6 @@ use hm_edges::{Edge, State, Unit, find_edges, piece_len};
 use hm_refs::Table;
 use std::alloc::Global;
 
-/// More bytes than an edge may write: from here on memory counts as refused.
-const LEN_LIMIT: u64 = 1 << 33;
-
 /// Whether the two are equal.
 pub(crate) fn is_state(one: &State, other: &State) -> bool
     ensures { IsTrue result ↔ (one.now ≡ other.now) }
@@ -55,9 +52,6 @@ fn hop_of(table: &Table, unit: Unit, edge: &Edge, behind: &mut Vec<State>) -> Re
     ensures { IfOk result (IsHop table.now unit edge.now behind.old.items behind.new.items) }
 {
     let len = piece_len(unit, edge.piece, table);
-    if len >= LEN_LIMIT {
-        return Err(Memory);
-    }
     let to = place(behind, &edge.to)?;
     Ok(Hop {
         piece: edge.piece,

@@ -17,7 +17,8 @@ use Rattle.hm_graph_laws.specs.Edges.{Edge, edge, edge_to}
 use Rattle.hm_graph_laws.specs.States.{behind_name, behind_quoted, behind_unquoted, first_state, in_double, in_single, in_unquoted, nothing, self_closed, State, state, value_spot, Where}
 use Rattle.hm_graph_laws.specs.Steps.{may_end}
 use Rattle.hm_graph_laws.specs.Units.{attribute_end, attribute_name, attribute_units, character_units, in_value, tag_close, tag_name}
-use Rattle.hm_graph_laws.specs.UnitWays.{UnitEdges, WayTo}
+use Rattle.hm_graph_laws.specs.UnitWays.{WayTo}
+use Rattle.hm_graph_laws.specs.Ways.{Edges}
 use Rattle.hm_graph_laws.proofs.Closing.{closing_law}
 use Rattle.hm_graph_laws.proofs.Splits.{join_ways}
 use Rattle.hm_graph_laws.proofs.ValueEnds.{attributes_close, Closes, end_closes}
@@ -66,7 +67,7 @@ slash_least single gap h = omega arith
 assigned_length : (v b : List ℕ) → IsAssigned v b → 1 + length v ≤ length b
 assigned_length v b a = omega (arith, ap length a.is, length-append a.left (61 ∷ (a.right ++ v)), length-append a.right v)
 
-module _ (g : Spelling) (table : IsTable g.table) (es : UnitEdges) (has : HasTagEdges g es) where
+module _ (g : Spelling) (table : IsTable g.table) (es : Edges) (has : HasTagEdges g es) where
   -- ---- values
 
   record ValueFound (at : Where) (close : Edge) (cs : List ℕ) (n : ℕ) : Type 0 where

@@ -18,13 +18,14 @@ use Rattle.hm_graph_laws.specs.Edges.{Edge, edge, edge_to}
 use Rattle.hm_graph_laws.specs.States.{behind_name, behind_quoted, behind_unquoted, first_state, in_double, in_single, in_unquoted, nothing, self_closed, State, state, value_spot, Where}
 use Rattle.hm_graph_laws.specs.Steps.{may_end}
 use Rattle.hm_graph_laws.specs.Units.{attribute_end, attribute_units, character_units, in_value, tag_close, tag_name}
-use Rattle.hm_graph_laws.specs.UnitWays.{UnitEdges, WayTo}
+use Rattle.hm_graph_laws.specs.UnitWays.{WayTo}
+use Rattle.hm_graph_laws.specs.Ways.{Edges}
 use Rattle.hm_graph_laws.proofs.Closing.{closing_law}
 use Rattle.hm_graph_laws.proofs.Splits.{Parted, way_parts}
 use Rattle.hm_graph_laws.proofs.ValueEnds.{attributes_close, Closes, end_closes}
 use Rattle.hm_graph_laws.proofs.AttributeForms.{behind_form, bracket_closes, gap_parts, no_gap, slash_bytes, slash_gap, slash_parts, spot_value}
 
-module _ (g : Spelling) (table : IsTable g.table) (es : UnitEdges) (has : HasTagEdges g es) where
+module _ (g : Spelling) (table : IsTable g.table) (es : Edges) (has : HasTagEdges g es) where
   -- ---- values
 
   -- the characters of a value, and the edge that closes it

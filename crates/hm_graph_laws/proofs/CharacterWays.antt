@@ -9,7 +9,8 @@ use Rattle.hm_graph_laws.specs.CharacterLaws.{HasCharacterEdges}
 use Rattle.hm_graph_laws.specs.Edges.{Edge, edge, edge_to}
 use Rattle.hm_graph_laws.specs.States.{Where, in_section, Pending, nothing, State, first_state, state}
 use Rattle.hm_graph_laws.specs.Units.{TextKind, next_of, character_units}
-use Rattle.hm_graph_laws.specs.UnitWays.{UnitEdges, WayTo}
+use Rattle.hm_graph_laws.specs.UnitWays.{WayTo}
+use Rattle.hm_graph_laws.specs.Ways.{Edges}
 use Rattle.hm_graph_laws.proofs.In.{in_append, in_left, in_right, only}
 use Rattle.hm_graph_laws.proofs.Numbers.{two_in}
 
@@ -18,11 +19,11 @@ abbrev pub Way : List Entry → CharacterRules → TextKind → List ℕ → Sta
 Way t rules kind [] s b to = (b ≡ []) × (s ≡ to)
 Way t rules kind (c ∷ cs) s b to = (e : Edge) × IsIn e (character_edges t rules kind c (next_of cs) s) × ((rest : List ℕ) × (b ≡ e.bytes ++ rest) × Way t rules kind cs e.to rest to)
 
-pub of_units : (t : List Entry) (rules : CharacterRules) (es : UnitEdges) → HasCharacterEdges t rules es → (kind : TextKind) (cs : List ℕ) (s : State) (b : List ℕ) (to : State) → WayTo es (character_units kind cs) s b to → Way t rules kind cs s b to
+pub of_units : (t : List Entry) (rules : CharacterRules) (es : Edges) → HasCharacterEdges t rules es → (kind : TextKind) (cs : List ℕ) (s : State) (b : List ℕ) (to : State) → WayTo es (character_units kind cs) s b to → Way t rules kind cs s b to
 of_units t rules es h kind [] s b to w = w
 of_units t rules es h kind (c ∷ cs) s b to (e, i, (rest, is, w)) = (e, subst (λ l. IsIn e l) (h kind c (next_of cs) s) i, (rest, is, of_units t rules es h kind cs e.to rest to w))
 
-pub to_units : (t : List Entry) (rules : CharacterRules) (es : UnitEdges) → HasCharacterEdges t rules es → (kind : TextKind) (cs : List ℕ) (s : State) (b : List ℕ) (to : State) → Way t rules kind cs s b to → WayTo es (character_units kind cs) s b to
+pub to_units : (t : List Entry) (rules : CharacterRules) (es : Edges) → HasCharacterEdges t rules es → (kind : TextKind) (cs : List ℕ) (s : State) (b : List ℕ) (to : State) → Way t rules kind cs s b to → WayTo es (character_units kind cs) s b to
 to_units t rules es h kind [] s b to w = w
 to_units t rules es h kind (c ∷ cs) s b to (e, i, (rest, is, w)) = (e, subst (λ l. IsIn e l) (sym (h kind c (next_of cs) s)) i, (rest, is, to_units t rules es h kind cs e.to rest to w))
 

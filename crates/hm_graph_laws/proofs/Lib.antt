@@ -27,6 +27,7 @@ pub mod Exchange
 pub mod ExchangedTexts
 pub mod ExchangedTags
 pub mod ExchangedTrees
+pub mod EdgeCounts
 pub mod States
 pub mod LayerStates
 pub mod LeastPrices

@@ -7,11 +7,12 @@ use Rattle.hm_spelling_spec.specs.Tags.{character_rules, Spelling, SpellsStart}
 use Rattle.hm_graph_laws.specs.CharacterLaws.{HasCharacterEdges}
 use Rattle.hm_graph_laws.specs.States.{self_closed, nothing, State, first_state, state}
 use Rattle.hm_graph_laws.specs.Units.{Unit, tag_name, bare_attribute, attribute_name, attribute_end, tag_close, attribute_units}
-use Rattle.hm_graph_laws.specs.UnitWays.{UnitEdges, WayTo}
+use Rattle.hm_graph_laws.specs.UnitWays.{WayTo}
+use Rattle.hm_graph_laws.specs.Ways.{Edges}
 use Rattle.hm_graph_laws.specs.AttributeEdges.{name_edges, bare_edges, opening_edges, closing_edges, close_edges}
 
 -- the units of a tag with attributes have their edges, whatever the edges of other units are
-pub record HasTagEdges (g : Spelling) (es : UnitEdges) : Type 0 where
+pub record HasTagEdges (g : Spelling) (es : Edges) : Type 0 where
   pub names : (n : List ℕ) (s : State) → es (tag_name n) s ≡ name_edges n
   pub bare_ones : (n : List ℕ) (s : State) → es (bare_attribute n) s ≡ bare_edges g.rules.tight n s
   pub openings : (n : List ℕ) (s : State) → es (attribute_name n) s ≡ opening_edges g.rules.tight g.rules.unquote n s
@@ -44,11 +45,11 @@ pub record TagSpelled (g : Spelling) (n : List ℕ) (attributes : List Attribute
 -- the bytes along the edges of a tag are a spelling of it, whatever follows
 abbrev pub TagsSpell : Type 0
 TagsSpell =
-    (g : Spelling) → IsTable g.table → (es : UnitEdges) → HasTagEdges g es → (n : List ℕ) (attributes : List Attribute) (closes : Bool) (from to : State) (b after : List ℕ)
+    (g : Spelling) → IsTable g.table → (es : Edges) → HasTagEdges g es → (n : List ℕ) (attributes : List Attribute) (closes : Bool) (from to : State) (b after : List ℕ)
     → map lower n ≡ n → AreLow attributes → WayTo es (tag_units n attributes closes) from b to → TagSpelled g n attributes closes to b after
 
 -- edges of the tag with no more bytes than b
-pub record HasTagWay (es : UnitEdges) (n : List ℕ) (attributes : List Attribute) (closes leads : Bool) (from : State) (b : List ℕ) : Type 0 where
+pub record HasTagWay (es : Edges) (n : List ℕ) (attributes : List Attribute) (closes leads : Bool) (from : State) (b : List ℕ) : Type 0 where
   pub bytes : List ℕ
   pub way : WayTo es (tag_units n attributes closes) from bytes (behind_tag leads)
   pub short : length bytes ≤ length b
@@ -56,5 +57,5 @@ pub record HasTagWay (es : UnitEdges) (n : List ℕ) (attributes : List Attribut
 -- for each spelling of a tag there are edges with no more bytes, without a '/' and, where it may close itself, with it
 abbrev pub SpellingsHaveTags : Type 0
 SpellingsHaveTags =
-    (g : Spelling) → IsTable g.table → (es : UnitEdges) → HasTagEdges g es → (n : List ℕ) (attributes : List Attribute) (closes slash leads : Bool) (from : State) (b after : List ℕ)
+    (g : Spelling) → IsTable g.table → (es : Edges) → HasTagEdges g es → (n : List ℕ) (attributes : List Attribute) (closes slash leads : Bool) (from : State) (b after : List ℕ)
     → SpellsStart g n attributes slash b after → (leads ≡ true → (slash ≡ true) × (closes ≡ true)) → HasTagWay es n attributes closes leads from b

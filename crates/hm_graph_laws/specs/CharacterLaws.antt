@@ -7,10 +7,11 @@ use Rattle.hm_graph_laws.specs.CharacterEdges.{spot_at, is_outside, character_ed
 use Rattle.hm_graph_laws.specs.States.{Where, in_unquoted, in_double, in_single, State}
 use Rattle.hm_graph_laws.specs.Steps.{keeps, Fits}
 use Rattle.hm_graph_laws.specs.Units.{TextKind, in_value, character, character_units}
-use Rattle.hm_graph_laws.specs.UnitWays.{UnitEdges, WayTo}
+use Rattle.hm_graph_laws.specs.UnitWays.{WayTo}
+use Rattle.hm_graph_laws.specs.Ways.{Edges}
 
 -- the characters have their edges, whatever the edges of other units are
-abbrev pub HasCharacterEdges : List Entry → CharacterRules → UnitEdges → Type 0
+abbrev pub HasCharacterEdges : List Entry → CharacterRules → Edges → Type 0
 HasCharacterEdges t rules es = (kind : TextKind) (c : ℕ) (next : Option ℕ) (s : State) → es (character kind c next) s ≡ character_edges t rules kind c next s
 
 abbrev pub is_in_value : Where → Bool
@@ -41,7 +42,7 @@ pub record IsEnd (t : List Entry) (kind : TextKind) (from to : State) : Type 0 w
 -- edges over all characters of a text lead to a state in which it may end
 abbrev pub WaysEnd : Type 0
 WaysEnd =
-    (t : List Entry) → IsTable t → (rules : CharacterRules) (es : UnitEdges) → HasCharacterEdges t rules es
+    (t : List Entry) → IsTable t → (rules : CharacterRules) (es : Edges) → HasCharacterEdges t rules es
     → (kind : TextKind) (cs : List ℕ) (from to : State) (b : List ℕ) → MayStand t kind from → WayTo es (character_units kind cs) from b to → IsEnd t kind from to
 
 -- b spells the code points where `after` follows and keeps what was pending, and the text ends in the same place
@@ -54,12 +55,12 @@ pub record Spelled (t : List Entry) (rules : CharacterRules) (kind : TextKind) (
 -- the bytes along edges to an end that is kept are a spelling
 abbrev pub WaysSpell : Type 0
 WaysSpell =
-    (t : List Entry) → IsTable t → (rules : CharacterRules) (es : UnitEdges) → HasCharacterEdges t rules es
+    (t : List Entry) → IsTable t → (rules : CharacterRules) (es : Edges) → HasCharacterEdges t rules es
     → (kind : TextKind) (cs : List ℕ) (from to : State) (b after : List ℕ) → MayStand t kind from → WayTo es (character_units kind cs) from b to → keeps_at t kind to after ≡ true
     → Spelled t rules kind cs from to b after
 
 -- edges through the code points, with no more bytes than b, to an end that is kept
-pub record HasTextWay (t : List Entry) (es : UnitEdges) (kind : TextKind) (cs : List ℕ) (from : State) (b after : List ℕ) : Type 0 where
+pub record HasTextWay (t : List Entry) (es : Edges) (kind : TextKind) (cs : List ℕ) (from : State) (b after : List ℕ) : Type 0 where
   pub to : State
   pub bytes : List ℕ
   pub way : WayTo es (character_units kind cs) from bytes to
@@ -71,6 +72,6 @@ pub record HasTextWay (t : List Entry) (es : UnitEdges) (kind : TextKind) (cs : 
 -- for each spelling that keeps what was pending there are edges with no more bytes
 abbrev pub SpellingsHaveWays : Type 0
 SpellingsHaveWays =
-    (t : List Entry) → IsTable t → (rules : CharacterRules) (es : UnitEdges) → HasCharacterEdges t rules es
+    (t : List Entry) → IsTable t → (rules : CharacterRules) (es : Edges) → HasCharacterEdges t rules es
     → (kind : TextKind) (cs : List ℕ) (from : State) (b after : List ℕ) → MayStand t kind from → SpellsPoints t rules (spot_at kind from.at) cs b after → keeps_at t kind from (b ++ after) ≡ true
     → HasTextWay t es kind cs from b after

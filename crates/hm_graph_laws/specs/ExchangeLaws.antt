@@ -7,6 +7,7 @@ use Rattle.hm_refs.specs.Plain.{is_plain}
 use Rattle.hm_refs.specs.Tables.{IsTable}
 use Rattle.hm_spelling_spec.specs.Characters.{CharacterRules, SpellsPoints, Spot}
 use Rattle.hm_spelling_spec.specs.Spellings.{Spells, SpellsWhere}
+use Rattle.hm_spelling_spec.specs.Tags.{Spelling}
 
 -- the rules with which a reference begins at none of these characters
 abbrev pub sparing : CharacterRules → (ℕ → Bool) → CharacterRules
@@ -24,6 +25,10 @@ TextsSparePlain = (t : List Entry) → IsTable t → (rules : CharacterRules) (s
 -- whether a reference may begin at c
 abbrev pub needs_reference : List Entry → ℕ → Bool
 needs_reference t c = not (is_plain t c)
+
+-- the spelling by a table and these rules in which no reference begins at a plain character; the graph of a tree has its edges
+abbrev pub sparing_plain : List Entry → SpellRules → Spelling
+sparing_plain t r = record { table = t; rules = r; refers = needs_reference t }
 
 -- a spelling of the tree with no more bytes than b, in which no reference begins at a plain character
 pub record HasPlainSpelling (t : List Entry) (r : SpellRules) (w : List Event) (b : List ℕ) : Type 0 where

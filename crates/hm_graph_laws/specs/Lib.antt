@@ -13,6 +13,7 @@ pub mod AttributeLaws
 pub mod TagEdges
 pub mod ExchangeLaws
 pub mod UnitEdges
+pub mod EdgeLaws
 pub mod Ways
 pub mod Layers
 pub mod Prices

@@ -1,13 +1,16 @@
--- What is pending, on examples: what the bytes that follow break and keep; and which start tags may close themselves.
-use Rattle.std.specs.Prelude.{◌≡◌, true, false, Some, [], ◌∷◌, codes, refl}
+-- What is pending, on examples: what the bytes that follow break and keep; and which start tags may close themselves or be left out.
+use Rattle.std.specs.Prelude.{◌≡◌, Bool, true, false, Some, None, [], ◌∷◌, codes, refl}
 use Rattle.hm_base.specs.Bytes.{is_alnum, is_digit_of, is_letter}
 use Rattle.hm_base.specs.Walks.{end}
+use Rattle.hm_base.specs.declared.plain.SpellRules.{SpellRules}
+use Rattle.hm_elements.specs.Names.{body}
 use Rattle.hm_refs.specs.Examples.{seven}
 use Rattle.hm_refs.specs.Names.{is_name}
 use Rattle.hm_spelling_spec.specs.Characters.{opens_text, text, double}
 use Rattle.hm_graph_laws.specs.States.{ampersand, decimal, less_than, named}
 use Rattle.hm_graph_laws.specs.Steps.{ampersand_in_value, is_root, named_in_text, onto, passes}
-use Rattle.hm_graph_laws.specs.Units.{may_close_itself}
+use Rattle.hm_graph_laws.specs.Units.{may_close_itself, start_tag, start_units}
+use Rattle.hm_spelling_spec.specs.PageExamples.{on_literals}
 
 -- `&not` is broken by `in;`, since `&notin;` is a longer name, and kept by `in,`
 pub broken_by_longer : passes seven text (Some (named (codes "&not"))) (codes "in;") ≡ false
@@ -51,3 +54,16 @@ svg_closes_itself = refl
 
 pub html_never_closes_itself : may_close_itself false (end (codes "b") false ∷ []) ≡ false
 html_never_closes_itself = refl
+
+-- with a frame or without
+abbrev omitting : Bool → SpellRules
+omitting frame = record { omit = true; unquote = true; tight = false; ascii = false; frame = frame }
+
+-- the start tag of an empty body may be left out, and not where it has to stand as a frame
+pub body_left_out : start_units (omitting false) None body false [] (end body false ∷ []) ≡ start_tag body true false false ∷ []
+unfolding on_literals
+body_left_out = refl
+
+pub framed_body_stands : start_units (omitting true) None body false [] (end body false ∷ []) ≡ start_tag body false false false ∷ []
+unfolding on_literals
+framed_body_stands = refl

@@ -4,12 +4,9 @@ use Rattle.hm_refs.specs.Tables.{IsIn}
 use Rattle.hm_graph_laws.specs.Edges.{Edge}
 use Rattle.hm_graph_laws.specs.States.{State}
 use Rattle.hm_graph_laws.specs.Units.{Unit}
-
--- the edges of a unit from a state, in their order
-abbrev pub UnitEdges : Type 0
-UnitEdges = Unit → State → List Edge
+use Rattle.hm_graph_laws.specs.Ways.{Edges}
 
 -- a way over these units with the bytes that it writes
-abbrev pub WayTo : UnitEdges → List Unit → State → List ℕ → State → Type 0
+abbrev pub WayTo : Edges → List Unit → State → List ℕ → State → Type 0
 WayTo es [] from b to = (b ≡ []) × (from ≡ to)
 WayTo es (unit ∷ units) from b to = (e : Edge) × IsIn e (es unit from) × ((rest : List ℕ) × (b ≡ e.bytes ++ rest) × WayTo es units e.to rest to)

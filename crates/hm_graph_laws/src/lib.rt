@@ -4,6 +4,7 @@
 
 pub mod attributes;
 pub mod characters;
+pub mod edges;
 pub mod pending;
 pub mod plain_characters;
 pub mod prices;

@@ -1,5 +1,5 @@
 -- What an answer on the tree of a request says of the request.
-use Rattle.std.proofs.Common.{◌≡◌, ℕ, Bool, true, false, not, ◌||◌, ◌&&◌, List, refl, sym, ap, ◌∙◌, subst}
+use Rattle.std.proofs.Common.{◌≡◌, ℕ, Bool, true, false, not, ◌||◌, ◌&&◌, List, Some, Result, Ok, Err, IfOk, refl, sym, ap, ◌∙◌, subst}
 use Rattle.std.specs.declared.option.Option.{Option}
 use Rattle.std.specs.Str.{bytes_eq}
 use Rattle.hm_base.specs.Walks.{Event}
@@ -10,9 +10,10 @@ use Rattle.hm_refs.proofs.Places.{same_bytes}
 use Rattle.hm_refs.specs.Names.{Entry}
 use Rattle.hm_store.specs.Contents.{Contents, Sees}
 use Rattle.hm_store.specs.Files.{FileMap, file_of}
-use Rattle.hm_words.specs.Words.{Command, minify, check, tree, measure, is_apart, are_apart, are_distinct}
+use Rattle.hm_words.specs.Words.{Command, asks, minify, check, tree, measure, is_apart, are_apart, are_distinct}
 use Rattle.hm_words.specs.declared.writing.Writing.{Writing}
 use Rattle.hm_minify.specs.Endings.{Ending, with_tree, tree_ending, command_ending, check_ending}
+use Rattle.hm_minify.specs.Writable.{AskedIsWritable, ForTree, IsWritable}
 use Rattle.hm_minify.proofs.Seen.{mixed, sees_both, page_stays}
 
 -- ---- names that differ
@@ -123,3 +124,38 @@ input_seen told c table page o x names i = record { seen = i.seen; are_told = i.
 -- the files are as they were before the tree was loaded
 pub answer_before : (told mid : Option FileMap) (c : Command) (r : Writing) (t : List Entry) (w : List Event) (ended : Ending) → mid ≡ told → Sees mid (λ seen. ended ≡ tree_ending c r seen t w) → Sees told (λ seen. ended ≡ tree_ending c r seen t w)
 answer_before told mid c r t w ended same a = subst (λ files. Sees files (λ seen. ended ≡ tree_ending c r seen t w)) same a
+
+-- ---- a certificate that can be read
+
+abbrev both_hold : Command → TreeOptions → Writing → Ending → Contents → Type 0
+both_hold c o r ended seen = (ended ≡ command_ending c o r seen) × AskedIsWritable (Some (asks c o r)) seen
+
+-- the input is the one for which it is known
+with_input : (c : Command) (o : TreeOptions) (r : Writing) (t : List Entry) (w : List Event) (ended : Ending) (seen : Contents) → input_of c o seen ≡ tree_input t w → ended ≡ tree_ending c r seen t w → IsWritable c r t w → both_hold c o r ended seen
+with_input c o r t w ended seen i e h = (e ∙ ap (λ x. with_tree x (tree_ending c r seen)) (sym i), subst (ForTree (IsWritable c r)) (sym i) h)
+
+pub asked_writable : (told : Option FileMap) (c : Command) (o : TreeOptions) (r : Writing) (t : List Entry) (w : List Event) (ended : Ending) → is_apart c ≡ true → Sees told (λ seen. input_of c o seen ≡ tree_input t w)
+    → Sees told (λ seen. ended ≡ tree_ending c r seen t w) → IsWritable c r t w → Sees told (both_hold c o r ended)
+asked_writable told (minify table page out cert) o r t w ended apart i a h =
+    record { seen = i.seen; are_told = i.are_told; holds = with_input (minify table page out cert) o r t w ended i.seen i.holds a.holds h }
+asked_writable told (check table page out cert) o r t w ended apart i a h =
+    let s = sees_both told (is_either out cert) (λ seen. page_with_table table page o seen ≡ tree_input t w) (λ seen. ended ≡ check_ending r.rules t w (seen out) (seen cert))
+    (λ seen more h. page_stays (is_either out cert) table page o seen more (table_apart table page out cert apart) (page_apart table page out cert apart) ∙ h)
+    (λ seen more h. check_comes r.rules t w out cert ended seen more h) i a in
+    record { seen = s.seen; are_told = s.are_told; holds = with_input (check table page out cert) o r t w ended s.seen s.holds.0 s.holds.1 h }
+asked_writable told (tree table page) o r t w ended apart i a h =
+    record { seen = i.seen; are_told = i.are_told; holds = with_input (tree table page) o r t w ended i.seen i.holds a.holds h }
+asked_writable told (measure table number size) o r t w ended apart i a h =
+    record { seen = i.seen; are_told = i.are_told; holds = with_input (measure table number size) o r t w ended i.seen i.holds a.holds h }
+
+-- an ending without a tree
+pub untreed_writable : (told : Option FileMap) (c : Command) (o : TreeOptions) (r : Writing) (ended : Ending) (x : Input) → Sees told (λ seen. input_of c o seen ≡ x) → ForTree (IsWritable c r) x → ((seen : Contents) → ended ≡ with_tree x (tree_ending c r seen)) → Sees told (both_hold c o r ended)
+untreed_writable told c o r ended x i h e = record {
+  seen = i.seen;
+  are_told = i.are_told;
+  holds = (e i.seen ∙ ap (λ y. with_tree y (tree_ending c r i.seen)) (sym i.holds), subst (ForTree (IsWritable c r)) (sym i.holds) h);
+}
+
+pub if_both : {A E : Type 0} (r : Result A E) (P Q : A → Type 0) → IfOk r P → IfOk r Q → IfOk r (λ a. P a × Q a)
+if_both (Ok a) P Q p q = (p, q)
+if_both (Err e) P Q p q = tt

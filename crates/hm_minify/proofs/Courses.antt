@@ -38,7 +38,7 @@ no_memory : (r : Status) → is_fault r ≡ false → r ≡ status.Memory → �
 no_memory r a e = let h : is_fault r ≡ true = ap is_fault e in cc
 
 -- a status with which the line of a store's fault goes is no answer
-said_fault : (k k_new : ℕ) (s s_new : Option (List ℕ)) (r : Status) → Puts k k_new s s_new store_line status.StoreFault r → is_fault r ≡ false → ⊥
+pub said_fault : (k k_new : ℕ) (s s_new : Option (List ℕ)) (r : Status) → Puts k k_new s s_new store_line status.StoreFault r → is_fault r ≡ false → ⊥
 said_fault k k_new s s_new r (inl p) a = no_store r a p.0
 said_fault k k_new s s_new r (inr p) a = no_sink r a p.0
 

@@ -6,6 +6,7 @@ use Rattle.hm_base.specs.Walks.{Event}
 use Rattle.hm_base.specs.declared.limits.TheConstants.{PAGE_LIMIT}
 use Rattle.hm_base.specs.declared.plain.TreeOptions.{TreeOptions}
 use Rattle.hm_base.specs.declared.rules.Rule.TheVariants.{TooLong}
+use Rattle.hm_cert.specs.Certificate.{AreRows}
 use Rattle.hm_construction_laws.proofs.Pages.{pages_are_settled}
 use Rattle.hm_construction_laws.specs.Trees.{Outcome, built, refused_by, page_tree}
 use Rattle.hm_elements.specs.Settled.{Settled}
@@ -20,7 +21,7 @@ use Rattle.hm_refs.specs.Names.{Entry}
 use Rattle.hm_refs.specs.Tables.{IsTable}
 use Rattle.hm_refs.specs.declared.fault.TableFault.{TableFault}
 use Rattle.hm_plan.proofs.Headline.{shortest_is_certified}
-use Rattle.hm_plan.specs.Shortest.{IsShortest, certificate_of, shortest_text}
+use Rattle.hm_plan.specs.Shortest.{IsShortest, certificate_of, certified_rows, shortest_text}
 use Rattle.hm_store.specs.Contents.{Contents}
 use Rattle.hm_token_laws.proofs.TextPieces.{names_of_table}
 use Rattle.hm_words.specs.declared.writing.Writing.{Writing}
@@ -76,6 +77,6 @@ command_sound (measure table number size) o seen t w e = input_sound o t w (is_n
 
 -- ---- The headline
 
-pub input_is_shortest : (c : Command) (o : TreeOptions) (x : Writing) (seen : Contents) (t : List Entry) (w : List Event) → input_of c o seen ≡ tree_input t w
+pub input_is_shortest : (c : Command) (o : TreeOptions) (x : Writing) (seen : Contents) (t : List Entry) (w : List Event) → input_of c o seen ≡ tree_input t w → AreRows (certified_rows t x.rules (format_of x.sparse) w)
     → IsShortest t x.rules (format_of x.sparse) w (shortest_text t x.rules w) (certificate_of t x.rules (format_of x.sparse) w)
-input_is_shortest c o x seen t w e = let s = command_sound c o seen t w e in shortest_is_certified t s.table x.rules (format_of x.sparse) w s.settled
+input_is_shortest c o x seen t w e readable = let s = command_sound c o seen t w e in shortest_is_certified t s.table x.rules (format_of x.sparse) w s.settled readable

@@ -15,6 +15,7 @@ use Rattle.hm_words.specs.Words.{Command, Asked, asks, minify, check, tree, meas
 use Rattle.hm_minify.specs.Endings.{Ending, format_of, is_fault, own_verdict, with_tree, tree_ending, check_ending, asked_ending, request_ending, ending}
 use Rattle.hm_minify.specs.Lines.{usage_line}
 use Rattle.hm_minify.specs.Runs.{EndsAs, Puts, HasMinified, HasChecked, HasDenied, IsDenied, HasShown, HasMeasured, HasRefusedPage, HasRefusedTable}
+use Rattle.hm_minify.specs.Writable.{AskedIsWritable, ForTree, IsWritable}
 use Rattle.hm_minify.specs.Writes.{after_writes}
 use Rattle.hm_minify.specs.declared.status.Status.{Status}
 use Rattle.hm_minify.specs.declared.status.Status.TheVariants as status
@@ -65,27 +66,27 @@ of_asked words a r o n s s_new seen e w = subst (λ x. EndsAs (request_ending x 
 -- ---- minify
 
 minified_of : (c : Command) (options : TreeOptions) (writing : Writing) (table page out cert : List ℕ) (r : Status) (o n : Option FileMap) (s s_new : Option (List ℕ)) (seen : Contents) (x : Input) → input_of c options seen ≡ x
-    → EndsAs (with_tree x (tree_ending (minify table page out cert) writing seen)) r o n s s_new → r ≡ status.Done → HasMinified c options writing out cert o n s s_new seen
-minified_of c options writing table page out cert r o n s s_new seen missing reads w is = let e : status.StoreFault ≡ status.Done = sym w.status ∙ is in cc
-minified_of c options writing table page out cert r o n s s_new seen (bad_table fault) reads w is = let e : status.TableRefused ≡ status.Done = sym w.status ∙ is in cc
-minified_of c options writing table page out cert r o n s s_new seen (bad_page rule at) reads w is = let e : status.PageRefused ≡ status.Done = sym w.status ∙ is in cc
-minified_of c options writing table page out cert r o n s s_new seen (tree_input t v) reads w is = record {
+    → EndsAs (with_tree x (tree_ending (minify table page out cert) writing seen)) r o n s s_new → ForTree (IsWritable (minify table page out cert) writing) x → r ≡ status.Done → HasMinified c options writing out cert o n s s_new seen
+minified_of c options writing table page out cert r o n s s_new seen missing reads w h is = let e : status.StoreFault ≡ status.Done = sym w.status ∙ is in cc
+minified_of c options writing table page out cert r o n s s_new seen (bad_table fault) reads w h is = let e : status.TableRefused ≡ status.Done = sym w.status ∙ is in cc
+minified_of c options writing table page out cert r o n s s_new seen (bad_page rule at) reads w h is = let e : status.PageRefused ≡ status.Done = sym w.status ∙ is in cc
+minified_of c options writing table page out cert r o n s s_new seen (tree_input t v) reads w h is = record {
   table = t;
   tree = v;
   reads = reads;
   out = shortest_text t writing.rules v;
   cert = certificate_of t writing.rules (format_of writing.sparse) v;
-  shortest = input_is_shortest c options writing seen t v reads;
+  shortest = input_is_shortest c options writing seen t v reads h;
   files = w.files;
   line = w.sink;
 }
 
 pub minified : (words : List (List ℕ)) (table page out cert : List ℕ) (options : TreeOptions) (writing : Writing) (r : Status) (o n : Option FileMap) (s s_new : Option (List ℕ)) → asked words ≡ Some (asks (minify table page out cert) options writing)
-    → Sees o (λ seen. EndsAs (ending words seen) r o n s s_new) → r ≡ status.Done → Sees o (HasMinified (minify table page out cert) options writing out cert o n s s_new)
+    → Sees o (λ seen. EndsAs (ending words seen) r o n s s_new × AskedIsWritable (asked words) seen) → r ≡ status.Done → Sees o (HasMinified (minify table page out cert) options writing out cert o n s s_new)
 minified words table page out cert options writing r o n s s_new e w is = record {
   seen = w.seen;
   are_told = w.are_told;
-  holds = minified_of (minify table page out cert) options writing table page out cert r o n s s_new w.seen (input_of (minify table page out cert) options w.seen) refl (of_asked words (asks (minify table page out cert) options writing) r o n s s_new w.seen e w.holds) is;
+  holds = minified_of (minify table page out cert) options writing table page out cert r o n s s_new w.seen (input_of (minify table page out cert) options w.seen) refl (of_asked words (asks (minify table page out cert) options writing) r o n s s_new w.seen e w.holds.0) (subst (λ x. AskedIsWritable x w.seen) e w.holds.1) is;
 }
 
 -- ---- check
@@ -183,11 +184,11 @@ shows words table page options writing r o n s s_new e w is = record {
 -- ---- measure
 
 measured_of : (table : List ℕ) (number size : ℕ) (options : TreeOptions) (writing : Writing) (r : Status) (o n : Option FileMap) (s s_new : Option (List ℕ)) (seen : Contents) (x : Input) → input_of (measure table number size) options seen ≡ x
-    → EndsAs (with_tree x (tree_ending (measure table number size) writing seen)) r o n s s_new → r ≡ status.Done → HasMeasured (measure table number size) number size options writing o n s s_new seen
-measured_of table number size options writing r o n s s_new seen missing reads w is = let e : status.StoreFault ≡ status.Done = sym w.status ∙ is in cc
-measured_of table number size options writing r o n s s_new seen (bad_table fault) reads w is = let e : status.TableRefused ≡ status.Done = sym w.status ∙ is in cc
-measured_of table number size options writing r o n s s_new seen (bad_page rule at) reads w is = let e : status.PageRefused ≡ status.Done = sym w.status ∙ is in cc
-measured_of table number size options writing r o n s s_new seen (tree_input t v) reads w is =
+    → EndsAs (with_tree x (tree_ending (measure table number size) writing seen)) r o n s s_new → ForTree (IsWritable (measure table number size) writing) x → r ≡ status.Done → HasMeasured (measure table number size) number size options writing o n s s_new seen
+measured_of table number size options writing r o n s s_new seen missing reads w h is = let e : status.StoreFault ≡ status.Done = sym w.status ∙ is in cc
+measured_of table number size options writing r o n s s_new seen (bad_table fault) reads w h is = let e : status.TableRefused ≡ status.Done = sym w.status ∙ is in cc
+measured_of table number size options writing r o n s s_new seen (bad_page rule at) reads w h is = let e : status.PageRefused ≡ status.Done = sym w.status ∙ is in cc
+measured_of table number size options writing r o n s s_new seen (tree_input t v) reads w h is =
     let sound = command_sound (measure table number size) options seen t v reads in
     let done = measured_done t sound.table writing v sound.settled (length (made_page number size)) (layer_count writing.rules v) (own_verdict writing t v) refl (sym w.status ∙ is) in
     record {
@@ -196,17 +197,17 @@ measured_of table number size options writing r o n s s_new seen (tree_input t v
       reads = reads;
       out = shortest_text t writing.rules v;
       cert = certificate_of t writing.rules (format_of writing.sparse) v;
-      shortest = input_is_shortest (measure table number size) options writing seen t v reads;
+      shortest = input_is_shortest (measure table number size) options writing seen t v reads h;
       files = w.files ∙ ap (λ (e : Ending). after_writes o e.writes) done;
       line = w.sink ∙ ap (λ (e : Ending). append_known s e.line) done;
     }
 
 pub measures : (words : List (List ℕ)) (table : List ℕ) (number size : ℕ) (options : TreeOptions) (writing : Writing) (r : Status) (o n : Option FileMap) (s s_new : Option (List ℕ)) → asked words ≡ Some (asks (measure table number size) options writing)
-    → Sees o (λ seen. EndsAs (ending words seen) r o n s s_new) → r ≡ status.Done → Sees o (HasMeasured (measure table number size) number size options writing o n s s_new)
+    → Sees o (λ seen. EndsAs (ending words seen) r o n s s_new × AskedIsWritable (asked words) seen) → r ≡ status.Done → Sees o (HasMeasured (measure table number size) number size options writing o n s s_new)
 measures words table number size options writing r o n s s_new e w is = record {
   seen = w.seen;
   are_told = w.are_told;
-  holds = measured_of table number size options writing r o n s s_new w.seen (input_of (measure table number size) options w.seen) refl (of_asked words (asks (measure table number size) options writing) r o n s s_new w.seen e w.holds) is;
+  holds = measured_of table number size options writing r o n s s_new w.seen (input_of (measure table number size) options w.seen) refl (of_asked words (asks (measure table number size) options writing) r o n s s_new w.seen e w.holds.0) (subst (λ x. AskedIsWritable x w.seen) e w.holds.1) is;
 }
 
 always_input : (table : List ℕ) (number size : ℕ) (options : TreeOptions) (writing : Writing) (r : Status) (o n : Option FileMap) (s s_new : Option (List ℕ)) (seen : Contents) (x : Input) → IsMeasured number size → input_of (measure table number size) options seen ≡ x

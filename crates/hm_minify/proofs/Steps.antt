@@ -9,11 +9,13 @@ use Rattle.hm_words.specs.Answers.{request_of}
 use Rattle.hm_words.specs.declared.words.Asked as requests
 use Rattle.hm_minify.specs.Endings.{Ending, says, store_fault, is_fault, asked_ending, request_ending, ending}
 use Rattle.hm_minify.specs.Lines.{usage_line, store_line}
-use Rattle.hm_minify.specs.Runs.{Puts, Finishes, Course, written, missing, stopped}
+use Rattle.hm_minify.specs.Runs.{EndsAs, Puts, Finishes, Course, written, missing, stopped}
+use Rattle.hm_minify.specs.Writable.{AskedIsWritable}
+use Rattle.std.specs.Io.KnownBytes.{append_known}
 use Rattle.hm_minify.specs.Writes.{after_writes, IsLeft}
 use Rattle.hm_minify.specs.declared.status.Status.{Status}
 use Rattle.hm_minify.specs.declared.status.Status.TheVariants as status
-use Rattle.hm_minify.proofs.Courses.{none_left}
+use Rattle.hm_minify.proofs.Courses.{none_left, no_sink, put_says, said_fault}
 
 rose_before : (f f_mid f_new : ℕ) → f ≤ f_mid → Rose f_mid f_new → Rose f f_new
 rose_before f f_mid f_new h (inl l) = inl (omega arith)
@@ -45,3 +47,39 @@ pub course_stopped : (words : List (List ℕ)) (a : requests.Asked) (o n : Optio
     → Puts k k_new s s_new store_line status.StoreFault r → Course (ending words) o n f f_new s s_new k k_new r
 course_stopped words a o n f f_new s s_new k k_new r asks same (inl rose) p = stopped (record { seen = file_of o; are_told = λ _ _. refl; holds = none_left o (ending words (file_of o)).writes n same }) rose p
 course_stopped words a o n f f_new s s_new k k_new r asks same (inr t) p = missing (record { some = t.some; holds = ap (λ x. request_ending x (file_of o)) asks ∙ t.holds }) same p
+
+-- ---- a certificate that can be read
+
+pub finished_writable : (words : List (List ℕ)) (a : requests.Asked) (ended : Ending) (o mid n : Option FileMap) (f_mid f_new : ℕ) (s s_new : Option (List ℕ)) (k k_new : ℕ) (r : Status) → asked words ≡ Some (request_of a)
+    → Sees o (λ seen. (ended ≡ asked_ending (request_of a) seen) × AskedIsWritable (Some (request_of a)) seen) → mid ≡ o → Finishes ended mid n f_mid f_new s s_new k k_new r → is_fault r ≡ false
+    → Sees o (λ seen. EndsAs (ending words seen) r o n s s_new × AskedIsWritable (asked words) seen)
+finished_writable words a ended o mid n f_mid f_new s s_new k k_new r asks w same (inl q) answers =
+    let is : ended ≡ ending words w.seen = w.holds.0 ∙ ap (λ x. request_ending x w.seen) (sym asks) in
+    let p = put_says k k_new s s_new ended.line ended.status r q.1 (no_sink r answers) in
+    record {
+      seen = w.seen;
+      are_told = w.are_told;
+      holds = (
+        record {
+          status = p.0 ∙ ap (λ (x : Ending). x.status) is;
+          files = q.0 ∙ ap (λ m. after_writes m ended.writes) same ∙ ap (λ (x : Ending). after_writes o x.writes) is;
+          sink = p.1 ∙ ap (λ (x : Ending). append_known s x.line) is;
+        },
+        subst (λ x. AskedIsWritable x w.seen) (sym asks) w.holds.1,
+      );
+    }
+finished_writable words a ended o mid n f_mid f_new s s_new k k_new r asks w same (inr q) answers = absurd (said_fault k k_new s s_new r q.2 answers)
+
+pub unasked_writable : (words : List (List ℕ)) (o : Option FileMap) (s s_new : Option (List ℕ)) (k k_new : ℕ) (r : Status) → asked words ≡ None → Puts k k_new s s_new usage_line status.Usage r → is_fault r ≡ false
+    → Sees o (λ seen. EndsAs (ending words seen) r o o s s_new × AskedIsWritable (asked words) seen)
+unasked_writable words o s s_new k k_new r none p answers =
+    let is : ending words (file_of o) ≡ says status.Usage usage_line = ap (λ a. request_ending a (file_of o)) none in
+    let q = put_says k k_new s s_new usage_line status.Usage r p (no_sink r answers) in
+    record {
+      seen = file_of o;
+      are_told = λ _ _. refl;
+      holds = (
+        record { status = q.0 ∙ ap (λ (x : Ending). x.status) (sym is); files = ap (λ (x : Ending). after_writes o x.writes) (sym is); sink = q.1 ∙ ap (λ (x : Ending). append_known s x.line) (sym is) },
+        subst (λ x. AskedIsWritable x (file_of o)) (sym none) tt,
+      );
+    }

@@ -7,6 +7,7 @@ pub mod Writes
 pub mod Stops
 pub mod Endings
 pub mod Laws
+pub mod Writable
 pub mod Runs
 pub mod Sayings
 pub mod Examples

@@ -1,5 +1,5 @@
 //! A page that is made of a number, written shortest and checked in memory.
-ghost use Rattle.std.specs.Prelude.{◌≡◌, ◌≢◌, ◌⊎◌, ◌≤◌, IfOk, Ok, Err, false};
+ghost use Rattle.std.specs.Prelude.{◌≡◌, ◌≢◌, ◌⊎◌, ◌≤◌, IfOk, Ok, Err, Some, false};
 ghost use Rattle.hm_cert.specs.Certificate.{AreRows};
 ghost use Rattle.hm_check.specs.declared.verdicts.Verdict.TheVariants.{Yes};
 ghost use Rattle.hm_elements.specs.Settled.{Settled};
@@ -8,7 +8,9 @@ ghost use Rattle.hm_plan.specs.Shortest.{certified_rows};
 ghost use Rattle.hm_store.specs.Causes.{Rose};
 ghost use Rattle.hm_store.specs.Contents.{Sees, Tells};
 ghost use Rattle.hm_words.specs.Words as request;
+ghost use Rattle.hm_words.specs.Words.{asks};
 ghost use Rattle.hm_minify.specs.Endings as spec;
+ghost use Rattle.hm_minify.specs.Writable.{AskedIsWritable};
 
 use crate::ended::{Ended, Stop, says};
 use crate::lines::{measured_line, refused_line, table_line};
@@ -62,6 +64,7 @@ fn check_minified(
 /// Writes the tree of a page that was made shortest, and checks that.
 fn measure_tree<'w>(alloc: Global, made: &MadeInput, writing: Writing) -> Result<Ended<'w>, Stop>
     requires settled { Settled made.now.input.tree }
+    ensures writable { IfOk result (λ _. AreRows (certified_rows made.now.input.table.entries writing.rules (spec.format_of writing.sparse) made.now.input.tree)) }
     ensures ended { IfOk result (λ ended. ended ≡ spec.measured_ending made.now.bytes writing made.now.input.table.entries made.now.input.tree) }
     ensures answers { IfOk result (λ ended. spec.is_fault ended.status ≡ false) }
     ensures memory { result ≢ Err Stop.Store }
@@ -92,6 +95,7 @@ pub fn measure<'w, S: Store>(
     writing: Writing,
 ) -> Result<Ended<'w>, Stop>
     ensures ended { IfOk result (λ ended. Sees (S.files store.old) (λ seen. ended ≡ spec.command_ending (request.measure table.now number size) options.now writing seen)) }
+    ensures writable { IfOk result (λ ended. Sees (S.files store.old) (λ seen. (ended ≡ spec.command_ending (request.measure table.now number size) options.now writing seen) × AskedIsWritable (Some (asks (request.measure table.now number size) options.now writing)) seen)) }
     ensures answers { IfOk result (λ ended. spec.is_fault ended.status ≡ false) }
     ensures same { S.files store.new ≡ S.files store.old }
     ensures writing { S.is_writing store.new ≡ S.is_writing store.old }

@@ -13,6 +13,7 @@ ghost use Rattle.hm_minify.specs.Endings.{ending, is_fault};
 ghost use Rattle.hm_minify.specs.Lines.{usage_line, store_line};
 ghost use Rattle.hm_minify.specs.Runs as spec;
 ghost use Rattle.hm_minify.specs.Sayings.{bytes_said};
+ghost use Rattle.hm_minify.specs.Writable.{AskedIsWritable};
 ghost use Rattle.hm_minify.specs.Writes.{after_writes, IsLeft};
 
 use crate::Status;
@@ -59,6 +60,8 @@ fn finish<S: Store, O: Sink>(store: &mut S, out: &mut O, ended: Ended<'_>) -> St
 fn perform<S: Store, O: Sink>(alloc: Global, words: &[Word], store: &mut S, out: &mut O) -> Status
     ensures unasked { asked_by words.now ≡ None → (store.new ≡ store.old) × (spec.Puts (O.faults out.old) (O.faults out.new) (O.contents out.old) (O.contents out.new) usage_line Status.Usage result ⊎ (result ≡ Status.Memory)) }
     ensures course { spec.Course (ending words.now) (S.files store.old) (S.files store.new) (S.faults store.old) (S.faults store.new) (O.contents out.old) (O.contents out.new) (O.faults out.old) (O.faults out.new) result }
+    ensures writable { is_fault result ≡ false
+        → Sees (S.files store.old) (λ seen. spec.EndsAs (ending words.now seen) result (S.files store.old) (S.files store.new) (O.contents out.old) (O.contents out.new) × AskedIsWritable (asked_by words.now) seen) }
     ensures writing { result ≡ Status.Memory → S.is_writing store.new ≡ S.is_writing store.old }
 {
     match Asked::read(alloc, words) {

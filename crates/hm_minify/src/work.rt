@@ -1,7 +1,9 @@
 //! What a request ends with, made in memory.
-ghost use Rattle.std.specs.Prelude.{◌≡◌, ◌≢◌, ◌⊎◌, ◌≤◌, IfOk, Err, true, false};
+ghost use Rattle.std.specs.Prelude.{◌≡◌, ◌≢◌, ◌⊎◌, ◌≤◌, IfOk, Some, Err, true, false};
 ghost use Rattle.hm_base.specs.declared.plain.TreeOptions.{TreeOptions};
+ghost use Rattle.hm_cert.specs.Certificate.{AreRows};
 ghost use Rattle.hm_elements.specs.Settled.{Settled};
+ghost use Rattle.hm_plan.specs.Shortest.{certified_rows};
 ghost use Rattle.hm_store.specs.Causes.{Rose};
 ghost use Rattle.hm_store.specs.Contents.{Contents, Sees, Tells};
 ghost use Rattle.hm_minify.specs.Inputs.{input_of, page_with_table};
@@ -9,6 +11,7 @@ ghost use Rattle.hm_dump.specs.Dump.{dump_of};
 ghost use Rattle.hm_words.specs.Answers.{command_of, request_of};
 ghost use Rattle.hm_words.specs.Words as request;
 ghost use Rattle.hm_minify.specs.Endings as spec;
+ghost use Rattle.hm_minify.specs.Writable.{AskedIsWritable, IsWritable};
 
 use crate::checked::check_files;
 use crate::ended::{Ended, Output, Said, Stop, says, shows};
@@ -67,7 +70,9 @@ fn minify<'w>(
     out: &'w str,
     cert: &'w str,
 ) -> Result<Ended<'w>, Stop>
+    requires settled { Settled input.now.tree }
     ensures ended { IfOk result (λ ended. ended ≡ spec.minified_ending writing out.now cert.now input.now.table.entries input.now.tree) }
+    ensures writable { IfOk result (λ _. AreRows (certified_rows input.now.table.entries writing.rules (spec.format_of writing.sparse) input.now.tree)) }
     ensures memory { result ≢ Err Stop.Store }
 {
     let minified = minify_tree(
@@ -114,6 +119,7 @@ fn answer<'w, S: Store>(
     requires page { spec.has_page (command_of asked.now.command) ≡ true }
     requires apart { request.is_apart (command_of asked.now.command) ≡ true }
     ensures ended { IfOk result (λ ended. Sees (S.files store.old) (λ seen. ended ≡ spec.tree_ending (command_of asked.now.command) asked.now.writing seen input.table.entries input.tree)) }
+    ensures writable { IfOk result (λ _. IsWritable (command_of asked.now.command) asked.now.writing input.table.entries input.tree) }
     ensures answers { IfOk result (λ ended. spec.is_fault ended.status ≡ false) }
     ensures same { S.files store.new ≡ S.files store.old }
     ensures writing { S.is_writing store.new ≡ S.is_writing store.old }
@@ -152,6 +158,7 @@ fn work_on_page<'w, S: Store>(
     requires page { spec.has_page (command_of asked.now.command) ≡ true }
     requires apart { request.is_apart (command_of asked.now.command) ≡ true }
     ensures ended { IfOk result (λ ended. Sees (S.files store.old) (λ seen. ended ≡ spec.asked_ending (request_of asked.now) seen)) }
+    ensures writable { IfOk result (λ ended. Sees (S.files store.old) (λ seen. (ended ≡ spec.asked_ending (request_of asked.now) seen) × AskedIsWritable (Some (request_of asked.now)) seen)) }
     ensures answers { IfOk result (λ ended. spec.is_fault ended.status ≡ false) }
     ensures same { S.files store.new ≡ S.files store.old }
     ensures writing { S.is_writing store.new ≡ S.is_writing store.old }
@@ -180,6 +187,7 @@ pub fn work<'w, S: Store>(
 ) -> Result<Ended<'w>, Stop>
     requires apart { request.is_apart (command_of asked.now.command) ≡ true }
     ensures ended { IfOk result (λ ended. Sees (S.files store.old) (λ seen. ended ≡ spec.asked_ending (request_of asked.now) seen)) }
+    ensures writable { IfOk result (λ ended. Sees (S.files store.old) (λ seen. (ended ≡ spec.asked_ending (request_of asked.now) seen) × AskedIsWritable (Some (request_of asked.now)) seen)) }
     ensures answers { IfOk result (λ ended. spec.is_fault ended.status ≡ false) }
     ensures same { S.files store.new ≡ S.files store.old }
     ensures writing { S.is_writing store.new ≡ S.is_writing store.old }

@@ -15,7 +15,8 @@ use Rattle.hm_spelling_spec.specs.Spellings.{everywhere, other}
 use Rattle.hm_spelling_spec.specs.Tags.{Spelling}
 use Rattle.hm_graph_laws.specs.States.{first_state}
 use Rattle.hm_graph_laws.specs.Units.{units_of}
-use Rattle.hm_optimality_laws.specs.SpellingLaws.{AlwaysStands, FeasiblePricesShow, FirstWaysAreBest, SparesOnlyPlain, sparing_plain, SpellingsHaveWays, TreesHaveSpellings, WaysSpellTrees}
+use Rattle.hm_optimality_laws.specs.SpellingLaws.{AlwaysStands, FeasiblePricesShow, FirstWaysAreBest, GraphWaysSpell, SparesOnlyPlain, SpellingsHaveGraphWays, SpellingsHaveWays, TreesHaveGraphWays, TreesHaveSpellings, WaysSpellTrees}
+use Rattle.hm_graph_laws.specs.ExchangeLaws.{sparing_plain}
 use Rattle.hm_optimality_laws.proofs.Direct.{trees_have_ways}
 use Rattle.hm_optimality_laws.proofs.Found.{spelling_way}
 use Rattle.hm_optimality_laws.proofs.Order.{settled_in_order}
@@ -42,23 +43,38 @@ trees_have_spellings t k r w s =
     let (b, way) = trees_have_ways g (λ c h. absurd (cc)) w in
     (b, ways_spell_trees g k w s b way)
 
-pub feasible_prices_show : FeasiblePricesShow
-feasible_prices_show t k r w s prices n feasible price b spells =
+-- ---- At the edges of a tree's own graph
+
+pub graph_ways_spell : GraphWaysSpell
+graph_ways_spell t k r w s b way = wider (sparing_plain t r) w other [] b (ways_spell_trees (sparing_plain t r) k w s b way)
+
+pub spellings_have_graph_ways : SpellingsHaveGraphWays
+spellings_have_graph_ways t k r w s b spells =
     let p = spellings_spare_plain t k r w b spells in
     let f = spellings_have_ways (sparing_plain t r) k w s p.bytes p.spells in
+    record { bytes = f.bytes; way = f.way; short = omega (arith, f.short, p.short) }
+
+pub trees_have_graph_ways : TreesHaveGraphWays
+trees_have_graph_ways t k r w = trees_have_ways (sparing_plain t r) (spares_plain t k r) w
+
+-- ---- What prices show
+
+pub feasible_prices_show : FeasiblePricesShow
+feasible_prices_show t k r w s prices n feasible price b spells =
+    let f = spellings_have_graph_ways t k r w s b spells in
     let bound = first_bounds (edges_of (sparing_plain t r)) (units_of r w) prices n f.bytes feasible price f.way in
-    omega (arith, bound, f.short, p.short)
+    omega (arith, bound, f.short)
 
 pub first_ways_are_best : FirstWaysAreBest
 first_ways_are_best t k r w s =
     let es = edges_of (sparing_plain t r) in
     let units = units_of r w in
-    let (b, way) = trees_have_ways (sparing_plain t r) (spares_plain t k r) w in
+    let (b, way) = trees_have_graph_ways t k r w in
     let (n, is, le) = least_number es units first_state b way in
     let (first, long) = least_reached es units first_state n is in
     let price = first_least es units ∙ is ∙ ap Some (sym long) in
     record {
-      spells = wider (sparing_plain t r) w other [] (first_way es units first_state) (ways_spell_trees (sparing_plain t r) k w s (first_way es units first_state) first);
+      spells = graph_ways_spell t k r w s (first_way es units first_state) first;
       price = price;
       shortest = feasible_prices_show t k r w s (least_prices es units first_layer) (length (first_way es units first_state)) (least_feasible es units first_layer) price;
     }

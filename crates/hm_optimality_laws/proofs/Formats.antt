@@ -22,7 +22,7 @@ use Rattle.hm_graph_laws.specs.States.{State, first_state}
 use Rattle.hm_graph_laws.specs.Units.{Unit, units_of}
 use Rattle.hm_optimality_laws.proofs.Best.{feasible_prices_show, spares_plain}
 use Rattle.hm_optimality_laws.proofs.Direct.{trees_have_ways}
-use Rattle.hm_optimality_laws.specs.SpellingLaws.{sparing_plain}
+use Rattle.hm_graph_laws.specs.ExchangeLaws.{sparing_plain}
 
 same_least : (g : Spelling) (format : Format) (units : List Unit) (s : State) → least (edges_by format (edges_of g)) units s ≡ least (edges_of g) units s
 same_least g One units s = refl

@@ -1,19 +1,17 @@
 -- Prices that keep the rules without the edges that are dominated (outdone) show that no spelling is shorter.
 use Rattle.std.proofs.Common.{arith}
-use Rattle.hm_graph_laws.proofs.ExchangedTrees.{spellings_spare_plain}
 use Rattle.hm_graph_laws.specs.UnitEdges.{edges_of}
 use Rattle.hm_optimality_laws.proofs.Forgetting.{forgetting}
 use Rattle.hm_optimality_laws.proofs.Least.{needless}
 use Rattle.hm_optimality_laws.specs.SparseLaws.{SparsePricesShow}
 use Rattle.hm_spelling_spec.specs.Tags.{Spelling}
 use Rattle.hm_graph_laws.specs.Units.{units_of}
-use Rattle.hm_optimality_laws.proofs.Best.{spellings_have_ways}
-use Rattle.hm_optimality_laws.specs.SpellingLaws.{sparing_plain}
+use Rattle.hm_optimality_laws.proofs.Best.{spellings_have_graph_ways}
+use Rattle.hm_graph_laws.specs.ExchangeLaws.{sparing_plain}
 
 pub sparse_prices_show : SparsePricesShow
 sparse_prices_show t k r w s prices n feasible price b spells =
     let g : Spelling = sparing_plain t r in
-    let p = spellings_spare_plain t k r w b spells in
-    let f = spellings_have_ways g k w s p.bytes p.spells in
+    let f = spellings_have_graph_ways t k r w s b spells in
     let bound = (needless (edges_of g) (forgetting g)).1.1 (units_of r w) prices n f.bytes feasible price f.way in
-    omega (arith, bound, f.short, p.short)
+    omega (arith, bound, f.short)

@@ -13,7 +13,7 @@ use Rattle.hm_spelling_spec.specs.Spellings.{Shortest}
 use Rattle.hm_spelling_spec.specs.Tags.{Spelling}
 use Rattle.hm_graph_laws.specs.States.{State, first_state}
 use Rattle.hm_graph_laws.specs.Units.{Unit, units_of}
-use Rattle.hm_optimality_laws.specs.SpellingLaws.{sparing_plain}
+use Rattle.hm_graph_laws.specs.ExchangeLaws.{sparing_plain}
 
 -- a way (path through the layered graph) with no more bytes than b
 pub record HasWayOver (es : Edges) (units : List Unit) (s : State) (b : List ℕ) : Type 0 where

@@ -3,7 +3,7 @@ use Rattle.std.specs.Prelude.{◌≡◌, ℕ, ◌≤◌, Bool, true, false, ◌=
 use Rattle.hm_base.specs.Walks.{Event}
 use Rattle.hm_base.specs.declared.plain.SpellRules.{SpellRules}
 use Rattle.hm_elements.specs.Settled.{Settled}
-use Rattle.hm_graph_laws.specs.ExchangeLaws.{needs_reference}
+use Rattle.hm_graph_laws.specs.ExchangeLaws.{sparing_plain}
 use Rattle.hm_graph_laws.specs.Layers.{first_layer}
 use Rattle.hm_graph_laws.specs.Prices.{Row, Feasible, first_price, least_prices}
 use Rattle.hm_graph_laws.specs.UnitEdges.{edges_of}
@@ -48,9 +48,21 @@ TreesHaveWays = (g : Spelling) → SparesOnlyPlain g → (w : List Event) → (b
 abbrev pub TreesHaveSpellings : Type 0
 TreesHaveSpellings = (t : List Entry) → IsTable t → (r : SpellRules) (w : List Event) → Settled w → (b : List ℕ) × Spells t r w b
 
--- the spelling in which no reference begins at a plain character
-abbrev pub sparing_plain : List Entry → SpellRules → Spelling
-sparing_plain t r = record { table = t; rules = r; refers = needs_reference t }
+-- ---- At the edges of a tree's own graph
+
+-- the bytes of each way are a spelling
+abbrev pub GraphWaysSpell : Type 0
+GraphWaysSpell = (t : List Entry) → IsTable t → (r : SpellRules) (w : List Event) → Settled w → (b : List ℕ) → Way (edges_of (sparing_plain t r)) (units_of r w) first_state b → Spells t r w b
+
+-- each spelling has a way with no more bytes
+abbrev pub SpellingsHaveGraphWays : Type 0
+SpellingsHaveGraphWays = (t : List Entry) → IsTable t → (r : SpellRules) (w : List Event) → Settled w → (b : List ℕ) → Spells t r w b → HasWay (sparing_plain t r) w b
+
+-- each tree has a way
+abbrev pub TreesHaveGraphWays : Type 0
+TreesHaveGraphWays = (t : List Entry) → IsTable t → (r : SpellRules) (w : List Event) → (b : List ℕ) × Way (edges_of (sparing_plain t r)) (units_of r w) first_state b
+
+-- ---- What prices show
 
 -- prices that keep the rules show that no spelling has fewer bytes than the first of them
 abbrev pub FeasiblePricesShow : Type 0

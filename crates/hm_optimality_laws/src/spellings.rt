@@ -1,5 +1,5 @@
 //! Laws between the ways of the graph and the spellings of a tree. The functions do nothing.
-ghost use Rattle.hm_optimality_laws.specs.SpellingLaws.{FeasiblePricesShow, FirstWaysAreBest, SpellingsHaveWays, TreesHaveSpellings, TreesHaveWays, WaysSpellTrees};
+ghost use Rattle.hm_optimality_laws.specs.SpellingLaws.{FeasiblePricesShow, FirstWaysAreBest, GraphWaysSpell, SpellingsHaveGraphWays, SpellingsHaveWays, TreesHaveGraphWays, TreesHaveSpellings, TreesHaveWays, WaysSpellTrees};
 
 /// The bytes of each way through the units of a settled tree are a spelling of it.
 pub fn ways_spell_trees()
@@ -15,6 +15,14 @@ pub fn spellings_have_ways()
 pub fn trees_have_ways()
     ensures ways { TreesHaveWays }
     ensures spellings { TreesHaveSpellings }
+{}
+
+/// In the graph of a tree, where references begin only at characters that need one: each way is a spelling, each spelling has a
+/// way with no more bytes, and each tree has a way.
+pub fn graph_ways_are_spellings()
+    ensures spell { GraphWaysSpell }
+    ensures spellings { SpellingsHaveGraphWays }
+    ensures trees { TreesHaveGraphWays }
 {}
 
 /// Prices from any source that keep the rules of a certificate show that no spelling has fewer bytes than the first price.

@@ -5,7 +5,7 @@ use Rattle.hm_base.specs.Walks.{Event}
 use Rattle.hm_base.specs.declared.plain.SpellRules.{SpellRules}
 use Rattle.hm_cert.specs.Certificate.{AreRows, ArePrices}
 use Rattle.hm_base.specs.declared.plain.Format.{Format}
-use Rattle.hm_edges.specs.Found.{spelling}
+use Rattle.hm_graph_laws.specs.ExchangeLaws.{sparing_plain}
 use Rattle.hm_edges.specs.Pieces.{piece_bytes}
 use Rattle.hm_elements.specs.Settled.{Settled}
 use Rattle.hm_graph_laws.specs.Layers.{first_layer}
@@ -90,7 +90,7 @@ pub certified_readable : (t : List Entry) → IsTable t → (r : SpellRules) (fo
 certified_readable t k r format w g h low few s =
     let least : rows_of g.last g.steps ≡ least_prices (tree_edges t r format) (units_of r w) first_layer = rows_least (tree_edges t r format) (piece_bytes t) (units_of r w) first_layer g.steps g.last h.fits in
     let best = first_ways_are_best t k r w s in
-    let rows : AreRows (rows_of g.last g.steps) = all_rows g.last g.steps low few (first_number (rows_of g.last g.steps) _ (ap first_price least ∙ same_first (spelling t r) format (units_of r w) ∙ best.price)) in
+    let rows : AreRows (rows_of g.last g.steps) = all_rows g.last g.steps low few (first_number (rows_of g.last g.steps) _ (ap first_price least ∙ same_first (sparing_plain t r) format (units_of r w) ∙ best.price)) in
     subst AreRows
     (ap (written_rows format 0 g.steps) least ∙ written_agrees (tree_edges t r format) (piece_bytes t) (units_of r w) first_layer g.steps g.last format 0 _ h.fits)
     (some_rows format 0 g.steps (rows_of g.last g.steps) rows)

@@ -2,10 +2,10 @@
 use Rattle.std.specs.Prelude.{◌≡◌, ℕ, ◌+◌, List, length, Some}
 use Rattle.hm_base.specs.Walks.{Event}
 use Rattle.hm_base.specs.declared.plain.SpellRules.{SpellRules}
-use Rattle.hm_cert.specs.Certificate.{certificate_text}
+use Rattle.hm_cert.specs.Certificate.{AreRows, certificate_text}
 use Rattle.hm_base.specs.declared.plain.Format.{Format}
 use Rattle.hm_construction_laws.specs.Trees.{built, page_tree}
-use Rattle.hm_edges.specs.Found.{spelling}
+use Rattle.hm_graph_laws.specs.ExchangeLaws.{sparing_plain}
 use Rattle.hm_graph_laws.specs.Layers.{first_layer}
 use Rattle.hm_graph_laws.specs.Prices.{Row, Feasible, first_price, full, least_prices, written_rows}
 use Rattle.hm_graph_laws.specs.UnitEdges.{edges_of}
@@ -19,7 +19,7 @@ use Rattle.hm_graph_laws.specs.Units.{units_of}
 
 -- the text of the first way
 unfoldable pub shortest_text : List Entry → SpellRules → List Event → List ℕ
-shortest_text t r w = first_way (edges_of (spelling t r)) (units_of r w) first_state
+shortest_text t r w = first_way (edges_of (sparing_plain t r)) (units_of r w) first_state
 
 -- the rows of the least prices that a certificate writes in a format
 abbrev pub certified_rows : List Entry → SpellRules → Format → List Event → List Row
@@ -34,9 +34,11 @@ certificate_of t r format w = certificate_text format r (certified_rows t r form
 abbrev pub layer_count : SpellRules → List Event → ℕ
 layer_count r w = length (units_of r w) + 1
 
--- The prices of a certificate show by themselves that no way is shorter than n bytes.
+-- The prices of a certificate can be written, so the certificate can be read, and they show by themselves that no way is
+-- shorter than n bytes.
 pub record Certifies (t : List Entry) (r : SpellRules) (format : Format) (w : List Event) (cert : List ℕ) (n : ℕ) : Type 0 where
   pub rows : List Row
+  pub writable : AreRows rows
   pub text : cert ≡ certificate_text format r rows
   pub prices : List Row
   pub full : full (tree_edges t r format) (follows_by format (tree_edges t r format)) (units_of r w) rows ≡ Some prices

@@ -3,7 +3,7 @@ ghost use Rattle.std.specs.Prelude.{IfOk};
 ghost use Rattle.hm_cert.specs.Certificate.{AreRows};
 ghost use Rattle.hm_elements.specs.Settled.{Settled};
 ghost use Rattle.hm_plan.specs.Minified.{IsMinifiedBy};
-ghost use Rattle.hm_plan.specs.Shortest.{certified_rows};
+ghost use Rattle.hm_plan.specs.Shortest.{IsShortest, certified_rows};
 
 use crate::{backward, write_path};
 use hm_base::{Format, Memory, SpellRules};
@@ -23,7 +23,7 @@ pub struct Minified {
 }
 
 /// Writes a tree shortest by a table and these rules, and certifies that in a format. The text is the same in each format. What
-/// is written of a settled tree is a certificate that can be read.
+/// is written of a settled tree parses to it, is the shortest of its spellings, and is a certificate that can be read and shows it.
 pub fn minify_tree(
     alloc: Global,
     tree: &Tree,
@@ -33,6 +33,7 @@ pub fn minify_tree(
 ) -> Result<Minified, Memory>
     ensures made { IfOk result (IsMinifiedBy table.now.entries rules format tree.now) }
     ensures readable { IfOk result (λ made. Settled tree.now → AreRows (certified_rows table.now.entries rules format tree.now)) }
+    ensures shortest { IfOk result (λ made. Settled tree.now → IsShortest table.now.entries rules format tree.now made.out.items made.certificate.items) }
 {
     every_table(table);
     let graph = Graph::of(alloc, tree, table, rules, format)?;

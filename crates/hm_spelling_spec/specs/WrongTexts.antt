@@ -19,6 +19,10 @@ use Rattle.hm_spelling_spec.specs.Spellings.{wants_line_feed, opening}
 abbrev usual : SpellRules
 usual = record { omit = true; unquote = true; tight = false; ascii = false; frame = false }
 
+-- the rules for a text in which the start tag of body has to stand
+abbrev framed : SpellRules
+framed = record { omit = true; unquote = true; tight = false; ascii = false; frame = true }
+
 -- the end tag of p before that of a span
 p_in_span : may_omit_end usual p false (html_element (codes "span") ∷ []) (end (codes "span") false ∷ []) ≡ false
 unfolding on_literals
@@ -38,6 +42,11 @@ two_sections = refl
 space_in_body : may_omit_start usual None body false [] (text (codes " x") false ∷ []) ≡ false
 unfolding on_literals
 space_in_body = refl
+
+-- the start tag of body where it has to stand as a frame, whatever follows
+framed_body : may_omit_start framed None body false [] [] ≡ false
+unfolding on_literals
+framed_body = refl
 
 -- the start tag of head before a comment in it, which would be a child of html
 comment_in_head : may_omit_start usual None head false [] (comment (codes "x") ∷ []) ≡ false

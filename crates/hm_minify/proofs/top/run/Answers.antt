@@ -49,7 +49,7 @@ returns-clause-memory g c = λ is.
     (m.0, m.1, c.perform.ensures.writing is)
 
 pub returns-clause-minified : goal.returns-clause-minified
-returns-clause-minified g c = λ table page output cert options writing e is. minified c.args.words.now table page output cert options writing c.perform.result (g.S.Store.files c.args.store.now) (g.S.Store.files c.perform.new.store) (g.O.Sink.contents c.args.out.now) (g.O.Sink.contents c.perform.new.out) e (answer (ending c.args.words.now) (g.S.Store.files c.args.store.now) (g.S.Store.files c.perform.new.store) (g.S.Store.faults c.args.store.now) (g.S.Store.faults c.perform.new.store) (g.O.Sink.contents c.args.out.now) (g.O.Sink.contents c.perform.new.out) (g.O.Sink.faults c.args.out.now) (g.O.Sink.faults c.perform.new.out) c.perform.result c.perform.ensures.course (ap is_fault is)) is
+returns-clause-minified g c = λ table page output cert options writing e is. minified c.args.words.now table page output cert options writing c.perform.result (g.S.Store.files c.args.store.now) (g.S.Store.files c.perform.new.store) (g.O.Sink.contents c.args.out.now) (g.O.Sink.contents c.perform.new.out) e (c.perform.ensures.writable (ap is_fault is)) is
 
 pub returns-clause-checked : goal.returns-clause-checked
 returns-clause-checked g c = λ table page output cert options writing e is. checks c.args.words.now table page output cert options writing c.perform.result (g.S.Store.files c.args.store.now) (g.S.Store.files c.perform.new.store) (g.O.Sink.contents c.args.out.now) (g.O.Sink.contents c.perform.new.out) e (answer (ending c.args.words.now) (g.S.Store.files c.args.store.now) (g.S.Store.files c.perform.new.store) (g.S.Store.faults c.args.store.now) (g.S.Store.faults c.perform.new.store) (g.O.Sink.contents c.args.out.now) (g.O.Sink.contents c.perform.new.out) (g.O.Sink.faults c.args.out.now) (g.O.Sink.faults c.perform.new.out) c.perform.result c.perform.ensures.course (ap is_fault is)) is
@@ -61,7 +61,7 @@ pub returns-clause-shown : goal.returns-clause-shown
 returns-clause-shown g c = λ table page options writing e is. shows c.args.words.now table page options writing c.perform.result (g.S.Store.files c.args.store.now) (g.S.Store.files c.perform.new.store) (g.O.Sink.contents c.args.out.now) (g.O.Sink.contents c.perform.new.out) e (answer (ending c.args.words.now) (g.S.Store.files c.args.store.now) (g.S.Store.files c.perform.new.store) (g.S.Store.faults c.args.store.now) (g.S.Store.faults c.perform.new.store) (g.O.Sink.contents c.args.out.now) (g.O.Sink.contents c.perform.new.out) (g.O.Sink.faults c.args.out.now) (g.O.Sink.faults c.perform.new.out) c.perform.result c.perform.ensures.course (ap is_fault is)) is
 
 pub returns-clause-measured : goal.returns-clause-measured
-returns-clause-measured g c = λ table number size options writing e is. measures c.args.words.now table number size options writing c.perform.result (g.S.Store.files c.args.store.now) (g.S.Store.files c.perform.new.store) (g.O.Sink.contents c.args.out.now) (g.O.Sink.contents c.perform.new.out) e (answer (ending c.args.words.now) (g.S.Store.files c.args.store.now) (g.S.Store.files c.perform.new.store) (g.S.Store.faults c.args.store.now) (g.S.Store.faults c.perform.new.store) (g.O.Sink.contents c.args.out.now) (g.O.Sink.contents c.perform.new.out) (g.O.Sink.faults c.args.out.now) (g.O.Sink.faults c.perform.new.out) c.perform.result c.perform.ensures.course (ap is_fault is)) is
+returns-clause-measured g c = λ table number size options writing e is. measures c.args.words.now table number size options writing c.perform.result (g.S.Store.files c.args.store.now) (g.S.Store.files c.perform.new.store) (g.O.Sink.contents c.args.out.now) (g.O.Sink.contents c.perform.new.out) e (c.perform.ensures.writable (ap is_fault is)) is
 
 pub returns-clause-always_measured : goal.returns-clause-always_measured
 returns-clause-always_measured g c = λ table number size options writing e is. always_measures c.args.words.now table number size options writing c.perform.result (g.S.Store.files c.args.store.now) (g.S.Store.files c.perform.new.store) (g.O.Sink.contents c.args.out.now) (g.O.Sink.contents c.perform.new.out) e (answer (ending c.args.words.now) (g.S.Store.files c.args.store.now) (g.S.Store.files c.perform.new.store) (g.S.Store.faults c.args.store.now) (g.S.Store.faults c.perform.new.store) (g.O.Sink.contents c.args.out.now) (g.O.Sink.contents c.perform.new.out) (g.O.Sink.faults c.args.out.now) (g.O.Sink.faults c.perform.new.out) c.perform.result c.perform.ensures.course is) is

@@ -1,4 +1,5 @@
 use Rattle.std.proofs.Common.{◌∙◌, ◌+◌, ap, sym}
+use Rattle.hm_plan.proofs.Headline.{made_is_shortest}
 use Rattle.hm_edges.specs.Pieces.{piece_bytes}
 use Rattle.hm_graph_laws.specs.Layers.{first_layer}
 use Rattle.hm_graph.specs.Graphs.{tree_edges}
@@ -24,3 +25,11 @@ returns-clause-made c = record {
 pub returns-clause-readable : goal.returns-clause-readable
 returns-clause-readable c = λ s.
     certified_readable c.args.table.now.entries c.every_table.ensures.names c.args.rules c.args.format c.args.tree.now c.in_ok-graph.graph c.in_ok-graph.ensures c.is_small.ensures.low c.is_small.ensures.few s
+
+pub returns-clause-shortest : goal.returns-clause-shortest
+returns-clause-shortest c = λ s.
+    made_is_shortest c.args.table.now.entries c.every_table.ensures.names c.args.rules c.args.format c.args.tree.now s
+    (certified_readable c.args.table.now.entries c.every_table.ensures.names c.args.rules c.args.format c.args.tree.now c.in_ok-graph.graph c.in_ok-graph.ensures c.is_small.ensures.low c.is_small.ensures.few s)
+    _ _
+    (c.in_ok-out.ensures ∙ text_is_shortest c.args.table.now.entries c.every_table.ensures.names c.args.rules c.args.format c.args.tree.now c.in_ok-graph.graph c.in_ok-graph.ensures)
+    (c.in_ok-plan.ensures.certificate ∙ certificate_is c.args.table.now.entries c.args.rules c.args.format c.args.tree.now c.in_ok-graph.graph c.in_ok-graph.ensures)

@@ -1,0 +1,11 @@
+-- How many edges a state has.
+use Rattle.std.specs.Prelude.{◌≤◌, length}
+use Rattle.hm_graph_laws.specs.States.{State}
+use Rattle.hm_graph_laws.specs.UnitEdges.{edges_of}
+use Rattle.hm_graph_laws.specs.Units.{Unit}
+use Rattle.hm_refs.specs.Tables.{IsTable}
+use Rattle.hm_spelling_spec.specs.Tags.{Spelling}
+
+-- a table has at most 64 names for a character, alone or with the next one, so a state has at most 71 edges
+abbrev pub StatesHaveFewEdges : Type 0
+StatesHaveFewEdges = (g : Spelling) → IsTable g.table → (unit : Unit) (s : State) → length (edges_of g unit s) ≤ 71

@@ -3,7 +3,7 @@ ghost use Rattle.std.specs.Prelude.{◌≡◌, ◌++◌, ◌∷◌, ◌⊎◌, �
 ghost use Rattle.std.specs.Str.{IsAscii};
 ghost use Rattle.hm_edges.specs.Pieces.{HasName, own_bytes, piece_bytes, piece_text, with_gap, with_opening};
 ghost use Rattle.hm_graph.specs.Copied.{Copies};
-ghost use Rattle.hm_graph.specs.Graphs.{AreNamedHops, IsGraphOf, IsNamedStep};
+ghost use Rattle.hm_graph.specs.Graphs.{AreNamedHops, IsNamedStep};
 ghost use Rattle.hm_parts.specs.Parts.{comment_bytes};
 ghost use Rattle.hm_parts.specs.Own.{own_text};
 ghost use Rattle.hm_refs.specs.Names.{Entry};
@@ -476,15 +476,15 @@ impl<'o> Follower for Followed<'o> {
 }
 
 /// The graph of a tree in a format, where a text follows it up to its end. One that doesn't may have the tree all the same.
-pub(crate) fn graph_followed(
+pub(crate) fn graph_followed<'t>(
     alloc: Global,
-    tree: &Tree,
-    table: &Table,
+    tree: &'t Tree,
+    table: &'t Table,
     rules: SpellRules,
     format: Format,
     out: &[u8],
-) -> Result<Option<Graph>, Memory>
-    ensures graph { IfOk result (λ found. IfSome found (IsGraphOf table.now.entries rules format tree.now)) }
+) -> Result<Option<Graph<'t>>, Memory>
+    ensures source { IfOk result (λ found. IfSome found (λ graph. graph.source ≡ record { tree = tree.now; table = table.now; rules = rules; format = format })) }
     ensures way { IfOk result (λ found. IfSome found (λ graph. WayOver (piece_bytes table.now.entries) (units_of rules tree.now) graph.steps 0 out.now)) }
 {
     let start = Followed {

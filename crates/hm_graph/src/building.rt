@@ -3,7 +3,7 @@ ghost use Rattle.std.specs.Prelude.{◌≡◌, ◌<◌, ◌≤◌, ◌∷◌, []
 ghost use Rattle.std.specs.Str.{IsAscii, chars};
 ghost use Rattle.hm_graph_laws.specs.Units as units;
 ghost use Rattle.hm_edges.specs.Units.{StandsFor, kind_of};
-ghost use Rattle.hm_graph.specs.Graphs.{AreNamed};
+ghost use Rattle.hm_graph_laws.specs.Units.{units_of};
 ghost use Rattle.hm_graph.specs.Building.{AddsSteps, AddsFront, IsAdded, IsBuilt, numbered_step};
 
 use crate::graph::Graph;
@@ -15,6 +15,7 @@ use crate::step::Step;
 use hm_base::Memory;
 use hm_edges::{TextKind, Unit};
 use hm_refs::Table;
+use hm_tree::Tree;
 use std::alloc::Global;
 use std::marker::Model;
 
@@ -151,17 +152,28 @@ impl<'t> GraphBuilder<'t> {
         Ok(alike)
     }
 
-    /// The graph of what is built.
-    pub(crate) fn into_graph(self) -> Result<Graph, Memory>
+    /// The graph of the tree whose steps are built.
+    pub(crate) fn into_graph(self, tree: &'t Tree) -> Result<Graph<'t>, Memory>
+        requires { IsBuilt self (units_of self.rules.spell tree.now) }
+        ensures source { IfOk result (λ graph. graph.source ≡ record { tree = tree.now; table = self.entry.table; rules = self.entry.rules.spell; format = self.entry.rules.format }) }
         ensures steps { IfOk result (λ graph. graph.steps ≡ self.entry.steps) }
-        ensures last { IfOk result (λ graph. graph.last ≡ length self.entry.last) }
-        ensures named { AreNamed self.entry.table.entries self.entry.steps }
     {
         let GraphBuilder { met, numbers, last } = self;
+        let table = met.table();
+        let EdgeRules { spell, format } = met.rules();
         let last = met.list(last).len();
         let steps = met.into_steps()?;
         let len = numbers.len();
         let runs = numbers.into_runs()?;
-        Ok(Graph::from_parts(steps, runs, len, last))
+        Ok(Graph {
+            tree,
+            table,
+            rules: spell,
+            format,
+            steps,
+            runs,
+            len,
+            last,
+        })
     }
 }

@@ -1,6 +1,8 @@
 //! Laws of steps. The functions do nothing.
 ghost use Rattle.hm_graph.specs.Laws.{FullRowsAgree, KeepingAgrees, RowsAreLeast, WayIsFirst, WaysAreWays, WrittenRowsAgree};
 
+pub use crate::graph::every_graph;
+
 /// The prices over steps are the least ones of their graph.
 pub fn rows_are_least()
     ensures { RowsAreLeast }

@@ -178,6 +178,20 @@ impl<'t> Met<'t> {
         })
     }
 
+    /// The table of names.
+    pub(crate) fn table(&self) -> &'t Table
+        ensures { result.now ≡ self.now.table }
+    {
+        self.table
+    }
+
+    /// The rules by which edges are found.
+    pub(crate) fn rules(&self) -> EdgeRules
+        ensures { result ≡ self.now.rules }
+    {
+        self.rules
+    }
+
     /// Whether it is known that no name for two code points begins with the character.
     fn is_lone(&self, c: char) -> bool
         ensures { IsTrue result → BeginsNoPair self.now.table.entries c }

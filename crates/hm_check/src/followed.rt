@@ -15,7 +15,7 @@ ghost use Rattle.hm_check.specs.Following.{GoesOverAlike, IsOver, IsWayOn, Leads
 
 use hm_base::{Format, Memory, SpellRules};
 use hm_edges::{Form, Piece};
-use hm_graph::{Follower, Graph, Hop, Step};
+use hm_graph::{Visitor, Graph, Hop, Step};
 use hm_parts::{Own, put_piece};
 use hm_refs::Table;
 use hm_tree::Tree;
@@ -452,7 +452,7 @@ fn go_over_copied(way: &mut Followed, step: &Step, bytes: &[u8]) -> Result<(), S
     }
 }
 
-impl<'o> Follower for Followed<'o> {
+impl<'o> Visitor for Followed<'o> {
     type Stop = Stop;
 
     ghost goes_on = { λ t more steps way. IsWayOn t more steps way };
@@ -492,7 +492,7 @@ pub(crate) fn graph_followed<'t>(
         place: 0,
         spare: Vec::new(alloc),
     };
-    match Graph::followed(alloc, tree, table, rules, format, start) {
+    match Graph::visited(alloc, tree, table, rules, format, start) {
         Ok((graph, way)) => {
             if way.rest.is_empty() {
                 Ok(Some(graph))

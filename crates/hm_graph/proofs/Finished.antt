@@ -13,18 +13,18 @@ use Rattle.hm_graph.specs.Building.{BuildingView, steps_at, IsBuilt}
 use Rattle.std.specs.List.{All}
 use Rattle.hm_graph.specs.Graphs.{GraphSource, GraphView, IsGraph, AreLow, AreNamed, AreNumbers, source_edges, spread}
 use Rattle.hm_graph.specs.Layers.{edges_under, states_of}
-use Rattle.hm_graph.specs.Met.{MetView, none_made}
+use Rattle.hm_graph.specs.Interned.{InternedView, none_made}
 use Rattle.hm_graph.specs.declared.made.MadeStep.{MadeStep}
 use Rattle.hm_graph.proofs.Built.{lead_fits}
 
-pub spread_made : (m : MetView) (steps : List Step) (numbers : List ℕ) → steps ≡ map (λ x. x.step) m.made → spread steps numbers ≡ steps_at m numbers
+pub spread_made : (m : InternedView) (steps : List Step) (numbers : List ℕ) → steps ≡ map (λ x. x.step) m.steps → spread steps numbers ≡ steps_at m numbers
 spread_made m steps [] is = refl
 spread_made m steps (n ∷ numbers) is =
-    let one : lists.get_or steps n [] ≡ (lists.get_or m.made n none_made).step = ap (λ ss. lists.get_or ss n []) is ∙ lists.get_or-map (λ (x : MadeStep). x.step) m.made n none_made in
+    let one : lists.get_or steps n [] ≡ (lists.get_or m.steps n none_made).step = ap (λ ss. lists.get_or ss n []) is ∙ lists.get_or-map (λ (x : MadeStep). x.step) m.steps n none_made in
     λ i. one i ∷ spread_made m steps numbers is i
 
-pub numbers_are : (m : MetView) (steps : List Step) (numbers : List ℕ) → steps ≡ map (λ x. x.step) m.made → All (λ n. n < length m.made) numbers → AreNumbers steps numbers
-numbers_are m steps numbers is are = λ k d within. let low : get_or numbers k d < length m.made = are k d within in omega (arith, low, ap length is, length-map m.made (λ (x : MadeStep). x.step))
+pub numbers_are : (m : InternedView) (steps : List Step) (numbers : List ℕ) → steps ≡ map (λ x. x.step) m.steps → All (λ n. n < length m.steps) numbers → AreNumbers steps numbers
+numbers_are m steps numbers is are = λ k d within. let low : get_or numbers k d < length m.steps = are k d within in omega (arith, low, ap length is, length-map m.steps (λ (x : MadeStep). x.step))
 
 pub graph_made : (b : BuildingView) (w : List Event) (g : GraphView) → IsBuilt b (units_of b.rules.spell w) → AreNamed b.table.entries b.steps → AreLow b.steps
     → g.source ≡ record { tree = w; table = b.table; rules = b.rules.spell; format = b.rules.format } → g.steps ≡ b.steps → g.last ≡ length b.last → IsGraph g

@@ -7,7 +7,7 @@ pub mod Still
 pub mod Runs
 pub mod Graphs
 pub mod Layers
-pub mod Met
+pub mod Interned
 pub mod Building
 pub mod Going
 pub mod Copied

@@ -4,9 +4,9 @@ ghost use Rattle.hm_graph_laws.specs.Units.{units_of};
 
 use crate::along::{Along, add_parts};
 use crate::building::GraphBuilder;
-use crate::followers::{Follower, Nobody};
 use crate::graph::Graph;
 use crate::rules::EdgeRules;
+use crate::visitors::{NoVisitor, Visitor};
 use hm_base::{Format, Memory, SpellRules};
 use hm_parts::find_parts;
 use hm_refs::Table;
@@ -27,21 +27,21 @@ impl<'t> Graph<'t> {
     ) -> Result<Graph<'t>, Memory>
         ensures { IfOk result (λ graph. graph.source ≡ record { tree = tree.now; table = table.now; rules = rules; format = format }) }
     {
-        let (graph, _nobody) = Graph::followed(alloc, tree, table, rules, format, Nobody)?;
+        let (graph, _none) = Graph::visited(alloc, tree, table, rules, format, NoVisitor)?;
         Ok(graph)
     }
 
     /// As `of`. A visitor is called for each step as it is added, and is returned after the last one.
-    pub fn followed<F: Follower>(
+    pub fn visited<V: Visitor>(
         alloc: Global,
         tree: &'t Tree,
         table: &'t Table,
         rules: SpellRules,
         format: Format,
-        follower: F,
-    ) -> Result<(Graph<'t>, F), F::Stop>
+        visitor: V,
+    ) -> Result<(Graph<'t>, V), V::Stop>
         ensures source { IfOk result (λ made. made.0.source ≡ record { tree = tree.now; table = table.now; rules = rules; format = format }) }
-        ensures goes_on { IfOk result (λ made. F.goes_on table.now.entries [] [] made.1 → F.goes_on table.now.entries (units_of rules tree.now) made.0.steps follower) }
+        ensures goes_on { IfOk result (λ made. V.goes_on table.now.entries [] [] made.1 → V.goes_on table.now.entries (units_of rules tree.now) made.0.steps visitor) }
     {
         let edges = EdgeRules {
             spell: rules,
@@ -49,7 +49,7 @@ impl<'t> Graph<'t> {
         };
         let mut along = Along {
             graph: GraphBuilder::new(alloc, table, edges)?,
-            by: follower,
+            by: visitor,
         };
         let mut parts = Vec::new(alloc);
         for i in 0..tree.len() {

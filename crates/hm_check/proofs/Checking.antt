@@ -18,10 +18,11 @@ use Rattle.hm_build.specs.Parsing.{IsRefusedAs}
 use Rattle.hm_cert.specs.declared.certificate.Certificate.{Certificate}
 use Rattle.hm_construction_laws.specs.Trees.{Outcome, built, refused_by, page_tree, tree_of_source}
 use Rattle.hm_edges.specs.declared.pieces.Piece.{Piece}
+use Rattle.hm_edges.specs.Pieces.{piece_bytes}
 use Rattle.hm_graph_laws.specs.Layers.{first_layer}
 use Rattle.hm_graph_laws.specs.Prices.{Row}
 use Rattle.hm_graph_laws.specs.Ways.{Edges}
-use Rattle.hm_graph.specs.Graphs.{GraphView, tree_edges}
+use Rattle.hm_graph.specs.Graphs.{GraphSource, GraphView, IsGraph, source_edges, tree_edges}
 use Rattle.hm_refs.specs.Names.{Entry}
 use Rattle.hm_graph.specs.Fits.{StepsFit}
 use Rattle.hm_optimality_laws.specs.Formats.{follows_by}
@@ -76,9 +77,14 @@ difference_is w v (Some i) differs = sym (difference_at w v i differs)
 
 -- ---- The rows
 
-pub certificate_found : (edges : Edges) (bytes : Unit → Piece → List ℕ) (units : List Unit) (g : GraphView) (format : Format) (n : ℕ) (rows : List Row) (found : Verdict) → StepsFit edges bytes units first_layer g.steps g.last
-    → found ≡ by_rows_over format g.last g.steps n rows → found ≡ by_rows edges (follows_by format edges) n units rows
-certificate_found edges bytes units g format n rows found fits e = e ∙ rows_found edges bytes units g.steps g.last format n rows fits
+-- by the edges of what a graph is of
+abbrev pub source_rows : GraphSource → ℕ → List Row → Verdict
+source_rows of n rows = by_rows (source_edges of) (follows_by of.format (source_edges of)) n (units_of of.rules of.tree) rows
+
+pub certificate_found : (g : GraphView) → IsGraph g → (n : ℕ) (rows : List Row) (found : Verdict) → found ≡ by_rows_over g.source.format g.last g.steps n rows → found ≡ source_rows g.source n rows
+certificate_found g h n rows found e =
+    let of = g.source in
+    e ∙ rows_found (source_edges of) (piece_bytes of.table.entries) (units_of of.rules of.tree) g.steps g.last of.format n rows h.fits
 
 -- ---- The verdict
 

@@ -1,5 +1,5 @@
 -- A text that follows a tree's graph has the wanted tree, so that its rows decide.
-use Rattle.std.proofs.Common.{◌≡◌, ◌∙◌, ◌≤◌, ℕ, Bool, true, false, cond, ◌||◌, List, [], ◌∷◌, length, refl, sym}
+use Rattle.std.proofs.Common.{◌≡◌, ◌∙◌, ◌≤◌, ℕ, Bool, true, false, cond, ◌||◌, List, [], ◌∷◌, length, refl, sym, ap, subst}
 use Rattle.std.specs.List.{list_any}
 use Rattle.hm_base.specs.Walks.{Event}
 use Rattle.hm_base.specs.declared.limits.TheConstants.{OUTPUT_LIMIT}
@@ -12,11 +12,11 @@ use Rattle.hm_elements.specs.Settled.{Settled}
 use Rattle.hm_graph_laws.specs.Layers.{first_layer}
 use Rattle.hm_graph_laws.specs.UnitEdges.{edges_of}
 use Rattle.hm_graph_laws.specs.Ways.{Edges, Way}
-use Rattle.hm_graph.specs.Graphs.{GraphView, IsGraphOf, tree_edges}
+use Rattle.hm_graph.specs.Graphs.{GraphView, IsGraph, source_edges}
 use Rattle.hm_optimality_laws.specs.Formats.{edges_by, kept_by}
 use Rattle.hm_optimality_laws.specs.Outdone.{kept_behind, outdoes_behind, outdoes_in_front}
 use Rattle.hm_refs.specs.Names.{Entry}
-use Rattle.hm_refs.specs.Tables.{IsIn, IsTable, first, later}
+use Rattle.hm_refs.specs.Tables.{IsIn, IsTable, TableView, first, later}
 use Rattle.hm_spelling_spec.specs.Spellings.{Spells, other}
 use Rattle.hm_graph.proofs.Ways.{ways_are_ways}
 use Rattle.hm_graph.specs.Ways.{WayOver}
@@ -29,7 +29,7 @@ use Rattle.hm_graph_laws.specs.ExchangeLaws.{sparing_plain}
 use Rattle.hm_check.specs.Steps.{by_rows_over}
 use Rattle.hm_check.specs.Verdicts.{same_rules, verdict}
 use Rattle.hm_check.specs.declared.verdicts.Verdict.{Verdict}
-use Rattle.hm_check.proofs.Checking.{certificate_found, rules_are}
+use Rattle.hm_check.proofs.Checking.{certificate_found, rules_are, source_rows}
 use Rattle.hm_check.proofs.Shown.{spelled_verdict}
 
 -- ---- Edges that are kept are edges
@@ -58,15 +58,21 @@ way_in format edges (unit ∷ units) s b (e, among, (rest, is, more)) = (e, edge
 
 -- ---- A way is a spelling
 
-way_spells : (t : List Entry) → IsTable t → (r : SpellRules) (format : Format) (w : List Event) → Settled w → (g : GraphView) → IsGraphOf t r format w g → (b : List ℕ) → WayOver (piece_bytes t) (units_of r w) g.steps 0 b → Spells t r w b
+way_spells : (g : GraphView) → IsTable g.source.table.entries → IsGraph g → Settled g.source.tree → (b : List ℕ) → WayOver (piece_bytes g.source.table.entries) (units_of g.source.rules g.source.tree) g.steps 0 b
+    → Spells g.source.table.entries g.source.rules g.source.tree b
 unfolding same_state
-way_spells t k r format w s g h b over =
-    let way : Way (tree_edges t r format) (units_of r w) first_state b =
-    ways_are_ways (tree_edges t r format) (piece_bytes t) (units_of r w) first_layer g.steps g.last first_state 0 b h.fits refl over in
-    wider (sparing_plain t r) w other [] b (ways_spell_trees (sparing_plain t r) k w s b (way_in format (edges_of (sparing_plain t r)) (units_of r w) first_state b way))
+way_spells g k h s b over =
+    let of = g.source in
+    let t : List Entry = of.table.entries in
+    let units : List Unit = units_of of.rules of.tree in
+    let way : Way (source_edges of) units first_state b = ways_are_ways (source_edges of) (piece_bytes t) units first_layer g.steps g.last first_state 0 b h.fits refl over in
+    wider (sparing_plain t of.rules) of.tree other [] b (ways_spell_trees (sparing_plain t of.rules) k of.tree s b (way_in of.format (edges_of (sparing_plain t of.rules)) units first_state b way))
 
-pub followed_verdict : (t : List Entry) → IsTable t → (r : SpellRules) (w : List Event) → Settled w → (out : List ℕ) (c : Certificate) (g : GraphView) → IsGraphOf t r c.format w g → same_rules c.rules r ≡ true → length out ≤ OUTPUT_LIMIT
-    → WayOver (piece_bytes t) (units_of r w) g.steps 0 out → (found : Verdict) → found ≡ by_rows_over c.format g.last g.steps (length out) c.prices → found ≡ verdict t r w out c
-followed_verdict t k r w s out c g h same short over found is =
-    certificate_found (tree_edges t r c.format) (piece_bytes t) (units_of r w) g c.format (length out) c.prices found h.fits is
-    ∙ sym (rules_are t r w out c same ∙ spelled_verdict t k r w s out c (way_spells t k r c.format w s g h out over) short)
+pub followed_verdict : (v : TableView) → IsTable v.entries → (r : SpellRules) (w : List Event) → Settled w → (out : List ℕ) (c : Certificate) (g : GraphView) → IsGraph g → g.source ≡ record { tree = w; table = v; rules = r; format = c.format }
+    → same_rules c.rules r ≡ true → length out ≤ OUTPUT_LIMIT → WayOver (piece_bytes v.entries) (units_of r w) g.steps 0 out → (found : Verdict) → found ≡ by_rows_over g.source.format g.last g.steps (length out) c.prices → found ≡ verdict v.entries r w out c
+followed_verdict v k r w s out c g h source same short over found is =
+    let table : IsTable g.source.table.entries = subst (λ of. IsTable of.table.entries) (sym source) k in
+    let settled : Settled g.source.tree = subst (λ of. Settled of.tree) (sym source) s in
+    let way : WayOver (piece_bytes g.source.table.entries) (units_of g.source.rules g.source.tree) g.steps 0 out = subst (λ of. WayOver (piece_bytes of.table.entries) (units_of of.rules of.tree) g.steps 0 out) (sym source) over in
+    let spells : Spells v.entries r w out = subst (λ of. Spells of.table.entries of.rules of.tree out) source (way_spells g table h settled out way) in
+    certificate_found g h (length out) c.prices found is ∙ ap (λ of. source_rows of (length out) c.prices) source ∙ sym (rules_are v.entries r w out c same ∙ spelled_verdict v.entries k r w s out c spells short)

@@ -27,9 +27,9 @@ high_why h = TooHigh h.layer h.state h.price h.bound
 -- ---- Rows
 
 -- as many rows as layers are written, and each price can be written
-pub record AreInPlace (format : Format) (g : GraphView) (rows : List Row) : Type 0 where
+pub record AreInPlace (g : GraphView) (rows : List Row) : Type 0 where
   pub prices : AreRows rows
-  pub count : length rows ≡ count_over format 0 g.steps
+  pub count : length rows ≡ count_over g.source.format 0 g.steps
 
 -- no state changes its place over a step, and each hop has this length
 abbrev pub IsStillOver : Step → ℕ → Type 0
@@ -49,21 +49,21 @@ judged_at_end k row last =
 
 -- The rows after the first ones stand for the prices from layer k on, of which those of layer k are at hand. The first
 -- of these prices above its bound is found.
-pub record ArePriced (format : Format) (g : GraphView) (rows : List Row) (k : ℕ) (s : Sweep) : Type 0 where
+pub record ArePriced (g : GraphView) (rows : List Row) (k : ℕ) (s : Sweep) : Type 0 where
   pub more : List Row
-  pub full : full_rows format k g.last (drop k g.steps) (drop s.at.row rows) ≡ Some (map told s.behind.items ∷ more)
+  pub full : full_rows g.source.format k g.last (drop k g.steps) (drop s.at.row rows) ≡ Some (map told s.behind.items ∷ more)
   pub found : s.found.why ≡ option_map high_why (high_price_over k (drop k g.steps) (map told s.behind.items ∷ more))
   pub turns : ℕ
   pub turned : turns + k ≡ length g.steps
   pub below : AreBelow (2 ^ 63 + turns * 2 ^ 33) (map told s.behind.items)
 
 -- what is known of the rows after the first ones, by the first of them that has another width
-abbrev pub AreKnown : Format → GraphView → List Row → ℕ → Sweep → Option OtherWidth → Type 0
-AreKnown format g rows k s None = (s.found.right ≡ true) × ArePriced format g rows k s
-AreKnown format g rows k s (Some w) = (s.found.right ≡ false) × (s.found.why ≡ Some (width_why w))
+abbrev pub AreKnown : GraphView → List Row → ℕ → Sweep → Option OtherWidth → Type 0
+AreKnown g rows k s None = (s.found.right ≡ true) × ArePriced g rows k s
+AreKnown g rows k s (Some w) = (s.found.right ≡ false) × (s.found.why ≡ Some (width_why w))
 
 -- The rows after a place are those of the layers from layer k on.
-pub record IsSwept (format : Format) (g : GraphView) (rows : List Row) (k : ℕ) (s : Sweep) : Type 0 where
+pub record IsSwept (g : GraphView) (rows : List Row) (k : ℕ) (s : Sweep) : Type 0 where
   pub place : IsRowPlace rows s.at
-  pub written : s.at.row + count_over format k (drop k g.steps) ≡ length rows
-  pub known : AreKnown format g rows k s (other_width_over format k g.last (drop k g.steps) (drop s.at.row rows))
+  pub written : s.at.row + count_over g.source.format k (drop k g.steps) ≡ length rows
+  pub known : AreKnown g rows k s (other_width_over g.source.format k g.last (drop k g.steps) (drop s.at.row rows))

@@ -15,6 +15,7 @@ use crate::{Verdict, Why};
 use hm_base::{Format, Memory, OUTPUT_LIMIT, SpellRules};
 use hm_cert::Certificate;
 use hm_graph::Graph;
+use hm_graph::laws::every_graph;
 use hm_refs::Table;
 use hm_refs::laws::every_table;
 use hm_tree::Tree;
@@ -45,13 +46,8 @@ fn by_certificate(
         (follows_by certificate.now.format (tree_edges table.now.entries rules certificate.now.format)) length (units_of rules wanted.now) certificate.now.prices) }
 {
     let graph = Graph::of(alloc, wanted, table, rules, certificate.format)?;
-    by_rows(
-        alloc,
-        &graph,
-        &certificate.prices,
-        certificate.format,
-        length,
-    )
+    every_graph(&graph);
+    by_rows(alloc, &graph, &certificate.prices, length)
 }
 
 /// Checks whether a certificate shows that a text is the shortest of a tree, by a table of names and these rules. The
@@ -108,13 +104,8 @@ pub fn check_settled(
         && out.len() <= OUTPUT_LIMIT as usize
     {
         if let Some(graph) = graph_followed(alloc, wanted, table, rules, certificate.format, out)? {
-            return by_rows(
-                alloc,
-                &graph,
-                &certificate.prices,
-                certificate.format,
-                out.len() as u64,
-            );
+            every_graph(&graph);
+            return by_rows(alloc, &graph, &certificate.prices, out.len() as u64);
         }
     }
     check(alloc, table, wanted, out, certificate, rules)

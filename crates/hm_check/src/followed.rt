@@ -3,7 +3,7 @@ ghost use Rattle.std.specs.Prelude.{◌≡◌, ◌++◌, ◌∷◌, ◌⊎◌, �
 ghost use Rattle.std.specs.Str.{IsAscii};
 ghost use Rattle.hm_edges.specs.Pieces.{HasName, own_bytes, piece_bytes, piece_text, with_gap, with_opening};
 ghost use Rattle.hm_graph.specs.Copied.{Copies};
-ghost use Rattle.hm_graph.specs.Graphs.{AreNamedHops, IsGraphOf, IsNamedStep};
+ghost use Rattle.hm_graph.specs.Graphs.{AreNamedHops, IsNamedStep};
 ghost use Rattle.hm_parts.specs.Parts.{comment_bytes};
 ghost use Rattle.hm_parts.specs.Own.{own_text};
 ghost use Rattle.hm_refs.specs.Names.{Entry};
@@ -15,7 +15,7 @@ ghost use Rattle.hm_check.specs.Following.{GoesOverAlike, IsOver, IsWayOn, Leads
 
 use hm_base::{Format, Memory, SpellRules};
 use hm_edges::{Form, Piece};
-use hm_graph::{Follower, Graph, Hop, Step};
+use hm_graph::{Visitor, Graph, Hop, Step};
 use hm_parts::{Own, put_piece};
 use hm_refs::Table;
 use hm_tree::Tree;
@@ -452,7 +452,7 @@ fn go_over_copied(way: &mut Followed, step: &Step, bytes: &[u8]) -> Result<(), S
     }
 }
 
-impl<'o> Follower for Followed<'o> {
+impl<'o> Visitor for Followed<'o> {
     type Stop = Stop;
 
     ghost goes_on = { λ t more steps way. IsWayOn t more steps way };
@@ -476,15 +476,15 @@ impl<'o> Follower for Followed<'o> {
 }
 
 /// The graph of a tree in a format, where a text follows it up to its end. One that doesn't may have the tree all the same.
-pub(crate) fn graph_followed(
+pub(crate) fn graph_followed<'t>(
     alloc: Global,
-    tree: &Tree,
-    table: &Table,
+    tree: &'t Tree,
+    table: &'t Table,
     rules: SpellRules,
     format: Format,
     out: &[u8],
-) -> Result<Option<Graph>, Memory>
-    ensures graph { IfOk result (λ found. IfSome found (IsGraphOf table.now.entries rules format tree.now)) }
+) -> Result<Option<Graph<'t>>, Memory>
+    ensures source { IfOk result (λ found. IfSome found (λ graph. graph.source ≡ record { tree = tree.now; table = table.now; rules = rules; format = format })) }
     ensures way { IfOk result (λ found. IfSome found (λ graph. WayOver (piece_bytes table.now.entries) (units_of rules tree.now) graph.steps 0 out.now)) }
 {
     let start = Followed {
@@ -492,7 +492,7 @@ pub(crate) fn graph_followed(
         place: 0,
         spare: Vec::new(alloc),
     };
-    match Graph::followed(alloc, tree, table, rules, format, start) {
+    match Graph::visited(alloc, tree, table, rules, format, start) {
         Ok((graph, way)) => {
             if way.rest.is_empty() {
                 Ok(Some(graph))

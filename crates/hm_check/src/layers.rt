@@ -4,6 +4,7 @@ ghost use Rattle.hm_graph.specs.Prices as steps;
 ghost use Rattle.hm_check.specs.Steps.{count_over};
 
 use hm_base::Format;
+use hm_graph::laws::every_graph;
 use hm_graph::{Graph, Step};
 
 /// Whether layer `k`, the one before the step, is left out.
@@ -14,16 +15,16 @@ pub(crate) fn is_left_out(format: Format, k: usize, step: &Step) -> bool
 }
 
 /// How many layers are written: the first, the last and those between them that aren't left out.
-pub(crate) fn count_layers(graph: &Graph, format: Format) -> usize
-    ensures { result ≡ count_over format 0 graph.now.steps }
+pub(crate) fn count_layers(graph: &Graph) -> usize
+    ensures { result ≡ count_over graph.now.source.format 0 graph.now.steps }
 {
-    graph.is_small();
+    every_graph(graph);
     if graph.len() == 0 {
         return 1;
     }
     // The last layer has no step after it. The first one is written whatever its step says.
-    let count = graph.count_kept(format) + 1;
-    if graph.step(graph.first_layer()).is_left_out(format) {
+    let count = graph.count_kept() + 1;
+    if graph.step(graph.first_layer()).is_left_out(graph.format()) {
         count + 1
     } else {
         count

@@ -10,28 +10,23 @@ ghost use Rattle.hm_check.specs.Verdicts as verdicts;
 use crate::layers::count_layers;
 use crate::sweep::Sweep;
 use crate::{Verdict, Why};
-use hm_base::{Format, Memory};
+use hm_base::Memory;
 use hm_cert::{WrittenRows, price_of};
 use hm_graph::Graph;
 use std::alloc::Global;
 
 /// What is known at the first layer.
-fn sweep<'a>(
-    alloc: Global,
-    graph: &Graph,
-    prices: &WrittenRows<'a>,
-    format: Format,
-) -> Result<Sweep<'a>, Memory>
-    requires { AreInPlace format graph.now prices.now }
-    ensures { IfOk result (IsSwept format graph.now prices.now 0) }
+fn sweep<'a>(alloc: Global, graph: &Graph, prices: &WrittenRows<'a>) -> Result<Sweep<'a>, Memory>
+    requires { AreInPlace graph.now prices.now }
+    ensures { IfOk result (IsSwept graph.now prices.now 0) }
 {
-    let mut sweep = Sweep::at_end(alloc, graph, prices, format)?;
+    let mut sweep = Sweep::at_end(alloc, graph, prices)?;
     let mut layer = graph.last_layer();
     while layer.layer > 0 {
-        let behind = sweep.pass_still(graph, prices, format, layer);
+        let behind = sweep.pass_still(graph, prices, layer);
         let front = graph.back(behind);
-        sweep.take_layer(graph, prices, format, front.layer, graph.step(front))?;
-        layer = sweep.go_on(graph, prices, format, front)?;
+        sweep.take_layer(graph, prices, front.layer, graph.step(front))?;
+        layer = sweep.go_on(graph, prices, front)?;
     }
     Ok(sweep)
 }
@@ -71,13 +66,12 @@ fn by_prices(
     alloc: Global,
     graph: &Graph,
     prices: &WrittenRows<'_>,
-    format: Format,
     length: u64,
 ) -> Result<Verdict, Memory>
-    requires { AreInPlace format graph.now prices.now }
-    ensures { IfOk result (λ found. found ≡ by_width_over format graph.now.last graph.now.steps length prices.now (other_width_over format 0 graph.now.last graph.now.steps prices.now)) }
+    requires { AreInPlace graph.now prices.now }
+    ensures { IfOk result (λ found. found ≡ by_width_over graph.now.source.format graph.now.last graph.now.steps length prices.now (other_width_over graph.now.source.format 0 graph.now.last graph.now.steps prices.now)) }
 {
-    let swept = sweep(alloc, graph, prices, format)?;
+    let swept = sweep(alloc, graph, prices)?;
     match swept.found.why {
         Some(why) => Ok(Verdict::No { why }),
         None => Ok(by_first(length, first_of(swept.behind.as_slice()))),
@@ -89,13 +83,12 @@ pub(crate) fn by_rows(
     alloc: Global,
     graph: &Graph,
     prices: &WrittenRows<'_>,
-    format: Format,
     length: u64,
 ) -> Result<Verdict, Memory>
     requires { AreRows prices.now }
-    ensures { IfOk result (λ found. found ≡ by_rows_over format graph.now.last graph.now.steps length prices.now) }
+    ensures { IfOk result (λ found. found ≡ by_rows_over graph.now.source.format graph.now.last graph.now.steps length prices.now) }
 {
-    let want = count_layers(graph, format);
+    let want = count_layers(graph);
     if prices.len() != want {
         return Ok(Verdict::No {
             why: Why::WrongLayers {
@@ -104,5 +97,5 @@ pub(crate) fn by_rows(
             },
         });
     }
-    by_prices(alloc, graph, prices, format, length)
+    by_prices(alloc, graph, prices, length)
 }

@@ -12,8 +12,9 @@ ghost use Rattle.hm_check.specs.Sweeps.{AreInPlace, IsStillOver, IsSwept, judged
 use crate::Why;
 use crate::bounds::{are_within, best_price, find_high, find_high_at_end};
 use crate::layers::is_left_out;
-use hm_base::{Format, Memory};
+use hm_base::Memory;
 use hm_cert::{RowPlace, WrittenRows, add_each};
+use hm_graph::laws::every_graph;
 use hm_graph::{Cursor, Graph, Step};
 use std::alloc::Global;
 use std::mem;
@@ -154,10 +155,9 @@ impl<'a> Sweep<'a> {
         alloc: Global,
         graph: &Graph,
         prices: &WrittenRows<'a>,
-        format: Format,
     ) -> Result<Sweep<'a>, Memory>
-        requires { AreInPlace format graph.now prices.now }
-        ensures { IfOk result (IsSwept format graph.now prices.now (length graph.now.steps)) }
+        requires { AreInPlace graph.now prices.now }
+        ensures { IfOk result (IsSwept graph.now prices.now (length graph.now.steps)) }
     {
         let mut behind = Vec::new(alloc);
         let mut at = prices.end();
@@ -176,17 +176,16 @@ impl<'a> Sweep<'a> {
         &mut self,
         graph: &Graph,
         prices: &WrittenRows<'a>,
-        format: Format,
         k: usize,
         step: &Step,
     ) -> Result<(), Memory>
         requires layer { k < length graph.now.steps }
         requires step { step.now ≡ slice_index_or graph.now.steps k [] }
-        requires out { steps.is_left_out format k step.now ≡ true }
-        requires swept { IsSwept format graph.now prices.now (k + 1) self.old }
-        ensures { OnOk result (IsSwept format graph.now prices.now k self.new) }
+        requires out { steps.is_left_out graph.now.source.format k step.now ≡ true }
+        requires swept { IsSwept graph.now prices.now (k + 1) self.old }
+        ensures { OnOk result (IsSwept graph.now prices.now k self.new) }
     {
-        graph.is_small();
+        every_graph(graph);
         if !self.found.right {
             return Ok(());
         }
@@ -199,20 +198,19 @@ impl<'a> Sweep<'a> {
         &mut self,
         graph: &Graph,
         prices: &WrittenRows<'a>,
-        format: Format,
         k: usize,
         step: &Step,
         still: Option<u64>,
     ) -> Result<(), Memory>
-        requires place { AreInPlace format graph.now prices.now }
+        requires place { AreInPlace graph.now prices.now }
         requires layer { k < length graph.now.steps }
         requires step { step.now ≡ slice_index_or graph.now.steps k [] }
-        requires kept { steps.is_left_out format k step.now ≡ false }
+        requires kept { steps.is_left_out graph.now.source.format k step.now ≡ false }
         requires still { IfSome still (IsStillOver step.now) }
-        requires swept { IsSwept format graph.now prices.now (k + 1) self.old }
-        ensures { OnOk result (IsSwept format graph.now prices.now k self.new) }
+        requires swept { IsSwept graph.now prices.now (k + 1) self.old }
+        ensures { OnOk result (IsSwept graph.now prices.now k self.new) }
     {
-        graph.is_small();
+        every_graph(graph);
         prices.row_before(&mut self.at, &mut self.spare)?;
         judge_over(
             &mut self.found,
@@ -231,20 +229,19 @@ impl<'a> Sweep<'a> {
         &mut self,
         graph: &Graph,
         prices: &WrittenRows<'a>,
-        format: Format,
         k: usize,
         step: &Step,
     ) -> Result<(), Memory>
-        requires place { AreInPlace format graph.now prices.now }
+        requires place { AreInPlace graph.now prices.now }
         requires layer { k < length graph.now.steps }
         requires step { step.now ≡ slice_index_or graph.now.steps k [] }
-        requires swept { IsSwept format graph.now prices.now (k + 1) self.old }
-        ensures { OnOk result (IsSwept format graph.now prices.now k self.new) }
+        requires swept { IsSwept graph.now prices.now (k + 1) self.old }
+        ensures { OnOk result (IsSwept graph.now prices.now k self.new) }
     {
-        if is_left_out(format, k, step) {
-            self.pass_over(graph, prices, format, k, step)
+        if is_left_out(graph.format(), k, step) {
+            self.pass_over(graph, prices, k, step)
         } else {
-            self.read_layer(graph, prices, format, k, step, None)
+            self.read_layer(graph, prices, k, step, None)
         }
     }
 
@@ -265,26 +262,25 @@ impl<'a> Sweep<'a> {
         &mut self,
         graph: &Graph,
         prices: &WrittenRows<'a>,
-        format: Format,
         from: usize,
         front: usize,
         step: &Step,
         len: u64,
     ) -> Result<(), Memory>
-        requires place { AreInPlace format graph.now prices.now }
+        requires place { AreInPlace graph.now prices.now }
         requires inside { from < length graph.now.steps }
         requires order { front ≤ from }
         requires some { 0 < front }
         requires alike { (k : ℕ) → front ≤ k → k < from → slice_index_or graph.now.steps k [] ≡ step.now }
-        requires kept { leaves_out format step.now ≡ false }
+        requires kept { leaves_out graph.now.source.format step.now ≡ false }
         requires still { IsStillOver step.now len }
-        requires swept { IsSwept format graph.now prices.now from self.old }
-        ensures { OnOk result (IsSwept format graph.now prices.now front self.new) }
+        requires swept { IsSwept graph.now prices.now from self.old }
+        ensures { OnOk result (IsSwept graph.now prices.now front self.new) }
     {
         let mut layer = from;
         while layer > front {
             layer -= 1;
-            self.read_layer(graph, prices, format, layer, step, Some(len))?;
+            self.read_layer(graph, prices, layer, step, Some(len))?;
         }
         Ok(())
     }
@@ -295,23 +291,22 @@ impl<'a> Sweep<'a> {
         &mut self,
         graph: &Graph,
         prices: &WrittenRows<'a>,
-        format: Format,
         at: Cursor,
     ) -> Cursor
         requires place { IsPlace graph.now at }
         requires within { at.layer ≤ length graph.now.steps }
-        requires swept { IsSwept format graph.now prices.now at.layer self.old }
+        requires swept { IsSwept graph.now prices.now at.layer self.old }
         ensures place { IsPlace graph.now result }
         ensures layer { result.layer ≤ at.layer }
         ensures first { 0 < at.layer → 0 < result.layer }
-        ensures swept { IsSwept format graph.now prices.now result.layer self.new }
+        ensures swept { IsSwept graph.now prices.now result.layer self.new }
     {
         let _rows = prices.len();
-        graph.is_small();
+        every_graph(graph);
         if at.layer == 0 || !self.found.right {
             return at;
         }
-        let passed = graph.back_still(at, format, self.behind.len());
+        let passed = graph.back_still(at, self.behind.len());
         if passed.front.layer < at.layer {
             self.add(passed.len);
         }
@@ -324,16 +319,15 @@ impl<'a> Sweep<'a> {
         &mut self,
         graph: &Graph,
         prices: &WrittenRows<'a>,
-        format: Format,
         at: Cursor,
     ) -> Result<Cursor, Memory>
-        requires rows { AreInPlace format graph.now prices.now }
+        requires rows { AreInPlace graph.now prices.now }
         requires place { IsPlace graph.now at }
         requires inside { at.layer < length graph.now.steps }
-        requires swept { IsSwept format graph.now prices.now at.layer self.old }
+        requires swept { IsSwept graph.now prices.now at.layer self.old }
         ensures place { IfOk result (λ front. IsPlace graph.now front) }
         ensures layer { IfOk result (λ front. front.layer ≤ at.layer) }
-        ensures swept { IfOk result (λ front. IsSwept format graph.now prices.now front.layer self.new) }
+        ensures swept { IfOk result (λ front. IsSwept graph.now prices.now front.layer self.new) }
     {
         if at.layer == 0 || !self.found.right {
             return Ok(at);
@@ -342,16 +336,16 @@ impl<'a> Sweep<'a> {
         if front.layer == at.layer {
             return Ok(at);
         }
-        graph.is_small();
+        every_graph(graph);
         let step = graph.step(at);
-        if self.behind.len() != step.width() || step.is_left_out(format) {
+        if self.behind.len() != step.width() || step.is_left_out(graph.format()) {
             return Ok(at);
         }
         let len = match step.still() {
             Some(len) => len,
             None => return Ok(at),
         };
-        self.read_on(graph, prices, format, at.layer, front.layer, step, len)?;
+        self.read_on(graph, prices, at.layer, front.layer, step, len)?;
         Ok(front)
     }
 }

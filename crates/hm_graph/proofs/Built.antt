@@ -16,7 +16,7 @@ use Rattle.hm_graph.specs.Fits.{StepFits, StepsFit}
 use Rattle.hm_graph.specs.Steps.{Step}
 use Rattle.hm_graph.specs.Graphs.{IsLowStep, AreLow, IsNamedStep, AreNamed}
 use Rattle.hm_graph.specs.Layers.{edges_under, states_of}
-use Rattle.hm_graph.specs.Met.{MetView, list_at, made_at, Grows, IsStepOf, IsListOf}
+use Rattle.hm_graph.specs.Interned.{InternedView, list_at, made_at, Grows, IsStepOf, IsListOf}
 use Rattle.hm_graph.specs.Building.{BuildingView, steps_at, building, IsBuilding, Lead, IsBuilt, AddsSteps, IsAdded}
 
 -- ---- Leading on
@@ -39,14 +39,14 @@ lead_fits edges bytes (v ∷ us) states (x ∷ steps) behind lead = (lead.0, lea
 
 -- ---- Steps of numbers
 
-steps_kept : (m n : MetView) (numbers : List ℕ) → Grows m n → All (λ k. k < length m.made) numbers → steps_at n numbers ≡ steps_at m numbers
+steps_kept : (m n : InternedView) (numbers : List ℕ) → Grows m n → All (λ k. k < length m.steps) numbers → steps_at n numbers ≡ steps_at m numbers
 steps_kept m n [] grows are = refl
 steps_kept m n (k ∷ numbers) grows are =
-    let first : (k < length n.made) × (made_at n k ≡ made_at m k) = grows.made k (are 0 0 (omega arith)) in
+    let first : (k < length n.steps) × (made_at n k ≡ made_at m k) = grows.steps k (are 0 0 (omega arith)) in
     λ i. (first.1 i).step ∷ steps_kept m n numbers grows (λ j d within. are (suc j) d (omega arith)) i
 
-numbers_kept : (m n : MetView) (numbers : List ℕ) → Grows m n → All (λ k. k < length m.made) numbers → All (λ k. k < length n.made) numbers
-numbers_kept m n numbers grows are = λ j d within. (grows.made (get_or numbers j d) (are j d within)).0
+numbers_kept : (m n : InternedView) (numbers : List ℕ) → Grows m n → All (λ k. k < length m.steps) numbers → All (λ k. k < length n.steps) numbers
+numbers_kept m n numbers grows are = λ j d within. (grows.steps (get_or numbers j d) (are j d within)).0
 
 low_more : (steps : List Step) (step : Step) → AreLow steps → IsLowStep step → AreLow (steps ++ step ∷ [])
 low_more [] step low own = (own, tt)
@@ -56,12 +56,12 @@ named_more : (t : List Entry) (steps : List Step) (step : Step) → AreNamed t s
 named_more t [] step named own = (own, tt)
 named_more t (x ∷ steps) step named own = (named.0, named_more t steps step named.1 own)
 
-steps_more : (m n : MetView) (numbers : List ℕ) (k : ℕ) → Grows m n → All (λ j. j < length m.made) numbers → steps_at n (numbers ++ k ∷ []) ≡ steps_at m numbers ++ (made_at n k).step ∷ []
+steps_more : (m n : InternedView) (numbers : List ℕ) (k : ℕ) → Grows m n → All (λ j. j < length m.steps) numbers → steps_at n (numbers ++ k ∷ []) ≡ steps_at m numbers ++ (made_at n k).step ∷ []
 steps_more m n numbers k grows are = map-append (λ j. (made_at n j).step) numbers (k ∷ []) ∙ ap (λ steps. steps ++ (made_at n k).step ∷ []) (steps_kept m n numbers grows are)
 
--- ---- What is built stays built when more is met
+-- ---- What is built stays built when more steps are made
 
-pub building_kept : (m n : MetView) (numbers : List ℕ) (last : ℕ) → IsBuilding m numbers last → Grows m n → IsBuilding n numbers last
+pub building_kept : (m n : InternedView) (numbers : List ℕ) (last : ℕ) → IsBuilding m numbers last → Grows m n → IsBuilding n numbers last
 building_kept m n numbers last is grows =
     let same : steps_at n numbers ≡ steps_at m numbers = steps_kept m n numbers grows is.numbers_there in
     record {
@@ -72,23 +72,23 @@ building_kept m n numbers last is grows =
       named = subst (λ A. A) (λ i. AreNamed (sym grows.table i).entries (sym same i)) is.named;
     }
 
-pub building_more : (m n : MetView) (numbers : List ℕ) (last : ℕ) (unit : Unit) (k : ℕ) → IsBuilding m numbers last → Grows m n → IsStepOf n last unit k → length numbers < 2 ^ 29 - 1
+pub building_more : (m n : InternedView) (numbers : List ℕ) (last : ℕ) (unit : Unit) (k : ℕ) → IsBuilding m numbers last → Grows m n → IsStepOf n last unit k → length numbers < 2 ^ 29 - 1
     → IsBuilding n (numbers ++ k ∷ []) (made_at n k).behind
 building_more m n numbers last unit k is grows step few =
     let same : steps_at n (numbers ++ k ∷ []) ≡ steps_at m numbers ++ (made_at n k).step ∷ [] = steps_more m n numbers k grows is.numbers_there in
     record {
-      numbers_there = All-append (λ j. j < length n.made) numbers (k ∷ []) (numbers_kept m n numbers grows is.numbers_there) (λ j d within. only j d within);
+      numbers_there = All-append (λ j. j < length n.steps) numbers (k ∷ []) (numbers_kept m n numbers grows is.numbers_there) (λ j d within. only j d within);
       last_there = step.behind;
       few = omega (arith, length-append numbers (k ∷ []));
       low = subst AreLow (sym same) (low_more (steps_at m numbers) (made_at n k).step is.low step.layer.low);
       named = subst (AreNamed n.table.entries) (sym same) (named_more n.table.entries (steps_at m numbers) (made_at n k).step (subst (λ v. AreNamed v.entries (steps_at m numbers)) (sym grows.table) is.named) step.layer.named);
     }
   where
-    only : (j d : ℕ) → j < 1 → get_or (k ∷ []) j d < length n.made
+    only : (j d : ℕ) → j < 1 → get_or (k ∷ []) j d < length n.steps
     only zero d within = step.there
     only (suc j) d within = absurd (omega arith)
 
-pub adds_one : (m n : MetView) (numbers : List ℕ) (last : ℕ) (unit : Unit) (k : ℕ) → IsBuilding m numbers last → Grows m n → IsStepOf n last unit k
+pub adds_one : (m n : InternedView) (numbers : List ℕ) (last : ℕ) (unit : Unit) (k : ℕ) → IsBuilding m numbers last → Grows m n → IsStepOf n last unit k
     → (u : units.Unit) → StandsFor m.table.entries unit u → AddsSteps (building m numbers last) (building n (numbers ++ k ∷ []) (made_at n k).behind) (u ∷ [])
 adds_one m n numbers last unit k is grows step u stands =
     let edges : Edges = edges_under n.table.entries n.rules in
@@ -105,7 +105,7 @@ adds_one m n numbers last unit k is grows step u stands =
           (lead_more edges bytes us u first_layer (steps_at m numbers) (made_at n k).step (states_of n.table (list_at n last)) (states_of n.table (list_at n (made_at n k).behind)) lead (step.layer.fits u own) (step.layer.states u own));
     }
 
-pub added_one : (m n : MetView) (numbers : List ℕ) (last behind : ℕ) (unit : Unit) (k : ℕ) → IsBuilding m numbers last → Grows m n → IsStepOf n last unit k → IsAdded (building m numbers last) (building n (numbers ++ k ∷ []) behind) 1 k
+pub added_one : (m n : InternedView) (numbers : List ℕ) (last behind : ℕ) (unit : Unit) (k : ℕ) → IsBuilding m numbers last → Grows m n → IsStepOf n last unit k → IsAdded (building m numbers last) (building n (numbers ++ k ∷ []) behind) 1 k
 added_one m n numbers last behind unit k is grows step = record { table = grows.table; there = step.there; named = step.layer.named; steps = steps_more m n numbers k grows is.numbers_there }
 
 -- ---- Adding more and more

@@ -15,7 +15,7 @@ use Rattle.hm_edges.specs.declared.units.Unit.TheVariants.{Character}
 use Rattle.hm_graph_laws.specs.Units as units
 use Rattle.hm_graph_laws.specs.Units.{TextKind, character_units, next_of}
 use Rattle.hm_graph.specs.Building.{BuildingView, AddsSteps, AddsFront, IsAdded, IsBuilding, building, steps_at}
-use Rattle.hm_graph.specs.Met.{MetView, Grows, Leads, made_at}
+use Rattle.hm_graph.specs.Interned.{InternedView, Grows, Leads, made_at}
 use Rattle.hm_graph.specs.declared.made.Reached.{Reached}
 use Rattle.hm_graph.proofs.Built.{adds_on, adds_one, building_more}
 
@@ -61,15 +61,15 @@ first_of (c ∷ cs) = refl
 
 -- ---- Characters of which it is known where they lead
 
-grows_self : (m : MetView) → Grows m m
-grows_self m = record { table = refl; rules = refl; lists = λ k within. record { there = within; list = refl }; made = λ n within. (within, refl) }
+grows_self : (m : InternedView) → Grows m m
+grows_self m = record { table = refl; rules = refl; lists = λ k within. record { there = within; list = refl }; steps = λ n within. (within, refl) }
 
 -- the step was added `count` times, and leads to the list `behind`
-pub record RunAdded (m : MetView) (numbers : List ℕ) (last behind : ℕ) (kind : TextKind) (n count : ℕ) (cs rest : List ℕ) : Type 0 where
+pub record RunAdded (m : InternedView) (numbers : List ℕ) (last behind : ℕ) (kind : TextKind) (n count : ℕ) (cs rest : List ℕ) : Type 0 where
   pub is : IsBuilding m (numbers ++ replicate count n) behind
   pub front : AddsFront (building m numbers last) (building m (numbers ++ replicate count n) behind) kind cs rest
 
-one_added : (m : MetView) (numbers : List ℕ) (last : ℕ) (kind : code.TextKind) (to : Reached) (c next : ℕ) (rest : List ℕ) → next_of rest ≡ Some next → IsBuilding m numbers last → Leads m last kind true to c → length numbers < 2 ^ 29 - 1
+one_added : (m : InternedView) (numbers : List ℕ) (last : ℕ) (kind : code.TextKind) (to : Reached) (c next : ℕ) (rest : List ℕ) → next_of rest ≡ Some next → IsBuilding m numbers last → Leads m last kind true to c → length numbers < 2 ^ 29 - 1
     → RunAdded m numbers last to.behind (kind_of kind) to.number 1 (c ∷ rest) rest
 one_added m numbers last kind to c next rest is_next is own few =
     let unit : Unit = Character kind c None true in
@@ -83,7 +83,7 @@ one_added m numbers last kind to c next rest is_next is own few =
       front = front_one (building m numbers last) (building m (numbers ++ to.number ∷ []) to.behind) (kind_of kind) c rest adds;
     }
 
-run_added : (m : MetView) (numbers : List ℕ) (last : ℕ) (kind : code.TextKind) (to : Reached) (c : ℕ) (front : List ℕ) (d : ℕ) (ds : List ℕ) → IsBuilding m numbers last → All (Leads m last kind true to) (c ∷ front)
+run_added : (m : InternedView) (numbers : List ℕ) (last : ℕ) (kind : code.TextKind) (to : Reached) (c : ℕ) (front : List ℕ) (d : ℕ) (ds : List ℕ) → IsBuilding m numbers last → All (Leads m last kind true to) (c ∷ front)
     → (0 < length front → to.behind ≡ last) → length numbers + suc (length front) < 2 ^ 29 → RunAdded m numbers last to.behind (kind_of kind) to.number (suc (length front)) (c ∷ front ++ d ∷ ds) (d ∷ ds)
 run_added m numbers last kind to c [] d ds is leads back few = one_added m numbers last kind to c d (d ∷ ds) refl is (leads 0 0 (omega arith)) (omega (arith, few))
 run_added m numbers last kind to c (e ∷ front) d ds is leads back few =
@@ -102,21 +102,21 @@ run_added m numbers last kind to c (e ∷ front) d ds is leads back few =
           (front_on (building m numbers last) (building m (numbers ++ n ∷ []) last) (building m ((numbers ++ n ∷ []) ++ replicate (suc (length front)) n) to.behind) (kind_of kind) (c ∷ e ∷ front ++ d ∷ ds) (e ∷ front ++ d ∷ ds) (d ∷ ds) first more.front);
     }
 
-all_ascii : (m : MetView) (last : ℕ) (kind : code.TextKind) (to : Reached) (front : List ℕ) → All (Leads m last kind true to) front → All (λ c. c < 128) front
+all_ascii : (m : InternedView) (last : ℕ) (kind : code.TextKind) (to : Reached) (front : List ℕ) → All (Leads m last kind true to) front → All (λ c. c < 128) front
 all_ascii m last kind to front leads = λ k d within. (leads k d within).ascii
 
 -- characters of which it is known where they lead are of ASCII
-pub lead_ascii : (m : MetView) (last : ℕ) (kind : code.TextKind) (to : Reached) (front : List ℕ) → All (Leads m last kind true to) front → IsAscii front
+pub lead_ascii : (m : InternedView) (last : ℕ) (kind : code.TextKind) (to : Reached) (front : List ℕ) → All (Leads m last kind true to) front → IsAscii front
 lead_ascii m last kind to front leads = IsAscii-from_all front (all_ascii m last kind to front leads)
 
-before_more : (m : MetView) (numbers : List ℕ) (last : ℕ) (kind : code.TextKind) (to : Reached) (front rest : List ℕ) → 0 < length front → 0 < length rest → IsBuilding m numbers last → All (Leads m last kind true to) front
+before_more : (m : InternedView) (numbers : List ℕ) (last : ℕ) (kind : code.TextKind) (to : Reached) (front rest : List ℕ) → 0 < length front → 0 < length rest → IsBuilding m numbers last → All (Leads m last kind true to) front
     → (1 < length front → to.behind ≡ last) → length numbers + length front < 2 ^ 29 → RunAdded m numbers last to.behind (kind_of kind) to.number (length front) (front ++ rest) rest
 before_more m numbers last kind to [] rest some more is leads back few = absurd (omega (arith, some))
 before_more m numbers last kind to (c ∷ front) [] some more is leads back few = absurd (omega (arith, more))
 before_more m numbers last kind to (c ∷ front) (d ∷ ds) some more is leads back few = run_added m numbers last kind to c front d ds is leads (λ others. back (omega (arith, others))) few
 
 -- a prefix of a text, with more after it
-pub text_added : (m : MetView) (numbers : List ℕ) (last : ℕ) (kind : code.TextKind) (to : Reached) (text : List ℕ) (count : ℕ) → IsUtf8 text → 0 < count → count < length text → (1 < count → to.behind ≡ last) → IsBuilding m numbers last
+pub text_added : (m : InternedView) (numbers : List ℕ) (last : ℕ) (kind : code.TextKind) (to : Reached) (text : List ℕ) (count : ℕ) → IsUtf8 text → 0 < count → count < length text → (1 < count → to.behind ≡ last) → IsBuilding m numbers last
     → All (Leads m last kind true to) (take count text) → length numbers + count < 2 ^ 29 → RunAdded m numbers last to.behind (kind_of kind) to.number count (chars text) (chars (drop count text))
 text_added m numbers last kind to text count utf8 some short back is leads few =
     let ascii : IsAscii (take count text) = lead_ascii m last kind to (take count text) leads in
@@ -128,12 +128,12 @@ text_added m numbers last kind to text count utf8 some short back is leads few =
     (subst (λ i. RunAdded m numbers last to.behind (kind_of kind) to.number i (take count text ++ chars (drop count text)) (chars (drop count text))) len
     (before_more m numbers last kind to (take count text) (chars (drop count text)) (omega (arith, some, len)) more is leads (λ others. back (omega (arith, others, len))) (omega (arith, few, len))))
 
-alike_steps : (m : MetView) (n count : ℕ) → steps_at m (replicate count n) ≡ replicate count (made_at m n).step
+alike_steps : (m : InternedView) (n count : ℕ) → steps_at m (replicate count n) ≡ replicate count (made_at m n).step
 alike_steps m n zero = refl
 alike_steps m n (suc count) = ap (λ steps. (made_at m n).step ∷ steps) (alike_steps m n count)
 
 -- their step was added for each of them
-pub alike_added : (m : MetView) (numbers : List ℕ) (last : ℕ) (kind : code.TextKind) (to : Reached) (text : List ℕ) (count : ℕ) → 0 < count → count ≤ length text → All (Leads m last kind true to) (take count text)
+pub alike_added : (m : InternedView) (numbers : List ℕ) (last : ℕ) (kind : code.TextKind) (to : Reached) (text : List ℕ) (count : ℕ) → 0 < count → count ≤ length text → All (Leads m last kind true to) (take count text)
     → IsAdded (building m numbers last) (building m (numbers ++ replicate count to.number) to.behind) count to.number
 alike_added m numbers last kind to text count some inside leads =
     let first : Leads m last kind true to _ = leads 0 0 (omega (arith, some, length-take-le count text inside)) in

@@ -31,10 +31,10 @@ steps_by a b count n step is added = added.steps ∙ ap (λ s. a.steps ++ replic
 
 -- ---- From one place to another
 
-pub goes_none : {F : Type 0} (C : List Unit → List Step → F → Type 0) (us : List Unit) (a : Along F) → Goes C us us a a
+pub goes_none : {V : Type 0} (C : List Unit → List Step → V → Type 0) (us : List Unit) (a : Along V) → Goes C us us a a
 goes_none C us a = record { done = []; adds = adds_none a.graph; whole = refl; added = []; steps = sym (append-nil a.graph.steps); on = λ units steps h. h }
 
-pub goes_on : {F : Type 0} (C : List Unit → List Step → F → Type 0) (from mid left : List Unit) (a b d : Along F) → Goes C from mid a b → Goes C mid left b d → Goes C from left a d
+pub goes_on : {V : Type 0} (C : List Unit → List Step → V → Type 0) (from mid left : List Unit) (a b d : Along V) → Goes C from mid a b → Goes C mid left b d → Goes C from left a d
 goes_on C from mid left a b d one more = record {
   done = one.done ++ more.done;
   adds = adds_on a.graph b.graph d.graph one.done more.done one.adds more.adds;
@@ -45,7 +45,7 @@ goes_on C from mid left a b d one more = record {
 }
 
 -- with more units after them
-pub goes_front : {F : Type 0} (C : List Unit → List Step → F → Type 0) (us more : List Unit) (a b : Along F) → Goes C us [] a b → Goes C (us ++ more) more a b
+pub goes_front : {V : Type 0} (C : List Unit → List Step → V → Type 0) (us more : List Unit) (a b : Along V) → Goes C us [] a b → Goes C (us ++ more) more a b
 goes_front C us more a b one = record {
   done = one.done;
   adds = one.adds;
@@ -56,14 +56,14 @@ goes_front C us more a b one = record {
 }
 
 -- over one step
-pub goes_one : {F : Type 0} (C : List Unit → List Step → F → Type 0) (u : Unit) (step : Step) (a b : Along F) → AddsSteps a.graph b.graph (u ∷ []) → b.graph.steps ≡ a.graph.steps ++ step ∷ []
+pub goes_one : {V : Type 0} (C : List Unit → List Step → V → Type 0) (u : Unit) (step : Step) (a b : Along V) → AddsSteps a.graph b.graph (u ∷ []) → b.graph.steps ≡ a.graph.steps ++ step ∷ []
     → ((more : List Unit) (steps : List Step) → C more steps b.by → C (u ∷ more) (step ∷ steps) a.by) → Goes C (u ∷ []) [] a b
 goes_one C u step a b adds steps on = record { done = u ∷ []; adds = adds; whole = refl; added = step ∷ []; steps = steps; on = on }
 
 -- ---- Characters
 
 -- over the first one, by the one after it, where there is one
-pub text_first : {F : Type 0} (C : List Unit → List Step → F → Type 0) (kind : TextKind) (c : ℕ) (text rest : List ℕ) (next : Option ℕ) (step : Step) (a b : Along F) → IsUtf8 text → text ≡ encode_utf8 c ++ rest → next ≡ slice_get (chars rest) 0
+pub text_first : {V : Type 0} (C : List Unit → List Step → V → Type 0) (kind : TextKind) (c : ℕ) (text rest : List ℕ) (next : Option ℕ) (step : Step) (a b : Along V) → IsUtf8 text → text ≡ encode_utf8 c ++ rest → next ≡ slice_get (chars rest) 0
     → AddsSteps a.graph b.graph (character kind c next ∷ []) → b.graph.steps ≡ a.graph.steps ++ step ∷ [] → ((u : Unit) (more : List Unit) (steps : List Step) → u ≡ character kind c next → C more steps b.by → C (u ∷ more) (step ∷ steps) a.by)
     → GoesOver C kind (chars text) (chars rest) a b
 text_first C kind c text rest next step a b utf8 cut is adds steps on =
@@ -74,7 +74,7 @@ text_first C kind c text rest next step a b utf8 cut is adds steps on =
     (goes_one C (character kind c (next_of left)) step a b (subst (λ u. AddsSteps a.graph b.graph (u ∷ [])) unit adds) steps (λ more s. on (character kind c (next_of left)) more s (sym unit))))
 
 -- over the first n bytes of a text, which have the same step
-pub text_alike : {F : Type 0} (C : List Unit → List Step → F → Type 0) (kind : TextKind) (text : List ℕ) (n : ℕ) (step : Step) (a b : Along F) → n ≤ length text → IsAscii (take n text)
+pub text_alike : {V : Type 0} (C : List Unit → List Step → V → Type 0) (kind : TextKind) (text : List ℕ) (n : ℕ) (step : Step) (a b : Along V) → n ≤ length text → IsAscii (take n text)
     → AddsFront a.graph b.graph kind (chars text) (chars (drop n text)) → b.graph.steps ≡ a.graph.steps ++ replicate n step
     → ((rest : List ℕ) (more : List Unit) (steps : List Step) → C (character_units kind rest ++ more) steps b.by → C (character_units kind (take n text ++ rest) ++ more) (replicate (length (take n text)) step ++ steps) a.by)
     → GoesOver C kind (chars text) (chars (drop n text)) a b
@@ -92,29 +92,29 @@ text_alike C kind text n step a b inside ascii front steps on =
     }
 
 -- over all of them
-pub text_all : {F : Type 0} (C : List Unit → List Step → F → Type 0) (kind : TextKind) (cs left : List ℕ) (a b : Along F) → left ≡ [] → GoesOver C kind cs left a b → GoesOver C kind cs [] a b
+pub text_all : {V : Type 0} (C : List Unit → List Step → V → Type 0) (kind : TextKind) (cs left : List ℕ) (a b : Along V) → left ≡ [] → GoesOver C kind cs left a b → GoesOver C kind cs [] a b
 text_all C kind cs left a b none goes = subst (λ rest. GoesOver C kind cs rest a b) none goes
 
 -- ---- The parts of an event
 
 -- the first n parts were added
-abbrev pub PartsAdded : {F : Type 0} → (List Unit → List Step → F → Type 0) → List Part → ℕ → Along F → Along F → Type 0
+abbrev pub PartsAdded : {V : Type 0} → (List Unit → List Step → V → Type 0) → List Part → ℕ → Along V → Along V → Type 0
 PartsAdded C parts n old new = Goes C (parts_units parts) (parts_units (drop n parts)) old new
 
-pub part_added : {F : Type 0} (C : List Unit → List Step → F → Type 0) (parts : List Part) (n : ℕ) (none : Part) (a b d : Along F) → n < length parts → PartsAdded C parts n a b → Goes C (part_units (get_or parts n none)) [] b d → PartsAdded C parts (n + 1) a d
+pub part_added : {V : Type 0} (C : List Unit → List Step → V → Type 0) (parts : List Part) (n : ℕ) (none : Part) (a b d : Along V) → n < length parts → PartsAdded C parts n a b → Goes C (part_units (get_or parts n none)) [] b d → PartsAdded C parts (n + 1) a d
 part_added C parts n none a b d more added one =
     let part : Part = get_or parts n none in
     let behind : List Unit = parts_units (drop (n + 1) parts) in
     goes_on C (parts_units parts) (parts_units (drop n parts)) behind a b d added
     (subst (λ ps. Goes C (parts_units ps) behind b d) (sym (drop_more parts n none more)) (goes_front C (part_units part) behind b d one))
 
-pub parts_all : {F : Type 0} (C : List Unit → List Step → F → Type 0) (parts : List Part) (n : ℕ) (a b : Along F) → length parts ≤ n → PartsAdded C parts n a b → Goes C (parts_units parts) [] a b
+pub parts_all : {V : Type 0} (C : List Unit → List Step → V → Type 0) (parts : List Part) (n : ℕ) (a b : Along V) → length parts ≤ n → PartsAdded C parts n a b → Goes C (parts_units parts) [] a b
 parts_all C parts n a b past added = subst (λ ps. Goes C (parts_units parts) (parts_units ps) a b) (drop_all n parts past) added
 
 -- ---- The events of a tree
 
 -- The steps of some events are there. Those of event i and of all after it are left.
-pub record EventsAdded {F : Type 0} (C : List Unit → List Step → F → Type 0) (v : TableView) (r : EdgeRules) (w : List Event) (start : F) (i : ℕ) (along : Along F) : Type 0 where
+pub record EventsAdded {V : Type 0} (C : List Unit → List Step → V → Type 0) (v : TableView) (r : EdgeRules) (w : List Event) (start : V) (i : ℕ) (along : Along V) : Type 0 where
   pub table : along.graph.table ≡ v
   pub rules : along.graph.rules ≡ r
   pub done : List Unit
@@ -129,7 +129,7 @@ none_built b built = by_steps b.steps built
     by_steps [] h = refl
     by_steps (step ∷ steps) h = absurd h
 
-pub events_begin : {F : Type 0} (C : List Unit → List Step → F → Type 0) (v : TableView) (r : EdgeRules) (w : List Event) (along : Along F) → along.graph.table ≡ v → along.graph.rules ≡ r → IsBuilt along.graph [] → EventsAdded C v r w along.by 0 along
+pub events_begin : {V : Type 0} (C : List Unit → List Step → V → Type 0) (v : TableView) (r : EdgeRules) (w : List Event) (along : Along V) → along.graph.table ≡ v → along.graph.rules ≡ r → IsBuilt along.graph [] → EventsAdded C v r w along.by 0 along
 events_begin C v r w along table rules built = record {
   table = table;
   rules = rules;
@@ -139,7 +139,7 @@ events_begin C v r w along table rules built = record {
   on = λ steps h. subst (λ front. C (units_of r.spell w) (front ++ steps) along.by) (sym (none_built along.graph built)) h;
 }
 
-pub events_next : {F : Type 0} (C : List Unit → List Step → F → Type 0) (v : TableView) (r : EdgeRules) (w : List Event) (start : F) (i : ℕ) (us : List Unit) (a b : Along F) → i < length w → us ≡ units_at r.spell w i → EventsAdded C v r w start i a → Goes C us [] a b
+pub events_next : {V : Type 0} (C : List Unit → List Step → V → Type 0) (v : TableView) (r : EdgeRules) (w : List Event) (start : V) (i : ℕ) (us : List Unit) (a b : Along V) → i < length w → us ≡ units_at r.spell w i → EventsAdded C v r w start i a → Goes C us [] a b
     → EventsAdded C v r w start (i + 1) b
 events_next C v r w start i us a b within is some one =
     let rest : List Unit = units_left r.spell w (i + 1) in
@@ -156,11 +156,11 @@ events_next C v r w start i us a b within is some one =
           (some.on (one.added ++ steps) (subst (λ xs. C xs (one.added ++ steps) a.by) (sym next) (one.on rest steps h)));
     }
 
-pub events_built : {F : Type 0} (C : List Unit → List Step → F → Type 0) (v : TableView) (r : EdgeRules) (w : List Event) (start : F) (i : ℕ) (along : Along F) → i ≡ length w → EventsAdded C v r w start i along → IsBuilt along.graph (units_of r.spell w)
+pub events_built : {V : Type 0} (C : List Unit → List Step → V → Type 0) (v : TableView) (r : EdgeRules) (w : List Event) (start : V) (i : ℕ) (along : Along V) → i ≡ length w → EventsAdded C v r w start i along → IsBuilt along.graph (units_of r.spell w)
 events_built C v r w start i along past some =
     subst (IsBuilt along.graph) (sym (append-nil some.done) ∙ ap (λ us. some.done ++ us) (sym (units_left-none r.spell w) ∙ ap (units_left r.spell w) (sym past)) ∙ some.whole) some.built
 
-pub events_on : {F : Type 0} (C : List Unit → List Step → F → Type 0) (v : TableView) (r : EdgeRules) (w : List Event) (start : F) (i : ℕ) (along : Along F) → i ≡ length w → EventsAdded C v r w start i along → C [] [] along.by
+pub events_on : {V : Type 0} (C : List Unit → List Step → V → Type 0) (v : TableView) (r : EdgeRules) (w : List Event) (start : V) (i : ℕ) (along : Along V) → i ≡ length w → EventsAdded C v r w start i along → C [] [] along.by
     → C (units_of r.spell w) along.graph.steps start
 events_on C v r w start i along past some h =
     let none : units_left r.spell w i ≡ [] = ap (units_left r.spell w) past ∙ units_left-none r.spell w in

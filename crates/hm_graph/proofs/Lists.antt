@@ -9,25 +9,25 @@ use Rattle.hm_edges.specs.declared.states.State.{State}
 use Rattle.hm_edges.specs.declared.units.Unit.{Unit}
 use Rattle.hm_edges.specs.declared.units.Unit.TheVariants.{Character}
 use Rattle.hm_graph.specs.Layers.{HaveNodes, IsLayer}
-use Rattle.hm_graph.specs.Met.{MetView, none_made, list_at, made_at, BeginsNoPair, IsListOf, IsMet, IsRow, IsSeen, Grows, IsStepOf, Leads, first_states, unknown}
+use Rattle.hm_graph.specs.Interned.{InternedView, none_made, list_at, made_at, BeginsNoPair, IsListOf, IsInterned, IsRow, IsMemo, Grows, IsStepOf, Leads, first_states, unknown}
 use Rattle.hm_graph.specs.declared.made.MadeStep.{MadeStep}
 use Rattle.hm_graph.specs.declared.made.KnownStep.{KnownStep}
 use Rattle.hm_graph.specs.declared.made.Reached.{Reached}
 use Rattle.hm_graph.specs.declared.plain.PlainRow.{PlainRow}
 use Rattle.hm_edges.specs.declared.units.TextKind.{TextKind}
 
-abbrev pub met : TableView → EdgeRules → List (List State) → List MadeStep → MetView
-met v rules lists made = record { table = v; rules = rules; lists = lists; made = made }
+abbrev pub interned : TableView → EdgeRules → List (List State) → List MadeStep → InternedView
+interned v rules lists made = record { table = v; rules = rules; lists = lists; steps = made }
 
 -- ---- Growing
 
-pub grows_on : (a b c : MetView) → Grows a b → Grows b c → Grows a c
+pub grows_on : (a b c : InternedView) → Grows a b → Grows b c → Grows a c
 grows_on a b c ab bc =
     record {
       table = bc.table ∙ ab.table;
       rules = bc.rules ∙ ab.rules;
       lists = λ k within. let there : IsListOf b (list_at a k) k = ab.lists k within in let then : IsListOf c (list_at b k) k = bc.lists k there.there in record { there = then.there; list = then.list ∙ there.list };
-      made = λ n within. let there : (n < length b.made) × (made_at b n ≡ made_at a n) = ab.made n within in let then : (n < length c.made) × (made_at c n ≡ made_at b n) = bc.made n there.0 in (then.0, then.1 ∙ there.1);
+      steps = λ n within. let there : (n < length b.steps) × (made_at b n ≡ made_at a n) = ab.steps n within in let then : (n < length c.steps) × (made_at c n ≡ made_at b n) = bc.steps n there.0 in (then.0, then.1 ∙ there.1);
     }
 
 -- a layer is one of equal lists, and by an equal table and rules
@@ -35,8 +35,8 @@ layer_as : (v w : TableView) (q r : EdgeRules) (unit : Unit) (from behind other 
 layer_as v w q r unit from behind other after x of_table of_rules of_from of_behind is = subst (λ A. A) (λ i. IsLayer (sym of_table i) (sym of_rules i) unit (sym of_from i) (sym of_behind i) x.step) is
 
 -- a number that a step has been given is that of the step of a unit from a list
-pub made_is : (a b : MetView) (list : ℕ) (unit : Unit) (n : ℕ) (x : MadeStep) → Grows a b → list < length a.lists → x.behind < length a.lists → IsLayer a.table a.rules unit (list_at a list) (list_at a x.behind) x.step
-    → n < length b.made → made_at b n ≡ x → IsStepOf b list unit n
+pub made_is : (a b : InternedView) (list : ℕ) (unit : Unit) (n : ℕ) (x : MadeStep) → Grows a b → list < length a.lists → x.behind < length a.lists → IsLayer a.table a.rules unit (list_at a list) (list_at a x.behind) x.step
+    → n < length b.steps → made_at b n ≡ x → IsStepOf b list unit n
 made_is a b list unit n x grows within inside is there at =
     let from : IsListOf b (list_at a list) list = grows.lists list within in
     let behind : IsListOf b (list_at a x.behind) x.behind = grows.lists x.behind inside in
@@ -47,37 +47,37 @@ made_is a b list unit n x grows within inside is there at =
           (layer_as a.table b.table a.rules b.rules unit (list_at a list) (list_at a x.behind) (list_at b list) (list_at b x.behind) x grows.table grows.rules from.list behind.list is);
     }
 
-step_kept : (a b : MetView) (list : ℕ) (unit : Unit) (n : ℕ) → Grows a b → list < length a.lists → IsStepOf a list unit n → IsStepOf b list unit n
+step_kept : (a b : InternedView) (list : ℕ) (unit : Unit) (n : ℕ) → Grows a b → list < length a.lists → IsStepOf a list unit n → IsStepOf b list unit n
 step_kept a b list unit n grows within is =
     let x : MadeStep = made_at a n in
-    let made : (n < length b.made) × (made_at b n ≡ x) = grows.made n is.there in
+    let made : (n < length b.steps) × (made_at b n ≡ x) = grows.steps n is.there in
     made_is a b list unit n x grows within is.behind is.layer made.0 made.1
 
-pub seen_kept : (a b : MetView) (x : KnownStep) → Grows a b → IsSeen a x → IsSeen b x
+pub seen_kept : (a b : InternedView) (x : KnownStep) → Grows a b → IsMemo a x → IsMemo b x
 seen_kept a b x grows is = record { from = (grows.lists x.list is.from).there; step = step_kept a b x.list x.unit x.number grows is.from is.step }
 
-pub all_kept : (a b : MetView) (seen : List KnownStep) → Grows a b → All (IsSeen a) seen → All (IsSeen b) seen
+pub all_kept : (a b : InternedView) (seen : List KnownStep) → Grows a b → All (IsMemo a) seen → All (IsMemo b) seen
 all_kept a b seen grows are = λ n d within. seen_kept a b (get_or seen n d) grows (are n d within)
 
-leads_kept : (a b : MetView) (list : ℕ) (kind : TextKind) (more : Bool) (to : Reached) (c : ℕ) → Grows a b → Leads a list kind more to c → Leads b list kind more to c
+leads_kept : (a b : InternedView) (list : ℕ) (kind : TextKind) (more : Bool) (to : Reached) (c : ℕ) → Grows a b → Leads a list kind more to c → Leads b list kind more to c
 leads_kept a b list kind more to c grows is =
     record {
       ascii = is.ascii;
       from = (grows.lists list is.from).there;
       step = step_kept a b list (Character kind c None more) to.number grows is.from is.step;
-      behind = is.behind ∙ ap (λ y. y.behind) (sym (grows.made to.number is.step.there).1);
+      behind = is.behind ∙ ap (λ y. y.behind) (sym (grows.steps to.number is.step.there).1);
       lone = λ more_is. subst (λ t. BeginsNoPair t.entries c) (sym grows.table) (is.lone more_is);
     }
 
-pub all_rows_kept : (a b : MetView) (more : Bool) (rows : List PlainRow) → Grows a b → All (IsRow a more) rows → All (IsRow b more) rows
+pub all_rows_kept : (a b : InternedView) (more : Bool) (rows : List PlainRow) → Grows a b → All (IsRow a more) rows → All (IsRow b more) rows
 all_rows_kept a b more rows grows are = λ n d within c known.
     let x : PlainRow = get_or rows n d in
     leads_kept a b x.list x.kind more (get_or x.steps.items c unknown) c grows (are n d within c known)
 
-pub all_noted : (m : MetView) (seen : List KnownStep) (x : KnownStep) → All (IsSeen m) seen → x.list < length m.lists → IsStepOf m x.list x.unit x.number → All (IsSeen m) (seen ++ x ∷ [])
-all_noted m seen x are from step = All-append (IsSeen m) seen (x ∷ []) are (λ n d within. only n d within)
+pub all_noted : (m : InternedView) (seen : List KnownStep) (x : KnownStep) → All (IsMemo m) seen → x.list < length m.lists → IsStepOf m x.list x.unit x.number → All (IsMemo m) (seen ++ x ∷ [])
+all_noted m seen x are from step = All-append (IsMemo m) seen (x ∷ []) are (λ n d within. only n d within)
   where
-    only : (n : ℕ) (d : KnownStep) → n < 1 → IsSeen m (get_or (x ∷ []) n d)
+    only : (n : ℕ) (d : KnownStep) → n < 1 → IsMemo m (get_or (x ∷ []) n d)
     only zero d within = record { from = from; step = step }
     only (suc n) d within = absurd (omega arith)
 
@@ -89,13 +89,13 @@ first_nodes v (suc k) = tt
 
 -- ---- One more list
 
-pub list_grows : (v : TableView) (rules : EdgeRules) (lists : List (List State)) (made : List MadeStep) (states : List State) → Grows (met v rules lists made) (met v rules (lists ++ states ∷ []) made)
+pub list_grows : (v : TableView) (rules : EdgeRules) (lists : List (List State)) (made : List MadeStep) (states : List State) → Grows (interned v rules lists made) (interned v rules (lists ++ states ∷ []) made)
 list_grows v rules lists made states =
     record {
       table = refl;
       rules = refl;
       lists = λ k within. record { there = omega (arith, length_push lists states); list = get_or_append_left lists (states ∷ []) [] k within };
-      made = λ n within. (within, refl);
+      steps = λ n within. (within, refl);
     }
 
 nodes_at : (v : TableView) (lists : List (List State)) (states : List State) → ((k : ℕ) → HaveNodes v (get_or lists k [])) → HaveNodes v states → (k : ℕ) → HaveNodes v (get_or (lists ++ states ∷ []) k [])
@@ -104,23 +104,23 @@ nodes_at v [] states nodes own (suc k) = tt
 nodes_at v (l ∷ lists) states nodes own zero = nodes 0
 nodes_at v (l ∷ lists) states nodes own (suc k) = nodes_at v lists states (λ j. nodes (suc j)) own k
 
-pub met_list : (v : TableView) (rules : EdgeRules) (lists : List (List State)) (made : List MadeStep) (states : List State) → IsMet (met v rules lists made) → HaveNodes v states → IsMet (met v rules (lists ++ states ∷ []) made)
-met_list v rules lists made states is own = record { nodes = nodes_at v lists states is.nodes own }
+pub interned_list : (v : TableView) (rules : EdgeRules) (lists : List (List State)) (made : List MadeStep) (states : List State) → IsInterned (interned v rules lists made) → HaveNodes v states → IsInterned (interned v rules (lists ++ states ∷ []) made)
+interned_list v rules lists made states is own = record { nodes = nodes_at v lists states is.nodes own }
 
 -- ---- One more step
 
-pub made_grows : (v : TableView) (rules : EdgeRules) (lists : List (List State)) (made : List MadeStep) (x : MadeStep) → Grows (met v rules lists made) (met v rules lists (made ++ x ∷ []))
+pub made_grows : (v : TableView) (rules : EdgeRules) (lists : List (List State)) (made : List MadeStep) (x : MadeStep) → Grows (interned v rules lists made) (interned v rules lists (made ++ x ∷ []))
 made_grows v rules lists made x =
-    record { table = refl; rules = refl; lists = λ k within. record { there = within; list = refl }; made = λ n within. (omega (arith, length_push made x), get_or_append_left made (x ∷ []) none_made n within) }
+    record { table = refl; rules = refl; lists = λ k within. record { there = within; list = refl }; steps = λ n within. (omega (arith, length_push made x), get_or_append_left made (x ∷ []) none_made n within) }
 
 -- ---- What is read of a list of lists
 
 -- what is read is what is seen
-pub seen_at : {A B : Type 0} (f : A → B) (xs : List A) (k : ℕ) (x : A) (e : B) → k < length (map f xs) → x ≡ get_or xs k x → f x ≡ get_or (map f xs) k e
-seen_at f xs k x e within is = ap f is ∙ sym (get_or-map f xs k x e (omega (arith, length-map xs f)))
+pub memo_at : {A B : Type 0} (f : A → B) (xs : List A) (k : ℕ) (x : A) (e : B) → k < length (map f xs) → x ≡ get_or xs k x → f x ≡ get_or (map f xs) k e
+memo_at f xs k x e within is = ap f is ∙ sym (get_or-map f xs k x e (omega (arith, length-map xs f)))
 
 pub seen_there : {A : Type 0} (f : A → List State) (v : TableView) (rules : EdgeRules) (xs ys : List A) (made : List MadeStep) (states other : List State) (k : ℕ) (d : A)
-    → ys ≡ xs → other ≡ states → k < length ys → f (get_or ys k d) ≡ other → IsListOf (met v rules (map f xs) made) states k
+    → ys ≡ xs → other ≡ states → k < length ys → f (get_or ys k d) ≡ other → IsListOf (interned v rules (map f xs) made) states k
 seen_there f v rules xs ys made states other k d same like within is =
     let inside : k < length xs = subst (λ zs. k < length zs) same within in
     record { there = omega (arith, length-map xs f); list = get_or-map f xs k d [] inside ∙ ap (λ zs. f (get_or zs k d)) (sym same) ∙ is ∙ like }

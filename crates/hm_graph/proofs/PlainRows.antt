@@ -5,7 +5,7 @@ use Rattle.std.proofs.lemmas.List.{take_more}
 use Rattle.std.proofs.lemmas.List.Elements.{All-push}
 use Rattle.std.specs.List.{All}
 use Rattle.std.specs.Option.{IfSome}
-use Rattle.hm_graph.specs.Met.{IsRow, MetView, unknown}
+use Rattle.hm_graph.specs.Interned.{IsRow, InternedView, unknown}
 use Rattle.hm_graph.specs.declared.plain.PlainRow.{PlainRow}
 
 pub none_known : (n c : ℕ) → get_or (replicate n unknown) c unknown ≡ unknown
@@ -14,7 +14,7 @@ none_known (suc n) zero = refl
 none_known (suc n) (suc c) = none_known n c
 
 -- a row in which nothing is known
-pub unknown_row : (m : MetView) (more : Bool) (x : PlainRow) → ((c : ℕ) → get_or x.steps.items c unknown ≡ unknown) → IsRow m more x
+pub unknown_row : (m : InternedView) (more : Bool) (x : PlainRow) → ((c : ℕ) → get_or x.steps.items c unknown ≡ unknown) → IsRow m more x
 unknown_row m more x none = λ c known. let low : 4294967295 < 4294967295 = subst (λ to. to.number < 4294967295) (none c) known in absurd (omega (arith, low))
 
 all_none : (P : ℕ → Type 0) → All P []

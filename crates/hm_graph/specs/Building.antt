@@ -15,11 +15,11 @@ use Rattle.hm_graph.specs.Fits.{StepFits}
 use Rattle.hm_graph.specs.Steps.{Step}
 use Rattle.hm_graph.specs.Graphs.{AreLow, AreNamed, IsNamedStep}
 use Rattle.hm_graph.specs.Layers.{edges_under, states_of}
-use Rattle.hm_graph.specs.Met.{MetView, list_at, made_at, none_made}
+use Rattle.hm_graph.specs.Interned.{InternedView, list_at, made_at, none_made}
 use Rattle.hm_graph.specs.declared.made.MadeStep.{MadeStep}
 use Rattle.hm_graph.specs.declared.rules.EdgeRules.{EdgeRules}
 
--- the steps that were met, the steps so far, and the states of the layer after them
+-- the steps that were made, the steps so far, and the states of the layer after them
 pub record BuildingView : Type 0 where
   pub table : TableView
   pub rules : EdgeRules
@@ -28,15 +28,15 @@ pub record BuildingView : Type 0 where
   pub last : List State
 
 -- the steps of these numbers
-abbrev pub steps_at : MetView → List ℕ → List Step
+abbrev pub steps_at : InternedView → List ℕ → List Step
 steps_at m numbers = map (λ n. (made_at m n).step) numbers
 
-abbrev pub building : MetView → List ℕ → ℕ → BuildingView
-building m numbers last = record { table = m.table; rules = m.rules; made = m.made; steps = steps_at m numbers; last = list_at m last }
+abbrev pub building : InternedView → List ℕ → ℕ → BuildingView
+building m numbers last = record { table = m.table; rules = m.rules; made = m.steps; steps = steps_at m numbers; last = list_at m last }
 
 -- the numbers are those of steps, and the last list is there
-pub record IsBuilding (m : MetView) (numbers : List ℕ) (last : ℕ) : Type 0 where
-  pub numbers_there : All (λ n. n < length m.made) numbers
+pub record IsBuilding (m : InternedView) (numbers : List ℕ) (last : ℕ) : Type 0 where
+  pub numbers_there : All (λ n. n < length m.steps) numbers
   pub last_there : last < length m.lists
   pub few : length numbers < 2 ^ 29
   pub low : AreLow (steps_at m numbers)

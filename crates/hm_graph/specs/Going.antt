@@ -7,7 +7,7 @@ use Rattle.hm_graph.specs.declared.along.Along.{Along}
 
 -- The steps of some units were added, and of the units `from` those in `left` remain. C is what it means to go on over
 -- units and their steps: what goes on from the new place over what is left goes on from the old one over all.
-pub record Goes {F : Type 0} (C : List Unit → List Step → F → Type 0) (from left : List Unit) (old new : Along F) : Type 0 where
+pub record Goes {V : Type 0} (C : List Unit → List Step → V → Type 0) (from left : List Unit) (old new : Along V) : Type 0 where
   pub done : List Unit
   pub adds : AddsSteps old.graph new.graph done
   pub whole : done ++ left ≡ from
@@ -16,5 +16,5 @@ pub record Goes {F : Type 0} (C : List Unit → List Step → F → Type 0) (fro
   pub on : (units : List Unit) (steps : List Step) → C (left ++ units) steps new.by → C (from ++ units) (added ++ steps) old.by
 
 -- from these characters on up to those that are left of them
-abbrev pub GoesOver : {F : Type 0} → (List Unit → List Step → F → Type 0) → TextKind → List ℕ → List ℕ → Along F → Along F → Type 0
+abbrev pub GoesOver : {V : Type 0} → (List Unit → List Step → V → Type 0) → TextKind → List ℕ → List ℕ → Along V → Along V → Type 0
 GoesOver C kind cs left old new = Goes C (character_units kind cs) (character_units kind left) old new

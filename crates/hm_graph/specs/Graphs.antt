@@ -6,6 +6,7 @@ use Rattle.hm_base.specs.declared.plain.SpellRules.{SpellRules}
 use Rattle.hm_base.specs.declared.plain.Format.{Format}
 use Rattle.hm_graph_laws.specs.Ways.{Edges}
 use Rattle.hm_refs.specs.Names.{Entry}
+use Rattle.hm_refs.specs.Tables.{TableView}
 use Rattle.hm_optimality_laws.specs.Formats.{edges_by}
 use Rattle.hm_graph_laws.specs.Units.{units_of}
 use Rattle.hm_graph_laws.specs.Layers.{first_layer}
@@ -15,12 +16,20 @@ use Rattle.hm_edges.specs.Pieces.{HasName, piece_bytes}
 use Rattle.hm_graph.specs.Fits.{StepsFit}
 use Rattle.hm_graph.specs.Steps.{Step}
 use Rattle.hm_graph.specs.declared.hops.Hop.{Hop}
-use Rattle.hm_graph.specs.Runs.{IsAt}
+use Rattle.hm_graph.specs.Runs.{IsAt, unroll}
 use Rattle.hm_graph.specs.declared.graph.Cursor.{Cursor}
 use Rattle.hm_graph.specs.declared.numbers.Run.{Run}
 
--- the steps between its layers, the runs of equal ones, and how many states the last layer has
+-- what a graph is of: a tree, a table of names, the rules by which the tree may be written, and the format of certificates
+pub record GraphSource : Type 0 where
+  pub tree : List Event
+  pub table : TableView
+  pub rules : SpellRules
+  pub format : Format
+
+-- what it is of, the steps between its layers, the runs of equal ones, and how many states the last layer has
 pub record GraphView : Type 0 where
+  pub source : GraphSource
   pub steps : List Step
   pub runs : List Run
   pub last : ℕ
@@ -32,6 +41,10 @@ IsPlace g c = IsAt g.runs c.run c.used c.layer
 -- the steps of these numbers
 abbrev pub spread : List Step → List ℕ → List Step
 spread steps numbers = map (λ n. slice_index_or steps n []) numbers
+
+-- the graph with the steps of the numbers of these runs
+abbrev pub graph_view : GraphSource → List Step → List Run → ℕ → GraphView
+graph_view source steps runs last = record { source = source; steps = spread steps (unroll runs); runs = runs; last = last }
 
 abbrev pub one_of : List Hop → Option Hop
 one_of [] = None
@@ -82,7 +95,12 @@ AreNamed t (step ∷ steps) = IsNamedStep t step × AreNamed t steps
 abbrev pub tree_edges : List Entry → SpellRules → Format → Edges
 tree_edges t rules format = edges_by format (edges_of (sparing_plain t rules))
 
--- the steps of a tree's graph by a table and these rules, in a format
-pub record IsGraphOf (t : List Entry) (rules : SpellRules) (format : Format) (w : List Event) (g : GraphView) : Type 0 where
-  pub fits : StepsFit (tree_edges t rules format) (piece_bytes t) (units_of rules w) first_layer g.steps g.last
-  pub named : AreNamed t g.steps
+-- the edges of what a graph is of
+abbrev pub source_edges : GraphSource → Edges
+source_edges of = tree_edges of.table.entries of.rules of.format
+
+-- the steps are those of the units of the tree, and no edge writes too much
+pub record IsGraph (g : GraphView) : Type 0 where
+  pub fits : StepsFit (source_edges g.source) (piece_bytes g.source.table.entries) (units_of g.source.rules g.source.tree) first_layer g.steps g.last
+  pub named : AreNamed g.source.table.entries g.steps
+  pub low : AreLow g.steps

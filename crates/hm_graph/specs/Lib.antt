@@ -8,7 +8,7 @@ pub mod Runs
 pub mod Graphs
 pub mod FewHops
 pub mod Layers
-pub mod Met
+pub mod Interned
 pub mod Building
 pub mod Going
 pub mod Copied

@@ -9,29 +9,29 @@ ghost use Rattle.hm_parts.specs.Own.{own_text};
 ghost use Rattle.hm_graph_laws.specs.Units as units;
 
 use crate::building::GraphBuilder;
-use crate::followers::Follower;
 use crate::plain::Alike;
+use crate::visitors::Visitor;
 use hm_edges::{TextKind, Unit};
 use hm_parts::{Own, Part};
 use hm_refs::Table;
 
 /// A graph while it is built, and its visitor.
 #[derive(Drop)]
-pub(crate) struct Along<'t, F> {
+pub(crate) struct Along<'t, V> {
     pub(crate) graph: GraphBuilder<'t>,
-    pub(crate) by: F,
+    pub(crate) by: V,
 }
 
 /// Adds the step of a unit with these bytes of its own.
 #[inline(always)]
-fn add<F: Follower>(
-    along: &mut Along<'_, F>,
+fn add<V: Visitor>(
+    along: &mut Along<'_, V>,
     table: &Table,
     unit: &Unit,
     own: Own,
-) -> Result<(), F::Stop>
+) -> Result<(), V::Stop>
     requires table { along.old.graph.table ≡ table.now }
-    ensures { OnOk result ((u : units.Unit) → StandsFor table.now.entries unit.now u → own_bytes u ≡ own_text own.entry → Goes (F.goes_on table.now.entries) (u ∷ []) [] along.old along.new) }
+    ensures { OnOk result ((u : units.Unit) → StandsFor table.now.entries unit.now u → own_bytes u ≡ own_text own.entry → Goes (V.goes_on table.now.entries) (u ∷ []) [] along.old along.new) }
 {
     let number = along.graph.add(unit)?;
     along.by.take(table, along.graph.step(number), own)?;
@@ -40,14 +40,14 @@ fn add<F: Follower>(
 
 /// Adds the step of the first character of a text, where there is one, and gives the rest of the text.
 #[inline(always)]
-fn add_first<'s, F: Follower>(
-    along: &mut Along<'_, F>,
+fn add_first<'s, V: Visitor>(
+    along: &mut Along<'_, V>,
     table: &Table,
     kind: TextKind,
     text: &'s str,
-) -> Result<&'s str, F::Stop>
+) -> Result<&'s str, V::Stop>
     requires table { along.old.graph.table ≡ table.now }
-    ensures goes { IfOk result (λ rest. GoesOver (F.goes_on table.now.entries) (kind_of kind) (chars text.now) (chars rest.now) along.old along.new) }
+    ensures goes { IfOk result (λ rest. GoesOver (V.goes_on table.now.entries) (kind_of kind) (chars text.now) (chars rest.now) along.old along.new) }
     ensures shorter { IfOk result (λ rest. 0 < length text.now → length rest.now < length text.now) }
     ensures utf8 { IfOk result (λ rest. IsUtf8 rest.now) }
 {
@@ -66,14 +66,14 @@ fn add_first<'s, F: Follower>(
 /// Adds the steps of characters that a text begins with, as far as they are known to lead to one place, and gives the rest
 /// of the text.
 #[inline(always)]
-fn add_alike<'s, F: Follower>(
-    along: &mut Along<'_, F>,
+fn add_alike<'s, V: Visitor>(
+    along: &mut Along<'_, V>,
     table: &Table,
     kind: TextKind,
     text: &'s str,
-) -> Result<&'s str, F::Stop>
+) -> Result<&'s str, V::Stop>
     requires table { along.old.graph.table ≡ table.now }
-    ensures goes { IfOk result (λ rest. GoesOver (F.goes_on table.now.entries) (kind_of kind) (chars text.now) (chars rest.now) along.old along.new) }
+    ensures goes { IfOk result (λ rest. GoesOver (V.goes_on table.now.entries) (kind_of kind) (chars text.now) (chars rest.now) along.old along.new) }
     ensures within { IfOk result (λ rest. length rest.now ≤ length text.now) }
     ensures utf8 { IfOk result (λ rest. IsUtf8 rest.now) }
 {
@@ -90,14 +90,14 @@ fn add_alike<'s, F: Follower>(
 
 /// Adds the steps of some characters that a text begins with, of one at least, and gives the rest of the text.
 #[inline(always)]
-fn add_some<'s, F: Follower>(
-    along: &mut Along<'_, F>,
+fn add_some<'s, V: Visitor>(
+    along: &mut Along<'_, V>,
     table: &Table,
     kind: TextKind,
     text: &'s str,
-) -> Result<&'s str, F::Stop>
+) -> Result<&'s str, V::Stop>
     requires table { along.old.graph.table ≡ table.now }
-    ensures goes { IfOk result (λ rest. GoesOver (F.goes_on table.now.entries) (kind_of kind) (chars text.now) (chars rest.now) along.old along.new) }
+    ensures goes { IfOk result (λ rest. GoesOver (V.goes_on table.now.entries) (kind_of kind) (chars text.now) (chars rest.now) along.old along.new) }
     ensures shorter { IfOk result (λ rest. 0 < length text.now → length rest.now < length text.now) }
     ensures utf8 { IfOk result (λ rest. IsUtf8 rest.now) }
 {
@@ -110,14 +110,14 @@ fn add_some<'s, F: Follower>(
 
 /// Adds the steps of the characters of a text.
 #[inline(always)]
-fn add_characters<F: Follower>(
-    along: &mut Along<'_, F>,
+fn add_characters<V: Visitor>(
+    along: &mut Along<'_, V>,
     table: &Table,
     kind: TextKind,
     text: &str,
-) -> Result<(), F::Stop>
+) -> Result<(), V::Stop>
     requires table { along.old.graph.table ≡ table.now }
-    ensures { OnOk result (GoesOver (F.goes_on table.now.entries) (kind_of kind) (chars text.now) [] along.old along.new) }
+    ensures { OnOk result (GoesOver (V.goes_on table.now.entries) (kind_of kind) (chars text.now) [] along.old along.new) }
 {
     let mut rest = text;
     while !rest.is_empty() {
@@ -128,14 +128,14 @@ fn add_characters<F: Follower>(
 
 /// Adds the steps of a part.
 #[inline(always)]
-fn add_part<F: Follower>(
-    along: &mut Along<'_, F>,
+fn add_part<V: Visitor>(
+    along: &mut Along<'_, V>,
     table: &Table,
     part: &Part<'_>,
-) -> Result<(), F::Stop>
+) -> Result<(), V::Stop>
     requires table { along.old.graph.table ≡ table.now }
     requires part { IsPart part.now }
-    ensures { OnOk result (Goes (F.goes_on table.now.entries) (part_units part.now) [] along.old along.new) }
+    ensures { OnOk result (Goes (V.goes_on table.now.entries) (part_units part.now) [] along.old along.new) }
 {
     match part {
         Part::One { unit, own } => add(along, table, unit, Own::Bytes { text: own }),
@@ -153,14 +153,14 @@ fn add_part<F: Follower>(
 
 /// Adds the steps of these parts.
 #[inline(always)]
-pub(crate) fn add_parts<F: Follower>(
-    along: &mut Along<'_, F>,
+pub(crate) fn add_parts<V: Visitor>(
+    along: &mut Along<'_, V>,
     table: &Table,
     parts: &[Part<'_>],
-) -> Result<(), F::Stop>
+) -> Result<(), V::Stop>
     requires table { along.old.graph.table ≡ table.now }
     requires parts { AreParts parts.now }
-    ensures { OnOk result (Goes (F.goes_on table.now.entries) (parts_units parts.now) [] along.old along.new) }
+    ensures { OnOk result (Goes (V.goes_on table.now.entries) (parts_units parts.now) [] along.old along.new) }
 {
     for part in parts {
         add_part(along, table, part)?;

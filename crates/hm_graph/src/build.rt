@@ -1,48 +1,47 @@
 //! The graph of a tree.
 ghost use Rattle.std.specs.Prelude.{◌≡◌, [], IfOk};
-ghost use Rattle.hm_graph.specs.Graphs.{IsGraphOf};
 ghost use Rattle.hm_graph_laws.specs.Units.{units_of};
 
 use crate::along::{Along, add_parts};
 use crate::building::GraphBuilder;
-use crate::followers::{Follower, Nobody};
 use crate::graph::Graph;
 use crate::rules::EdgeRules;
+use crate::visitors::{NoVisitor, Visitor};
 use hm_base::{Format, Memory, SpellRules};
 use hm_parts::find_parts;
 use hm_refs::Table;
 use hm_tree::Tree;
 use std::alloc::Global;
 
-impl Graph {
+impl<'t> Graph<'t> {
     /// The graph of a tree in a format, by the names of a table and these rules.
     ///
     /// Memory counts as refused if the tree has 2^29 units or more, or if an edge writes 2^33 bytes or more. It does
     /// too if there are 2^29 different steps or lists of states.
     pub fn of(
         alloc: Global,
-        tree: &Tree,
-        table: &Table,
+        tree: &'t Tree,
+        table: &'t Table,
         rules: SpellRules,
         format: Format,
-    ) -> Result<Graph, Memory>
-        ensures { IfOk result (IsGraphOf table.now.entries rules format tree.now) }
+    ) -> Result<Graph<'t>, Memory>
+        ensures { IfOk result (λ graph. graph.source ≡ record { tree = tree.now; table = table.now; rules = rules; format = format }) }
     {
-        let (graph, _nobody) = Graph::followed(alloc, tree, table, rules, format, Nobody)?;
+        let (graph, _none) = Graph::visited(alloc, tree, table, rules, format, NoVisitor)?;
         Ok(graph)
     }
 
     /// As `of`. A visitor is called for each step as it is added, and is returned after the last one.
-    pub fn followed<F: Follower>(
+    pub fn visited<V: Visitor>(
         alloc: Global,
-        tree: &Tree,
-        table: &Table,
+        tree: &'t Tree,
+        table: &'t Table,
         rules: SpellRules,
         format: Format,
-        follower: F,
-    ) -> Result<(Graph, F), F::Stop>
-        ensures graph { IfOk result (λ made. IsGraphOf table.now.entries rules format tree.now made.0) }
-        ensures goes_on { IfOk result (λ made. F.goes_on table.now.entries [] [] made.1 → F.goes_on table.now.entries (units_of rules tree.now) made.0.steps follower) }
+        visitor: V,
+    ) -> Result<(Graph<'t>, V), V::Stop>
+        ensures source { IfOk result (λ made. made.0.source ≡ record { tree = tree.now; table = table.now; rules = rules; format = format }) }
+        ensures goes_on { IfOk result (λ made. V.goes_on table.now.entries [] [] made.1 → V.goes_on table.now.entries (units_of rules tree.now) made.0.steps visitor) }
     {
         let edges = EdgeRules {
             spell: rules,
@@ -50,7 +49,7 @@ impl Graph {
         };
         let mut along = Along {
             graph: GraphBuilder::new(alloc, table, edges)?,
-            by: follower,
+            by: visitor,
         };
         let mut parts = Vec::new(alloc);
         for i in 0..tree.len() {
@@ -58,7 +57,7 @@ impl Graph {
             add_parts(&mut along, table, parts.as_slice())?;
         }
         let Along { graph, by } = along;
-        let graph = graph.into_graph()?;
+        let graph = graph.into_graph(tree)?;
         Ok((graph, by))
     }
 }

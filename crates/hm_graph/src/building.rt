@@ -3,11 +3,11 @@ ghost use Rattle.std.specs.Prelude.{◌≡◌, ◌<◌, ◌≤◌, ◌∷◌, []
 ghost use Rattle.std.specs.Str.{IsAscii, chars};
 ghost use Rattle.hm_graph_laws.specs.Units as units;
 ghost use Rattle.hm_edges.specs.Units.{StandsFor, kind_of};
-ghost use Rattle.hm_graph.specs.Graphs.{AreNamed};
+ghost use Rattle.hm_graph_laws.specs.Units.{units_of};
 ghost use Rattle.hm_graph.specs.Building.{AddsSteps, AddsFront, IsAdded, IsBuilt, numbered_step};
 
 use crate::graph::Graph;
-use crate::met::{LIMIT, Met};
+use crate::interned::{Interned, LIMIT};
 use crate::numbers::Numbers;
 use crate::plain::Alike;
 use crate::rules::EdgeRules;
@@ -15,13 +15,14 @@ use crate::step::Step;
 use hm_base::Memory;
 use hm_edges::{TextKind, Unit};
 use hm_refs::Table;
+use hm_tree::Tree;
 use std::alloc::Global;
 use std::marker::Model;
 
 /// The steps so far, by their numbers, and the number of the list after them.
 #[derive(Drop)]
 pub(crate) struct GraphBuilder<'t> {
-    met: Met<'t>,
+    interned: Interned<'t>,
     numbers: Numbers,
     last: u32,
 }
@@ -33,9 +34,9 @@ impl<'t> Model for GraphBuilder<'t> {
 
     ghost use Rattle.hm_graph.specs.Building.{IsBuilding, building};
 
-    ghost view = { λ b. building b.met b.numbers b.last };
+    ghost view = { λ b. building b.interned b.numbers b.last };
 
-    ghost invariant = { λ b. IsBuilding b.met b.numbers b.last };
+    ghost invariant = { λ b. IsBuilding b.interned b.numbers b.last };
 }
 
 impl<'t> GraphBuilder<'t> {
@@ -50,7 +51,7 @@ impl<'t> GraphBuilder<'t> {
         ensures built { IfOk result (λ building. IsBuilt building []) }
     {
         Ok(GraphBuilder {
-            met: Met::new(alloc, table, rules)?,
+            interned: Interned::new(alloc, table, rules)?,
             numbers: Numbers::new(alloc),
             last: 0,
         })
@@ -62,7 +63,7 @@ impl<'t> GraphBuilder<'t> {
         requires { number < length self.now.made }
         ensures { result.now ≡ numbered_step self.now number }
     {
-        self.met.made_step(number)
+        self.interned.made_step(number)
     }
 
     /// Adds the step of a unit, and gives its number.
@@ -74,9 +75,9 @@ impl<'t> GraphBuilder<'t> {
         if self.numbers.len() >= LIMIT - 1 {
             return Err(Memory);
         }
-        let number = self.met.step(self.last, unit)?;
+        let number = self.interned.step(self.last, unit)?;
         self.numbers.push(number)?;
-        let last = self.met.behind(number);
+        let last = self.interned.behind(number);
         self.last = last;
         Ok(number)
     }
@@ -90,7 +91,7 @@ impl<'t> GraphBuilder<'t> {
         if self.numbers.len() >= LIMIT - 1 {
             return Err(Memory);
         }
-        let to = self.met.character_step(self.last, kind, c, next)?;
+        let to = self.interned.character_step(self.last, kind, c, next)?;
         self.numbers.push(to.number)?;
         self.last = to.behind;
         Ok(to.number)
@@ -105,7 +106,7 @@ impl<'t> GraphBuilder<'t> {
         if self.numbers.len() >= LIMIT - 1 {
             return Err(Memory);
         }
-        let to = self.met.end_step(self.last, kind, c)?;
+        let to = self.interned.last_step(self.last, kind, c)?;
         self.numbers.push(to.number)?;
         self.last = to.behind;
         Ok(to.number)
@@ -138,7 +139,7 @@ impl<'t> GraphBuilder<'t> {
         ensures step { IfOk result (λ alike. 0 < alike.count → IsAdded self.old self.new alike.count alike.to.number) }
         ensures none { IfOk result (λ alike. alike.count ≡ 0 → self.new ≡ self.old) }
     {
-        let alike = self.met.alike(self.last, kind, text.as_bytes());
+        let alike = self.interned.alike(self.last, kind, text.as_bytes());
         let Alike { to, count } = alike;
         if count == 0 {
             return Ok(alike);
@@ -151,17 +152,32 @@ impl<'t> GraphBuilder<'t> {
         Ok(alike)
     }
 
-    /// The graph of what is built.
-    pub(crate) fn into_graph(self) -> Result<Graph, Memory>
+    /// The graph of the tree whose steps are built.
+    pub(crate) fn into_graph(self, tree: &'t Tree) -> Result<Graph<'t>, Memory>
+        requires { IsBuilt self (units_of self.rules.spell tree.now) }
+        ensures source { IfOk result (λ graph. graph.source ≡ record { tree = tree.now; table = self.entry.table; rules = self.entry.rules.spell; format = self.entry.rules.format }) }
         ensures steps { IfOk result (λ graph. graph.steps ≡ self.entry.steps) }
-        ensures last { IfOk result (λ graph. graph.last ≡ length self.entry.last) }
-        ensures named { AreNamed self.entry.table.entries self.entry.steps }
     {
-        let GraphBuilder { met, numbers, last } = self;
-        let last = met.list(last).len();
-        let steps = met.into_steps()?;
+        let GraphBuilder {
+            interned,
+            numbers,
+            last,
+        } = self;
+        let table = interned.table();
+        let EdgeRules { spell, format } = interned.rules();
+        let last = interned.list(last).len();
+        let steps = interned.into_steps()?;
         let len = numbers.len();
         let runs = numbers.into_runs()?;
-        Ok(Graph::from_parts(steps, runs, len, last))
+        Ok(Graph {
+            tree,
+            table,
+            rules: spell,
+            format,
+            steps,
+            runs,
+            len,
+            last,
+        })
     }
 }

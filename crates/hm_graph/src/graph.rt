@@ -1,25 +1,30 @@
 //! The steps of a tree.
 ghost use Rattle.std.specs.Prelude.{◌≡◌, ◌+◌, ◌-◌, ◌<◌, ◌≤◌, ◌^◌, ℕ, [], true, drop, length, slice_index_or, IfSome, IsSome};
-ghost use Rattle.hm_graph.specs.Graphs.{AreLow, AreNumbers, GraphView, IsLowStep, IsPlace, spread};
+ghost use Rattle.hm_graph.specs.Graphs.{IsGraph, IsLowStep, IsPlace};
 ghost use Rattle.hm_graph.specs.Kept.{kept_count};
-ghost use Rattle.hm_graph.specs.Runs.{AreRuns, unroll};
 ghost use Rattle.hm_graph.specs.StillRuns.{AreStillOver};
 ghost use Rattle.hm_graph.specs.Steps.{leaves_out};
 ghost use Rattle.hm_graph.specs.Still.{AreStill};
 
 use crate::numbers::Run;
 use crate::step::Step;
-use hm_base::Format;
+use hm_base::{Format, SpellRules};
+use hm_refs::Table;
+use hm_tree::Tree;
 use std::marker::Model;
 
-/// The steps between the layers of a tree's graph, in their order, and how many states the last layer has. Each different
-/// step is kept once, and equal steps in a row as one run.
+/// The steps between the layers of a tree's graph, in their order, how many states the last layer has, and what the graph
+/// is of. Each different step is kept once, and equal steps in a row as one run.
 #[derive(Drop)]
-pub struct Graph {
-    steps: Vec<Step>,
-    runs: Vec<Run>,
-    len: usize,
-    last: usize,
+pub struct Graph<'t> {
+    pub(crate) tree: &'t Tree,
+    pub(crate) table: &'t Table,
+    pub(crate) rules: SpellRules,
+    pub(crate) format: Format,
+    pub(crate) steps: Vec<Step>,
+    pub(crate) runs: Vec<Run>,
+    pub(crate) len: usize,
+    pub(crate) last: usize,
 }
 
 /// A layer of a graph: the one before step `used` of a run, or the last one after all runs.
@@ -56,37 +61,58 @@ fn still_over(step: &Step, format: Format, width: usize) -> Option<u64>
     }
 }
 
-impl Model for Graph {
+impl<'t> Model for Graph<'t> {
     ghost use Rattle.hm_graph.specs.Graphs.{GraphView};
 
     ghost Value = { GraphView };
 
     ghost use Rattle.std.specs.Prelude.{◌≡◌, ◌<◌, ◌^◌, length};
-    ghost use Rattle.hm_graph.specs.Graphs.{AreLow, AreNumbers, spread};
+    ghost use Rattle.hm_graph.specs.Graphs.{AreNumbers, IsGraph, graph_view};
     ghost use Rattle.hm_graph.specs.Runs.{AreRuns, unroll};
 
-    ghost view = { λ g. record { steps = spread g.steps.items (unroll g.runs.items); runs = g.runs.items; last = g.last } };
+    ghost view = { λ g. graph_view (record { tree = g.tree.now; table = g.table.now; rules = g.rules; format = g.format }) g.steps.items g.runs.items g.last };
 
-    ghost invariant = { λ g. AreNumbers g.steps.items (unroll g.runs.items) × AreLow (spread g.steps.items (unroll g.runs.items)) × (g.len ≡ length (unroll g.runs.items)) × (g.len < 2 ^ 29) × AreRuns g.runs.items };
+    ghost invariant = { λ g. AreNumbers g.steps.items (unroll g.runs.items)
+        × IsGraph (graph_view (record { tree = g.tree.now; table = g.table.now; rules = g.rules; format = g.format }) g.steps.items g.runs.items g.last)
+        × (g.len ≡ length (unroll g.runs.items)) × (g.len < 2 ^ 29) × AreRuns g.runs.items };
 }
 
-impl Graph {
-    /// The graph with the steps of the numbers of these runs.
-    pub(crate) fn from_parts(steps: Vec<Step>, runs: Vec<Run>, len: usize, last: usize) -> Graph
-        requires numbers { AreNumbers steps.items (unroll runs.items) }
-        requires low { AreLow (spread steps.items (unroll runs.items)) }
-        requires len { len ≡ length (unroll runs.items) }
-        requires few { len < 2 ^ 29 }
-        requires runs { AreRuns runs.items }
-        ensures steps { result.steps ≡ spread steps.items (unroll runs.items) }
-        ensures last { result.last ≡ last }
+/// What holds of the steps of every graph. The function does nothing.
+pub fn every_graph(graph: &Graph)
+    ensures graph { IsGraph graph.now }
+    ensures few { length graph.now.steps < 2 ^ 29 }
+{
+    let _len = graph.len;
+}
+
+impl<'t> Graph<'t> {
+    /// The tree that it is of.
+    pub fn tree(&self) -> &'t Tree
+        ensures { result.now ≡ self.now.source.tree }
     {
-        Graph {
-            steps,
-            runs,
-            len,
-            last,
-        }
+        self.tree
+    }
+
+    /// The table of names that it is by.
+    pub fn table(&self) -> &'t Table
+        ensures { result.now ≡ self.now.source.table }
+    {
+        self.table
+    }
+
+    /// The rules by which its tree may be written.
+    pub fn rules(&self) -> SpellRules
+        ensures { result ≡ self.now.source.rules }
+    {
+        self.rules
+    }
+
+    /// The format of certificates that it is for.
+    #[inline(always)]
+    pub fn format(&self) -> Format
+        ensures { result ≡ self.now.source.format }
+    {
+        self.format
     }
 
     /// How many steps there are: one less than the layers.
@@ -225,23 +251,23 @@ impl Graph {
         }
     }
 
-    /// Goes back from a layer over layers that a certificate of this format leaves out, but not to the first layer.
-    /// Each of them has `width` states, and none changes its place.
-    pub fn back_still(&self, at: Cursor, format: Format, width: usize) -> Passed
+    /// Goes back from a layer over layers that a certificate leaves out, but not to the first layer. Each of them has
+    /// `width` states, and none changes its place.
+    pub fn back_still(&self, at: Cursor, width: usize) -> Passed
         requires place { IsPlace self.now at }
         requires within { at.layer ≤ length self.now.steps }
         ensures place { IsPlace self.now result.front }
         ensures layer { result.front.layer ≤ at.layer }
         ensures first { 0 < at.layer → 0 < result.front.layer }
-        ensures still { AreStillOver format (drop result.front.layer self.now.steps) (at.layer - result.front.layer) width result.len }
+        ensures still { AreStillOver self.now.source.format (drop result.front.layer self.now.steps) (at.layer - result.front.layer) width result.len }
         ensures low { result.len < 2 ^ 62 }
     {
-        self.is_small();
+        every_graph(self);
         let mut front = at;
         let mut len = 0;
         while front.layer > 1 {
             let next = self.back(front);
-            let own = match still_over(self.step(next), format, width) {
+            let own = match still_over(self.step(next), self.format, width) {
                 Some(own) => own,
                 None => return Passed { front, len },
             };
@@ -251,25 +277,17 @@ impl Graph {
         Passed { front, len }
     }
 
-    /// How many layers a certificate of this format writes: the last one isn't counted, and the first one only where its step
-    /// isn't left out.
-    pub fn count_kept(&self, format: Format) -> usize
-        ensures { result ≡ kept_count format self.now.steps }
+    /// How many layers a certificate writes: the last one isn't counted, and the first one only where its step isn't left
+    /// out.
+    pub fn count_kept(&self) -> usize
+        ensures { result ≡ kept_count self.now.source.format self.now.steps }
     {
         let mut count = 0;
         for run in &self.runs {
-            if !self.steps[run.number as usize].is_left_out(format) {
+            if !self.steps[run.number as usize].is_left_out(self.format) {
                 count += run.count as usize;
             }
         }
         count
-    }
-
-    /// A graph has fewer than 2^29 steps, and no edge writes 2^33 bytes. The call does nothing.
-    pub fn is_small(&self)
-        ensures low { AreLow self.now.steps }
-        ensures few { length self.now.steps < 2 ^ 29 }
-    {
-        let _count = self.len;
     }
 }

@@ -2,6 +2,8 @@
 ghost use Rattle.hm_graph.specs.FewHops.{StatesHaveFewHops};
 ghost use Rattle.hm_graph.specs.Laws.{FullRowsAgree, KeepingAgrees, RowsAreLeast, WayIsFirst, WaysAreWays, WrittenRowsAgree};
 
+pub use crate::graph::every_graph;
+
 /// The prices over steps are the least ones of their graph.
 pub fn rows_are_least()
     ensures { RowsAreLeast }

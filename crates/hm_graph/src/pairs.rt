@@ -2,7 +2,7 @@
 ghost use Rattle.std.specs.Prelude.{◌≡◌, ◌<◌, ◌∷◌, [], false, ℕ, Some, length, bytes_eq, IfOk, IsTrue};
 ghost use Rattle.hm_refs.specs.Tables.{entry_at};
 ghost use Rattle.hm_edges.specs.Units as units;
-ghost use Rattle.hm_graph.specs.Met.{AreLone, BeginsNoPair};
+ghost use Rattle.hm_graph.specs.Interned.{AreLone, BeginsNoPair};
 
 use hm_base::Memory;
 use hm_refs::{NameId, Table};

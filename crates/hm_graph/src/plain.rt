@@ -1,7 +1,7 @@
 //! Steps of plain characters, in rows.
 ghost use Rattle.std.specs.Prelude.{◌≡◌, ◌<◌, ◌≤◌, ℕ, Bool, length, take, slice_index_or, IfOk, IfSome, IsTrue};
 ghost use Rattle.std.specs.List.{All};
-ghost use Rattle.hm_graph.specs.Met.{IsKnown, IsRow, IsToward, Leads, MetView, unknown};
+ghost use Rattle.hm_graph.specs.Interned.{IsKnown, IsRow, IsToward, Leads, InternedView, unknown};
 
 use crate::made::{Reached, is_kind};
 use hm_base::Memory;
@@ -88,7 +88,7 @@ impl PlainRow {
     fn of(alloc: Global, list: u32, kind: TextKind) -> Result<PlainRow, Memory>
         ensures list { IfOk result (λ row. row.list ≡ list) }
         ensures kind { IfOk result (λ row. row.kind ≡ kind) }
-        ensures row { IfOk result (λ row. (m : MetView) (more : Bool) → IsRow m more row) }
+        ensures row { IfOk result (λ row. (m : InternedView) (more : Bool) → IsRow m more row) }
     {
         Ok(PlainRow {
             list,
@@ -107,7 +107,7 @@ impl PlainRow {
 
     /// Puts where a character leads.
     fn put(&mut self, c: char, to: Reached)
-        ensures { (m : MetView) (more : Bool) → IsRow m more self.old → Leads m self.old.list self.old.kind more to c → IsRow m more self.new }
+        ensures { (m : InternedView) (more : Bool) → IsRow m more self.old → Leads m self.old.list self.old.kind more to c → IsRow m more self.new }
     {
         if let Some(step) = self.steps.get_mut(c as usize) {
             *step = to;
@@ -116,7 +116,7 @@ impl PlainRow {
 
     /// Where a character leads, if it is known.
     pub(crate) fn step(&self, c: char) -> Option<Reached>
-        ensures { IfSome result (λ to. (m : MetView) (more : Bool) → IsRow m more self.now → Leads m self.now.list self.now.kind more to c) }
+        ensures { IfSome result (λ to. (m : InternedView) (more : Bool) → IsRow m more self.now → Leads m self.now.list self.now.kind more to c) }
     {
         let to = *self.steps.get(c as usize)?;
         if is_known(to) { Some(to) } else { None }
@@ -129,7 +129,7 @@ impl PlainRow {
         ensures within { result.count ≤ length text.now }
         ensures short { 0 < result.count → result.count < length text.now }
         ensures back { 1 < result.count → result.to.behind ≡ self.now.list }
-        ensures leads { (m : MetView) (more : Bool) → IsRow m more self.now → All (Leads m self.now.list self.now.kind more result.to) (take result.count text.now) }
+        ensures leads { (m : InternedView) (more : Bool) → IsRow m more self.now → All (Leads m self.now.list self.now.kind more result.to) (take result.count text.now) }
     {
         if text.len() < 2 {
             return none_alike();
@@ -154,7 +154,7 @@ const NO_LIST: u32 = u32::MAX;
 
 /// Rows in which nothing is known.
 pub(crate) fn no_rows(alloc: Global) -> Result<Vec<PlainRow>, Memory>
-    ensures { IfOk result (λ rows. (m : MetView) (more : Bool) → All (IsRow m more) rows.items) }
+    ensures { IfOk result (λ rows. (m : InternedView) (more : Bool) → All (IsRow m more) rows.items) }
 {
     let mut rows = Vec::with_capacity(alloc, ROWS)?;
     for _place in 0..ROWS {
@@ -186,7 +186,7 @@ pub(crate) fn row_place(list: u32, kind: TextKind) -> usize {
 pub(crate) fn row_of(rows: &[PlainRow], list: u32, kind: TextKind) -> Option<&PlainRow>
     ensures list { IfSome result (λ row. row.now.list ≡ list) }
     ensures kind { IfSome result (λ row. row.now.kind ≡ kind) }
-    ensures row { IfSome result (λ row. (m : MetView) (more : Bool) → All (IsRow m more) rows.now → IsRow m more row.now) }
+    ensures row { IfSome result (λ row. (m : InternedView) (more : Bool) → All (IsRow m more) rows.now → IsRow m more row.now) }
 {
     let row = rows.get(row_place(list, kind))?;
     if row.is_of(list, kind) {
@@ -205,7 +205,7 @@ fn keep_in(
     c: char,
     to: Reached,
 ) -> Result<(), Memory>
-    ensures { (m : MetView) (more : Bool) → IsRow m more row.old → Leads m list kind more to c → IsRow m more row.new }
+    ensures { (m : InternedView) (more : Bool) → IsRow m more row.old → Leads m list kind more to c → IsRow m more row.new }
 {
     if row.is_of(list, kind) {
         row.put(c, to);
@@ -226,7 +226,7 @@ pub(crate) fn keep(
     c: char,
     to: Reached,
 ) -> Result<(), Memory>
-    ensures { (m : MetView) (more : Bool) → All (IsRow m more) rows.old.items → Leads m list kind more to c → All (IsRow m more) rows.new.items }
+    ensures { (m : InternedView) (more : Bool) → All (IsRow m more) rows.old.items → Leads m list kind more to c → All (IsRow m more) rows.new.items }
 {
     let place = row_place(list, kind);
     if place >= rows.len() {

@@ -40,39 +40,39 @@ none_raised true len text row = append-nil text
 none_raised false len text row = append-nil text
 
 -- from layer k on over n more, which have a step over which no state changes its place
-back_along : (g : GraphView) (format : Format) (k n : ℕ) (step : Step) (len : ℕ) (text choices : List ℕ) (row : Row) (b : Bool) → AreStill len step → is_forced step ≡ true → leaves_out format step ≡ b → length row ≡ length step → n < k → k ≤ length g.steps
-    → ((j : ℕ) → k - n ≤ j → j < k → get_or g.steps j [] ≡ step) → IsBack g format k text choices row → IsBack g format (k - n) (text ++ cond b [] (raised_lines n len row)) choices (map (over (n * len)) row)
-back_along g format k zero step len text choices row b still forced left same some inside are found =
+back_along : (g : GraphView) (k n : ℕ) (step : Step) (len : ℕ) (text choices : List ℕ) (row : Row) (b : Bool) → AreStill len step → is_forced step ≡ true → leaves_out g.source.format step ≡ b → length row ≡ length step → n < k → k ≤ length g.steps
+    → ((j : ℕ) → k - n ≤ j → j < k → get_or g.steps j [] ≡ step) → IsBack g k text choices row → IsBack g (k - n) (text ++ cond b [] (raised_lines n len row)) choices (map (over (n * len)) row)
+back_along g k zero step len text choices row b still forced left same some inside are found =
     let here : k ≡ k - 0 = omega arith in
     let none : 0 ≡ 0 * len = omega arith in
     let prices : row ≡ map (over (0 * len)) row = each_none row ∙ ap (λ m. map (over m) row) none in
-    subst (λ A. A) (λ i. IsBack g format (here i) (sym (none_raised b len text row) i) choices (prices i)) found
-back_along g format k (suc n) step len text choices row b still forced left same some inside are found =
+    subst (λ A. A) (λ i. IsBack g (here i) (sym (none_raised b len text row) i) choices (prices i)) found
+back_along g k (suc n) step len text choices row b still forced left same some inside are found =
     let behind : Row = map (over (n * len)) row in
     let written : List ℕ = text ++ cond b [] (raised_lines n len row) in
     let more : List ℕ = text ++ cond b [] (raised_lines (suc n) len row) in
-    let before : IsBack g format (k - n) written choices behind = back_along g format k n step len text choices row b still forced left same (omega arith) inside (λ j low high. are j (omega (arith, low)) high) found in
+    let before : IsBack g (k - n) written choices behind = back_along g k n step len text choices row b still forced left same (omega arith) inside (λ j low high. are j (omega (arith, low)) high) found in
     let next : k - n - 1 ≡ k - suc n = omega arith in
     let cut : drop (k - n - 1) g.steps ≡ step ∷ drop (k - n) g.steps = step_cut g.steps (k - n) step (omega arith) (omega arith) (sym (are (k - n - 1) (omega arith) (omega arith))) in
-    let out : is_left_out format (k - n - 1) step ≡ b = left_out_later format (k - n - 1) step b (λ none. omega (arith, none)) left in
+    let out : is_left_out g.source.format (k - n - 1) step ≡ b = left_out_later g.source.format (k - n - 1) step b (λ none. omega (arith, none)) left in
     let front : map (over (suc n * len)) row ≡ row_over behind step = each_more n len row ∙ sym (still_row behind len step (length-map row (over (n * len)) ∙ same) still) in
-    let lines : more ≡ written ++ cond (is_left_out format (k - n - 1) step) [] (reverse (row_line (row_over behind step))) =
+    let lines : more ≡ written ++ cond (is_left_out g.source.format (k - n - 1) step) [] (reverse (row_line (row_over behind step))) =
     raised_more b n len text row (row_over behind step) (sym front) ∙ ap (λ b. written ++ cond b [] (reverse (row_line (row_over behind step)))) (sym out) in
     let chosen : choices ≡ choices ++ step_choices behind step = sym (ap (λ x. choices ++ x) (forced_none behind step forced) ∙ append-nil choices) in
-    subst (λ j. IsBack g format j more choices (map (over (suc n * len)) row)) next
-    (back_more g format (k - n) step written more choices choices behind (map (over (suc n * len)) row) (omega arith) cut before lines chosen front)
+    subst (λ j. IsBack g j more choices (map (over (suc n * len)) row)) next
+    (back_more g (k - n) step written more choices choices behind (map (over (suc n * len)) row) (omega arith) cut before lines chosen front)
 
 -- over the step after layer k and those before it that are equal
-pub along_found : (g : GraphView) (format : Format) (k front n len : ℕ) (text more choices chosen : List ℕ) (row after : Row) (b : Bool) → AreStill len (get_or g.steps k []) → is_forced (get_or g.steps k []) ≡ true → leaves_out format (get_or g.steps k []) ≡ b
-    → length row ≡ length (get_or g.steps k []) → k < length g.steps → front ≤ k → 0 < front → n ≡ k - front + 1 → ((j : ℕ) → front ≤ j → j < k → get_or g.steps j [] ≡ get_or g.steps k []) → IsBack g format (k + 1) text choices row
-    → more ≡ text ++ cond b [] (raised_lines n len row) → chosen ≡ choices → after ≡ map (over (n * len)) row → IsBack g format front more chosen after
-along_found g format k front n len text more choices chosen row after b still forced left same inside low some count are found t c r =
+pub along_found : (g : GraphView) (k front n len : ℕ) (text more choices chosen : List ℕ) (row after : Row) (b : Bool) → AreStill len (get_or g.steps k []) → is_forced (get_or g.steps k []) ≡ true → leaves_out g.source.format (get_or g.steps k []) ≡ b
+    → length row ≡ length (get_or g.steps k []) → k < length g.steps → front ≤ k → 0 < front → n ≡ k - front + 1 → ((j : ℕ) → front ≤ j → j < k → get_or g.steps j [] ≡ get_or g.steps k []) → IsBack g (k + 1) text choices row
+    → more ≡ text ++ cond b [] (raised_lines n len row) → chosen ≡ choices → after ≡ map (over (n * len)) row → IsBack g front more chosen after
+along_found g k front n len text more choices chosen row after b still forced left same inside low some count are found t c r =
     let step : Step = get_or g.steps k [] in
     let end : k + 1 - n ≡ front = omega (arith, count) in
     let each : (j : ℕ) → k + 1 - n ≤ j → j < k + 1 → get_or g.steps j [] ≡ step = λ j l high. ⊎_elim (λ before. are j (omega (arith, l, end)) before) (λ last. let here : j ≡ k = omega arith in ap (λ i. get_or g.steps i []) here) (cases_lt j k) in
-    let all : IsBack g format (k + 1 - n) (text ++ cond b [] (raised_lines n len row)) choices (map (over (n * len)) row) =
-    back_along g format (k + 1) n step len text choices row b still forced left same (omega (arith, count)) (omega arith) each found in
-    subst (λ A. A) (λ i. IsBack g format (end i) (sym t i) (sym c i) (sym r i)) all
+    let all : IsBack g (k + 1 - n) (text ++ cond b [] (raised_lines n len row)) choices (map (over (n * len)) row) =
+    back_along g (k + 1) n step len text choices row b still forced left same (omega (arith, count)) (omega arith) each found in
+    subst (λ A. A) (λ i. IsBack g (end i) (sym t i) (sym c i) (sym r i)) all
 
 -- a step over which no state changes its place has nothing to choose
 one_single : (hops : List Hop) (len place : ℕ) → Stays len place hops → is_single hops ≡ true

@@ -14,7 +14,7 @@ use Rattle.hm_graph.specs.declared.hops.Hop.{Hop}
 use Rattle.hm_graph_laws.specs.Units.{TextKind, Unit, character, character_units, next_of}
 use Rattle.hm_graph.specs.Copied.{Copies}
 use Rattle.hm_plan.specs.CopiedRuns.{AreCopied, IsCopied}
-use Rattle.hm_plan.specs.Paths.{ComesTo, HasChoices, row_behind, way_on}
+use Rattle.hm_plan.specs.Paths.{row_behind, way_on, whole_text}
 use Rattle.hm_plan.specs.declared.paths.WrittenWay.{WrittenWay}
 use Rattle.hm_plan.proofs.FirstWay.{forced_choice, forced_none, step_next, way_next}
 
@@ -40,7 +40,7 @@ forced_at : (step : Step) (place : Option ℕ) → IsCopied step place → is_fo
 forced_at step None is = absurd is
 forced_at step (Some p) is = is.0
 
-choices_copied : (g : GraphView) (k n : ℕ) (place : Option ℕ) → k + n ≤ length g.steps → AreCopied g k n place → choices_of g.last (drop k g.steps) ≡ choices_of g.last (drop (k + n) g.steps)
+pub choices_copied : (g : GraphView) (k n : ℕ) (place : Option ℕ) → k + n ≤ length g.steps → AreCopied g k n place → choices_of g.last (drop k g.steps) ≡ choices_of g.last (drop (k + n) g.steps)
 choices_copied g k zero place inside are = let same : k ≡ k + 0 = omega arith in ap (λ j. choices_of g.last (drop j g.steps)) same
 choices_copied g k (suc n) place inside are =
     let same : k + 1 + n ≡ k + suc n = omega arith in
@@ -50,34 +50,33 @@ choices_copied g k (suc n) place inside are =
     ∙ choices_copied g (k + 1) n place (omega (arith, inside)) (later_copied g k n place are)
     ∙ ap (λ j. choices_of g.last (drop j g.steps)) same
 
-pub copied_choices : (g : GraphView) (k n : ℕ) (old new : WrittenWay) → k + n ≤ length g.steps → AreCopied g k n old.place → HasChoices g k old → new.choices.now ≡ old.choices.now → HasChoices g (k + n) new
-copied_choices g k n old new inside are has same = same ∙ has ∙ choices_copied g k n old.place inside are
-
 -- a hop that copies an ASCII character
 along_copied : (t : List Entry) (c p : ℕ) (more : ℕ → List ℕ) (h : Hop) → h.piece ≡ pieces.Itself → h.to ≡ p → c < 128 → along (piece_text t (encode_utf8 c)) more (Some h) ≡ c ∷ more p
 along_copied t c p more h piece to ascii = (λ i. piece_text t (encode_utf8 c) (piece i) ++ more (to i)) ∙ ap (λ x. x ++ more p) (encode_ascii c ascii)
 
-way_copied : (t : List Entry) (g : GraphView) (kind : TextKind) (front rest : List ℕ) (units : List Unit) (k : ℕ) (place : Option ℕ) → k + length front ≤ length g.steps → AreCopied g k (length front) place → IsAscii front
-    → way_on t g (character_units kind (front ++ rest) ++ units) k place ≡ front ++ way_on t g (character_units kind rest ++ units) (k + length front) place
-way_copied t g kind [] rest units k place inside are ascii = let same : k ≡ k + 0 = omega arith in ap (λ j. way_on t g (character_units kind rest ++ units) j place) same
-way_copied t g kind (c ∷ front) rest units k None inside are ascii = absurd (are k (omega arith) (omega arith))
-way_copied t g kind (c ∷ front) rest units k (Some p) inside are ascii =
+way_copied : (g : GraphView) (kind : TextKind) (front rest : List ℕ) (units : List Unit) (k : ℕ) (place : Option ℕ) → k + length front ≤ length g.steps → AreCopied g k (length front) place → IsAscii front
+    → way_on g (character_units kind (front ++ rest) ++ units) k place ≡ front ++ way_on g (character_units kind rest ++ units) (k + length front) place
+way_copied g kind [] rest units k place inside are ascii = let same : k ≡ k + 0 = omega arith in ap (λ j. way_on g (character_units kind rest ++ units) j place) same
+way_copied g kind (c ∷ front) rest units k None inside are ascii = absurd (are k (omega arith) (omega arith))
+way_copied g kind (c ∷ front) rest units k (Some p) inside are ascii =
+    let t : List Entry = g.source.table.entries in
     let u : Unit = character kind c (next_of (front ++ rest)) in
     let behind : List Unit = character_units kind (front ++ rest) ++ units in
     let more : ℕ → List ℕ = way_from (piece_bytes t) g.last behind (drop (k + 1) g.steps) in
     let same : k + 1 + length front ≡ k + suc (length front) = omega arith in
     let copy : IsCopyTaken (row_behind g k) (get_or (get_or g.steps k []) p []) p = copy_taken (row_behind g k) (get_or (get_or g.steps k []) p []) p (are k (omega arith) (omega arith)).1 in
-    way_next t g u behind k (Some p) (omega (arith, inside))
+    way_next g u behind k (Some p) (omega (arith, inside))
     ∙ ap (along (piece_bytes t u) more) (sym copy.taken)
     ∙ along_copied t c p more copy.hop copy.piece copy.to (ascii 0)
-    ∙ ap (λ x. c ∷ x) (way_copied t g kind front rest units (k + 1) (Some p) (omega (arith, inside)) (later_copied g k (length front) (Some p) are) (λ i. ascii (suc i)))
-    ∙ ap (λ j. c ∷ (front ++ way_on t g (character_units kind rest ++ units) j (Some p))) same
+    ∙ ap (λ x. c ∷ x) (way_copied g kind front rest units (k + 1) (Some p) (omega (arith, inside)) (later_copied g k (length front) (Some p) are) (λ i. ascii (suc i)))
+    ∙ ap (λ j. c ∷ (front ++ way_on g (character_units kind rest ++ units) j (Some p))) same
 
 -- the way goes over these bytes
-pub comes_copied : (t : List Entry) (g : GraphView) (kind : TextKind) (front rest : List ℕ) (units : List Unit) (k : ℕ) (old new : WrittenWay) (text : List ℕ) → k + length front ≤ length g.steps → AreCopied g k (length front) old.place → IsAscii front
-    → new.out.items ≡ old.out.items ++ front → new.place ≡ old.place → ComesTo t g (character_units kind rest ++ units) (k + length front) new text → ComesTo t g (character_units kind (front ++ rest) ++ units) k old text
-comes_copied t g kind front rest units k old new text inside are ascii out place comes =
-    ap (λ x. old.out.items ++ x) (way_copied t g kind front rest units k old.place inside are ascii)
-    ∙ sym (append_assoc old.out.items front (way_on t g (character_units kind rest ++ units) (k + length front) old.place))
-    ∙ sym (λ i. out i ++ way_on t g (character_units kind rest ++ units) (k + length front) (place i))
-    ∙ comes
+pub text_copied : (g : GraphView) (kind : TextKind) (front rest : List ℕ) (units : List Unit) (old new : WrittenWay) → old.at.layer + length front ≤ length g.steps → new.at.layer ≡ old.at.layer + length front
+    → AreCopied g old.at.layer (length front) old.place → IsAscii front → new.out.items ≡ old.out.items ++ front → new.place ≡ old.place
+    → whole_text g (character_units kind (front ++ rest) ++ units) old ≡ whole_text g (character_units kind rest ++ units) new
+text_copied g kind front rest units old new inside next are ascii out place =
+    let left : List Unit = character_units kind rest ++ units in
+    ap (λ x. old.out.items ++ x) (way_copied g kind front rest units old.at.layer old.place inside are ascii)
+    ∙ sym (append_assoc old.out.items front (way_on g left (old.at.layer + length front) old.place))
+    ∙ sym (λ i. out i ++ way_on g left (next i) (place i))

@@ -14,7 +14,7 @@ use Rattle.hm_graph.specs.Steps.{Step, is_forced}
 use Rattle.hm_graph.specs.Ways.{along, choice, hop_taken, step_choices, way_from}
 use Rattle.hm_graph.specs.declared.hops.Hop.{Hop}
 use Rattle.hm_graph_laws.specs.Units.{Unit}
-use Rattle.hm_plan.specs.Paths.{ComesTo, onward, row_behind, way_on}
+use Rattle.hm_plan.specs.Paths.{onward, row_behind, way_on, whole_text}
 use Rattle.hm_plan.specs.declared.paths.WrittenWay.{WrittenWay}
 use Rattle.hm_plan.proofs.Prices.{same_self}
 
@@ -60,22 +60,23 @@ taken_named t step place k h = named_hop t (get_or step place []) k (named_hops 
 pub step_next : (steps : List Step) (k : ℕ) → k < length steps → drop k steps ≡ get_or steps k [] ∷ drop (k + 1) steps
 step_next steps k inside = rw add-one (drop-cons steps k [] inside)
 
-pub way_next : (t : List Entry) (g : GraphView) (u : Unit) (units : List Unit) (k : ℕ) (place : Option ℕ) → k < length g.steps
-    → way_on t g (u ∷ units) k place ≡ along (piece_bytes t u) (way_from (piece_bytes t) g.last units (drop (k + 1) g.steps)) (option_and_then (hop_taken (row_behind g k) (get_or g.steps k [])) place)
-way_next t g u units k None inside = refl
-way_next t g u units k (Some place) inside = ap (λ steps. way_from (piece_bytes t) g.last (u ∷ units) steps place) (step_next g.steps k inside)
+pub way_next : (g : GraphView) (u : Unit) (units : List Unit) (k : ℕ) (place : Option ℕ) → k < length g.steps
+    → way_on g (u ∷ units) k place
+    ≡ along (piece_bytes g.source.table.entries u) (way_from (piece_bytes g.source.table.entries) g.last units (drop (k + 1) g.steps)) (option_and_then (hop_taken (row_behind g k) (get_or g.steps k [])) place)
+way_next g u units k None inside = refl
+way_next g u units k (Some place) inside = ap (λ steps. way_from (piece_bytes g.source.table.entries) g.last (u ∷ units) steps place) (step_next g.steps k inside)
 
 -- the way over one unit
-pub comes_one : (t : List Entry) (g : GraphView) (u : Unit) (own : List ℕ) (hop : Option Hop) (k : ℕ) (old new : WrittenWay) → k < length g.steps → own_bytes u ≡ own
-    → hop ≡ option_and_then (hop_taken (row_behind g k) (get_or g.steps k [])) old.place
-    → ((more : ℕ → List ℕ) → new.out.items ++ onward more new.place ≡ old.out.items ++ along (piece_text t own) more hop)
-    → (units : List Unit) (text : List ℕ) → ComesTo t g units (k + 1) new text → ComesTo t g (u ∷ units) k old text
-comes_one t g u own hop k old new inside is taken put units text comes =
-    let more : ℕ → List ℕ = way_from (piece_bytes t) g.last units (drop (k + 1) g.steps) in
-    ap (λ x. old.out.items ++ x) (way_next t g u units k old.place inside)
+pub text_one : (g : GraphView) (u : Unit) (own : List ℕ) (hop : Option Hop) (old new : WrittenWay) → old.at.layer < length g.steps → new.at.layer ≡ old.at.layer + 1 → own_bytes u ≡ own
+    → hop ≡ option_and_then (hop_taken (row_behind g old.at.layer) (get_or g.steps old.at.layer [])) old.place
+    → ((more : ℕ → List ℕ) → new.out.items ++ onward more new.place ≡ old.out.items ++ along (piece_text g.source.table.entries own) more hop) → (units : List Unit) → whole_text g (u ∷ units) old ≡ whole_text g units new
+text_one g u own hop old new inside next is taken put units =
+    let t : List Entry = g.source.table.entries in
+    let more : ℕ → List ℕ = way_from (piece_bytes t) g.last units (drop (old.at.layer + 1) g.steps) in
+    ap (λ x. old.out.items ++ x) (way_next g u units old.at.layer old.place inside)
     ∙ sym (λ i. old.out.items ++ along (piece_text t (sym is i)) more (taken i))
     ∙ sym (put more)
-    ∙ comes
+    ∙ ap (λ k. new.out.items ++ way_on g units k new.place) (sym next)
 
 -- ---- The whole way
 
@@ -87,6 +88,8 @@ onward_ends : (more : ℕ → List ℕ) (place : Option ℕ) → ((k : ℕ) → 
 onward_ends more None h = refl
 onward_ends more (Some k) h = h k
 
--- after the last step nothing is left of it
-pub comes_last : (t : List Entry) (g : GraphView) (k : ℕ) (way : WrittenWay) → ComesTo t g [] k way way.out.items
-comes_last t g k way = ap (λ x. way.out.items ++ x) (onward_ends (way_from (piece_bytes t) g.last [] (drop k g.steps)) way.place (way_ends (piece_bytes t) g.last (drop k g.steps))) ∙ append-nil way.out.items
+-- after the last unit nothing is left of it
+pub text_last : (g : GraphView) (way : WrittenWay) → whole_text g [] way ≡ way.out.items
+text_last g way =
+    let bytes : Unit → Piece → List ℕ = piece_bytes g.source.table.entries in
+    ap (λ x. way.out.items ++ x) (onward_ends (way_from bytes g.last [] (drop way.at.layer g.steps)) way.place (way_ends bytes g.last (drop way.at.layer g.steps))) ∙ append-nil way.out.items

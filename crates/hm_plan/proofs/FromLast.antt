@@ -75,9 +75,9 @@ prices_below last steps k l few =
 pub step_cut : (steps : List Step) (k : ℕ) (step : Step) → 0 < k → k ≤ length steps → step ≡ get_or steps (k - 1) [] → drop (k - 1) steps ≡ step ∷ drop k steps
 step_cut steps k step some inside is = cut_before steps k step some inside (is ∙ get_or_default steps (k - 1) [] step (omega arith))
 
-pub last_back : (g : GraphView) (format : Format) (text choices : List ℕ) (row : Row) → text ≡ reverse (row_line (zeros g.last)) → choices ≡ [] → row ≡ zeros g.last → IsBack g format (length g.steps) text choices row
-last_back g format text choices row t c r = let none : drop (length g.steps) g.steps ≡ [] = drop-length g.steps in record {
-  lines = t ∙ ap reverse (sym (append-nil (row_line (zeros g.last)))) ∙ ap (λ steps. reverse (row_lines (written_rows format (length g.steps) steps (rows_of g.last steps)))) (sym none);
+pub last_back : (g : GraphView) (text choices : List ℕ) (row : Row) → text ≡ reverse (row_line (zeros g.last)) → choices ≡ [] → row ≡ zeros g.last → IsBack g (length g.steps) text choices row
+last_back g text choices row t c r = let none : drop (length g.steps) g.steps ≡ [] = drop-length g.steps in record {
+  lines = t ∙ ap reverse (sym (append-nil (row_line (zeros g.last)))) ∙ ap (λ steps. reverse (row_lines (written_rows g.source.format (length g.steps) steps (rows_of g.last steps)))) (sym none);
   chosen = c ∙ ap (choices_of g.last) (sym none);
   prices = r ∙ ap (λ steps. first_row (rows_of g.last steps)) (sym none);
 }
@@ -87,19 +87,19 @@ line_more : (left_out : Bool) (row : Row) (rows : List Row) → reverse (row_lin
 line_more true row rows = append-nil (reverse (row_lines rows))
 line_more false row rows = sym (reverse-append (row_line row) (row_lines rows))
 
-pub back_more : (g : GraphView) (format : Format) (k : ℕ) (step : Step) (text more choices chosen : List ℕ) (row front : Row) → 0 < k → drop (k - 1) g.steps ≡ step ∷ drop k g.steps → IsBack g format k text choices row
-    → more ≡ text ++ cond (is_left_out format (k - 1) step) [] (reverse (row_line (row_over row step))) → chosen ≡ choices ++ step_choices row step → front ≡ row_over row step
-    → IsBack g format (k - 1) more chosen front
-back_more g format k step text more choices chosen row front some cut b t c r =
+pub back_more : (g : GraphView) (k : ℕ) (step : Step) (text more choices chosen : List ℕ) (row front : Row) → 0 < k → drop (k - 1) g.steps ≡ step ∷ drop k g.steps → IsBack g k text choices row
+    → more ≡ text ++ cond (is_left_out g.source.format (k - 1) step) [] (reverse (row_line (row_over row step))) → chosen ≡ choices ++ step_choices row step → front ≡ row_over row step
+    → IsBack g (k - 1) more chosen front
+back_more g k step text more choices chosen row front some cut b t c r =
     let rest : List Step = drop k g.steps in
     let next : suc (k - 1) ≡ k = omega arith in
     let rows : List Row = rows_of g.last rest in record {
       lines =
           t
-          ∙ (λ i. b.lines i ++ cond (is_left_out format (k - 1) step) [] (reverse (row_line (row_over (b.prices i) step))))
-          ∙ line_more (is_left_out format (k - 1) step) (row_over (first_row rows) step) (written_rows format k rest rows)
-          ∙ (λ i. reverse (row_lines (cond (is_left_out format (k - 1) step) (written_rows format (sym next i) rest rows) (row_over (first_row rows) step ∷ written_rows format (sym next i) rest rows))))
-          ∙ ap (λ steps. reverse (row_lines (written_rows format (k - 1) steps (rows_of g.last steps)))) (sym cut);
+          ∙ (λ i. b.lines i ++ cond (is_left_out g.source.format (k - 1) step) [] (reverse (row_line (row_over (b.prices i) step))))
+          ∙ line_more (is_left_out g.source.format (k - 1) step) (row_over (first_row rows) step) (written_rows g.source.format k rest rows)
+          ∙ (λ i. reverse (row_lines (cond (is_left_out g.source.format (k - 1) step) (written_rows g.source.format (sym next i) rest rows) (row_over (first_row rows) step ∷ written_rows g.source.format (sym next i) rest rows))))
+          ∙ ap (λ steps. reverse (row_lines (written_rows g.source.format (k - 1) steps (rows_of g.last steps)))) (sym cut);
       chosen = c ∙ (λ i. b.chosen i ++ step_choices (b.prices i) step) ∙ ap (choices_of g.last) (sym cut);
       prices = r ∙ ap (λ x. row_over x step) b.prices ∙ ap (λ steps. first_row (rows_of g.last steps)) (sym cut);
     }
@@ -111,14 +111,14 @@ first_is [] = refl
 first_is ([] ∷ rows) = refl
 first_is ((price ∷ row) ∷ rows) = refl
 
-pub plan_is : (g : GraphView) (format : Format) (rules : SpellRules) (k : ℕ) (text choices : List ℕ) (row : Row) (plan : Plan) → k ≤ 0 → IsBack g format k text choices row
-    → plan.certificate.items ≡ reverse (text ++ reverse (head_lines format rules)) → plan.choices.items ≡ choices → told plan.first ≡ get_or row 0 None → IsPlan g format rules plan
-plan_is g format rules k text choices row plan h b t c f =
-    let all : IsBack g format 0 text choices row = let zero_ : k ≡ 0 = omega arith in subst (λ j. IsBack g format j text choices row) zero_ b in
-    let lines : List ℕ = row_lines (written_rows format 0 g.steps (rows_of g.last g.steps)) in record {
+pub plan_is : (g : GraphView) (k : ℕ) (text choices : List ℕ) (row : Row) (plan : Plan) → k ≤ 0 → IsBack g k text choices row
+    → plan.certificate.items ≡ reverse (text ++ reverse (head_lines g.source.format g.source.rules)) → plan.choices.items ≡ choices → told plan.first ≡ get_or row 0 None → IsPlan g plan
+plan_is g k text choices row plan h b t c f =
+    let all : IsBack g 0 text choices row = let zero_ : k ≡ 0 = omega arith in subst (λ j. IsBack g j text choices row) zero_ b in
+    let lines : List ℕ = row_lines (written_rows g.source.format 0 g.steps (rows_of g.last g.steps)) in record {
       certificate =
-          t ∙ reverse-append text (reverse (head_lines format rules))
-          ∙ (λ i. reverse-reverse (head_lines format rules) i ++ (ap reverse all.lines ∙ reverse-reverse lines) i);
+          t ∙ reverse-append text (reverse (head_lines g.source.format g.source.rules))
+          ∙ (λ i. reverse-reverse (head_lines g.source.format g.source.rules) i ++ (ap reverse all.lines ∙ reverse-reverse lines) i);
       choices = c ∙ all.chosen;
       first = f ∙ ap (λ x. get_or x 0 None) all.prices ∙ first_is (rows_of g.last g.steps);
     }

@@ -1,8 +1,6 @@
 -- What is written of a settled tree is a certificate that can be read: each row has a price, and none is too great.
 use Rattle.std.proofs.Common.{◌≡◌, ◌∙◌, ℕ, zero, suc, ◌<◌, ◌^◌, Bool, true, false, cond, List, [], ◌∷◌, length, Option, Some, None, refl, ap, subst, arith}
 use Rattle.std.specs.Prelude.{slice_index_or}
-use Rattle.hm_base.specs.Walks.{Event}
-use Rattle.hm_base.specs.declared.plain.SpellRules.{SpellRules}
 use Rattle.hm_cert.specs.Certificate.{AreRows, ArePrices}
 use Rattle.hm_base.specs.declared.plain.Format.{Format}
 use Rattle.hm_graph_laws.specs.ExchangeLaws.{sparing_plain}
@@ -11,17 +9,17 @@ use Rattle.hm_elements.specs.Settled.{Settled}
 use Rattle.hm_graph_laws.specs.Layers.{first_layer}
 use Rattle.hm_graph_laws.specs.Prices.{Row, first_price, least_prices}
 use Rattle.hm_graph_laws.specs.Ways.{lesser, over}
-use Rattle.hm_graph.specs.Graphs.{AreLow, GraphView, IsGraphOf, tree_edges}
+use Rattle.hm_graph.specs.Graphs.{AreLow, GraphView, IsGraph, source_edges}
 use Rattle.hm_plan.proofs.FromLast.{prices_below}
 use Rattle.hm_cert.specs.Rows.{AreBelow}
-use Rattle.hm_refs.specs.Names.{Entry}
 use Rattle.hm_refs.specs.Tables.{IsTable}
 use Rattle.hm_graph.proofs.Rows.{rows_least}
 use Rattle.hm_graph.proofs.Written.{written_agrees}
 use Rattle.hm_graph.specs.Prices.{best_price, first_row, is_left_out, row_over, rows_of, written_rows, zeros}
 use Rattle.hm_graph.specs.Steps.{Step}
 use Rattle.hm_graph.specs.declared.hops.Hop.{Hop}
-use Rattle.hm_graph_laws.specs.Units.{units_of}
+use Rattle.hm_edges.specs.declared.pieces.Piece.{Piece}
+use Rattle.hm_graph_laws.specs.Units.{Unit, units_of}
 use Rattle.hm_optimality_laws.proofs.Best.{first_ways_are_best}
 use Rattle.hm_optimality_laws.proofs.Formats.{same_first}
 use Rattle.hm_plan.specs.Shortest.{certified_rows}
@@ -85,12 +83,14 @@ first_number [] n e = cc
 first_number ([] ∷ rows) n e = cc
 first_number ((price ∷ row) ∷ rows) n e = record { place = 0; number = n; there = e }
 
-pub certified_readable : (t : List Entry) → IsTable t → (r : SpellRules) (format : Format) (w : List Event) (g : GraphView) → IsGraphOf t r format w g → AreLow g.steps → length g.steps < 2 ^ 29 → Settled w
-    → AreRows (certified_rows t r format w)
-certified_readable t k r format w g h low few s =
-    let least : rows_of g.last g.steps ≡ least_prices (tree_edges t r format) (units_of r w) first_layer = rows_least (tree_edges t r format) (piece_bytes t) (units_of r w) first_layer g.steps g.last h.fits in
-    let best = first_ways_are_best t k r w s in
-    let rows : AreRows (rows_of g.last g.steps) = all_rows g.last g.steps low few (first_number (rows_of g.last g.steps) _ (ap first_price least ∙ same_first (sparing_plain t r) format (units_of r w) ∙ best.price)) in
+pub certified_readable : (g : GraphView) → IsTable g.source.table.entries → IsGraph g → length g.steps < 2 ^ 29 → Settled g.source.tree → AreRows (certified_rows g.source.table.entries g.source.rules g.source.format g.source.tree)
+certified_readable g k h few s =
+    let of = g.source in
+    let units : List Unit = units_of of.rules of.tree in
+    let bytes : Unit → Piece → List ℕ = piece_bytes of.table.entries in
+    let least : rows_of g.last g.steps ≡ least_prices (source_edges of) units first_layer = rows_least (source_edges of) bytes units first_layer g.steps g.last h.fits in
+    let best = first_ways_are_best of.table.entries k of.rules of.tree s in
+    let rows : AreRows (rows_of g.last g.steps) = all_rows g.last g.steps h.low few (first_number (rows_of g.last g.steps) _ (ap first_price least ∙ same_first (sparing_plain of.table.entries of.rules) of.format units ∙ best.price)) in
     subst AreRows
-    (ap (written_rows format 0 g.steps) least ∙ written_agrees (tree_edges t r format) (piece_bytes t) (units_of r w) first_layer g.steps g.last format 0 _ h.fits)
-    (some_rows format 0 g.steps (rows_of g.last g.steps) rows)
+    (ap (written_rows of.format 0 g.steps) least ∙ written_agrees (source_edges of) bytes units first_layer g.steps g.last of.format 0 _ h.fits)
+    (some_rows of.format 0 g.steps (rows_of g.last g.steps) rows)

@@ -1,5 +1,4 @@
 pub mod CopiedRuns
-pub mod Walks
 pub mod Paths
 pub mod Plans
 pub mod Shortest

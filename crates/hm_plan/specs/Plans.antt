@@ -1,9 +1,7 @@
 -- What is found from the last layer of a graph on.
 use Rattle.std.specs.Prelude.{◌≡◌, ℕ, zero, suc, ◌*◌, List, [], ◌++◌, drop, map, reverse}
-use Rattle.hm_base.specs.declared.plain.SpellRules.{SpellRules}
 use Rattle.hm_cert.specs.Certificate.{certificate_text, row_line, row_lines}
 use Rattle.hm_cert.specs.Layout.{told}
-use Rattle.hm_base.specs.declared.plain.Format.{Format}
 use Rattle.hm_graph_laws.specs.Prices.{Row, first_price}
 use Rattle.hm_graph_laws.specs.Ways.{over}
 use Rattle.hm_graph.specs.Graphs.{GraphView}
@@ -12,21 +10,21 @@ use Rattle.hm_graph.specs.Ways.{choices_of}
 use Rattle.hm_plan.specs.declared.plans.Back.{Back}
 use Rattle.hm_plan.specs.declared.plans.Plan.{Plan}
 
--- the certificate of the least prices in a format, the choices of the first way, and the first price
-pub record IsPlan (g : GraphView) (format : Format) (rules : SpellRules) (plan : Plan) : Type 0 where
-  pub certificate : plan.certificate.items ≡ certificate_text format rules (written_rows format 0 g.steps (rows_of g.last g.steps))
+-- the certificate of the least prices, the choices of the first way, and the first price
+pub record IsPlan (g : GraphView) (plan : Plan) : Type 0 where
+  pub certificate : plan.certificate.items ≡ certificate_text g.source.format g.source.rules (written_rows g.source.format 0 g.steps (rows_of g.last g.steps))
   pub choices : plan.choices.items ≡ choices_of g.last g.steps
   pub first : told plan.first ≡ first_price (rows_of g.last g.steps)
 
 -- the lines, from their end, the choices and the prices of layer k
-pub record IsBack (g : GraphView) (format : Format) (k : ℕ) (text choices : List ℕ) (row : Row) : Type 0 where
-  pub lines : text ≡ reverse (row_lines (written_rows format k (drop k g.steps) (rows_of g.last (drop k g.steps))))
+pub record IsBack (g : GraphView) (k : ℕ) (text choices : List ℕ) (row : Row) : Type 0 where
+  pub lines : text ≡ reverse (row_lines (written_rows g.source.format k (drop k g.steps) (rows_of g.last (drop k g.steps))))
   pub chosen : choices ≡ choices_of g.last (drop k g.steps)
   pub prices : row ≡ first_row (rows_of g.last (drop k g.steps))
 
 -- what was found from layer k on
-abbrev pub IsFound : GraphView → Format → ℕ → Back → Type 0
-IsFound g format k back = IsBack g format k back.text back.choices.items (map told back.row.items)
+abbrev pub IsFound : GraphView → ℕ → Back → Type 0
+IsFound g k back = IsBack g k back.text back.choices.items (map told back.row.items)
 
 -- the lines of `count` rows, from their end: each price of the first is `len` more than in `row`, and each next row
 -- adds `len` again

@@ -8,11 +8,7 @@ mod minify;
 mod paths;
 mod plans;
 mod turned;
-mod walkers;
-mod walks;
 
 pub use minify::{Minified, minify_tree};
 pub use paths::write_path;
 pub use plans::{Plan, backward};
-pub use walkers::Walker;
-pub use walks::walk_over;

@@ -8,6 +8,7 @@ ghost use Rattle.hm_plan.specs.Shortest.{IsShortest, certified_rows};
 use crate::{backward, write_path};
 use hm_base::{Format, Memory, SpellRules};
 use hm_graph::Graph;
+use hm_graph::laws::every_graph;
 use hm_refs::Table;
 use hm_refs::laws::every_table;
 use hm_tree::Tree;
@@ -37,9 +38,9 @@ pub fn minify_tree(
 {
     every_table(table);
     let graph = Graph::of(alloc, tree, table, rules, format)?;
-    graph.is_small();
-    let plan = backward(alloc, &graph, format, rules)?;
-    let out = write_path(alloc, tree, table, rules, &graph, plan.choices.as_slice())?;
+    every_graph(&graph);
+    let plan = backward(alloc, &graph)?;
+    let out = write_path(alloc, &graph, plan.choices.as_slice())?;
     Ok(Minified {
         out,
         certificate: plan.certificate,

@@ -1,26 +1,30 @@
 //! The text of the first way (path through the layered graph).
-ghost use Rattle.std.specs.Prelude.{◌≡◌, ◌<◌, ◌+◌, ◌++◌, [], ℕ, List, length, drop, option_and_then, slice_get, slice_index, slice_index_or, IfOk, IfSome};
-ghost use Rattle.hm_edges.specs.Pieces.{HasName, piece_bytes, piece_text};
+ghost use Rattle.std.specs.Prelude.{◌≡◌, ◌<◌, ◌≤◌, ◌+◌, ◌++◌, ◌∷◌, [], ℕ, List, chars, length, drop, option_and_then, slice_get, slice_index, slice_index_or, IfOk, IfSome, IsUtf8, OnOk};
+ghost use Rattle.hm_edges.specs.Pieces.{HasName, own_bytes, piece_bytes, piece_text};
 ghost use Rattle.hm_graph_laws.specs.Prices.{Row};
-ghost use Rattle.hm_graph.specs.Graphs.{AreNamed, IsNamedStep, IsPlace};
+ghost use Rattle.hm_graph.specs.Graphs.{IsNamedStep, IsPlace};
 ghost use Rattle.hm_parts.specs.Own.{own_text};
+ghost use Rattle.hm_parts.specs.Parts.{AreParts, IsPart, part_units, parts_units};
 ghost use Rattle.hm_refs.specs.Names.{Entry};
 ghost use Rattle.hm_graph.specs.Ways.{along, choices_of, hop_taken, step_choices, way_from};
+ghost use Rattle.hm_graph_laws.specs.Units as units;
 ghost use Rattle.hm_graph_laws.specs.Units.{units_of};
-ghost use Rattle.hm_plan.specs.Paths.{ComesTo, HasChoices, onward, row_behind};
+ghost use Rattle.hm_plan.specs.Paths.{Goes, GoesOver, IsOnWay, onward, row_behind};
 
-use crate::{Walker, walk_over};
-use hm_base::{Memory, SpellRules};
+use crate::copied::is_copied;
+use hm_base::Memory;
+use hm_graph::laws::every_graph;
 use hm_graph::{Cursor, Graph, Hop, Step};
-use hm_parts::{Own, put_piece};
+use hm_parts::{Own, Part, find_parts, put_piece};
 use hm_refs::Table;
-use hm_tree::Tree;
 use std::alloc::Global;
 
 /// How far the way is written.
 #[derive(Drop)]
 struct WrittenWay<'c> {
     out: Vec<u8>,
+    /// The layer that was reached.
+    at: Cursor,
     /// The place of the state among those of its layer, None where the way has ended.
     place: Option<usize>,
     /// The choices of the steps that are left, those of the next one last.
@@ -112,54 +116,133 @@ fn put_hop(
     }
 }
 
-impl<'c> Walker for WrittenWay<'c> {
-    type Stop = Memory;
+/// Writes what the next hop of the way writes of a unit with these bytes of its own.
+#[inline(always)]
+fn take(way: &mut WrittenWay, graph: &Graph, own: Own) -> Result<(), Memory>
+    requires inside { way.old.at.layer < length graph.now.steps }
+    requires on { IsOnWay graph.now way.old }
+    ensures { OnOk result ((u : units.Unit) → own_bytes u ≡ own_text own.entry → Goes graph.now (u ∷ []) [] way.old way.new) }
+{
+    every_graph(graph);
+    let (behind, front) = cut_choices(way.choices, graph, way.at);
+    let hop = next_hop(graph.step(way.at), front, way.place);
+    way.choices = behind;
+    way.place = put_hop(&mut way.out, graph.table(), hop, own)?;
+    way.at = graph.next(way.at);
+    Ok(())
+}
 
-    ghost stands = { λ g k way. HasChoices g k way };
-
-    ghost place = { λ way. way.place };
-
-    ghost comes = { λ t g units k way text. ComesTo t g units k way text };
-
-    #[inline(always)]
-    fn place(&self) -> Option<usize> {
-        self.place
+/// Writes the characters that a text begins with, as long as the same step copies one byte, and gives the rest of the text.
+fn copy_alike<'t>(way: &mut WrittenWay, graph: &Graph, text: &'t str) -> Result<&'t str, Memory>
+    requires inside { way.old.at.layer + length (chars text.now) ≤ length graph.now.steps }
+    requires some { 0 < length text.now }
+    requires on { IsOnWay graph.now way.old }
+    ensures goes { IfOk result (λ rest. GoesOver graph.now (chars text.now) (chars rest.now) way.old way.new) }
+    ensures within { IfOk result (λ rest. length rest.now ≤ length text.now) }
+    ensures utf8 { IfOk result (λ rest. IsUtf8 rest.now) }
+{
+    if !is_copied(graph.step(way.at), way.place) {
+        return Ok(text);
     }
-
-    fn take(&mut self, graph: &Graph, at: Cursor, table: &Table, own: Own) -> Result<(), Memory> {
-        let (behind, front) = cut_choices(self.choices, graph, at);
-        let hop = next_hop(graph.step(at), front, self.place);
-        self.choices = behind;
-        self.place = put_hop(&mut self.out, table, hop, own)?;
-        Ok(())
+    let at = graph.next_alike(way.at, text.len());
+    let count = at.layer - way.at.layer;
+    let front = &text.as_bytes()[..count];
+    if !front.is_ascii() {
+        return Ok(text);
     }
+    way.out.extend_from_slice(front)?;
+    way.at = at;
+    Ok(&text[count..])
+}
 
-    #[inline(always)]
-    fn copy(&mut self, _graph: &Graph, _at: Cursor, bytes: &[u8]) -> Result<(), Memory> {
-        self.out.extend_from_slice(bytes)?;
-        Ok(())
+/// Writes the first character of a text, and gives the rest of the text.
+fn take_char<'t>(way: &mut WrittenWay, graph: &Graph, text: &'t str) -> Result<&'t str, Memory>
+    requires inside { way.old.at.layer + length (chars text.now) ≤ length graph.now.steps }
+    requires on { IsOnWay graph.now way.old }
+    ensures goes { IfOk result (λ rest. GoesOver graph.now (chars text.now) (chars rest.now) way.old way.new) }
+    ensures shorter { IfOk result (λ rest. 0 < length text.now → length rest.now < length text.now) }
+    ensures utf8 { IfOk result (λ rest. IsUtf8 rest.now) }
+{
+    let mut rest = text.chars();
+    if let Some(c) = rest.next() {
+        take(way, graph, Own::Character { c })?;
+    }
+    Ok(rest.as_str())
+}
+
+/// Writes some characters that a text begins with, and gives the rest of the text.
+fn take_some<'t>(way: &mut WrittenWay, graph: &Graph, text: &'t str) -> Result<&'t str, Memory>
+    requires inside { way.old.at.layer + length (chars text.now) ≤ length graph.now.steps }
+    requires some { 0 < length text.now }
+    requires on { IsOnWay graph.now way.old }
+    ensures goes { IfOk result (λ rest. GoesOver graph.now (chars text.now) (chars rest.now) way.old way.new) }
+    ensures shorter { IfOk result (λ rest. length rest.now < length text.now) }
+    ensures utf8 { IfOk result (λ rest. IsUtf8 rest.now) }
+{
+    let rest = copy_alike(way, graph, text)?;
+    if rest.len() < text.len() {
+        return Ok(rest);
+    }
+    take_char(way, graph, rest)
+}
+
+/// Writes the characters of a text.
+fn take_chars(way: &mut WrittenWay, graph: &Graph, text: &str) -> Result<(), Memory>
+    requires inside { way.old.at.layer + length (chars text.now) ≤ length graph.now.steps }
+    requires on { IsOnWay graph.now way.old }
+    ensures { OnOk result (GoesOver graph.now (chars text.now) [] way.old way.new) }
+{
+    let mut rest = text;
+    while !rest.is_empty() {
+        rest = take_some(way, graph, rest)?;
+    }
+    Ok(())
+}
+
+/// Writes a part.
+fn take_part(way: &mut WrittenWay, graph: &Graph, part: Part) -> Result<(), Memory>
+    requires inside { way.old.at.layer + length (part_units part) ≤ length graph.now.steps }
+    requires on { IsOnWay graph.now way.old }
+    requires part { IsPart part }
+    ensures { OnOk result (Goes graph.now (part_units part.entry) [] way.old way.new) }
+{
+    match part {
+        Part::One { unit: _, own } => take(way, graph, Own::Bytes { text: own }),
+        Part::Comment { text } => take(way, graph, Own::Comment { text }),
+        Part::Chars { kind: _, text } => take_chars(way, graph, text),
     }
 }
 
-/// Writes the first way of a tree's graph, by the choices that were found for it.
-pub fn write_path(
-    alloc: Global,
-    tree: &Tree,
-    table: &Table,
-    rules: SpellRules,
-    graph: &Graph,
-    choices: &[u8],
-) -> Result<Vec<u8>, Memory>
-    requires count { length (units_of rules tree.now) ≡ length graph.now.steps }
-    requires named { AreNamed table.now.entries graph.now.steps }
-    requires choices { choices.now ≡ choices_of graph.now.last graph.now.steps }
-    ensures { IfOk result (λ out. out.items ≡ way_from (piece_bytes table.now.entries) graph.now.last (units_of rules tree.now) graph.now.steps 0) }
+/// Writes the parts of an event.
+fn take_parts(way: &mut WrittenWay, graph: &Graph, parts: &[Part]) -> Result<(), Memory>
+    requires inside { way.old.at.layer + length (parts_units parts.now) ≤ length graph.now.steps }
+    requires on { IsOnWay graph.now way.old }
+    requires parts { AreParts parts.now }
+    ensures { OnOk result (Goes graph.now (parts_units parts.now) [] way.old way.new) }
 {
-    let start = WrittenWay {
+    for part in parts {
+        take_part(way, graph, *part)?;
+    }
+    Ok(())
+}
+
+/// Writes the first way of a graph, by the choices that were found for it.
+pub fn write_path(alloc: Global, graph: &Graph, choices: &[u8]) -> Result<Vec<u8>, Memory>
+    requires { choices.now ≡ choices_of graph.now.last graph.now.steps }
+    ensures { IfOk result (λ out. out.items ≡ way_from (piece_bytes graph.now.source.table.entries) graph.now.last (units_of graph.now.source.rules graph.now.source.tree) graph.now.steps 0) }
+{
+    every_graph(graph);
+    let tree = graph.tree();
+    let mut parts = Vec::new(alloc);
+    let mut way = WrittenWay {
         out: Vec::new(alloc),
+        at: graph.first_layer(),
         place: Some(0),
         choices,
     };
-    let way = walk_over(alloc, tree, table, rules, graph, start)?;
+    for i in 0..tree.len() {
+        find_parts(tree, graph.rules(), i, &mut parts)?;
+        take_parts(&mut way, graph, &parts)?;
+    }
     Ok(way.out)
 }

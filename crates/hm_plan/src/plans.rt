@@ -15,6 +15,7 @@ ghost use Rattle.hm_plan.specs.Plans.{IsFound, IsPlan, raised_lines};
 use crate::turned::turn;
 use hm_base::{Format, Memory, SpellRules};
 use hm_cert::{CLOSED, ReversedText, add_each, more};
+use hm_graph::laws::every_graph;
 use hm_graph::{Cursor, Graph, Hop, Step};
 use std::alloc::Global;
 use std::mem;
@@ -316,15 +317,16 @@ impl Back {
 
 /// Goes over the step after a layer. Where no state changes its place, it also goes over the equal steps before that
 /// one, but not to the first layer.
-fn go_back(back: &mut Back, graph: &Graph, format: Format, at: Cursor) -> Result<Cursor, Memory>
+fn go_back(back: &mut Back, graph: &Graph, at: Cursor) -> Result<Cursor, Memory>
     requires place { IsPlace graph.now at }
     requires inside { at.layer < length graph.now.steps }
-    requires found { IsFound graph.now format (at.layer + 1) back.old }
+    requires found { IsFound graph.now (at.layer + 1) back.old }
     ensures place { IfOk result (λ front. IsPlace graph.now front) }
     ensures layer { IfOk result (λ front. front.layer ≤ at.layer) }
-    ensures found { IfOk result (λ front. IsFound graph.now format front.layer back.new) }
+    ensures found { IfOk result (λ front. IsFound graph.now front.layer back.new) }
 {
-    graph.is_small();
+    every_graph(graph);
+    let format = graph.format();
     let step = graph.step(at);
     if let Some(len) = step.still() {
         if at.layer > 0 && back.row.len() == step.width() {
@@ -338,20 +340,15 @@ fn go_back(back: &mut Back, graph: &Graph, format: Format, at: Cursor) -> Result
     Ok(at)
 }
 
-/// Finds the least prices of a graph, and writes them as a certificate in a format, under these rules.
-pub fn backward(
-    alloc: Global,
-    graph: &Graph,
-    format: Format,
-    rules: SpellRules,
-) -> Result<Plan, Memory>
-    ensures { IfOk result (IsPlan graph.now format rules) }
+/// Finds the least prices of a graph, and writes them as a certificate.
+pub fn backward(alloc: Global, graph: &Graph) -> Result<Plan, Memory>
+    ensures { IfOk result (IsPlan graph.now) }
 {
-    graph.is_small();
+    every_graph(graph);
     let mut back = Back::new(alloc, graph.last())?;
     let mut layer = graph.last_layer();
     while layer.layer > 0 {
-        layer = go_back(&mut back, graph, format, graph.back(layer))?;
+        layer = go_back(&mut back, graph, graph.back(layer))?;
     }
-    back.finish(format, rules)
+    back.finish(graph.format(), graph.rules())
 }

@@ -5,7 +5,7 @@ use Rattle.hm_check.proofs.rows.sweep.Given as goal
 
 abbrev pub invariant-loop-layer : goal.invariant-loop-layer
 invariant-loop-layer l = record {
-  swept : IsSwept l.format l.graph l.prices l.layer.layer l.sweep;
+  swept : IsSwept l.graph l.prices l.layer.layer l.sweep;
   place : IsPlace l.graph l.layer;
   within : l.layer.layer ≤ length l.graph.steps;
 }

@@ -16,7 +16,7 @@ take_alike-requires-clause-named g c =
 pub returns-then-count-eq0-clause-goes : goal.returns-then-count-eq0-clause-goes
 returns-then-count-eq0-clause-goes g c =
     let us = character_units (kind_of c.args.kind) (chars c.args.text.now) in
-    let C = g.F.Follower.goes_on c.args.table.now.entries in
+    let C = g.V.Visitor.goes_on c.args.table.now.entries in
     subst (λ graph. GoesOver C (kind_of c.args.kind) (chars c.args.text.now) (chars c.args.text.now) c.args.along.now (record { graph = graph; by = c.args.along.now.by })) (sym (c.in_ok-to.ensures.none c.if-count-eq0.true)) (goes_none C us c.args.along.now)
 
 pub range_from-requires : goal.range_from-requires
@@ -24,12 +24,12 @@ range_from-requires g c = λ some. ascii_boundary c.args.text.now c.in_ok-to.fie
 
 pub returns-clause-goes : goal.returns-clause-goes
 returns-clause-goes g c =
-    let C = g.F.Follower.goes_on c.args.table.now.entries in
+    let C = g.V.Visitor.goes_on c.args.table.now.entries in
     let kind = kind_of c.args.kind in
     let text = c.args.text.now in
     let count = c.in_ok-to.field-0.count in
     let step = c.step.result.now in
-    let new : Along g.row.F.Denot = record { graph = c.add_alike.new.self; by = c.take_alike.new.self } in
+    let new : Along g.row.V.Denot = record { graph = c.add_alike.new.self; by = c.take_alike.new.self } in
     subst (λ rest. GoesOver C kind (chars text) (chars rest) c.args.along.now new) (sym c.range_from.ensures.value)
     (text_alike C kind text count step c.args.along.now new c.in_ok-to.ensures.within c.in_ok-to.ensures.ascii c.in_ok-to.ensures.adds
     (steps_by c.args.along.now.graph c.add_alike.new.self count c.in_ok-to.field-0.to.number step c.step.ensures (c.in_ok-to.ensures.step (omega (arith, c.if-count-eq0.false))))

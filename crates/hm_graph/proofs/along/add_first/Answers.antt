@@ -14,7 +14,7 @@ take-requires g c =
 
 pub returns-clause-goes : goal.returns-clause-goes
 returns-clause-goes g c =
-    let C = g.F.Follower.goes_on c.args.table.now.entries in
+    let C = g.V.Visitor.goes_on c.args.table.now.entries in
     let kind = kind_of c.args.kind in
     let text = c.args.text.now in
     let rest = c.as_str-rest.result.now in

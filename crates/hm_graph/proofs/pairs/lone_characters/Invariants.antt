@@ -1,5 +1,5 @@
 use Rattle.std.proofs.Common.{◌≡◌, length}
-use Rattle.hm_graph.specs.Met.{AreLone}
+use Rattle.hm_graph.specs.Interned.{AreLone}
 use Rattle.hm_graph.proofs.pairs.lone_characters.Given as goal
 
 abbrev pub invariant-loop-c : goal.invariant-loop-c

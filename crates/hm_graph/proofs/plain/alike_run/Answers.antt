@@ -2,7 +2,7 @@ use Rattle.std.proofs.Common.{get_or, take, arith, refl, sym, subst}
 use Rattle.std.specs.List.{All}
 use Rattle.std.proofs.lemmas.List.{take_more}
 use Rattle.std.proofs.lemmas.List.Elements.{All-push}
-use Rattle.hm_graph.specs.Met.{IsToward}
+use Rattle.hm_graph.specs.Interned.{IsToward}
 use Rattle.hm_graph.proofs.PlainRows.{all_first}
 use Rattle.hm_graph.proofs.plain.alike_run.Goals as goal
 

@@ -1,6 +1,6 @@
 use Rattle.std.proofs.Common.{◌<◌, ◌-◌, length, take}
 use Rattle.std.specs.List.{All}
-use Rattle.hm_graph.specs.Met.{IsToward}
+use Rattle.hm_graph.specs.Interned.{IsToward}
 use Rattle.hm_graph.proofs.plain.alike_run.Given as goal
 
 abbrev pub invariant-loop-count : goal.invariant-loop-count

@@ -1,6 +1,6 @@
 use Rattle.std.proofs.Common.{sym, subst, arith}
 use Rattle.std.proofs.lemmas.List.Elements.{All-set}
-use Rattle.hm_graph.specs.Met.{IsRow}
+use Rattle.hm_graph.specs.Interned.{IsRow}
 use Rattle.hm_graph.specs.declared.plain.PlainRow.{PlainRow}
 use Rattle.hm_graph.proofs.plain.keep.Goals as goal
 

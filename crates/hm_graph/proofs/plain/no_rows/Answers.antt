@@ -2,7 +2,7 @@ use Rattle.std.proofs.Common.{get_or, ap, sym, subst}
 use Rattle.std.specs.List.{All}
 use Rattle.std.proofs.lemmas.List.Elements.{All-push}
 use Rattle.hm_edges.specs.declared.units.TextKind.TheVariants.{Text}
-use Rattle.hm_graph.specs.Met.{IsRow, unknown}
+use Rattle.hm_graph.specs.Interned.{IsRow, unknown}
 use Rattle.hm_graph.specs.declared.plain.PlainRow.{PlainRow}
 use Rattle.hm_graph.proofs.PlainRows.{unknown_row}
 use Rattle.hm_graph.proofs.plain.no_rows.Goals as goal

@@ -1,35 +1,37 @@
-use Rattle.std.proofs.Common.{◌∙◌, ◌+◌, ap, sym}
+use Rattle.std.proofs.Common.{◌∙◌, ◌+◌, ap, subst, sym}
+use Rattle.hm_elements.specs.Settled.{Settled}
+use Rattle.hm_cert.specs.Certificate.{AreRows}
+use Rattle.hm_refs.specs.Tables.{IsTable}
+use Rattle.hm_plan.specs.Shortest.{certificate_of, certified_rows, layer_count, shortest_text}
+use Rattle.hm_plan.proofs.Graphs.{certificate_is, text_is_shortest, units_count}
 use Rattle.hm_plan.proofs.Headline.{made_is_shortest}
-use Rattle.hm_edges.specs.Pieces.{piece_bytes}
-use Rattle.hm_graph_laws.specs.Layers.{first_layer}
-use Rattle.hm_graph.specs.Graphs.{tree_edges}
-use Rattle.hm_graph_laws.specs.Units.{units_of}
-use Rattle.hm_graph.proofs.Ways.{steps_count}
-use Rattle.hm_plan.proofs.Graphs.{text_is_shortest, certificate_is}
 use Rattle.hm_plan.proofs.Written.{certified_readable}
 use Rattle.hm_plan.proofs.minify.minify_tree.Goals as goal
 
-pub write_path-requires-clause-count : goal.write_path-requires-clause-count
-write_path-requires-clause-count c =
-    steps_count (tree_edges c.args.table.now.entries c.args.rules c.args.format) (piece_bytes c.args.table.now.entries) (units_of c.args.rules c.args.tree.now) first_layer c.in_ok-graph.graph.steps c.in_ok-graph.graph.last c.in_ok-graph.ensures.fits
-
 pub returns-clause-made : goal.returns-clause-made
-returns-clause-made c = record {
-  out = c.in_ok-out.ensures ∙ text_is_shortest c.args.table.now.entries c.every_table.ensures.names c.args.rules c.args.format c.args.tree.now c.in_ok-graph.graph c.in_ok-graph.ensures;
-  certificate = c.in_ok-plan.ensures.certificate ∙ certificate_is c.args.table.now.entries c.args.rules c.args.format c.args.tree.now c.in_ok-graph.graph c.in_ok-graph.ensures;
-  layers =
-      ap (λ n. n + 1)
-      (c.len.ensures ∙ sym (steps_count (tree_edges c.args.table.now.entries c.args.rules c.args.format) (piece_bytes c.args.table.now.entries) (units_of c.args.rules c.args.tree.now) first_layer c.in_ok-graph.graph.steps c.in_ok-graph.graph.last c.in_ok-graph.ensures.fits));
-}
+returns-clause-made c =
+    let g = c.in_ok-graph.graph in
+    let table : IsTable g.source.table.entries = subst (λ of. IsTable of.table.entries) (sym c.in_ok-graph.ensures) c.every_table.ensures.names in
+    record {
+      out = c.in_ok-out.ensures ∙ text_is_shortest g table c.every_graph.ensures.graph ∙ ap (λ of. shortest_text of.table.entries of.rules of.tree) c.in_ok-graph.ensures;
+      certificate = c.in_ok-plan.ensures.certificate ∙ certificate_is g c.every_graph.ensures.graph ∙ ap (λ of. certificate_of of.table.entries of.rules of.format of.tree) c.in_ok-graph.ensures;
+      layers = ap (λ n. n + 1) (c.len.ensures ∙ sym (units_count g c.every_graph.ensures.graph)) ∙ ap (λ of. layer_count of.rules of.tree) c.in_ok-graph.ensures;
+    }
 
 pub returns-clause-readable : goal.returns-clause-readable
 returns-clause-readable c = λ s.
-    certified_readable c.args.table.now.entries c.every_table.ensures.names c.args.rules c.args.format c.args.tree.now c.in_ok-graph.graph c.in_ok-graph.ensures c.is_small.ensures.low c.is_small.ensures.few s
+    let g = c.in_ok-graph.graph in
+    let table : IsTable g.source.table.entries = subst (λ of. IsTable of.table.entries) (sym c.in_ok-graph.ensures) c.every_table.ensures.names in
+    subst (λ of. AreRows (certified_rows of.table.entries of.rules of.format of.tree)) c.in_ok-graph.ensures
+    (certified_readable g table c.every_graph.ensures.graph c.every_graph.ensures.few (subst (λ of. Settled of.tree) (sym c.in_ok-graph.ensures) s))
 
 pub returns-clause-shortest : goal.returns-clause-shortest
 returns-clause-shortest c = λ s.
+    let g = c.in_ok-graph.graph in
+    let table : IsTable g.source.table.entries = subst (λ of. IsTable of.table.entries) (sym c.in_ok-graph.ensures) c.every_table.ensures.names in
     made_is_shortest c.args.table.now.entries c.every_table.ensures.names c.args.rules c.args.format c.args.tree.now s
-    (certified_readable c.args.table.now.entries c.every_table.ensures.names c.args.rules c.args.format c.args.tree.now c.in_ok-graph.graph c.in_ok-graph.ensures c.is_small.ensures.low c.is_small.ensures.few s)
+    (subst (λ of. AreRows (certified_rows of.table.entries of.rules of.format of.tree)) c.in_ok-graph.ensures
+      (certified_readable g table c.every_graph.ensures.graph c.every_graph.ensures.few (subst (λ of. Settled of.tree) (sym c.in_ok-graph.ensures) s)))
     _ _
-    (c.in_ok-out.ensures ∙ text_is_shortest c.args.table.now.entries c.every_table.ensures.names c.args.rules c.args.format c.args.tree.now c.in_ok-graph.graph c.in_ok-graph.ensures)
-    (c.in_ok-plan.ensures.certificate ∙ certificate_is c.args.table.now.entries c.args.rules c.args.format c.args.tree.now c.in_ok-graph.graph c.in_ok-graph.ensures)
+    (c.in_ok-out.ensures ∙ text_is_shortest g table c.every_graph.ensures.graph ∙ ap (λ of. shortest_text of.table.entries of.rules of.tree) c.in_ok-graph.ensures)
+    (c.in_ok-plan.ensures.certificate ∙ certificate_is g c.every_graph.ensures.graph ∙ ap (λ of. certificate_of of.table.entries of.rules of.format of.tree) c.in_ok-graph.ensures)

@@ -5,7 +5,7 @@ use Rattle.hm_plan.proofs.plans.backward.Given as goal
 
 abbrev pub invariant-loop-layer : goal.invariant-loop-layer
 invariant-loop-layer l = record {
-  found : IsFound l.graph l.format l.layer.layer l.back;
+  found : IsFound l.graph l.layer.layer l.back;
   place : IsPlace l.graph l.layer;
   within : l.layer.layer ≤ length l.graph.steps;
 }

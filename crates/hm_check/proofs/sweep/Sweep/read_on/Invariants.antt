@@ -4,7 +4,7 @@ use Rattle.hm_check.proofs.sweep.Sweep.read_on.Given as goal
 
 abbrev pub invariant-loop-layer : goal.invariant-loop-layer
 invariant-loop-layer l = record {
-  swept : IsSwept l.format l.graph l.prices l.layer l.self;
+  swept : IsSwept l.graph l.prices l.layer l.self;
   low : l.front ≤ l.layer;
   high : l.layer ≤ l.from;
 }

@@ -8,7 +8,7 @@ invariant-loop-front l = record {
   place : IsPlace l.self l.front;
   low : l.front.layer ≤ l.fn.at.layer;
   first : 0 < l.fn.at.layer → 0 < l.front.layer;
-  still : AreStillOver l.format (drop l.front.layer l.self.steps) (l.fn.at.layer - l.front.layer) l.width l.len;
+  still : AreStillOver l.self.source.format (drop l.front.layer l.self.steps) (l.fn.at.layer - l.front.layer) l.width l.len;
   bytes : l.len ≤ (l.fn.at.layer - l.front.layer) * 2 ^ 33;
 }
 

@@ -1,6 +1,6 @@
 use Rattle.std.proofs.Common.{◌∙◌, ap, get_or}
 use Rattle.std.proofs.Math.ListN.{replicate}
-use Rattle.hm_graph.specs.Met.{unknown}
+use Rattle.hm_graph.specs.Interned.{unknown}
 use Rattle.hm_graph.specs.declared.plain.PlainRow.{PlainRow}
 use Rattle.hm_graph.proofs.PlainRows.{none_known, unknown_row}
 use Rattle.hm_graph.proofs.plain.PlainRow.of.Goals as goal

@@ -1,0 +1,105 @@
+-- What is interned of a tree's graph: lists of states with numbers, and steps with numbers, each with the number of the list
+-- after it.
+use Rattle.std.specs.Prelude.{◌≡◌, ℕ, ◌<◌, Bool, true, false, List, [], ◌∷◌, None, length, slice_index_or}
+use Rattle.hm_refs.specs.Names.{Entry}
+use Rattle.hm_refs.specs.Tables.{TableView}
+use Rattle.hm_edges.specs.Units.{has_pair}
+use Rattle.hm_edges.specs.declared.states.Pending.TheVariants.{Nothing}
+use Rattle.hm_edges.specs.declared.states.State.{State}
+use Rattle.hm_edges.specs.declared.states.Where.TheVariants.{Outside}
+use Rattle.hm_edges.specs.declared.units.TextKind.{TextKind}
+use Rattle.hm_edges.specs.declared.units.Unit.{Unit}
+use Rattle.hm_edges.specs.declared.units.Unit.TheVariants.{Character}
+use Rattle.hm_graph.specs.Layers.{HaveNodes, IsLayer}
+use Rattle.hm_graph.specs.declared.made.MadeStep.{MadeStep}
+use Rattle.hm_graph.specs.declared.made.KnownStep.{KnownStep}
+use Rattle.hm_graph.specs.declared.made.Reached.{Reached}
+use Rattle.hm_graph.specs.declared.plain.PlainRow.{PlainRow}
+use Rattle.hm_graph.specs.declared.rules.EdgeRules.{EdgeRules}
+
+-- lists of states, and what was made from them
+pub record InternedView : Type 0 where
+  pub table : TableView
+  pub rules : EdgeRules
+  pub lists : List (List State)
+  pub steps : List MadeStep
+
+abbrev pub list_at : InternedView → ℕ → List State
+list_at m k = slice_index_or m.lists k []
+
+abbrev pub none_made : MadeStep
+none_made = record { step = []; behind = 0 }
+
+abbrev pub made_at : InternedView → ℕ → MadeStep
+made_at m n = slice_index_or m.steps n none_made
+
+-- the state before the first unit
+abbrev pub first_states : List State
+first_states = record { at = Outside; pending = Nothing } ∷ []
+
+-- only the first list is there
+abbrev pub only_first : TableView → EdgeRules → InternedView
+only_first v rules = record { table = v; rules = rules; lists = first_states ∷ []; steps = [] }
+
+-- the list has this number
+pub record IsListOf (m : InternedView) (states : List State) (k : ℕ) : Type 0 where
+  pub there : k < length m.lists
+  pub list : list_at m k ≡ states
+
+-- nodes are of the table
+pub record IsInterned (m : InternedView) : Type 0 where
+  pub nodes : (k : ℕ) → HaveNodes m.table (list_at m k)
+
+-- what was there is there still
+pub record Grows (old new : InternedView) : Type 0 where
+  pub table : new.table ≡ old.table
+  pub rules : new.rules ≡ old.rules
+  pub lists : (k : ℕ) → k < length old.lists → IsListOf new (list_at old k) k
+  pub steps : (n : ℕ) → n < length old.steps → (n < length new.steps) × (made_at new n ≡ made_at old n)
+
+-- this number has the step of the unit from the states of this list
+pub record IsStepOf (m : InternedView) (list : ℕ) (unit : Unit) (n : ℕ) : Type 0 where
+  pub there : n < length m.steps
+  pub behind : (made_at m n).behind < length m.lists
+  pub layer : IsLayer m.table m.rules unit (list_at m list) (list_at m (made_at m n).behind) (made_at m n).step
+
+-- it has the number of the step of its unit from its list
+pub record IsMemo (m : InternedView) (x : KnownStep) : Type 0 where
+  pub from : x.list < length m.lists
+  pub step : IsStepOf m x.list x.unit x.number
+
+-- ---- Names for two code points
+
+-- no name stands for the code point and a second one
+abbrev pub BeginsNoPair : List Entry → ℕ → Type 0
+BeginsNoPair t c = (d : ℕ) → has_pair t c d ≡ false
+
+-- with each code point that is marked none does
+abbrev pub AreLone : List Entry → List Bool → Type 0
+AreLone t lone = (c : ℕ) → slice_index_or lone c false ≡ true → BeginsNoPair t c
+
+-- ---- Rows of plain characters
+
+-- it isn't known where a character leads
+abbrev pub unknown : Reached
+unknown = record { number = 4294967295; behind = 0 }
+
+abbrev pub IsKnown : Reached → Type 0
+IsKnown to = to.number < 4294967295
+
+-- the character's place in a row has this step
+abbrev pub IsToward : List Reached → Reached → ℕ → Type 0
+IsToward steps to c = (slice_index_or steps c unknown).number ≡ to.number
+
+-- From its list a character of ASCII leads to `to`, before another one or as the last of its text. Where it stands before
+-- another one, no name for two code points begins with it.
+pub record Leads (m : InternedView) (list : ℕ) (kind : TextKind) (more : Bool) (to : Reached) (c : ℕ) : Type 0 where
+  pub ascii : c < 128
+  pub from : list < length m.lists
+  pub step : IsStepOf m list (Character kind c None more) to.number
+  pub behind : to.behind ≡ (made_at m to.number).behind
+  pub lone : more ≡ true → BeginsNoPair m.table.entries c
+
+-- with each character that is known it is so
+abbrev pub IsRow : InternedView → Bool → PlainRow → Type 0
+IsRow m more x = (c : ℕ) → IsKnown (slice_index_or x.steps.items c unknown) → Leads m x.list x.kind more (slice_index_or x.steps.items c unknown) c

@@ -1,0 +1,515 @@
+//! Lists of states and steps that are interned (each made once, and numbered) while a graph is built.
+ghost use Rattle.std.specs.Prelude.{◌≡◌, ◌<◌, ◌≤◌, ◌∷◌, [], false, true, None, Some, length, map, take, IfOk, IfSome, IsTrue};
+ghost use Rattle.std.specs.List.{All, HoldsAt};
+ghost use Rattle.hm_edges.specs.Units as units;
+ghost use Rattle.hm_graph.specs.Layers.{HaveNodes};
+ghost use Rattle.hm_edges.specs.declared.units.Unit.TheVariants.{Character};
+ghost use Rattle.hm_graph.specs.Interned.{BeginsNoPair, Grows, IsListOf, Leads, IsStepOf, list_at, first_states, made_at, only_first};
+
+use crate::layer::{Layer, find_layer, is_state};
+use crate::made::{Front, KnownStep, MadeStep, Reached, equal_made};
+use crate::pairs::{lone_characters, pair_of};
+use crate::plain::{Alike, PlainRow, keep, no_rows, none_alike, row_of};
+use crate::rules::EdgeRules;
+use crate::step::Step;
+use hm_base::Memory;
+use hm_edges::{Pending, State, TextKind, Unit, Where};
+use hm_refs::Table;
+use std::alloc::Global;
+use std::collections::HashMap;
+use std::marker::Model;
+
+/// How many lists, steps or layers are too many: memory then counts as refused.
+pub(crate) const LIMIT: usize = 1 << 29;
+
+/// How many lists are searched for one that is there.
+const SEARCHED: usize = 256;
+
+/// Lists of states with numbers, and the steps from them with numbers, each made once.
+#[derive(Drop)]
+pub(crate) struct Interned<'t> {
+    alloc: Global,
+    table: &'t Table,
+    rules: EdgeRules,
+    lists: Vec<Vec<State>>,
+    steps: Vec<MadeStep>,
+    /// The steps of lists and units that were asked for.
+    memo: Vec<KnownStep>,
+    /// Where the memo may have a list and a unit. What is there is looked at before it is taken.
+    memo_index: HashMap<Front, u32>,
+    /// As `memo_index`, for lists and units that have a slot in common.
+    hint_slots: Vec<u32>,
+    /// For each ASCII character, whether it is known that no name for two code points begins with it.
+    lone_ascii: Vec<bool>,
+    /// Where such characters lead that have another one after them.
+    text_rows: Vec<PlainRow>,
+    /// Where the last characters of texts lead.
+    last_rows: Vec<PlainRow>,
+}
+
+impl<'t> Model for Interned<'t> {
+    ghost use Rattle.hm_graph.specs.Interned.{InternedView};
+
+    ghost Value = { InternedView };
+
+    ghost use Rattle.std.specs.Prelude.{false, map, true};
+    ghost use Rattle.std.specs.List.{All};
+    ghost use Rattle.hm_graph.specs.Interned.{AreLone, IsInterned, IsRow, IsMemo};
+
+    ghost view = { λ m. record { table = m.table.now; rules = m.rules; lists = map (λ l. l.items) m.lists.items; steps = m.steps.items } };
+
+    ghost invariant = { λ m. IsInterned (record { table = m.table.now; rules = m.rules; lists = map (λ l. l.items) m.lists.items; steps = m.steps.items })
+        × All (IsMemo (record { table = m.table.now; rules = m.rules; lists = map (λ l. l.items) m.lists.items; steps = m.steps.items })) m.memo.items
+        × AreLone m.table.now.entries m.lone_ascii.items
+        × All (IsRow (record { table = m.table.now; rules = m.rules; lists = map (λ l. l.items) m.lists.items; steps = m.steps.items }) true) m.text_rows.items
+        × All (IsRow (record { table = m.table.now; rules = m.rules; lists = map (λ l. l.items) m.lists.items; steps = m.steps.items }) false) m.last_rows.items };
+}
+
+/// How many places there are for hints.
+const HINTS: usize = 4096;
+
+/// The place of the hint for a list and a unit.
+fn hint_place(list: u32, unit: &Unit) -> usize {
+    let own = match *unit {
+        Unit::Character {
+            kind: _,
+            c,
+            pair: _,
+            more,
+        } => { if more { c as u32 } else { c as u32 ^ 1024 } }
+        Unit::Fixed { len } => len ^ 2048,
+        Unit::StartTag {
+            len,
+            omits: _,
+            firm: _,
+            closes: _,
+        } => len ^ 2304,
+        Unit::TagName { len } => len ^ 2560,
+        Unit::BareAttribute { len } => len ^ 2816,
+        Unit::AttributeName { len } => len ^ 3072,
+        Unit::AttributeEnd => 3328,
+        Unit::TagClose { closes: _ } => 3329,
+        Unit::EndTag {
+            len,
+            omits: _,
+            loosens: _,
+        } => len ^ 3584,
+    };
+    (own ^ list.wrapping_mul(131)) as usize % HINTS
+}
+
+/// Places for hints, with none known.
+fn no_hints(alloc: Global) -> Result<Vec<u32>, Memory> {
+    let mut hints = Vec::with_capacity(alloc, HINTS)?;
+    for _place in 0..HINTS {
+        hints.push(0)?;
+    }
+    Ok(hints)
+}
+
+/// Puts a hint to its place.
+fn put_hint(hints: &mut Vec<u32>, at: usize, place: u32) {
+    if let Some(hint) = hints.get_mut(at) {
+        *hint = place;
+    }
+}
+
+/// Whether the lists are the same.
+fn are_same(one: &[State], other: &[State]) -> bool
+    ensures { IsTrue result → one.now ≡ other.now }
+{
+    if one.len() != other.len() {
+        return false;
+    }
+    for i in 0..one.len() {
+        if !is_state(&one[i], &other[i]) {
+            return false;
+        }
+    }
+    true
+}
+
+/// The place of a list with just these states, where it is one of the first lists.
+fn number_of(lists: &[Vec<State>], states: &[State]) -> Option<u32>
+    ensures there { IfSome result (λ k. k < length lists.now) }
+    ensures list { IfSome result (HoldsAt (λ l. l.items ≡ states.now) lists.now) }
+{
+    for (place, list) in lists.iter().enumerate() {
+        if place >= SEARCHED {
+            return None;
+        }
+        if are_same(list.as_slice(), states) {
+            return Some(place as u32);
+        }
+    }
+    None
+}
+
+/// The list of the state before the first unit.
+fn first_lists(alloc: Global) -> Result<Vec<Vec<State>>, Memory>
+    ensures { IfOk result (λ lists. map (λ l. l.items) lists.items ≡ first_states ∷ []) }
+{
+    let mut states = Vec::new(alloc);
+    states.push(State {
+        at: Where::Outside,
+        pending: Pending::Nothing,
+    })?;
+    let mut lists = Vec::new(alloc);
+    lists.push(states)?;
+    Ok(lists)
+}
+
+impl<'t> Interned<'t> {
+    /// List 0 has the first state. There are no steps.
+    pub(crate) fn new(
+        alloc: Global,
+        table: &'t Table,
+        rules: EdgeRules,
+    ) -> Result<Interned<'t>, Memory>
+        ensures { IfOk result (λ interned. interned ≡ only_first table.now rules) }
+    {
+        Ok(Interned {
+            alloc,
+            table,
+            rules,
+            lists: first_lists(alloc)?,
+            steps: Vec::new(alloc),
+            memo: Vec::new(alloc),
+            memo_index: HashMap::new(alloc),
+            hint_slots: no_hints(alloc)?,
+            lone_ascii: lone_characters(alloc, table)?,
+            text_rows: no_rows(alloc)?,
+            last_rows: no_rows(alloc)?,
+        })
+    }
+
+    /// The table of names.
+    pub(crate) fn table(&self) -> &'t Table
+        ensures { result.now ≡ self.now.table }
+    {
+        self.table
+    }
+
+    /// The rules by which edges are found.
+    pub(crate) fn rules(&self) -> EdgeRules
+        ensures { result ≡ self.now.rules }
+    {
+        self.rules
+    }
+
+    /// Whether it is known that no name for two code points begins with the character.
+    fn is_lone(&self, c: char) -> bool
+        ensures { IsTrue result → BeginsNoPair self.now.table.entries c }
+    {
+        match self.lone_ascii.get(c as usize) {
+            Some(true) => true,
+            _ => false,
+        }
+    }
+
+    /// The next character, where some name stands for the two.
+    fn pair_of(&self, c: char, next: char) -> Option<char>
+        ensures { result ≡ units.pair_of self.now.table.entries c (Some next) }
+    {
+        match self.lone_ascii.get(c as usize) {
+            Some(true) => None,
+            _ => pair_of(self.table, c, next),
+        }
+    }
+
+    /// The states of a list.
+    pub(crate) fn list(&self, list: u32) -> &[State]
+        requires { list < length self.now.lists }
+        ensures states { result.now ≡ list_at self.now list }
+        ensures nodes { HaveNodes self.now.table result.now }
+    {
+        self.lists[list as usize].as_slice()
+    }
+
+    /// The number of the list after a step.
+    pub(crate) fn behind(&self, number: u32) -> u32
+        requires { number < length self.now.steps }
+        ensures { result ≡ (made_at self.now number).behind }
+    {
+        self.steps[number as usize].behind
+    }
+
+    /// The step of this number.
+    #[inline(always)]
+    pub(crate) fn made_step(&self, number: u32) -> &Step
+        requires { number < length self.now.steps }
+        ensures { result.now ≡ (made_at self.now number).step }
+    {
+        &self.steps[number as usize].step
+    }
+
+    /// The steps.
+    pub(crate) fn into_steps(self) -> Result<Vec<Step>, Memory>
+        ensures { IfOk result (λ steps. steps.items ≡ map (λ made. made.step) self.entry.steps) }
+    {
+        let Interned {
+            alloc,
+            table: _,
+            rules: _,
+            lists: _,
+            steps: made,
+            memo: _,
+            memo_index: _,
+            hint_slots: _,
+            lone_ascii: _,
+            text_rows: _,
+            last_rows: _,
+        } = self;
+        let mut steps = Vec::new(alloc);
+        for made in made {
+            let MadeStep { step, behind: _ } = made;
+            steps.push(step)?;
+        }
+        Ok(steps)
+    }
+
+    /// The number of the step of this list and unit, where they are at this place of the memo.
+    fn memo_at(&self, place: u32, list: u32, unit: &Unit) -> Option<u32>
+        ensures { IfSome result (IsStepOf self.now list unit.now) }
+    {
+        let known = self.memo.get(place as usize)?;
+        if known.is_from(list, unit) {
+            Some(known.number)
+        } else {
+            None
+        }
+    }
+
+    /// The number of the step of this list and unit, where they are found by their hint.
+    fn hinted(&self, list: u32, unit: &Unit) -> Option<u32>
+        ensures { IfSome result (IsStepOf self.now list unit.now) }
+    {
+        let place = *self.hint_slots.get(hint_place(list, unit))?;
+        self.memo_at(place, list, unit)
+    }
+
+    /// The number of the step of this list and unit, where they are known. The hint then points to them.
+    fn known_step(&mut self, front: &Front) -> Option<u32>
+        ensures step { IfSome result (IsStepOf self.old front.now.list front.now.unit) }
+        ensures same { self.new ≡ self.old }
+    {
+        let place = *self.memo_index.get(front)?;
+        put_hint(
+            &mut self.hint_slots,
+            hint_place(front.list, &front.unit),
+            place,
+        );
+        self.memo_at(place, front.list, &front.unit)
+    }
+
+    /// The number of a list with these states: of an earlier one, or of one that is added.
+    fn list_of(&mut self, states: Vec<State>) -> Result<u32, Memory>
+        requires { HaveNodes self.old.table states.items }
+        ensures list { IfOk result (IsListOf self.new states.items) }
+        ensures kept { Grows self.old self.new }
+    {
+        if let Some(number) = number_of(self.lists.as_slice(), states.as_slice()) {
+            return Ok(number);
+        }
+        let number = self.lists.len();
+        if number >= LIMIT {
+            return Err(Memory);
+        }
+        self.lists.push(states)?;
+        Ok(number as u32)
+    }
+
+    /// The number of a step with these hops and this list after it: of an earlier one, or of one that is added.
+    fn made_of(&mut self, made: MadeStep) -> Result<u32, Memory>
+        ensures there { IfOk result (λ n. n < length self.new.steps) }
+        ensures made { IfOk result (λ n. made_at self.new n ≡ made) }
+        ensures kept { Grows self.old self.new }
+    {
+        if let Some(number) = equal_made(self.steps.as_slice(), &made.step, made.behind) {
+            return Ok(number);
+        }
+        let number = self.steps.len();
+        if number >= LIMIT {
+            return Err(Memory);
+        }
+        self.steps.push(made)?;
+        Ok(number as u32)
+    }
+
+    /// Notes the number of the step of a list and a unit.
+    fn note(&mut self, front: Front, number: u32) -> Result<(), Memory>
+        requires list { front.list < length self.old.lists }
+        requires step { IsStepOf self.old front.list front.unit number }
+        ensures { self.new ≡ self.old }
+    {
+        let place = self.memo.len();
+        if place >= LIMIT {
+            return Err(Memory);
+        }
+        self.memo.push(KnownStep {
+            list: front.list,
+            unit: front.unit,
+            number,
+        })?;
+        self.memo_index.insert(front, place as u32)?;
+        Ok(())
+    }
+
+    /// Makes the step of a unit from the states of a list.
+    fn make(&mut self, front: Front) -> Result<u32, Memory>
+        requires { front.list < length self.old.lists }
+        ensures step { IfOk result (IsStepOf self.new front.list front.unit) }
+        ensures kept { Grows self.old self.new }
+    {
+        let Layer { hops, behind } = find_layer(
+            self.alloc,
+            self.table,
+            self.rules,
+            front.unit,
+            self.list(front.list),
+        )?;
+        let behind = self.list_of(behind)?;
+        let number = self.made_of(MadeStep {
+            step: Step::new(hops),
+            behind,
+        })?;
+        self.note(front, number)?;
+        Ok(number)
+    }
+
+    /// The step of a unit from the states of a list that has no hint: an earlier one, or one that is made.
+    fn step_without_hint(&mut self, front: Front) -> Result<u32, Memory>
+        requires { front.list < length self.old.lists }
+        ensures step { IfOk result (IsStepOf self.new front.list front.unit) }
+        ensures kept { Grows self.old self.new }
+    {
+        if let Some(number) = self.known_step(&front) {
+            return Ok(number);
+        }
+        self.make(front)
+    }
+
+    /// The step of a unit from the states of a list: an earlier one, or one that is made.
+    pub(crate) fn step(&mut self, list: u32, unit: &Unit) -> Result<u32, Memory>
+        requires { list < length self.old.lists }
+        ensures step { IfOk result (IsStepOf self.new list unit.now) }
+        ensures kept { Grows self.old self.new }
+    {
+        if let Some(number) = self.hinted(list, unit) {
+            return Ok(number);
+        }
+        self.step_without_hint(Front { list, unit: *unit })
+    }
+
+    /// Where the plain characters at the start of a text lead, as far as they are known to lead to one place, each with
+    /// another one after it. They are more than one only where that place is the list itself.
+    #[inline(always)]
+    pub(crate) fn alike(&self, list: u32, kind: TextKind, text: &[u8]) -> Alike
+        ensures within { result.count ≤ length text.now }
+        ensures short { 0 < result.count → result.count < length text.now }
+        ensures back { 1 < result.count → result.to.behind ≡ list }
+        ensures leads { All (Leads self.now list kind true result.to) (take result.count text.now) }
+    {
+        match row_of(self.text_rows.as_slice(), list, kind) {
+            Some(row) => row.alike(text),
+            None => none_alike(),
+        }
+    }
+
+    /// Keeps where a character leads that has another one after it, and with which no name for two code points begins.
+    fn keep_text(&mut self, list: u32, kind: TextKind, c: char, to: Reached) -> Result<(), Memory>
+        requires { c < 128 → Leads self.old list kind true to c }
+        ensures { self.new ≡ self.old }
+    {
+        if c as u32 >= 128 {
+            return Ok(());
+        }
+        keep(self.alloc, &mut self.text_rows, list, kind, c, to)
+    }
+
+    /// Keeps where the last character of a text leads.
+    fn keep_last(&mut self, list: u32, kind: TextKind, c: char, to: Reached) -> Result<(), Memory>
+        requires { c < 128 → Leads self.old list kind false to c }
+        ensures { self.new ≡ self.old }
+    {
+        if c as u32 >= 128 {
+            return Ok(());
+        }
+        keep(self.alloc, &mut self.last_rows, list, kind, c, to)
+    }
+
+    /// Where the step of a character leads from the states of a list, with this one after it in the same text.
+    pub(crate) fn character_step(
+        &mut self,
+        list: u32,
+        kind: TextKind,
+        c: char,
+        next: char,
+    ) -> Result<Reached, Memory>
+        requires { list < length self.old.lists }
+        ensures step { IfOk result (λ to. IsStepOf self.new list (Character kind c (units.pair_of self.old.table.entries c (Some next)) true) to.number) }
+        ensures behind { IfOk result (λ to. to.behind ≡ (made_at self.new to.number).behind) }
+        ensures kept { Grows self.old self.new }
+    {
+        let pair = self.pair_of(c, next);
+        let unit = Unit::Character {
+            kind,
+            c,
+            pair,
+            more: true,
+        };
+        let number = self.step(list, &unit)?;
+        let behind = self.behind(number);
+        let to = Reached { number, behind };
+        if self.is_lone(c) {
+            self.keep_text(list, kind, c, to)?;
+        }
+        Ok(to)
+    }
+
+    /// Where the step of the last character of a text leads from the states of a list, if it is kept.
+    fn kept_last(&self, list: u32, kind: TextKind, c: char) -> Option<Reached>
+        ensures { IfSome result (λ to. Leads self.now list kind false to c) }
+    {
+        let row = row_of(self.last_rows.as_slice(), list, kind)?;
+        row.step(c)
+    }
+
+    /// The same, found as that of any unit. It is kept, where it can be.
+    fn found_last(&mut self, list: u32, kind: TextKind, c: char) -> Result<Reached, Memory>
+        requires { list < length self.old.lists }
+        ensures step { IfOk result (λ to. IsStepOf self.new list (Character kind c None false) to.number) }
+        ensures behind { IfOk result (λ to. to.behind ≡ (made_at self.new to.number).behind) }
+        ensures kept { Grows self.old self.new }
+    {
+        let unit = Unit::Character {
+            kind,
+            c,
+            pair: None,
+            more: false,
+        };
+        let number = self.step(list, &unit)?;
+        let behind = self.behind(number);
+        let to = Reached { number, behind };
+        self.keep_last(list, kind, c, to)?;
+        Ok(to)
+    }
+
+    /// Where the step of the last character of a text leads from the states of a list.
+    pub(crate) fn last_step(
+        &mut self,
+        list: u32,
+        kind: TextKind,
+        c: char,
+    ) -> Result<Reached, Memory>
+        requires { list < length self.old.lists }
+        ensures step { IfOk result (λ to. IsStepOf self.new list (Character kind c None false) to.number) }
+        ensures behind { IfOk result (λ to. to.behind ≡ (made_at self.new to.number).behind) }
+        ensures kept { Grows self.old self.new }
+    {
+        if let Some(to) = self.kept_last(list, kind, c) {
+            return Ok(to);
+        }
+        self.found_last(list, kind, c)
+    }
+}

@@ -1,11 +1,11 @@
 use Rattle.std.proofs.Common.{◌∙◌, ◌+◌, ap, sym}
-use Rattle.hm_plan.proofs.Headline.{made_is_shortest}
 use Rattle.hm_edges.specs.Pieces.{piece_bytes}
 use Rattle.hm_graph_laws.specs.Layers.{first_layer}
 use Rattle.hm_graph.specs.Graphs.{tree_edges}
 use Rattle.hm_graph_laws.specs.Units.{units_of}
 use Rattle.hm_graph.proofs.Ways.{steps_count}
 use Rattle.hm_plan.proofs.Graphs.{text_is_shortest, certificate_is}
+use Rattle.hm_plan.proofs.Headline.{made_is_shortest}
 use Rattle.hm_plan.proofs.Written.{certified_readable}
 use Rattle.hm_plan.proofs.minify.minify_tree.Goals as goal
 
@@ -28,8 +28,5 @@ returns-clause-readable c = λ s.
 
 pub returns-clause-shortest : goal.returns-clause-shortest
 returns-clause-shortest c = λ s.
-    made_is_shortest c.args.table.now.entries c.every_table.ensures.names c.args.rules c.args.format c.args.tree.now s
-    (certified_readable c.args.table.now.entries c.every_table.ensures.names c.args.rules c.args.format c.args.tree.now c.in_ok-graph.graph c.in_ok-graph.ensures c.is_small.ensures.low c.is_small.ensures.few s)
-    _ _
-    (c.in_ok-out.ensures ∙ text_is_shortest c.args.table.now.entries c.every_table.ensures.names c.args.rules c.args.format c.args.tree.now c.in_ok-graph.graph c.in_ok-graph.ensures)
-    (c.in_ok-plan.ensures.certificate ∙ certificate_is c.args.table.now.entries c.args.rules c.args.format c.args.tree.now c.in_ok-graph.graph c.in_ok-graph.ensures)
+    let made = returns-clause-made c in
+    made_is_shortest c.args.table.now.entries c.every_table.ensures.names c.args.rules c.args.format c.args.tree.now s (returns-clause-readable c s) _ _ made.out made.certificate

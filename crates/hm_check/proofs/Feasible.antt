@@ -8,7 +8,7 @@ use Rattle.hm_graph_laws.specs.Units.{Unit}
 use Rattle.hm_graph_laws.specs.Layers.{LayerTest, first_layer, states_behind}
 use Rattle.hm_graph_laws.specs.Prices.{Row, price_at, KeepsEdge, KeepsEdges, KeepsLayer, AreZero, FeasibleFrom, has_width, row_over, with_row, followed_by, full_from}
 use Rattle.hm_graph_laws.specs.Ways.{Edges, lesser, over, best}
-use Rattle.hm_check.specs.Laws.{NoHighPriceIsFeasible}
+use Rattle.hm_check.specs.Laws.{PriceRulesAgree}
 use Rattle.hm_check.specs.Rows.{HighPrice, is_above, high_in, high_at_end, or_else, bounds_of, high_price}
 
 -- ---- A price and its bound
@@ -179,6 +179,6 @@ feasible_high edges k (unit ∷ units) states (row ∷ next ∷ rows) f =
     rw (keeps_high edges unit (price_at behind next) k 0 states row f.0) (feasible_high edges (suc k) units behind (next ∷ rows) f.1)
 
 -- so both rules of prices are one, for the rows that written ones stand for
-pub no_high_price_is_feasible : NoHighPriceIsFeasible
-no_high_price_is_feasible edges follows units rows prices is =
+pub price_rules_agree : PriceRulesAgree
+price_rules_agree edges follows units rows prices is =
     (high_feasible edges 0 units first_layer prices (full_wide edges follows 0 units first_layer rows prices is), feasible_high edges 0 units first_layer prices)

@@ -33,13 +33,14 @@ least_certificate t r format w = record {
   prices = written_rows (tree_edges t r format) (follows_by format (tree_edges t r format)) 0 (units_of r w) first_layer (least_prices (tree_edges t r format) (units_of r w) first_layer);
 }
 
--- The prices that written rows stand for have none above its bound exactly where they keep the rules.
-abbrev pub NoHighPriceIsFeasible : Type 0
-NoHighPriceIsFeasible = (edges : Edges) (follows : LayerTest) (units : List Unit) (rows prices : List Row) → full edges follows units rows ≡ Some prices
+-- Both rules of prices are one: of the prices that written rows stand for, none is above its bound exactly where they are
+-- feasible.
+abbrev pub PriceRulesAgree : Type 0
+PriceRulesAgree = (edges : Edges) (follows : LayerTest) (units : List Unit) (rows prices : List Row) → full edges follows units rows ≡ Some prices
     → (high_price edges 0 units first_layer prices ≡ None → Feasible edges units prices) × (Feasible edges units prices → high_price edges 0 units first_layer prices ≡ None)
 
--- What a yes stands for: text and certificate are by these rules and within the limit, the text parses to the tree, and the
--- prices that the rows stand for are feasible, the first of them being no less than the length of the text.
+-- What a yes stands for: the certificate is by these rules, the text is within its limit and parses to the tree, and the prices
+-- that the rows stand for are feasible, the first of them being no less than the length of the text.
 pub record IsEarned (t : List Entry) (r : SpellRules) (w : List Event) (out : List ℕ) (c : Certificate) : Type 0 where
   pub rules : same_rules c.rules r ≡ true
   pub short : length out ≤ OUTPUT_LIMIT

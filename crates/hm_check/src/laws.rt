@@ -1,10 +1,10 @@
 //! What a check's answer is worth. The functions do nothing.
-ghost use Rattle.hm_check.specs.Laws.{MinifiedIsAccepted, NoHighPriceIsFeasible, SpellingsAreAccepted, YesIsEarned, YesShows};
+ghost use Rattle.hm_check.specs.Laws.{MinifiedIsAccepted, PriceRulesAgree, SpellingsAreAccepted, YesIsEarned, YesShows};
 
 /// The check's rule of prices is the one that shows a bound: it finds no price above its bound exactly where the prices of all
 /// layers are feasible.
-pub fn no_high_price_is_feasible()
-    ensures { NoHighPriceIsFeasible }
+pub fn price_rules_agree()
+    ensures { PriceRulesAgree }
 {}
 
 /// The check says yes exactly where the text parses to the tree and the prices are feasible and bound it, by the same rules and

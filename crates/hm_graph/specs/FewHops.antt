@@ -11,6 +11,7 @@ use Rattle.hm_graph.specs.Fits.{StepsFit}
 use Rattle.hm_graph.specs.Graphs.{tree_edges}
 use Rattle.hm_graph.specs.Steps.{Step}
 
+-- at most 71 hops for each state
 abbrev pub IsFewStep : Step → Type 0
 IsFewStep [] = Prim.Unit {0}
 IsFewStep (hops ∷ step) = (length hops ≤ 71) × IsFewStep step

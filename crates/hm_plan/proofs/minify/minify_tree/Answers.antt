@@ -27,11 +27,5 @@ returns-clause-readable c = λ s.
 
 pub returns-clause-shortest : goal.returns-clause-shortest
 returns-clause-shortest c = λ s.
-    let g = c.in_ok-graph.graph in
-    let table : IsTable g.source.table.entries = subst (λ of. IsTable of.table.entries) (sym c.in_ok-graph.ensures) c.every_table.ensures.names in
-    made_is_shortest c.args.table.now.entries c.every_table.ensures.names c.args.rules c.args.format c.args.tree.now s
-    (subst (λ of. AreRows (certified_rows of.table.entries of.rules of.format of.tree)) c.in_ok-graph.ensures
-    (certified_readable g table c.every_graph.ensures.graph c.every_graph.ensures.few (subst (λ of. Settled of.tree) (sym c.in_ok-graph.ensures) s)))
-    _ _
-    (c.in_ok-out.ensures ∙ text_is_shortest g table c.every_graph.ensures.graph ∙ ap (λ of. shortest_text of.table.entries of.rules of.tree) c.in_ok-graph.ensures)
-    (c.in_ok-plan.ensures.certificate ∙ certificate_is g c.every_graph.ensures.graph ∙ ap (λ of. certificate_of of.table.entries of.rules of.format of.tree) c.in_ok-graph.ensures)
+    let made = returns-clause-made c in
+    made_is_shortest c.args.table.now.entries c.every_table.ensures.names c.args.rules c.args.format c.args.tree.now s (returns-clause-readable c s) _ _ made.out made.certificate

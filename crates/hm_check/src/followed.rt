@@ -15,7 +15,7 @@ ghost use Rattle.hm_check.specs.Following.{GoesOverAlike, IsOver, IsWayOn, Leads
 
 use hm_base::{Format, Memory, SpellRules};
 use hm_edges::{Form, Piece};
-use hm_graph::{Visitor, Graph, Hop, Step};
+use hm_graph::{Graph, Hop, Step, Visitor};
 use hm_parts::{Own, put_piece};
 use hm_refs::Table;
 use hm_tree::Tree;

@@ -5,7 +5,6 @@ use Rattle.std.specs.declared.result.Result.{Result}
 use Rattle.std.specs.declared.result.Result.TheVariants.{Ok, Err}
 use Rattle.std.specs.Result.{IfOk, IfErr}
 use Rattle.std.proofs.lemmas.Bool.{lt-ltb, le-ltb}
-use Rattle.hm_base.specs.declared.plain.Format.{Format}
 use Rattle.hm_base.specs.Faults.{HasText}
 use Rattle.hm_base.specs.Source.{refusal_at, Source, source_of, text_fault}
 use Rattle.hm_base.specs.Walks.{Event}
@@ -17,17 +16,13 @@ use Rattle.hm_base.specs.declared.rules.Rule.TheVariants as rules
 use Rattle.hm_build.specs.Parsing.{IsRefusedAs}
 use Rattle.hm_cert.specs.declared.certificate.Certificate.{Certificate}
 use Rattle.hm_construction_laws.specs.Trees.{Outcome, built, refused_by, page_tree, tree_of_source}
-use Rattle.hm_edges.specs.declared.pieces.Piece.{Piece}
 use Rattle.hm_edges.specs.Pieces.{piece_bytes}
-use Rattle.hm_graph_laws.specs.Layers.{first_layer}
 use Rattle.hm_graph_laws.specs.Prices.{Row}
-use Rattle.hm_graph_laws.specs.Ways.{Edges}
 use Rattle.hm_graph.specs.Graphs.{GraphSource, GraphView, IsGraph, source_edges, tree_edges}
 use Rattle.hm_refs.specs.Names.{Entry}
-use Rattle.hm_graph.specs.Fits.{StepsFit}
 use Rattle.hm_optimality_laws.specs.Formats.{follows_by}
 use Rattle.hm_tree.specs.Trees.{DifferFirstAt}
-use Rattle.hm_graph_laws.specs.Units.{Unit, units_of}
+use Rattle.hm_graph_laws.specs.Units.{units_of}
 use Rattle.hm_check.specs.Differences.{first_difference}
 use Rattle.hm_check.specs.Steps.{by_rows_over}
 use Rattle.hm_check.specs.Trees.{tree_why}

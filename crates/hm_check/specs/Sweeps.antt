@@ -1,7 +1,6 @@
 -- What is known of the rows of a certificate from a layer of a graph on.
 use Rattle.std.specs.Prelude.{◌≡◌, ◌==◌, ◌<◌, ◌+◌, ◌*◌, ◌^◌, ℕ, true, false, List, ◌∷◌, length, map, drop, Option, Some, None, option_map, if◌then◌else◌}
 use Rattle.std.specs.Option.{option_or}
-use Rattle.hm_base.specs.declared.plain.Format.{Format}
 use Rattle.hm_cert.specs.Certificate.{AreRows}
 use Rattle.hm_cert.specs.Layout.{told}
 use Rattle.hm_cert.specs.Places.{IsRowPlace}

@@ -11,7 +11,7 @@ use Rattle.hm_graph.specs.Fits.{StepsFit}
 use Rattle.hm_graph.specs.Steps.{Step}
 use Rattle.hm_graph.specs.Building.{BuildingView, steps_at, IsBuilt}
 use Rattle.std.specs.List.{All}
-use Rattle.hm_graph.specs.Graphs.{GraphSource, GraphView, IsGraph, AreLow, AreNamed, AreNumbers, source_edges, spread}
+use Rattle.hm_graph.specs.Graphs.{GraphView, IsGraph, AreLow, AreNamed, AreNumbers, source_edges, spread}
 use Rattle.hm_graph.specs.Layers.{edges_under, states_of}
 use Rattle.hm_graph.specs.Interned.{InternedView, none_made}
 use Rattle.hm_graph.specs.declared.made.MadeStep.{MadeStep}

@@ -1,5 +1,5 @@
 -- Rows that are written, and what they stand for, are those of the graph.
-use Rattle.std.proofs.Common.{◌≡◌, ℕ, suc, Bool, true, false, not, ◌&&◌, ◌==◌, List, [], ◌∷◌, length, Option, Some, None, cond, refl, ap, ◌∙◌}
+use Rattle.std.proofs.Common.{◌≡◌, ℕ, suc, not, ◌&&◌, ◌==◌, List, [], ◌∷◌, length, Option, Some, None, cond, refl, ap, ◌∙◌}
 use Rattle.std.specs.List.{list_all}
 use Rattle.hm_base.specs.declared.plain.Format.{Format}
 use Rattle.hm_base.specs.declared.plain.Format.TheVariants.{One, Two, Three}

@@ -13,7 +13,6 @@ use crate::plain::Alike;
 use crate::visitors::Visitor;
 use hm_edges::{TextKind, Unit};
 use hm_parts::{Own, Part};
-use hm_refs::Table;
 
 /// A graph while it is built, and its visitor.
 #[derive(Drop)]
@@ -24,17 +23,13 @@ pub(crate) struct Along<'t, V> {
 
 /// Adds the step of a unit with these bytes of its own.
 #[inline(always)]
-fn add<V: Visitor>(
-    along: &mut Along<'_, V>,
-    table: &Table,
-    unit: &Unit,
-    own: Own,
-) -> Result<(), V::Stop>
-    requires table { along.old.graph.table ≡ table.now }
-    ensures { OnOk result ((u : units.Unit) → StandsFor table.now.entries unit.now u → own_bytes u ≡ own_text own.entry → Goes (V.goes_on table.now.entries) (u ∷ []) [] along.old along.new) }
+fn add<V: Visitor>(along: &mut Along<'_, V>, unit: &Unit, own: Own) -> Result<(), V::Stop>
+    ensures { OnOk result ((u : units.Unit) → StandsFor along.old.graph.table.entries unit.now u → own_bytes u ≡ own_text own.entry → Goes V.goes_on (u ∷ []) [] along.old along.new) }
 {
     let number = along.graph.add(unit)?;
-    along.by.take(table, along.graph.step(number), own)?;
+    along
+        .by
+        .take(along.graph.table(), along.graph.step(number), own)?;
     Ok(())
 }
 
@@ -42,12 +37,10 @@ fn add<V: Visitor>(
 #[inline(always)]
 fn add_first<'s, V: Visitor>(
     along: &mut Along<'_, V>,
-    table: &Table,
     kind: TextKind,
     text: &'s str,
 ) -> Result<&'s str, V::Stop>
-    requires table { along.old.graph.table ≡ table.now }
-    ensures goes { IfOk result (λ rest. GoesOver (V.goes_on table.now.entries) (kind_of kind) (chars text.now) (chars rest.now) along.old along.new) }
+    ensures goes { IfOk result (λ rest. GoesOver V.goes_on (kind_of kind) (chars text.now) (chars rest.now) along.old along.new) }
     ensures shorter { IfOk result (λ rest. 0 < length text.now → length rest.now < length text.now) }
     ensures utf8 { IfOk result (λ rest. IsUtf8 rest.now) }
 {
@@ -56,9 +49,11 @@ fn add_first<'s, V: Visitor>(
     let rest = characters.as_str();
     if let Some(c) = first {
         let number = along.graph.add_character(kind, c, characters.next())?;
-        along
-            .by
-            .take(table, along.graph.step(number), Own::Character { c })?;
+        along.by.take(
+            along.graph.table(),
+            along.graph.step(number),
+            Own::Character { c },
+        )?;
     }
     Ok(rest)
 }
@@ -68,12 +63,10 @@ fn add_first<'s, V: Visitor>(
 #[inline(always)]
 fn add_alike<'s, V: Visitor>(
     along: &mut Along<'_, V>,
-    table: &Table,
     kind: TextKind,
     text: &'s str,
 ) -> Result<&'s str, V::Stop>
-    requires table { along.old.graph.table ≡ table.now }
-    ensures goes { IfOk result (λ rest. GoesOver (V.goes_on table.now.entries) (kind_of kind) (chars text.now) (chars rest.now) along.old along.new) }
+    ensures goes { IfOk result (λ rest. GoesOver V.goes_on (kind_of kind) (chars text.now) (chars rest.now) along.old along.new) }
     ensures within { IfOk result (λ rest. length rest.now ≤ length text.now) }
     ensures utf8 { IfOk result (λ rest. IsUtf8 rest.now) }
 {
@@ -84,7 +77,7 @@ fn add_alike<'s, V: Visitor>(
     let front = &text.as_bytes()[..count];
     along
         .by
-        .take_alike(table, along.graph.step(to.number), front)?;
+        .take_alike(along.graph.table(), along.graph.step(to.number), front)?;
     Ok(&text[count..])
 }
 
@@ -92,62 +85,52 @@ fn add_alike<'s, V: Visitor>(
 #[inline(always)]
 fn add_some<'s, V: Visitor>(
     along: &mut Along<'_, V>,
-    table: &Table,
     kind: TextKind,
     text: &'s str,
 ) -> Result<&'s str, V::Stop>
-    requires table { along.old.graph.table ≡ table.now }
-    ensures goes { IfOk result (λ rest. GoesOver (V.goes_on table.now.entries) (kind_of kind) (chars text.now) (chars rest.now) along.old along.new) }
+    ensures goes { IfOk result (λ rest. GoesOver V.goes_on (kind_of kind) (chars text.now) (chars rest.now) along.old along.new) }
     ensures shorter { IfOk result (λ rest. 0 < length text.now → length rest.now < length text.now) }
     ensures utf8 { IfOk result (λ rest. IsUtf8 rest.now) }
 {
-    let rest = add_alike(along, table, kind, text)?;
+    let rest = add_alike(along, kind, text)?;
     if rest.len() < text.len() {
         return Ok(rest);
     }
-    add_first(along, table, kind, rest)
+    add_first(along, kind, rest)
 }
 
 /// Adds the steps of the characters of a text.
 #[inline(always)]
 fn add_characters<V: Visitor>(
     along: &mut Along<'_, V>,
-    table: &Table,
     kind: TextKind,
     text: &str,
 ) -> Result<(), V::Stop>
-    requires table { along.old.graph.table ≡ table.now }
-    ensures { OnOk result (GoesOver (V.goes_on table.now.entries) (kind_of kind) (chars text.now) [] along.old along.new) }
+    ensures { OnOk result (GoesOver V.goes_on (kind_of kind) (chars text.now) [] along.old along.new) }
 {
     let mut rest = text;
     while !rest.is_empty() {
-        rest = add_some(along, table, kind, rest)?;
+        rest = add_some(along, kind, rest)?;
     }
     Ok(())
 }
 
 /// Adds the steps of a part.
 #[inline(always)]
-fn add_part<V: Visitor>(
-    along: &mut Along<'_, V>,
-    table: &Table,
-    part: &Part<'_>,
-) -> Result<(), V::Stop>
-    requires table { along.old.graph.table ≡ table.now }
-    requires part { IsPart part.now }
-    ensures { OnOk result (Goes (V.goes_on table.now.entries) (part_units part.now) [] along.old along.new) }
+fn add_part<V: Visitor>(along: &mut Along<'_, V>, part: &Part<'_>) -> Result<(), V::Stop>
+    requires { IsPart part.now }
+    ensures { OnOk result (Goes V.goes_on (part_units part.now) [] along.old along.new) }
 {
     match part {
-        Part::One { unit, own } => add(along, table, unit, Own::Bytes { text: own }),
+        Part::One { unit, own } => add(along, unit, Own::Bytes { text: own }),
         Part::Comment { text } => add(
             along,
-            table,
             &Unit::Fixed {
                 len: text.len() as u32 + 7,
             },
             Own::Comment { text },
         ),
-        Part::Chars { kind, text } => add_characters(along, table, *kind, *text),
+        Part::Chars { kind, text } => add_characters(along, *kind, *text),
     }
 }
 
@@ -155,15 +138,13 @@ fn add_part<V: Visitor>(
 #[inline(always)]
 pub(crate) fn add_parts<V: Visitor>(
     along: &mut Along<'_, V>,
-    table: &Table,
     parts: &[Part<'_>],
 ) -> Result<(), V::Stop>
-    requires table { along.old.graph.table ≡ table.now }
-    requires parts { AreParts parts.now }
-    ensures { OnOk result (Goes (V.goes_on table.now.entries) (parts_units parts.now) [] along.old along.new) }
+    requires { AreParts parts.now }
+    ensures { OnOk result (Goes V.goes_on (parts_units parts.now) [] along.old along.new) }
 {
     for part in parts {
-        add_part(along, table, part)?;
+        add_part(along, part)?;
     }
     Ok(())
 }

@@ -54,7 +54,7 @@ impl<'t> Graph<'t> {
         let mut parts = Vec::new(alloc);
         for i in 0..tree.len() {
             find_parts(tree, rules, i, &mut parts)?;
-            add_parts(&mut along, table, parts.as_slice())?;
+            add_parts(&mut along, parts.as_slice())?;
         }
         let Along { graph, by } = along;
         let graph = graph.into_graph(tree)?;

@@ -57,6 +57,14 @@ impl<'t> GraphBuilder<'t> {
         })
     }
 
+    /// The table of names.
+    #[inline(always)]
+    pub(crate) fn table(&self) -> &'t Table
+        ensures { result.now ≡ self.now.table }
+    {
+        self.interned.table()
+    }
+
     /// The step of this number.
     #[inline(always)]
     pub(crate) fn step(&self, number: u32) -> &Step

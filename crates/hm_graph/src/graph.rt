@@ -78,6 +78,10 @@ impl<'t> Model for Graph<'t> {
 }
 
 /// What holds of the steps of every graph. The function does nothing.
+///
+/// What holds of the fields of a value is known to a proof only where the body reads one of them. A body that needs it calls
+/// this function, or reads a field into a name such as `_runs`.
+#[inline(always)]
 pub fn every_graph(graph: &Graph)
     ensures graph { IsGraph graph.now }
     ensures few { length graph.now.steps < 2 ^ 29 }
@@ -94,6 +98,7 @@ impl<'t> Graph<'t> {
     }
 
     /// The table of names that it is by.
+    #[inline(always)]
     pub fn table(&self) -> &'t Table
         ensures { result.now ≡ self.now.source.table }
     {

@@ -184,6 +184,7 @@ impl<'t> Interned<'t> {
     }
 
     /// The table of names.
+    #[inline(always)]
     pub(crate) fn table(&self) -> &'t Table
         ensures { result.now ≡ self.now.table }
     {

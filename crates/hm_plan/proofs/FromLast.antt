@@ -5,11 +5,9 @@ use Rattle.std.proofs.lemmas.List.{get_or_default, reverse-append, reverse-rever
 use Rattle.std.specs.declared.result.Result.{Result}
 use Rattle.std.specs.declared.result.Result.TheVariants.{Ok, Err}
 use Rattle.std.specs.Result.{IfOk}
-use Rattle.hm_base.specs.declared.plain.SpellRules.{SpellRules}
 use Rattle.hm_cert.specs.Certificate.{head_lines, row_line, row_lines}
 use Rattle.hm_cert.specs.Layout.{told}
 use Rattle.hm_cert.proofs.Below.{below_in}
-use Rattle.hm_base.specs.declared.plain.Format.{Format}
 use Rattle.hm_graph_laws.specs.Prices.{Row, first_price}
 use Rattle.hm_graph_laws.specs.Ways.{lesser, over}
 use Rattle.hm_graph.specs.Graphs.{GraphView, AreLow, IsLowStep, AreLowHops}

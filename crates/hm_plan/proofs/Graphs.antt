@@ -1,25 +1,18 @@
 -- What is found over the steps of a tree's graph is what the definitions say of its edges.
-use Rattle.std.proofs.Common.{◌≡◌, ◌∙◌, ℕ, suc, true, List, [], ◌∷◌, length, refl, ap}
-use Rattle.hm_base.specs.Walks.{Event}
-use Rattle.hm_base.specs.declared.plain.SpellRules.{SpellRules}
+use Rattle.std.proofs.Common.{◌≡◌, ◌∙◌, ℕ, List, length, refl, ap}
 use Rattle.hm_cert.specs.Certificate.{certificate_text}
-use Rattle.hm_base.specs.declared.plain.Format.{Format}
 use Rattle.hm_edges.specs.Pieces.{piece_bytes}
 use Rattle.hm_edges.specs.declared.pieces.Piece.{Piece}
-use Rattle.hm_graph_laws.specs.Layers.{first_layer, states_behind}
-use Rattle.hm_graph_laws.specs.Ways.{Edges}
+use Rattle.hm_graph_laws.specs.Layers.{first_layer}
 use Rattle.hm_graph.specs.Graphs.{GraphView, IsGraph, source_edges}
-use Rattle.hm_refs.specs.Names.{Entry}
 use Rattle.hm_refs.specs.Tables.{IsTable}
 use Rattle.hm_graph.proofs.FirstWays.{way_first}
 use Rattle.hm_graph.proofs.Rows.{rows_least}
 use Rattle.hm_graph.proofs.Ways.{steps_count}
 use Rattle.hm_graph.proofs.Written.{written_agrees}
-use Rattle.hm_graph.specs.Fits.{StepsFit}
 use Rattle.hm_graph.specs.Prices.{rows_of, written_rows}
-use Rattle.hm_graph.specs.Steps.{Step}
 use Rattle.hm_graph.specs.Ways.{way_from}
-use Rattle.hm_graph_laws.specs.States.{State, first_state, same_state}
+use Rattle.hm_graph_laws.specs.States.{first_state, same_state}
 use Rattle.hm_graph_laws.specs.Units.{Unit, units_of}
 use Rattle.hm_plan.specs.Shortest.{certificate_of, shortest_text}
 use Rattle.hm_optimality_laws.proofs.Formats.{same_text}

@@ -344,7 +344,6 @@ fn go_back(back: &mut Back, graph: &Graph, at: Cursor) -> Result<Cursor, Memory>
 pub fn backward(alloc: Global, graph: &Graph) -> Result<Plan, Memory>
     ensures { IfOk result (IsPlan graph.now) }
 {
-    every_graph(graph);
     let mut back = Back::new(alloc, graph.last())?;
     let mut layer = graph.last_layer();
     while layer.layer > 0 {

@@ -10,17 +10,17 @@ use Rattle.hm_graph.proofs.along.add_part.Goals as goal
 
 pub returns-in-One : goal.returns-in-One
 returns-in-One g c =
-    let C = g.V.Visitor.goes_on c.args.table.now.entries in
-    let has : HasOwn c.in-One.unit c.in-One.own.now = subst IsPart c.in-One.is c.requires.part in
+    let C = g.V.Visitor.goes_on in
+    let has : HasOwn c.in-One.unit c.in-One.own.now = subst IsPart c.in-One.is c.requires in
     on_ok_weaker c.add.result
     (λ goes.
     subst (λ p. Goes C (part_units p) [] c.args.along.now c.add.new.along) (sym c.in-One.is)
-    (goes (unit_with c.in-One.unit c.in-One.own.now) (stands_for c.args.table.now.entries c.in-One.unit c.in-One.own.now has) (own_bytes_kept c.in-One.unit c.in-One.own.now has)))
+    (goes (unit_with c.in-One.unit c.in-One.own.now) (stands_for c.args.along.now.graph.table.entries c.in-One.unit c.in-One.own.now has) (own_bytes_kept c.in-One.unit c.in-One.own.now has)))
     c.add.ensures
 
 pub returns-in-Comment : goal.returns-in-Comment
 returns-in-Comment g c =
-    let C = g.V.Visitor.goes_on c.args.table.now.entries in
+    let C = g.V.Visitor.goes_on in
     on_ok_weaker c.add-in-Comment.result
     (λ goes.
     subst (λ p. Goes C (part_units p) [] c.args.along.now c.add-in-Comment.new.along) (sym c.in-Comment.is)
@@ -29,4 +29,4 @@ returns-in-Comment g c =
 
 pub returns-in-Chars : goal.returns-in-Chars
 returns-in-Chars g c =
-    on_ok_weaker c.add_characters.result (λ goes. subst (λ p. Goes (g.V.Visitor.goes_on c.args.table.now.entries) (part_units p) [] c.args.along.now c.add_characters.new.along) (sym c.in-Chars.is) goes) c.add_characters.ensures
+    on_ok_weaker c.add_characters.result (λ goes. subst (λ p. Goes g.V.Visitor.goes_on (part_units p) [] c.args.along.now c.add_characters.new.along) (sym c.in-Chars.is) goes) c.add_characters.ensures

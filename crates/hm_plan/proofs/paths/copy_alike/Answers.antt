@@ -1,4 +1,4 @@
-use Rattle.std.proofs.Common.{◌≡◌, ◌∙◌, ◌≤◌, ℕ, ◌+◌, ◌-◌, ◌++◌, [], get_or, chars, drop, length, take, refl, sym, ap, subst, arith}
+use Rattle.std.proofs.Common.{◌∙◌, ℕ, ◌-◌, ◌++◌, [], get_or, chars, take, refl, sym, ap, subst, arith}
 use Rattle.std.specs.Str.{IsAscii}
 use Rattle.hm_graph.proofs.Characters.{ascii_boundary, some_chars}
 use Rattle.hm_graph.specs.Graphs.{GraphView}

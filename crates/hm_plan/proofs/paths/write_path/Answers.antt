@@ -1,7 +1,7 @@
-use Rattle.std.proofs.Common.{◌≡◌, ◌∙◌, ◌≤◌, ◌<◌, ◌+◌, ◌++◌, Some, ap, arith, drop, length, refl, subst, sym}
+use Rattle.std.proofs.Common.{◌≡◌, ◌∙◌, ◌≤◌, ◌<◌, ◌+◌, ◌++◌, Some, ap, arith, drop, length, sym}
 use Rattle.hm_parts.specs.Events.{units_at}
 use Rattle.hm_parts.specs.Parts.{parts_units}
-use Rattle.hm_graph.specs.Graphs.{GraphView, IsPlace}
+use Rattle.hm_graph.specs.Graphs.{GraphView}
 use Rattle.hm_graph.specs.Ways.{choices_of}
 use Rattle.hm_plan.specs.Paths.{way_on}
 use Rattle.hm_plan.specs.declared.paths.WrittenWay.{WrittenWay}

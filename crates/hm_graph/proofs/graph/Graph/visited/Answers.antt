@@ -7,21 +7,18 @@ use Rattle.hm_graph.proofs.graph.Graph.visited.Goals as goal
 
 pub loop-i-init : goal.loop-i-init
 loop-i-init g c =
-    events_begin (g.V.Visitor.goes_on c.args.table.now.entries) c.args.table.now (record { spell = c.args.rules; format = c.args.format }) c.args.tree.now (record { graph = c.in_ok-new.field-0; by = c.args.visitor }) c.in_ok-new.ensures.table
+    events_begin g.V.Visitor.goes_on c.args.table.now (record { spell = c.args.rules; format = c.args.format }) c.args.tree.now (record { graph = c.in_ok-new.field-0; by = c.args.visitor }) c.in_ok-new.ensures.table
     c.in_ok-new.ensures.rules c.in_ok-new.ensures.built
-
-pub add_parts-requires-clause-table : goal.add_parts-requires-clause-table
-add_parts-requires-clause-table g c = c.loop-i.invariant.table
 
 pub loop-i-preserved : goal.loop-i-preserved
 loop-i-preserved g c =
     let within : c.loop-i.i < length c.args.tree.now = omega (arith, c.loop-i-test.true, c.len-i-end.ensures.len) in
-    events_next (g.V.Visitor.goes_on c.args.table.now.entries) c.args.table.now (record { spell = c.args.rules; format = c.args.format }) c.args.tree.now c.args.visitor c.loop-i.i (parts_units c.as_slice.result.now) c.loop-i.along
+    events_next g.V.Visitor.goes_on c.args.table.now (record { spell = c.args.rules; format = c.args.format }) c.args.tree.now c.args.visitor c.loop-i.i (parts_units c.as_slice.result.now) c.loop-i.along
     c.add_parts.new.along within (ap parts_units c.as_slice.ensures.value ∙ c.in_ok-find_parts.ensures.units) c.loop-i.invariant c.in_ok-add_parts.ensures
 
 pub into_graph-requires : goal.into_graph-requires
 into_graph-requires g c =
-    let C = g.V.Visitor.goes_on c.args.table.now.entries in
+    let C = g.V.Visitor.goes_on in
     let past : c.loop-i.i ≡ length c.args.tree.now = omega (arith, c.loop-i-test.false, c.loop-i.auto.i-end, c.len-i-end.ensures.len) in
     subst (λ r. IsBuilt c.loop-i.along.graph (units_of r.spell c.args.tree.now)) (sym c.loop-i.invariant.rules)
     (events_built C c.args.table.now (record { spell = c.args.rules; format = c.args.format }) c.args.tree.now c.args.visitor c.loop-i.i c.loop-i.along past c.loop-i.invariant)
@@ -33,7 +30,7 @@ returns-clause-source g c =
 
 pub returns-clause-goes_on : goal.returns-clause-goes_on
 returns-clause-goes_on g c = λ h.
-    let C = g.V.Visitor.goes_on c.args.table.now.entries in
+    let C = g.V.Visitor.goes_on in
     let past : c.loop-i.i ≡ length c.args.tree.now = omega (arith, c.loop-i-test.false, c.loop-i.auto.i-end, c.len-i-end.ensures.len) in
-    subst (λ steps. C (units_of c.args.rules c.args.tree.now) steps c.args.visitor) (sym c.in_ok-graph.ensures.steps)
+    subst (λ steps. C c.args.table.now.entries (units_of c.args.rules c.args.tree.now) steps c.args.visitor) (sym c.in_ok-graph.ensures.steps)
     (events_on C c.args.table.now (record { spell = c.args.rules; format = c.args.format }) c.args.tree.now c.args.visitor c.loop-i.i c.loop-i.along past c.loop-i.invariant h)

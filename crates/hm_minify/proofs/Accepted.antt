@@ -19,8 +19,8 @@ use Rattle.hm_check.specs.declared.verdicts.Why.{Why}
 use Rattle.hm_elements.specs.Settled.{Settled}
 use Rattle.hm_refs.specs.Names.{Entry}
 use Rattle.hm_refs.specs.Tables.{IsTable}
-use Rattle.hm_minify.specs.Endings.{format_of, judged, own_verdict}
-use Rattle.hm_minify.specs.Laws.{OwnIsAccepted}
+use Rattle.hm_minify.specs.Endings.{format_of}
+use Rattle.hm_minify.specs.Laws.{OwnIsAccepted, judged, own_verdict}
 use Rattle.hm_words.specs.declared.writing.Writing.{Writing}
 use Rattle.hm_plan.specs.Shortest.{certificate_of, certified_rows, shortest_text}
 

@@ -3,6 +3,7 @@ pub mod Loads
 pub mod InputExamples
 pub mod Codes
 pub mod Lines
+pub mod Outside
 pub mod Writes
 pub mod Stops
 pub mod Endings

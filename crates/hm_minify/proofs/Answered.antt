@@ -39,7 +39,7 @@ neither true b h k = cc
 neither false b h k = not_true b k
 
 -- one of two names
-abbrev is_either : List ℕ → List ℕ → List ℕ → Bool
+abbrev pub is_either : List ℕ → List ℕ → List ℕ → Bool
 is_either out cert name = bytes_eq name out || bytes_eq name cert
 
 or_true : (a : Bool) → (a || true) ≡ true
@@ -59,7 +59,7 @@ both_away (page_at table page) out cert h k = (
 both_away (made table number size) out cert h k = apart_of_both (is_none table) (bytes_eq table out) (bytes_eq table cert) h k
 
 -- they aren't those of the origin's files
-away : (origin : Origin) (out cert : List ℕ) → are_files_apart origin out cert ≡ true → IsApartFrom (is_either out cert) origin
+pub away : (origin : Origin) (out cert : List ℕ) → are_files_apart origin out cert ≡ true → IsApartFrom (is_either out cert) origin
 away origin out cert apart =
     both_away origin out cert (left (is_away origin out) (is_away origin cert && not (bytes_eq out cert)) apart)
     (left (is_away origin cert) (not (bytes_eq out cert)) (right (is_away origin out) (is_away origin cert && not (bytes_eq out cert)) apart))
@@ -116,14 +116,6 @@ asked_seen told a x bytes t w ended apart i is e =
 -- the files are as they were before the tree was loaded
 pub answer_before : (told mid : Option FileMap) (work : Work) (r : Writing) (bytes : ℕ) (t : List Entry) (w : List Event) (ended : Ending) → mid ≡ told → Sees mid (λ seen. ended ≡ tree_ending work r seen bytes t w) → Sees told (λ seen. ended ≡ tree_ending work r seen bytes t w)
 answer_before told mid work r bytes t w ended same a = subst (λ files. Sees files (λ seen. ended ≡ tree_ending work r seen bytes t w)) same a
-
--- what is said of an input other than a tree is the ending
-pub input_seen : (told : Option FileMap) (a : Asked) (x : Input) (ended : Ending) → IsInput told a.origin a.options x → ended ≡ with_tree (wanted a x) (tree_ending a.work a.writing (file_of told)) → ((seen : Contents) → with_tree (wanted a x) (tree_ending a.work a.writing seen) ≡ ended) → Sees told (λ seen. ended ≡ asked_ending a seen)
-input_seen told a x ended i e is = record {
-  seen = i.seen;
-  are_told = i.are_told;
-  holds = sym (is i.seen) ∙ ap (λ y. with_tree (wanted a y) (tree_ending a.work a.writing i.seen)) (sym i.holds);
-}
 
 -- a file of the origin isn't there
 pub origin_missing : (told : Option FileMap) (a : Asked) → Tells told (λ seen. origin_input a.origin a.options seen ≡ missing) → Tells told (λ seen. asked_ending a seen ≡ store_fault)

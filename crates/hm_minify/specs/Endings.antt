@@ -2,6 +2,7 @@
 use Rattle.std.specs.Prelude.{ℕ, Bool, true, false, List, [], ◌∷◌, length, nat_lt, Option, Some, None, Result, Ok, Err, if◌then◌else◌}
 use Rattle.hm_base.specs.declared.plain.SpellRules.{SpellRules}
 use Rattle.hm_base.specs.declared.limits.TheConstants.{CERTIFICATE_LIMIT}
+use Rattle.hm_cert.specs.Certificate.{AreRows}
 use Rattle.hm_cert.specs.Reading.{given}
 use Rattle.hm_cert.specs.declared.certificate.Certificate.{Certificate}
 use Rattle.hm_base.specs.declared.plain.Format.{Format}
@@ -12,7 +13,7 @@ use Rattle.hm_check.specs.declared.verdicts.Verdict.TheVariants.{Yes, No}
 use Rattle.hm_store.specs.Contents.{Contents}
 use Rattle.hm_base.specs.Walks.{Event}
 use Rattle.hm_refs.specs.Names.{Entry}
-use Rattle.hm_plan.specs.Shortest.{certificate_of, layer_count, shortest_text}
+use Rattle.hm_plan.specs.Shortest.{certificate_of, certified_rows, layer_count, shortest_text}
 use Rattle.hm_dump.specs.Dump.{dump_of}
 use Rattle.hm_minify.specs.Inputs.{Input, missing, bad_table, bad_page, tree as tree_input, input_of}
 use Rattle.hm_words.specs.Words.{Work, Asked, minifies, checks, shows, measures, asked}
@@ -94,6 +95,18 @@ tree_ending (minifies out cert) x seen bytes t w = minified_ending x out cert t 
 tree_ending (checks out cert) x seen bytes t w = check_ending x.rules t w (seen out) (seen cert)
 tree_ending shows x seen bytes t w = says status.Done (dump_of w)
 tree_ending measures x seen bytes t w = measured_ending bytes x t w
+
+-- the certificate that is written of a tree can be read
+abbrev pub IsReadableTree : Work → Writing → List Entry → List Event → Type 0
+IsReadableTree (minifies out cert) x t w = AreRows (certified_rows t x.rules (format_of x.sparse) w)
+IsReadableTree (checks out cert) x t w = Unit {0}
+IsReadableTree shows x t w = Unit {0}
+IsReadableTree measures x t w = AreRows (certified_rows t x.rules (format_of x.sparse) w)
+
+-- where a request works on a tree, what it writes can be read
+abbrev pub IsReadable : Asked → Input → Type 0
+IsReadable a (tree_input bytes t w) = IsReadableTree a.work a.writing t w
+IsReadable a input = Unit {0}
 
 -- ---- All requests
 

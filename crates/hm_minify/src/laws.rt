@@ -1,7 +1,12 @@
-//! A law over the definitions. The function does nothing.
-ghost use Rattle.hm_minify.specs.Laws.{OwnIsAccepted};
+//! Laws over the definitions. The functions do nothing.
+ghost use Rattle.hm_minify.specs.Laws.{MinifiedIsChecked, OwnIsAccepted};
 
 /// What is written of a settled tree is found shortest by the check, with the number of its bytes.
 pub fn own_is_accepted()
     ensures { OwnIsAccepted }
+{}
+
+/// A check of what was minified says yes, with the number of bytes of the text.
+pub fn minified_is_checked()
+    ensures { MinifiedIsChecked }
 {}

@@ -57,6 +57,7 @@ fn check_minified(
 pub fn measure<'w>(alloc: Global, input: &Input, writing: Writing) -> Result<Ended<'w>, Stop>
     requires settled { Settled input.now.tree }
     ensures ended { IfOk result (λ ended. ended ≡ spec.measured_ending input.now.bytes writing input.now.table.entries input.now.tree) }
+    ensures readable { IfOk result (λ _. AreRows (certified_rows input.now.table.entries writing.rules (spec.format_of writing.sparse) input.now.tree)) }
     ensures answers { IfOk result (λ ended. spec.is_fault ended.status ≡ false) }
     ensures memory { result ≢ Err Stop.Store }
 {

@@ -6,6 +6,7 @@ ghost use Rattle.hm_words.specs.Words as request;
 ghost use Rattle.hm_words.specs.Words.{Asked as Request, asked as asked_by};
 ghost use Rattle.hm_minify.specs.Endings as endings;
 ghost use Rattle.hm_minify.specs.Endings.{ending, is_fault};
+ghost use Rattle.hm_minify.specs.Inputs.{input_of};
 ghost use Rattle.hm_minify.specs.Lines.{usage_line, store_line};
 ghost use Rattle.hm_minify.specs.Outside.{Between, Prints, PrintsFront, SinkFails, StoreFails};
 ghost use Rattle.hm_minify.specs.Runs as spec;
@@ -57,6 +58,8 @@ fn perform<S: Store, O: Sink>(alloc: Global, words: &[Word], store: &mut S, out:
     ensures unasked { asked_by words.now ≡ None → (store.new ≡ store.old)
         × (Between S.Store O.Sink store.old out.old store.new out.new (spec.Puts usage_line Status.Usage result) ⊎ (result ≡ Status.Memory)) }
     ensures course { Between S.Store O.Sink store.old out.old store.new out.new (spec.Course (ending words.now) result) }
+    ensures readable { result ≡ Status.Done → (asked : Request) → asked_by words.now ≡ Some asked
+        → Sees (S.files store.old) (λ seen. endings.IsReadable asked (input_of asked seen)) }
     ensures writing { result ≡ Status.Memory → S.is_writing store.new ≡ S.is_writing store.old }
 {
     match Asked::read(alloc, words) {
@@ -110,6 +113,10 @@ pub fn run<S: Store, O: Sink>(alloc: Global, words: &[Word], store: &mut S, out:
     // The headline: the tree that is wanted is written shortest and certified.
     ensures minified { (asked : Request) (output cert : List ℕ) → asked_by words.now ≡ Some asked → asked.work ≡ request.minifies output cert
         → result ≡ Status.Done → Between S.Store O.Sink store.old out.old store.new out.new (spec.HasMinified asked output cert) }
+
+    // What is written shortest can be read: with it, the ending of the check on the same page is a yes (`laws::minified_is_checked`).
+    ensures readable { (asked : Request) → asked_by words.now ≡ Some asked → result ≡ Status.Done
+        → Sees (S.files store.old) (λ seen. endings.IsReadable asked (input_of asked seen)) }
 
     // The checker's yes implies the bound, for text and prices from any source; a no comes with the first condition
     // that fails.

@@ -1,12 +1,15 @@
 //! What a request ends with, made in memory.
 ghost use Rattle.std.specs.Prelude.{◌≡◌, ◌≢◌, ◌⊎◌, ◌≤◌, IfOk, Err, true, false};
+ghost use Rattle.hm_cert.specs.Certificate.{AreRows};
 ghost use Rattle.hm_elements.specs.Settled.{Settled};
+ghost use Rattle.hm_plan.specs.Shortest.{certified_rows};
 ghost use Rattle.hm_store.specs.Causes.{Rose};
 ghost use Rattle.hm_store.specs.Contents.{Sees, Tells};
 ghost use Rattle.hm_dump.specs.Dump.{dump_of};
 ghost use Rattle.hm_words.specs.Answers.{origin_of, request_of, work_of};
 ghost use Rattle.hm_words.specs.Words as request;
 ghost use Rattle.hm_minify.specs.Endings as spec;
+ghost use Rattle.hm_minify.specs.Inputs.{input_of};
 
 use crate::checked::check_files;
 use crate::ended::{Ended, Output, Said, Stop, says, shows};
@@ -37,7 +40,9 @@ fn minify<'w>(
     out: &'w str,
     cert: &'w str,
 ) -> Result<Ended<'w>, Stop>
+    requires settled { Settled input.now.tree }
     ensures ended { IfOk result (λ ended. ended ≡ spec.minified_ending writing out.now cert.now input.now.table.entries input.now.tree) }
+    ensures readable { IfOk result (λ _. AreRows (certified_rows input.now.table.entries writing.rules (spec.format_of writing.sparse) input.now.tree)) }
     ensures memory { result ≢ Err Stop.Store }
 {
     let minified = minify_tree(
@@ -82,6 +87,7 @@ fn answer<'w, S: Store>(
     requires settled { Settled input.tree }
     requires apart { request.is_apart (origin_of asked.now.origin) (work_of asked.now.work) ≡ true }
     ensures ended { IfOk result (λ ended. Sees (S.files store.old) (λ seen. ended ≡ spec.tree_ending (work_of asked.now.work) asked.now.writing seen input.bytes input.table.entries input.tree)) }
+    ensures readable { IfOk result (λ _. spec.IsReadableTree (work_of asked.now.work) asked.now.writing input.table.entries input.tree) }
     ensures answers { IfOk result (λ ended. spec.is_fault ended.status ≡ false) }
     ensures same { S.files store.new ≡ S.files store.old }
     ensures writing { S.is_writing store.new ≡ S.is_writing store.old }
@@ -107,6 +113,7 @@ pub fn work<'w, S: Store>(
 ) -> Result<Ended<'w>, Stop>
     requires apart { request.is_apart (origin_of asked.now.origin) (work_of asked.now.work) ≡ true }
     ensures ended { IfOk result (λ ended. Sees (S.files store.old) (λ seen. ended ≡ spec.asked_ending (request_of asked.now) seen)) }
+    ensures readable { IfOk result (λ _. Sees (S.files store.old) (λ seen. spec.IsReadable (request_of asked.now) (input_of (request_of asked.now) seen))) }
     ensures answers { IfOk result (λ ended. spec.is_fault ended.status ≡ false) }
     ensures same { S.files store.new ≡ S.files store.old }
     ensures writing { S.is_writing store.new ≡ S.is_writing store.old }

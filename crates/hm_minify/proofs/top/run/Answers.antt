@@ -72,3 +72,6 @@ returns-clause-refused_page g c = λ asked e is. refuses_page c.args.words.now a
 
 pub returns-clause-refused_table : goal.returns-clause-refused_table
 returns-clause-refused_table g c = λ asked e is. refuses_table c.args.words.now asked c.perform.result _ _ e (answer (ending c.args.words.now) c.perform.result _ _ c.perform.ensures.course (ap is_fault is)) is
+
+pub returns-clause-readable : goal.returns-clause-readable
+returns-clause-readable g c = λ asked e is. c.perform.ensures.readable is asked e

@@ -1,5 +1,5 @@
 -- What was written of a settled tree is accepted.
-use Rattle.std.proofs.Common.{◌≡◌, ◌∙◌, ℕ, ◌≤◌, List, length, Ok, Err, refl, sym, ap, subst, arith}
+use Rattle.std.proofs.Common.{◌≡◌, ◌∙◌, ℕ, ◌≤◌, List, length, Ok, Err, refl, sym, ap, subst}
 use Rattle.hm_base.specs.Walks.{Event}
 use Rattle.hm_base.specs.declared.limits.TheConstants.{OUTPUT_LIMIT}
 use Rattle.hm_base.specs.declared.plain.SpellRules.{SpellRules}
@@ -10,8 +10,7 @@ use Rattle.hm_cert.specs.declared.lines.CertificateFault.{CertificateFault}
 use Rattle.hm_cert.specs.declared.lines.CertificateFault.TheVariants.{BadLine}
 use Rattle.hm_cert.specs.declared.certificate.Certificate.{Certificate}
 use Rattle.hm_base.specs.declared.plain.Format.{Format}
-use Rattle.hm_check.proofs.Earned.{earned}
-use Rattle.hm_check.proofs.Shown.{minified_is_accepted, rules_same}
+use Rattle.hm_check.proofs.Shown.{minified_is_accepted}
 use Rattle.hm_check.specs.Laws.{least_certificate}
 use Rattle.hm_check.specs.Verdicts.{verdict}
 use Rattle.hm_check.specs.declared.verdicts.Verdict.{Verdict}
@@ -20,8 +19,8 @@ use Rattle.hm_check.specs.declared.verdicts.Why.{Why}
 use Rattle.hm_elements.specs.Settled.{Settled}
 use Rattle.hm_refs.specs.Names.{Entry}
 use Rattle.hm_refs.specs.Tables.{IsTable}
-use Rattle.hm_minify.specs.Endings.{format_of, judged, own_verdict}
-use Rattle.hm_minify.specs.Laws.{OwnIsAccepted, ShortestIsAccepted}
+use Rattle.hm_minify.specs.Endings.{format_of}
+use Rattle.hm_minify.specs.Laws.{OwnIsAccepted, judged, own_verdict}
 use Rattle.hm_words.specs.declared.writing.Writing.{Writing}
 use Rattle.hm_plan.specs.Shortest.{certificate_of, certified_rows, shortest_text}
 
@@ -69,12 +68,3 @@ own_is_accepted t k x w s short rows =
     let c : Certificate = least_certificate t x.rules (format_of x.sparse) w in
     found_own t x w out cert c (verdict t x.rules w out c) (length out) refl refl (certificate_read t x.rules (format_of x.sparse) w cert refl rows) refl
     (accepted t k x.rules (format_of x.sparse) w s out c refl refl short)
-
--- so is every certificate that shows a text to be shortest
-pub shortest_is_accepted : ShortestIsAccepted
-shortest_is_accepted t r format w out cert h short =
-    let k = h.certified in
-    let c : Certificate = record { format = format; rules = r; prices = k.rows } in
-    let read : given cert ≡ Ok c = ap given k.text ∙ written_is_read format r k.rows k.writable in
-    ap (judged (verdict t r w out)) read
-    ∙ ap (λ v. Ok v) (earned t r w out c (record { rules = rules_same r; short = short; parses = h.parses; prices = k.prices; full = k.full; feasible = k.feasible; first = length out; price = k.first; bound = omega arith }))

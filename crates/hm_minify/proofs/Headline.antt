@@ -11,7 +11,7 @@ use Rattle.hm_construction_laws.proofs.Pages.{pages_are_settled}
 use Rattle.hm_construction_laws.specs.Trees.{Outcome, built, refused_by, page_tree}
 use Rattle.hm_elements.specs.Settled.{Settled}
 use Rattle.hm_gen.specs.Pages.{page as made_page}
-use Rattle.hm_minify.specs.Inputs.{tree as tree_input, input_of, input_from, is_none, page_input, page_outcome, rewritten_input, table_names}
+use Rattle.hm_minify.specs.Inputs.{Input, missing, bad_table, bad_page, tree as tree_input, input_of, input_from, origin_input, wanted, is_none, page_input, page_outcome, rewritten_input, table_names}
 use Rattle.hm_options.specs.Rewrites.{rewrite}
 use Rattle.hm_options.proofs.InOrder.{rewrite_settled}
 use Rattle.hm_refs.proofs.Gathered.{no_table}
@@ -24,9 +24,8 @@ use Rattle.hm_plan.proofs.Headline.{shortest_is_certified}
 use Rattle.hm_plan.specs.Shortest.{IsShortest, certificate_of, certified_rows, shortest_text}
 use Rattle.hm_store.specs.Contents.{Contents}
 use Rattle.hm_token_laws.proofs.TextPieces.{names_of_table}
-use Rattle.hm_words.specs.declared.writing.Writing.{Writing}
 use Rattle.hm_minify.specs.Endings.{format_of}
-use Rattle.hm_words.specs.Words.{Command, minify, check, tree, measure}
+use Rattle.hm_words.specs.Words.{Asked, Origin, page_at, made}
 
 -- a table of names, and a settled tree
 pub record IsSound (t : List Entry) (w : List Event) : Type 0 where
@@ -53,30 +52,37 @@ outcome_settled t k page w e = by_length (nat_lt PAGE_LIMIT (length page)) e
     by_length true e = cc
     by_length false e = pages_are_settled t page w (names_of_table t k) e
 
-rewritten_sound : (t u : List Entry) (o : TreeOptions) (w : List Event) (page : List ℕ) (x : Outcome) → IsTable t → page_outcome t page ≡ x → rewritten_input t o x ≡ tree_input u w → IsSound u w
-rewritten_sound t u o w page (built v) k reads e =
+rewritten_sound : (t u : List Entry) (o : TreeOptions) (n m : ℕ) (w : List Event) (page : List ℕ) (x : Outcome) → IsTable t → page_outcome t page ≡ x → rewritten_input o t n x ≡ tree_input m u w → IsSound u w
+rewritten_sound t u o n m w page (built v) k reads e =
     let names : t ≡ u = cc in
     let walk : rewrite o v ≡ w = cc in
     record { table = subst IsTable names k; settled = subst Settled walk (rewrite_settled o v (outcome_settled t k page v reads)) }
-rewritten_sound t u o w page (refused_by rule at) k reads e = cc
+rewritten_sound t u o n m w page (refused_by rule at) k reads e = cc
 
-page_sound : (t u : List Entry) (o : TreeOptions) (w : List Event) (content : Option (List ℕ)) → IsTable t → page_input o t content ≡ tree_input u w → IsSound u w
-page_sound t u o w None k e = cc
-page_sound t u o w (Some page) k e = rewritten_sound t u o w page (page_outcome t page) k refl e
+page_sound : (t u : List Entry) (o : TreeOptions) (m : ℕ) (w : List Event) (content : Option (List ℕ)) → IsTable t → page_input o t content ≡ tree_input m u w → IsSound u w
+page_sound t u o m w None k e = cc
+page_sound t u o m w (Some page) k e = rewritten_sound t u o (length page) m w page (page_outcome t page) k refl e
 
-input_sound : (o : TreeOptions) (u : List Entry) (w : List Event) (none : Bool) (content page : Option (List ℕ)) (names : Option (Result (List Entry) TableFault)) → table_names none content ≡ names → input_from o names page ≡ tree_input u w → IsSound u w
-input_sound o u w none content page None is e = cc
-input_sound o u w none content page (Some (Err fault)) is e = cc
-input_sound o u w none content page (Some (Ok t)) is e = page_sound t u o w page (table_is none content t is) e
+input_sound : (o : TreeOptions) (m : ℕ) (u : List Entry) (w : List Event) (none : Bool) (content page : Option (List ℕ)) (names : Option (Result (List Entry) TableFault)) → table_names none content ≡ names → input_from o names page ≡ tree_input m u w → IsSound u w
+input_sound o m u w none content page None is e = cc
+input_sound o m u w none content page (Some (Err fault)) is e = cc
+input_sound o m u w none content page (Some (Ok t)) is e = page_sound t u o m w page (table_is none content t is) e
 
-pub command_sound : (c : Command) (o : TreeOptions) (seen : Contents) (t : List Entry) (w : List Event) → input_of c o seen ≡ tree_input t w → IsSound t w
-command_sound (minify table page out cert) o seen t w e = input_sound o t w (is_none table) (seen table) (seen page) (table_names (is_none table) (seen table)) refl e
-command_sound (check table page out cert) o seen t w e = input_sound o t w (is_none table) (seen table) (seen page) (table_names (is_none table) (seen table)) refl e
-command_sound (tree table page) o seen t w e = input_sound o t w (is_none table) (seen table) (seen page) (table_names (is_none table) (seen table)) refl e
-command_sound (measure table number size) o seen t w e = input_sound o t w (is_none table) (seen table) (Some (made_page number size)) (table_names (is_none table) (seen table)) refl e
+origin_sound : (origin : Origin) (o : TreeOptions) (seen : Contents) (m : ℕ) (t : List Entry) (w : List Event) → origin_input origin o seen ≡ tree_input m t w → IsSound t w
+origin_sound (page_at table page) o seen m t w e = input_sound o m t w (is_none table) (seen table) (seen page) (table_names (is_none table) (seen table)) refl e
+origin_sound (made table number size) o seen m t w e = input_sound o m t w (is_none table) (seen table) (Some (made_page number size)) (table_names (is_none table) (seen table)) refl e
+
+wanted_sound : (a : Asked) (x : Input) (m : ℕ) (t : List Entry) (w : List Event) → ((n : ℕ) (u : List Entry) (v : List Event) → x ≡ tree_input n u v → IsSound u v) → wanted a x ≡ tree_input m t w → IsSound t w
+wanted_sound a missing m t w sound e = cc
+wanted_sound a (bad_table fault) m t w sound e = cc
+wanted_sound a (bad_page rule at) m t w sound e = cc
+wanted_sound a (tree_input n u v) m t w sound e = sound m t w e
+
+pub request_sound : (a : Asked) (seen : Contents) (m : ℕ) (t : List Entry) (w : List Event) → input_of a seen ≡ tree_input m t w → IsSound t w
+request_sound a seen m t w e = wanted_sound a (origin_input a.origin a.options seen) m t w (origin_sound a.origin a.options seen) e
 
 -- ---- The headline
 
-pub input_is_shortest : (c : Command) (o : TreeOptions) (x : Writing) (seen : Contents) (t : List Entry) (w : List Event) → input_of c o seen ≡ tree_input t w → AreRows (certified_rows t x.rules (format_of x.sparse) w)
-    → IsShortest t x.rules (format_of x.sparse) w (shortest_text t x.rules w) (certificate_of t x.rules (format_of x.sparse) w)
-input_is_shortest c o x seen t w e readable = let s = command_sound c o seen t w e in shortest_is_certified t s.table x.rules (format_of x.sparse) w s.settled readable
+pub input_is_shortest : (a : Asked) (seen : Contents) (m : ℕ) (t : List Entry) (w : List Event) → input_of a seen ≡ tree_input m t w → AreRows (certified_rows t a.writing.rules (format_of a.writing.sparse) w)
+    → IsShortest t a.writing.rules (format_of a.writing.sparse) w (shortest_text t a.writing.rules w) (certificate_of t a.writing.rules (format_of a.writing.sparse) w)
+input_is_shortest a seen m t w e readable = let s = request_sound a seen m t w e in shortest_is_certified t s.table a.writing.rules (format_of a.writing.sparse) w s.settled readable

@@ -11,4 +11,4 @@ pub mod Courses
 pub mod Steps
 pub mod Others
 pub mod Meanings
-pub mod MeasuredYes
+pub mod Afterwards

@@ -1,11 +1,12 @@
 -- What the loaded prefix of a file says about the file.
-use Rattle.std.proofs.Common.{◌≡◌, ℕ, ◌+◌, ◌≤◌, ◌<◌, Bool, true, false, not, ◌||◌, cond, List, [], length, take, Some, None, IsSome, refl, sym, ap, ◌∙◌, subst, arith}
+use Rattle.std.proofs.Common.{true≢false, ◌≡◌, ℕ, ◌+◌, ◌≤◌, ◌<◌, Bool, true, false, not, ◌||◌, cond, List, [], length, take, Some, None, IsSome, refl, sym, ap, ap₂, ◌∙◌, subst, arith}
 use Rattle.std.proofs.lemmas.Bool.Decides.{nat_tests}
 use Rattle.std.proofs.lemmas.Grind.{common_steps}
 use Rattle.std.proofs.lemmas.List.{take_all}
 use Rattle.std.specs.Bool.{nat_lt}
 use Rattle.std.specs.Str.{bytes_eq}
 use Rattle.std.specs.Prelude.{Result, Ok, Err}
+use Rattle.std.specs.Result.{IsErrAnd, IfErr}
 use Rattle.std.specs.declared.option.Option.{Option}
 use Rattle.hm_base.specs.Faults.{HasText}
 use Rattle.hm_base.specs.Source.{Source, Refusal, source_of, text_fault}
@@ -14,16 +15,16 @@ use Rattle.hm_base.specs.declared.limits.TheConstants.{PAGE_LIMIT, TABLE_LIMIT}
 use Rattle.hm_base.specs.declared.plain.TreeOptions.{TreeOptions}
 use Rattle.hm_base.specs.declared.rules.Rule.{Rule}
 use Rattle.hm_base.specs.declared.rules.Rule.TheVariants as rules
-use Rattle.hm_store.specs.Files.{FileMap, file_of}
+use Rattle.hm_store.specs.Files.{FileMap, Takes, file_of}
 use Rattle.hm_refs.proofs.Places.{same_bytes}
 use Rattle.hm_refs.specs.Json.{names}
 use Rattle.hm_refs.specs.Names.{Entry}
 use Rattle.hm_refs.specs.declared.fault.TableFault.{TableFault}
 use Rattle.hm_refs.specs.declared.fault.TableFault.TheVariants.{TooLong}
 use Rattle.hm_construction_laws.specs.Trees.{Outcome, built, refused_by, page_tree, tree_of_source}
-use Rattle.hm_words.specs.Words.{are_apart}
+use Rattle.hm_words.specs.Words.{are_apart, page_at}
 use Rattle.hm_minify.specs.Inputs.{Input, IsInput, tree, bad_table, bad_page, is_none, table_names, page_outcome, rewritten_input, input_from}
-use Rattle.hm_minify.specs.Loads.{IsLoaded, IsTableOf, IsTextIn, IsTextOf, IsRefusedPage, IsTreeRead, NoTable, NoText, NoTextIn, NoTreeRead, NoInput}
+use Rattle.hm_minify.specs.Loads.{IsLoaded, IsPageText, IsTableOf, IsTextIn, IsTextOf, IsRefusedPage, IsTreeRead, NoTable, NoText, NoTextIn, NoTreeRead, NoInput}
 use Rattle.hm_minify.specs.declared.unread.Unread.{Unread}
 use Rattle.hm_minify.specs.declared.unread.Unread.TheVariants as reasons
 
@@ -114,10 +115,10 @@ page_front t content = by_length (nat_lt PAGE_LIMIT (length content)) refl
         long_page t (take (PAGE_LIMIT + 1) content) (still_long content PAGE_LIMIT h) ∙ sym (long_page t content h)
     by_length false e = ap (page_outcome t) (take_all (PAGE_LIMIT + 1) content (short_by_test PAGE_LIMIT (length content) e))
 
-pub text_of_bytes : (told : Option FileMap) (name bytes : List ℕ) (text : Source) → IsLoaded told name PAGE_LIMIT bytes → IsTextIn bytes text → IsTextOf told name text
-text_of_bytes told name bytes text l r =
-    let w = whole_content told name bytes l (short_by_limit PAGE_LIMIT (length bytes) r.short) in
-    record { page = l.content; there = l.there; read = subst (λ x. IsTextIn x text) w.0 r }
+pub text_of_bytes : (told : Option FileMap) (name bytes : List ℕ) (text : Source) (n : ℕ) → IsLoaded told name PAGE_LIMIT bytes → IsPageText bytes text n → IsTextOf told name text n
+text_of_bytes told name bytes text n l r =
+    let w = whole_content told name bytes l (short_by_limit PAGE_LIMIT (length bytes) r.read.short) in
+    record { page = l.content; there = l.there; read = subst (λ x. IsPageText x text n) w.0 r }
 
 pub no_text_of_bytes : (told : Option FileMap) (name bytes : List ℕ) (unread : Unread) → IsLoaded told name PAGE_LIMIT bytes → NoTextIn bytes unread → NoText told name unread
 no_text_of_bytes told name bytes (reasons.Table fault) l n = absurd n
@@ -134,7 +135,7 @@ page_read t text page outcome r e = rw (r.short, r.sound) (ap (tree_of_source t)
 
 -- contents of two files that differ, or of a page alone, are contents that can be those of all files
 pub seen_input : (told : Option FileMap) (table page : List ℕ) (o : TreeOptions) (table_content page_content : Option (List ℕ)) (input : Input) → are_apart table page ≡ true
-    → (IsSome told → file_of told table ≡ table_content) → (IsSome told → file_of told page ≡ page_content) → input_from o (table_names (is_none table) table_content) page_content ≡ input → IsInput told table page o input
+    → (IsSome told → file_of told table ≡ table_content) → (IsSome told → file_of told page ≡ page_content) → input_from o (table_names (is_none table) table_content) page_content ≡ input → IsInput told (page_at table page) o input
 seen_input (Some files) table page o table_content page_content input apart is_table is_page is = record {
   seen = file_of (Some files);
   are_told = λ _ _. refl;
@@ -149,7 +150,7 @@ seen_input None table page o table_content page_content input apart is_table is_
     differ true h = cc
     differ false h = refl
 
-    by_none : (none : Bool) → is_none table ≡ none → IsInput None table page o input
+    by_none : (none : Bool) → is_none table ≡ none → IsInput None (page_at table page) o input
     by_none true e = record {
       seen = λ _. page_content;
       are_told = λ h. cc;
@@ -162,44 +163,60 @@ seen_input None table page o table_content page_content input apart is_table is_
           ∙ ap (λ b. input_from o (table_names (is_none table) table_content) (cond b table_content page_content)) (differ (bytes_eq table page) (apart_by false e)) ∙ is;
     }
 
-pub input_of_tree : (told : Option FileMap) (table page : List ℕ) (o : TreeOptions) (t : List Entry) (text : Source) (w : List Event) → are_apart table page ≡ true → IsTableOf told table (Ok t) → IsTextOf told page text → IsTreeRead t text o w → IsInput told table page o (tree t w)
-input_of_tree told table page o t text w apart a b r = seen_input told table page o a.content (Some b.page) (tree t w) apart a.there b.there
-    (ap (λ x. input_from o x (Some b.page)) a.is ∙ ap (rewritten_input t o) (page_read t text b.page (built r.walk) b.read r.reads) ∙ ap (tree t) (sym r.is))
+pub input_of_tree : (told : Option FileMap) (table page : List ℕ) (o : TreeOptions) (t : List Entry) (text : Source) (n : ℕ) (w : List Event) → are_apart table page ≡ true → IsTableOf told table (Ok t) → IsTextOf told page text n → IsTreeRead t text o w → IsInput told (page_at table page) o (tree n t w)
+input_of_tree told table page o t text n w apart a b r = seen_input told table page o a.content (Some b.page) (tree n t w) apart a.there b.there
+    (ap (λ x. input_from o x (Some b.page)) a.is ∙ ap (rewritten_input o t (length b.page)) (page_read t text b.page (built r.walk) b.read.read r.reads) ∙ ap₂ (λ m v. tree m t v) (sym b.read.all) (sym r.is))
 
-pub input_of_no_tree : (told : Option FileMap) (table page : List ℕ) (o : TreeOptions) (t : List Entry) (text : Source) (rule : Rule) (at : ℕ) → are_apart table page ≡ true → IsTableOf told table (Ok t) → IsTextOf told page text → tree_of_source t text ≡ refused_by rule at → IsInput told table page o (bad_page rule at)
-input_of_no_tree told table page o t text rule at apart a b e = seen_input told table page o a.content (Some b.page) (bad_page rule at) apart a.there b.there
-    (ap (λ x. input_from o x (Some b.page)) a.is ∙ ap (rewritten_input t o) (page_read t text b.page (refused_by rule at) b.read e))
+pub input_of_no_tree : (told : Option FileMap) (table page : List ℕ) (o : TreeOptions) (t : List Entry) (text : Source) (n : ℕ) (rule : Rule) (at : ℕ) → are_apart table page ≡ true → IsTableOf told table (Ok t) → IsTextOf told page text n → tree_of_source t text ≡ refused_by rule at → IsInput told (page_at table page) o (bad_page rule at)
+input_of_no_tree told table page o t text n rule at apart a b e = seen_input told table page o a.content (Some b.page) (bad_page rule at) apart a.there b.there
+    (ap (λ x. input_from o x (Some b.page)) a.is ∙ ap (rewritten_input o t (length b.page)) (page_read t text b.page (refused_by rule at) b.read.read e))
 
-pub input_of_page : (told : Option FileMap) (table page : List ℕ) (o : TreeOptions) (t : List Entry) (rule : Rule) (at : ℕ) → are_apart table page ≡ true → IsTableOf told table (Ok t) → IsRefusedPage told page rule at → IsInput told table page o (bad_page rule at)
+pub input_of_page : (told : Option FileMap) (table page : List ℕ) (o : TreeOptions) (t : List Entry) (rule : Rule) (at : ℕ) → are_apart table page ≡ true → IsTableOf told table (Ok t) → IsRefusedPage told page rule at → IsInput told (page_at table page) o (bad_page rule at)
 input_of_page told table page o t rule at apart a b = seen_input told table page o a.content (Some b.page) (bad_page rule at) apart a.there b.there
-    (ap (λ x. input_from o x (Some b.page)) a.is ∙ ap (rewritten_input t o) (b.refused t))
+    (ap (λ x. input_from o x (Some b.page)) a.is ∙ ap (rewritten_input o t (length b.page)) (b.refused t))
 
-pub input_of_table : (told : Option FileMap) (table page : List ℕ) (o : TreeOptions) (fault : TableFault) → are_apart table page ≡ true → IsTableOf told table (Err fault) → IsInput told table page o (bad_table fault)
+pub input_of_table : (told : Option FileMap) (table page : List ℕ) (o : TreeOptions) (fault : TableFault) → are_apart table page ≡ true → IsTableOf told table (Err fault) → IsInput told (page_at table page) o (bad_table fault)
 input_of_table told table page o fault apart a = seen_input told table page o a.content (file_of told page) (bad_table fault) apart a.there (λ i. refl)
     (ap (λ x. input_from o x (file_of told page)) a.is)
 
 -- ---- by the reason why there is no tree
 
-pub no_table : (told : Option FileMap) (table page : List ℕ) (o : TreeOptions) (unread : Unread) → are_apart table page ≡ true → NoTable told table unread → NoInput told table page o unread
+pub no_table : (told : Option FileMap) (table page : List ℕ) (o : TreeOptions) (unread : Unread) → are_apart table page ≡ true → NoTable told table unread → NoInput told (page_at table page) o unread
 no_table told table page o (reasons.Table fault) apart n = input_of_table told table page o fault apart n
 no_table told table page o (reasons.Page rule at) apart n = absurd n
 no_table told table page o reasons.Store apart n = tt
 no_table told table page o reasons.Memory apart n = tt
 
-pub no_text : (told : Option FileMap) (table page : List ℕ) (o : TreeOptions) (t : List Entry) (unread : Unread) → are_apart table page ≡ true → IsTableOf told table (Ok t) → NoText told page unread → NoInput told table page o unread
+pub no_text : (told : Option FileMap) (table page : List ℕ) (o : TreeOptions) (t : List Entry) (unread : Unread) → are_apart table page ≡ true → IsTableOf told table (Ok t) → NoText told page unread → NoInput told (page_at table page) o unread
 no_text told table page o t (reasons.Table fault) apart a n = absurd n
 no_text told table page o t (reasons.Page rule at) apart a n = input_of_page told table page o t rule at apart a n
 no_text told table page o t reasons.Store apart a n = tt
 no_text told table page o t reasons.Memory apart a n = tt
 
-no_tree : (told : Option FileMap) (table page : List ℕ) (o : TreeOptions) (t : List Entry) (text : Source) (unread : Unread) → are_apart table page ≡ true → IsTableOf told table (Ok t) → IsTextOf told page text → NoTreeRead t text unread → NoInput told table page o unread
-no_tree told table page o t text (reasons.Table fault) apart a b n = absurd n
-no_tree told table page o t text (reasons.Page rule at) apart a b n = input_of_no_tree told table page o t text rule at apart a b n
-no_tree told table page o t text reasons.Store apart a b n = tt
-no_tree told table page o t text reasons.Memory apart a b n = tt
+no_tree : (told : Option FileMap) (table page : List ℕ) (o : TreeOptions) (t : List Entry) (text : Source) (n : ℕ) (unread : Unread) → are_apart table page ≡ true → IsTableOf told table (Ok t) → IsTextOf told page text n → NoTreeRead t text unread → NoInput told (page_at table page) o unread
+no_tree told table page o t text n (reasons.Table fault) apart a b h = absurd h
+no_tree told table page o t text n (reasons.Page rule at) apart a b h = input_of_no_tree told table page o t text n rule at apart a b h
+no_tree told table page o t text n reasons.Store apart a b h = tt
+no_tree told table page o t text n reasons.Memory apart a b h = tt
 
-pub no_tree_answer : (told : Option FileMap) (table page : List ℕ) (o : TreeOptions) (t : List Entry) (text : Source) (unread : Unread) → are_apart table page ≡ true → IsTableOf told table (Ok t) → IsTextOf told page text → NoTreeRead t text unread → NoInput told table page o unread
-no_tree_answer told table page o t text unread apart a b h = no_tree told table page o t text unread apart a b h
+pub no_tree_answer : (told : Option FileMap) (table page : List ℕ) (o : TreeOptions) (t : List Entry) (text : Source) (n : ℕ) (unread : Unread) → are_apart table page ≡ true → IsTableOf told table (Ok t) → IsTextOf told page text n → NoTreeRead t text unread → NoInput told (page_at table page) o unread
+no_tree_answer told table page o t text n unread apart a b h = no_tree told table page o t text n unread apart a b h
+
+-- what is loaded of a file
+none_found : (told : Option (List ℕ)) (bytes : List ℕ) → IsSome {T = List ℕ} None → told ≡ Some bytes
+none_found told bytes e = absurd (true≢false (sym e))
+
+-- an error that is given on as it is
+pub given_on : {T E : Type 0} (r : Result T E) (P : E → Type 0) (e : E) → IsErrAnd r (λ y. y ≡ e) → P e → IfErr r P
+given_on (Ok x) P e h p = tt
+given_on (Err y) P e h p = subst P (sym h) p
+
+pub is_loaded : (told : Option FileMap) (name : List ℕ) (limit : ℕ) (bytes : List ℕ) → Takes (file_of told name) (limit + 1) bytes → length bytes ≤ limit + 1 → (IsSome told → IsSome (file_of told name)) → IsLoaded told name limit bytes
+is_loaded told name limit bytes taken within there = by_content (file_of told name) refl taken
+  where
+    by_content : (content : Option (List ℕ)) → file_of told name ≡ content → Takes content (limit + 1) bytes → IsLoaded told name limit bytes
+    by_content None is h = record { content = bytes; there = λ some. none_found (file_of told name) bytes (subst IsSome is (there some)); front = sym (take_all (limit + 1) bytes within) }
+    by_content (Some content) is h = record { content = content; there = λ some. is; front = h }
 
 -- the slice of a vector has its bytes
 pub of_slice : (told : Option FileMap) (name : List ℕ) (limit : ℕ) (items bytes : List ℕ) → bytes ≡ items → IsLoaded told name limit items → IsLoaded told name limit bytes
@@ -209,5 +226,5 @@ of_slice told name limit items bytes e l = subst (IsLoaded told name limit) (sym
 pub told_text : (old new : Option FileMap) (name : List ℕ) (unread : Unread) → new ≡ old → NoText new name unread → NoText old name unread
 told_text old new name unread e n = subst (λ told. NoText told name unread) e n
 
-pub told_page : (old new : Option FileMap) (name : List ℕ) (text : Source) → new ≡ old → IsTextOf new name text → IsTextOf old name text
-told_page old new name text e n = subst (λ told. IsTextOf told name text) e n
+pub told_page : (old new : Option FileMap) (name : List ℕ) (text : Source) (n : ℕ) → new ≡ old → IsTextOf new name text n → IsTextOf old name text n
+told_page old new name text n e h = subst (λ told. IsTextOf told name text n) e h

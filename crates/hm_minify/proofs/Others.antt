@@ -1,5 +1,5 @@
 -- Writing changes no other file.
-use Rattle.std.proofs.Common.{◌≡◌, ℕ, inl, inr, Bool, true, false, cond, ◌||◌, List, [], ◌∷◌, length, Some, None, refl, ap, ◌∙◌}
+use Rattle.std.proofs.Common.{◌≡◌, ℕ, inl, inr, Bool, true, false, cond, ◌||◌, List, [], ◌∷◌, Some, None, refl, ap, ◌∙◌}
 use Rattle.std.specs.declared.option.Option.{Option}
 use Rattle.std.specs.Str.{bytes_eq}
 use Rattle.std.specs.Cmp.Lexicographic.{nat_list_cmp_total}
@@ -12,13 +12,10 @@ use Rattle.hm_refs.specs.Names.{Entry}
 use Rattle.hm_store.specs.Contents.{Contents, Sees}
 use Rattle.hm_store.specs.Files.{FileMap, file_of, with_file, HasFront}
 use Rattle.hm_minify.specs.Inputs.{Input, missing, bad_table, bad_page, tree as tree_input, input_of}
-use Rattle.hm_words.specs.Words.{Command, Asked, minify, check, tree, measure, asked, has}
-use Rattle.hm_gen.specs.Pages.{page as made_page}
-use Rattle.hm_plan.specs.Shortest.{layer_count}
-use Rattle.hm_minify.specs.Endings.{own_verdict, with_tree, tree_ending, request_ending, ending, outputs, asked_outputs}
+use Rattle.hm_words.specs.Words.{Work, Asked, minifies, checks, shows, measures, asked, has}
+use Rattle.hm_minify.specs.Endings.{with_tree, tree_ending, request_ending, ending, outputs, asked_outputs}
 use Rattle.hm_minify.specs.Writes.{Write, IsLeft}
 use Rattle.hm_minify.proofs.Found.{check_writes}
-use Rattle.hm_minify.proofs.MeasuredYes.{measured_writes}
 
 abbrev names_of : List Write → List (List ℕ)
 names_of [] = []
@@ -54,21 +51,21 @@ left_other old (w ∷ ws) new name h (inr (inr l)) =
 
 -- ---- what is written
 
-tree_names : (c : Command) (r : Writing) (seen : Contents) (t : List Entry) (w : List Event) (name : List ℕ) → has (outputs c) name ≡ false → has (names_of (tree_ending c r seen t w).writes) name ≡ false
-tree_names (minify table page out cert) r seen t w name h = h
-tree_names (check table page out cert) r seen t w name h = ap (λ ws. has (names_of ws) name) (check_writes r.rules t w (seen out) (seen cert))
-tree_names (tree table page) r seen t w name h = refl
-tree_names (measure table number size) r seen t w name h = ap (λ ws. has (names_of ws) name) (measured_writes (length (made_page number size)) (layer_count r.rules w) (own_verdict r t w))
+tree_names : (work : Work) (r : Writing) (seen : Contents) (bytes : ℕ) (t : List Entry) (w : List Event) (name : List ℕ) → has (outputs work) name ≡ false → has (names_of (tree_ending work r seen bytes t w).writes) name ≡ false
+tree_names (minifies out cert) r seen bytes t w name h = h
+tree_names (checks out cert) r seen bytes t w name h = ap (λ ws. has (names_of ws) name) (check_writes r.rules t w (seen out) (seen cert))
+tree_names shows r seen bytes t w name h = refl
+tree_names measures r seen bytes t w name h = refl
 
-input_names : (c : Command) (r : Writing) (seen : Contents) (x : Input) (name : List ℕ) → has (outputs c) name ≡ false → has (names_of (with_tree x (tree_ending c r seen)).writes) name ≡ false
-input_names c r seen missing name h = refl
-input_names c r seen (bad_table fault) name h = refl
-input_names c r seen (bad_page rule at) name h = refl
-input_names c r seen (tree_input t w) name h = tree_names c r seen t w name h
+input_names : (work : Work) (r : Writing) (seen : Contents) (x : Input) (name : List ℕ) → has (outputs work) name ≡ false → has (names_of (with_tree x (tree_ending work r seen)).writes) name ≡ false
+input_names work r seen missing name h = refl
+input_names work r seen (bad_table fault) name h = refl
+input_names work r seen (bad_page rule at) name h = refl
+input_names work r seen (tree_input bytes t w) name h = tree_names work r seen bytes t w name h
 
 request_names : (a : Option Asked) (seen : Contents) (name : List ℕ) → has (asked_outputs a) name ≡ false → has (names_of (request_ending a seen).writes) name ≡ false
 request_names None seen name h = refl
-request_names (Some a) seen name h = input_names a.command a.writing seen (input_of a.command a.options seen) name h
+request_names (Some a) seen name h = input_names a.work a.writing seen (input_of a seen) name h
 
 pub others : (words : List (List ℕ)) (old new : Option FileMap) (name : List ℕ) → Sees old (λ seen. IsLeft old (ending words seen).writes new) → has (asked_outputs (asked words)) name ≡ false → file_of new name ≡ file_of old name
 others words old new name l h = left_other old (ending words l.seen).writes new name (request_names (asked words) l.seen name h) l.holds

@@ -3,7 +3,9 @@ use Rattle.std.proofs.Common.{◌≡◌, ℕ, Bool, true, false, cond, ◌||◌,
 use Rattle.std.specs.declared.option.Option.{Option}
 use Rattle.std.specs.Str.{bytes_eq}
 use Rattle.hm_base.specs.declared.plain.TreeOptions.{TreeOptions}
-use Rattle.hm_minify.specs.Inputs.{input_from, is_none, page_with_table, table_names}
+use Rattle.hm_minify.specs.Inputs.{input_from, is_none, origin_input, page_with_table, table_names}
+use Rattle.hm_gen.specs.Pages.{page as made_page}
+use Rattle.hm_words.specs.Words.{Origin, page_at, made}
 use Rattle.hm_refs.proofs.Places.{same_bytes}
 use Rattle.hm_store.specs.Contents.{Contents, Sees}
 use Rattle.hm_store.specs.Files.{FileMap, file_of}
@@ -45,7 +47,17 @@ names_stay true theirs content more apart = refl
 names_stay false true content more apart = cc
 names_stay false false content more apart = refl
 
+-- none of these names is one of the origin's files
+abbrev pub IsApartFrom : (List ℕ → Bool) → Origin → Type 0
+IsApartFrom theirs (page_at table page) = ((is_none table || not (theirs table)) ≡ true) × (theirs page ≡ false)
+IsApartFrom theirs (made table number size) = (is_none table || not (theirs table)) ≡ true
+
 pub page_stays : (theirs : List ℕ → Bool) (table page : List ℕ) (o : TreeOptions) (seen more : Contents) → (is_none table || not (theirs table)) ≡ true → theirs page ≡ false → page_with_table table page o (mixed theirs seen more) ≡ page_with_table table page o seen
 page_stays theirs table page o seen more apart other =
     ap (λ t. input_from o t (mixed theirs seen more page)) (names_stay (is_none table) (theirs table) (seen table) (more table) apart)
     ∙ ap (λ b. input_from o (table_names (is_none table) (seen table)) (cond b (more page) (seen page))) other
+
+-- what an origin gives doesn't depend on files with other names
+pub origin_stays : (theirs : List ℕ → Bool) (origin : Origin) (o : TreeOptions) (seen more : Contents) → IsApartFrom theirs origin → origin_input origin o (mixed theirs seen more) ≡ origin_input origin o seen
+origin_stays theirs (page_at table page) o seen more apart = page_stays theirs table page o seen more apart.0 apart.1
+origin_stays theirs (made table number size) o seen more apart = ap (λ t. input_from o t (Some (made_page number size))) (names_stay (is_none table) (theirs table) (seen table) (more table) apart)

@@ -2,7 +2,7 @@
 use Rattle.std.specs.Prelude.{ℕ, ◌≡◌, List, ◌∷◌, ◌++◌, Some, None, codes, bytes_eq, if◌then◌else◌, refl}
 use Rattle.hm_elements.specs.Names.{words}
 use Rattle.hm_store.specs.Contents.{Contents}
-use Rattle.hm_words.specs.Words.{asked, flags, options_of, rules_of}
+use Rattle.hm_words.specs.Words.{asked, flags, choices_of}
 use Rattle.hm_minify.specs.Endings.{ending, says, store_fault}
 use Rattle.hm_minify.specs.Lines.{usage_line}
 use Rattle.hm_minify.specs.declared.status.Status.TheVariants as status
@@ -26,5 +26,5 @@ endings : (ending (words "minify none absent out cert --omit --unquote") (page_a
     × (ending (words "measure none 0 20001") (page_alone d) ≡ says status.Usage usage_line)
     × (ending (words "tree page") (page_alone d) ≡ says status.Usage usage_line)
     × (ending (words "minify none page out page") (page_alone d) ≡ says status.Usage usage_line)
-unfolding asked flags options_of rules_of
+unfolding asked flags choices_of
 endings = (refl, refl, refl, refl, refl, refl, refl, refl, refl)

@@ -1,4 +1,4 @@
--- What the files of a command give: a table of names with the tree of a page, rewritten, or the first reason why there is none.
+-- What the files of a request give: a table of names with the tree that is wanted, or the first reason why there is none.
 use Rattle.std.specs.Prelude.{ℕ, ◌≡◌, Bool, true, false, nat_lt, List, [], length, Option, Some, None, option_map, Result, Ok, Err, if◌then◌else◌, codes, bytes_eq}
 use Rattle.hm_base.specs.Walks.{Event}
 use Rattle.hm_base.specs.declared.limits.TheConstants.{PAGE_LIMIT}
@@ -13,13 +13,13 @@ use Rattle.hm_refs.specs.declared.fault.TableFault.{TableFault}
 use Rattle.hm_construction_laws.specs.Trees.{Outcome, built, refused_by, page_tree}
 use Rattle.hm_gen.specs.Pages.{page as made_page}
 use Rattle.hm_options.specs.Rewrites.{rewrite}
-use Rattle.hm_words.specs.Words.{Command, minify, check, tree as show_tree, measure}
+use Rattle.hm_words.specs.Words.{Origin, page_at, made, Asked}
 
 pub data Input : Type 0 where
   missing : Input  -- a file isn't there
   bad_table : TableFault → Input
   bad_page : Rule → ℕ → Input  -- at a byte of the page
-  tree : List Entry → List Event → Input  -- the names of the table, and the tree
+  tree : ℕ → List Entry → List Event → Input  -- how many bytes the page has, the names of the table, and the tree
 
 -- ---- a table
 
@@ -38,13 +38,14 @@ table_names false content = option_map names content
 unfoldable pub page_outcome : List Entry → List ℕ → Outcome
 page_outcome t page = if nat_lt PAGE_LIMIT (length page) then refused_by TooLong PAGE_LIMIT else page_tree t page
 
-abbrev pub rewritten_input : List Entry → TreeOptions → Outcome → Input
-rewritten_input t o (built w) = tree t (rewrite o w)
-rewritten_input t o (refused_by rule at) = bad_page rule at
+-- a page of `bytes` bytes that is read so
+abbrev pub rewritten_input : TreeOptions → List Entry → ℕ → Outcome → Input
+rewritten_input o t bytes (built w) = tree bytes t (rewrite o w)
+rewritten_input o t bytes (refused_by rule at) = bad_page rule at
 
 abbrev pub page_input : TreeOptions → List Entry → Option (List ℕ) → Input
 page_input o t None = missing
-page_input o t (Some page) = rewritten_input t o (page_outcome t page)
+page_input o t (Some page) = rewritten_input o t (length page) (page_outcome t page)
 
 -- ---- both
 
@@ -62,17 +63,27 @@ page_with_table table page o seen = input_from o (table_names (is_none table) (s
 abbrev pub made_with_table : List ℕ → ℕ → ℕ → TreeOptions → Contents → Input
 made_with_table table number size o seen = input_from o (table_names (is_none table) (seen table)) (Some (made_page number size))
 
--- what the files of a command give
-abbrev pub input_of : Command → TreeOptions → Contents → Input
-input_of (minify table page out cert) o seen = page_with_table table page o seen
-input_of (check table page out cert) o seen = page_with_table table page o seen
-input_of (show_tree table page) o seen = page_with_table table page o seen
-input_of (measure table number size) o seen = made_with_table table number size o seen
+-- what the files of an origin give
+abbrev pub origin_input : Origin → TreeOptions → Contents → Input
+origin_input (page_at table page) o seen = page_with_table table page o seen
+origin_input (made table number size) o seen = made_with_table table number size o seen
 
--- A table and a page give this, as far as the store's files are known.
-abbrev pub IsInput : Option FileMap → List ℕ → List ℕ → TreeOptions → Input → Type 0
-IsInput told table page o input = Sees told (λ seen. page_with_table table page o seen ≡ input)
+-- An origin gives this, as far as the store's files are known.
+abbrev pub IsInput : Option FileMap → Origin → TreeOptions → Input → Type 0
+IsInput told origin o input = Sees told (λ seen. origin_input origin o seen ≡ input)
 
--- So does a table with the page of a number.
-abbrev pub IsMadeInput : Option FileMap → List ℕ → ℕ → ℕ → TreeOptions → Input → Type 0
-IsMadeInput told table number size o input = Sees told (λ seen. made_with_table table number size o seen ≡ input)
+-- ---- what is wanted
+
+-- the tree that a request wants, of the tree that is read: today the same
+abbrev pub wanted_tree : Asked → List Entry → List Event → List Event
+wanted_tree request t w = w
+
+abbrev pub wanted : Asked → Input → Input
+wanted request missing = missing
+wanted request (bad_table fault) = bad_table fault
+wanted request (bad_page rule at) = bad_page rule at
+wanted request (tree bytes t w) = tree bytes t (wanted_tree request t w)
+
+-- what the files give a request to work on
+abbrev pub input_of : Asked → Contents → Input
+input_of request seen = wanted request (origin_input request.origin request.options seen)

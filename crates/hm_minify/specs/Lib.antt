@@ -3,11 +3,11 @@ pub mod Loads
 pub mod InputExamples
 pub mod Codes
 pub mod Lines
+pub mod Outside
 pub mod Writes
 pub mod Stops
 pub mod Endings
 pub mod Laws
-pub mod Writable
 pub mod Runs
 pub mod Sayings
 pub mod Examples

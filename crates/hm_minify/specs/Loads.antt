@@ -10,7 +10,8 @@ use Rattle.hm_refs.specs.Names.{Entry}
 use Rattle.hm_refs.specs.declared.fault.TableFault.{TableFault}
 use Rattle.hm_construction_laws.specs.Trees.{built, refused_by, tree_of_source}
 use Rattle.hm_options.specs.Rewrites.{rewrite}
-use Rattle.hm_minify.specs.Inputs.{Input, IsInput, IsMadeInput, bad_table, bad_page, is_none, table_names, page_outcome}
+use Rattle.hm_minify.specs.Inputs.{Input, IsInput, bad_table, bad_page, is_none, table_names, page_outcome}
+use Rattle.hm_words.specs.Words.{Origin}
 use Rattle.hm_minify.specs.declared.unread.Unread.{Unread}
 use Rattle.hm_minify.specs.declared.unread.Unread.TheVariants as reasons
 
@@ -32,16 +33,16 @@ pub record IsTextIn (page : List ℕ) (text : Source) : Type 0 where
   pub sound : text_fault page ≡ None
   pub is : text ≡ source_of page
 
--- the text of the page that a file holds
-pub record IsTextOf (told : Option FileMap) (name : List ℕ) (text : Source) : Type 0 where
-  pub page : List ℕ
-  pub there : IsSome told → file_of told name ≡ Some page
-  pub read : IsTextIn page text
-
--- the text of the page that is made of a number, with how many bytes the page has
-pub record IsMadeText (page : List ℕ) (text : Source) (bytes : ℕ) : Type 0 where
+-- the text of a page within the limit, with how many bytes the page has
+pub record IsPageText (page : List ℕ) (text : Source) (bytes : ℕ) : Type 0 where
   pub read : IsTextIn page text
   pub all : bytes ≡ length page
+
+-- the text of the page that a file holds
+pub record IsTextOf (told : Option FileMap) (name : List ℕ) (text : Source) (bytes : ℕ) : Type 0 where
+  pub page : List ℕ
+  pub there : IsSome told → file_of told name ≡ Some page
+  pub read : IsPageText page text bytes
 
 -- a page is refused, whatever the names of references
 pub record IsRefusedPage (told : Option FileMap) (name : List ℕ) (rule : Rule) (at : ℕ) : Type 0 where
@@ -99,8 +100,5 @@ NoInputWhere Is (reasons.Page rule at) = Is (bad_page rule at)
 NoInputWhere Is reasons.Store = Unit {0}
 NoInputWhere Is reasons.Memory = Unit {0}
 
-abbrev pub NoInput : Option FileMap → List ℕ → List ℕ → TreeOptions → Unread → Type 0
-NoInput told table page o unread = NoInputWhere (IsInput told table page o) unread
-
-abbrev pub NoMadeInput : Option FileMap → List ℕ → ℕ → ℕ → TreeOptions → Unread → Type 0
-NoMadeInput told table number size o unread = NoInputWhere (IsMadeInput told table number size o) unread
+abbrev pub NoInput : Option FileMap → Origin → TreeOptions → Unread → Type 0
+NoInput told origin o unread = NoInputWhere (IsInput told origin o) unread

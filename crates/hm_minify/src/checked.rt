@@ -9,11 +9,11 @@ ghost use Rattle.hm_minify.specs.Endings as spec;
 
 use crate::ended::{Ended, Stop, says};
 use crate::lines::{bad_line_line, too_long_line, why_line, yes_line};
-use crate::{Input, Status, load_bytes};
+use crate::{Input, Status};
 use hm_base::{CERTIFICATE_LIMIT, OUTPUT_LIMIT, SpellRules};
 use hm_cert::{Certificate, CertificateFault};
 use hm_check::{Verdict, check_settled};
-use hm_store::Store;
+use hm_store::{Store, load};
 use std::alloc::Global;
 
 /// What is found of a text and a certificate is said.
@@ -76,7 +76,7 @@ pub fn check_files<'w, S: Store>(
     ensures store { result ≡ Err Stop.Store → Rose (S.faults store.old) (S.faults store.new)
         ⊎ Tells (S.files store.old) (λ seen. spec.check_ending rules input.now.table.entries input.now.tree (seen out.now) (seen cert.now) ≡ spec.store_fault) }
 {
-    let text = load_bytes(alloc, store, out, OUTPUT_LIMIT)?;
-    let lines = load_bytes(alloc, store, cert, CERTIFICATE_LIMIT)?;
+    let text = load(alloc, store, out, OUTPUT_LIMIT)?;
+    let lines = load(alloc, store, cert, CERTIFICATE_LIMIT)?;
     check_bytes(alloc, input, rules, text.as_slice(), lines.as_slice())
 }

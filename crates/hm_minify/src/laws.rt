@@ -1,12 +1,12 @@
 //! Laws over the definitions. The functions do nothing.
-ghost use Rattle.hm_minify.specs.Laws.{OwnIsAccepted, ShortestIsAccepted};
+ghost use Rattle.hm_minify.specs.Laws.{MinifiedIsChecked, OwnIsAccepted};
 
 /// What is written of a settled tree is found shortest by the check, with the number of its bytes.
 pub fn own_is_accepted()
     ensures { OwnIsAccepted }
 {}
 
-/// A text and a certificate of which the headline holds, from any source, are found shortest by the check.
-pub fn shortest_is_accepted()
-    ensures { ShortestIsAccepted }
+/// A check of what was minified says yes, with the number of bytes of the text.
+pub fn minified_is_checked()
+    ensures { MinifiedIsChecked }
 {}

@@ -7,7 +7,6 @@ mod input;
 pub mod laws;
 mod lines;
 mod loads;
-mod made;
 mod measured;
 mod saved;
 mod status;
@@ -15,8 +14,7 @@ mod top;
 mod unread;
 mod work;
 
-pub use input::{Input, MadeInput, load_tree, make_tree};
-pub use loads::load_bytes;
+pub use input::Input;
 pub use status::Status;
 pub use top::run;
 pub use unread::Unread;

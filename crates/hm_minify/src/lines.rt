@@ -40,7 +40,7 @@ pub fn yes_line(alloc: Global, length: u64) -> Result<String, AllocError>
 pub fn measured_line(
     alloc: Global,
     page: usize,
-    out: u64,
+    out: usize,
     layers: usize,
 ) -> Result<String, AllocError>
     ensures { IfOk result (λ line. string_bytes line ≡ spec.measured_line page out layers) }

@@ -2,35 +2,18 @@
 ghost use Rattle.std.specs.Prelude.{◌≡◌, ◌≢◌, ◌⊎◌, ◌≤◌, ℕ, List, Option, IfOk, IfErr, OnOk, Ok, Err, false};
 ghost use Rattle.hm_base.specs.Faults.{HasText, IsRefusedBy};
 ghost use Rattle.hm_base.specs.Source.{source_of};
+ghost use Rattle.hm_gen.specs.Pages.{page as made_page};
 ghost use Rattle.hm_store.specs.Causes.{Rose};
 ghost use Rattle.hm_store.specs.Files.{FileMap, IsMissing};
 ghost use Rattle.hm_minify.specs.Inputs.{is_none};
-ghost use Rattle.hm_minify.specs.Loads.{IsLoaded, IsTableOf, IsTextIn, IsTextOf, NoTable, NoText, NoTextIn};
+ghost use Rattle.hm_minify.specs.Loads.{IsPageText, IsTableOf, IsTextOf, NoTable, NoText, NoTextIn};
 
 use crate::Unread;
-use hm_base::{Memory, PAGE_LIMIT, Rule, SourceText, TABLE_LIMIT, TextFault};
+use hm_base::{PAGE_LIMIT, Rule, SourceText, TABLE_LIMIT, TextFault};
+use hm_gen::page_of;
 use hm_refs::{Table, TableFault};
-use hm_store::{LoadFault, Store, load};
+use hm_store::{Store, load};
 use std::alloc::Global;
-
-/// The bytes of a file, or one more than the limit of them, so that a longer file shows.
-pub fn load_bytes<S: Store>(
-    alloc: Global,
-    store: &mut S,
-    name: &str,
-    limit: u32,
-) -> Result<Vec<u8>, LoadFault>
-    ensures same { S.files store.new ≡ S.files store.old }
-    ensures writing { S.is_writing store.new ≡ S.is_writing store.old }
-    ensures loaded { IfOk result (λ bytes. IsLoaded (S.files store.old) name.now limit bytes.items) }
-    ensures later { S.faults store.old ≤ S.faults store.new }
-    ensures store { result ≡ Err LoadFault.Store → Rose (S.faults store.old) (S.faults store.new) ⊎ IsMissing (S.files store.old) name.now }
-{
-    match load(alloc, store, name, limit) {
-        Ok(bytes) => Ok(bytes),
-        Err(fault) => Err(fault),
-    }
-}
 
 /// Why there is no table with this fault.
 fn unread_table(fault: TableFault) -> Unread
@@ -53,16 +36,10 @@ pub fn load_table<S: Store>(alloc: Global, store: &mut S, name: &str) -> Result<
     ensures store { result ≡ Err Unread.Store → Rose (S.faults store.old) (S.faults store.new) ⊎ (is_none name.now ≡ false) × IsMissing (S.files store.old) name.now }
 {
     if name == "none" {
-        return match Table::empty(alloc) {
-            Ok(table) => Ok(table),
-            Err(Memory) => Err(Unread::Memory),
-        };
+        let table = Table::empty(alloc)?;
+        return Ok(table);
     }
-    let bytes = match load_bytes(alloc, store, name, TABLE_LIMIT) {
-        Ok(bytes) => bytes,
-        Err(LoadFault::Store) => return Err(Unread::Store),
-        Err(LoadFault::Memory) => return Err(Unread::Memory),
-    };
+    let bytes = load(alloc, store, name, TABLE_LIMIT)?;
     match Table::read(alloc, bytes.as_slice()) {
         Ok(table) => Ok(table),
         Err(fault) => Err(unread_table(fault)),
@@ -78,13 +55,14 @@ fn read_page(alloc: Global, bytes: Vec<u8>) -> Result<SourceText, TextFault>
     SourceText::take(alloc, bytes, PAGE_LIMIT)
 }
 
-/// The text of a page, or why it is refused.
-pub fn text_of(alloc: Global, page: Vec<u8>) -> Result<SourceText, Unread>
-    ensures ok { IfOk result (IsTextIn page.items) }
+/// The text of a page and how many bytes the page has, or why it is refused.
+fn text_of(alloc: Global, page: Vec<u8>) -> Result<(SourceText, usize), Unread>
+    ensures ok { IfOk result (λ read. IsPageText page.items read.0 read.1) }
     ensures err { IfErr result (NoTextIn page.items) }
 {
+    let bytes = page.len();
     match read_page(alloc, page) {
-        Ok(text) => Ok(text),
+        Ok(text) => Ok((text, bytes)),
         Err(TextFault::TooLong) => Err(Unread::Page {
             rule: Rule::TooLong,
             at: PAGE_LIMIT,
@@ -101,19 +79,28 @@ pub fn text_of(alloc: Global, page: Vec<u8>) -> Result<SourceText, Unread>
     }
 }
 
-/// The text of the page of that name.
-pub fn load_text<S: Store>(alloc: Global, store: &mut S, name: &str) -> Result<SourceText, Unread>
+/// The text of the page of that name, and how many bytes the page has.
+pub fn load_text<S: Store>(
+    alloc: Global,
+    store: &mut S,
+    name: &str,
+) -> Result<(SourceText, usize), Unread>
     ensures same { S.files store.new ≡ S.files store.old }
     ensures writing { S.is_writing store.new ≡ S.is_writing store.old }
-    ensures ok { IfOk result (λ text. IsTextOf (S.files store.old) name.now text) }
+    ensures ok { IfOk result (λ read. IsTextOf (S.files store.old) name.now read.0 read.1) }
     ensures err { IfErr result (NoText (S.files store.old) name.now) }
     ensures later { S.faults store.old ≤ S.faults store.new }
     ensures store { result ≡ Err Unread.Store → Rose (S.faults store.old) (S.faults store.new) ⊎ IsMissing (S.files store.old) name.now }
 {
-    let bytes = match load_bytes(alloc, store, name, PAGE_LIMIT) {
-        Ok(bytes) => bytes,
-        Err(LoadFault::Store) => return Err(Unread::Store),
-        Err(LoadFault::Memory) => return Err(Unread::Memory),
-    };
+    let bytes = load(alloc, store, name, PAGE_LIMIT)?;
     text_of(alloc, bytes)
+}
+
+/// The text of the page of a number, with `size` blocks, and how many bytes the page has.
+pub fn make_text(alloc: Global, number: u32, size: u32) -> Result<(SourceText, usize), Unread>
+    ensures ok { IfOk result (λ read. IsPageText (made_page number size) read.0 read.1) }
+    ensures err { IfErr result (NoTextIn (made_page number size)) }
+{
+    let page = page_of(alloc, number, size)?;
+    text_of(alloc, page.into_bytes())
 }

@@ -1,6 +1,7 @@
 //! Why there is no tree.
-use hm_base::Rule;
+use hm_base::{Memory, Refused, Rule};
 use hm_refs::TableFault;
+use hm_store::LoadFault;
 
 /// Why the files of a run give no tree.
 #[derive(Debug, Drop)]
@@ -13,4 +14,43 @@ pub enum Unread {
     Store,
     /// Memory was refused.
     Memory,
+}
+
+impl From<Memory> for Unread {
+    ghost use Rattle.std.specs.Prelude.{◌≡◌};
+    ghost use Rattle.hm_minify.specs.declared.unread.Unread.TheVariants as reasons;
+
+    ghost from_gives = { λ _ unread. unread ≡ reasons.Memory };
+
+    fn from(_error: Memory) -> Self {
+        Unread::Memory
+    }
+}
+
+impl From<LoadFault> for Unread {
+    ghost use Rattle.std.specs.Prelude.{◌≡◌};
+    ghost use Rattle.hm_minify.specs.Stops.{unread_of};
+
+    ghost from_gives = { λ fault unread. unread ≡ unread_of fault };
+
+    fn from(fault: LoadFault) -> Self {
+        match fault {
+            LoadFault::Store => Unread::Store,
+            LoadFault::Memory => Unread::Memory,
+        }
+    }
+}
+
+impl From<Refused> for Unread {
+    ghost use Rattle.std.specs.Prelude.{◌≡◌};
+    ghost use Rattle.hm_minify.specs.Stops.{refused_as};
+
+    ghost from_gives = { λ refused unread. unread ≡ refused_as refused };
+
+    fn from(refused: Refused) -> Self {
+        match refused {
+            Refused::Page { rule, at } => Unread::Page { rule, at },
+            Refused::Memory => Unread::Memory,
+        }
+    }
 }

@@ -1,6 +1,6 @@
 //! What the words of a call ask for.
 use hm_base::{SpellRules, TreeOptions, Word};
-use hm_words::{Asked, Command, WordsFault};
+use hm_words::{Asked, Origin, WordsFault, Work};
 use std::alloc::{AllocError, Global};
 use std::test::Fail;
 
@@ -33,29 +33,25 @@ fn worded(alloc: Global, text: &str) -> Result<Vec<Word>, AllocError> {
     Ok(words)
 }
 
-/// Whether a command has this name and these names of files.
-fn is_command(command: &Command<'_>, wanted: &[&str]) -> bool {
-    match *command {
-        Command::Minify {
-            table,
-            page,
-            out,
-            cert,
-        } => wanted == ["minify", table, page, out, cert].as_slice(),
-        Command::Check {
-            table,
-            page,
-            out,
-            cert,
-        } => wanted == ["check", table, page, out, cert].as_slice(),
-        Command::Tree { table, page } => wanted == ["tree", table, page].as_slice(),
-        Command::Measure {
+/// Whether a request is the command of this name with these names of files.
+fn is_command(asked: &Asked<'_>, wanted: &[&str]) -> bool {
+    match asked.origin {
+        Origin::PageAt { table, page } => match asked.work {
+            Work::Minify { out, cert } => wanted == ["minify", table, page, out, cert].as_slice(),
+            Work::Check { out, cert } => wanted == ["check", table, page, out, cert].as_slice(),
+            Work::Show => wanted == ["tree", table, page].as_slice(),
+            Work::Measure => false,
+        },
+        Origin::Made {
             table,
             number,
             size,
-        } => {
-            wanted == ["measure", table].as_slice() && number == 4_294_967_295 && size == 20_000
-        }
+        } => match asked.work {
+            Work::Measure => {
+                wanted == ["measure", table].as_slice() && number == 4_294_967_295 && size == 20_000
+            }
+            _ => false,
+        },
     }
 }
 
@@ -71,7 +67,7 @@ fn asks(
     let words = worded(alloc, text)?;
     match Asked::read(alloc, words.as_slice()) {
         Ok(asked) => Ok(
-            is_command(&asked.command, command)
+            is_command(&asked, command)
                 && asked.options == options
                 && asked.writing.rules == rules
                 && asked.writing.sparse == sparse,

@@ -8,8 +8,7 @@ use Rattle.clap.specs.declared.builder.value_parser.Reading.TheVariants.{AsWritt
 use Rattle.clap.specs.declared.parser.matches.ValueSource.TheVariants.{CommandLine}
 use Rattle.hm_base.proofs.Bytes.{first_true, second_true}
 use Rattle.hm_elements.proofs.TableTools.{same_bytes}
-use Rattle.hm_words.specs.Words.{flags, has, is_flag, is_single, are_known, are_single, names_in}
-use Rattle.hm_words.specs.Matches.{dashed}
+use Rattle.hm_words.specs.Words.{dashed, flags, has, is_flag, is_single, are_known, are_single, names_in}
 use Rattle.hm_words.proofs.Rows.{row_at, values_at, values_in, new_row, row_is_new, other_row, other_left, none_left, values_join}
 use Rattle.hm_words.proofs.Walks.{rules, stands, with_name, with_flag, name_of, is_dashed, each_flag, flag_step, name_step}
 

@@ -4,5 +4,6 @@ pub mod Ends
 pub mod Defaults
 pub mod Parsed
 pub mod Passes
+pub mod Chosen
 pub mod Meanings
 pub mod Decimals

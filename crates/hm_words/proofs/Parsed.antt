@@ -10,8 +10,8 @@ use Rattle.clap.specs.Simple.{matches_of}
 use Rattle.clap.proofs.WalkLemmas.{one_text-rows, raw_values-rows}
 use Rattle.clap.specs.declared.builder.value_parser.Reading.TheVariants.{AsWritten}
 use Rattle.clap.specs.declared.parser.matches.ArgMatches.{ArgMatches}
-use Rattle.hm_words.specs.Words.{flags, has, are_known, are_single, names_in}
-use Rattle.hm_words.specs.Matches.{IsMatched, dashed, line}
+use Rattle.hm_words.specs.Words.{dashed, flags, has, are_known, are_single, names_in}
+use Rattle.hm_words.specs.Matches.{IsMatched, line}
 use Rattle.hm_words.proofs.Rows.{row_at, values_at, values_in}
 use Rattle.hm_words.proofs.Walks.{rules, stands, with_name, name_of, each_flag}
 use Rattle.hm_words.proofs.Ends.{ends, end_rows, walk_ends, row_ends, names_end, flag_row, single_among}

@@ -1,14 +1,14 @@
 -- The walk over words that may be read.
-use Rattle.std.proofs.Common.{◌≡◌, ◌||◌, ◌==◌, ℕ, Bool, true, false, true≢false, refl, sym, subst, List, [], ◌∷◌, Option, Some, None, codes, drop}
+use Rattle.std.proofs.Common.{◌≡◌, ◌||◌, ◌==◌, ℕ, Bool, true, false, true≢false, refl, sym, ap, ◌∙◌, subst, List, [], ◌∷◌, Option, Some, None, codes, drop}
 use Rattle.std.specs.Str.{bytes_eq}
 use Rattle.clap.specs.Walk.{Row, Rule, Text, Walk, Waiting, idle, positional, with_values, without, walked}
 use Rattle.clap.specs.Simple.{built}
 use Rattle.clap.specs.Lexer.{long_of, short_of}
 use Rattle.clap.specs.declared.builder.value_parser.Reading.TheVariants.{AsWritten}
 use Rattle.clap.specs.declared.parser.matches.ValueSource.TheVariants.{CommandLine}
-use Rattle.hm_elements.proofs.TableTools.{same_bytes}
-use Rattle.hm_words.specs.Words.{flags, has, is_flag}
-use Rattle.hm_words.specs.Matches.{dashed, line}
+use Rattle.hm_elements.proofs.TableTools.{eq_self, same_bytes}
+use Rattle.hm_words.specs.Words.{dashed, flags, has, is_flag}
+use Rattle.hm_words.specs.Matches.{line}
 
 -- the arguments of the command line as it is built
 abbrev pub rules : List Rule
@@ -57,6 +57,15 @@ each_flag P comments booleans empty redundant doctype space conservative omit un
         by_test : (b : Bool) → bytes_eq known w ≡ b → P w
         by_test true t = subst P (same_bytes known w t) this
         by_test false t = next (rw t at e)
+
+pub bytes_flip : (a b : Text) → bytes_eq a b ≡ bytes_eq b a
+bytes_flip a b = by_test (bytes_eq a b) (bytes_eq b a) refl refl
+  where
+    by_test : (x y : Bool) → bytes_eq a b ≡ x → bytes_eq b a ≡ y → x ≡ y
+    by_test true true p q = refl
+    by_test false false p q = refl
+    by_test true false p q = sym (ap (λ z. bytes_eq z a) (sym (same_bytes a b p)) ∙ eq_self a) ∙ q
+    by_test false true p q = sym p ∙ (ap (λ z. bytes_eq z b) (sym (same_bytes b a q)) ∙ eq_self b)
 
 abbrev pub name_of : Text → Text
 name_of w = drop 2 w

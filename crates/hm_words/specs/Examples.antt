@@ -3,7 +3,7 @@ use Rattle.std.specs.Prelude.{◌≡◌, true, false, [], ◌∷◌, Some, None,
 use Rattle.hm_base.specs.declared.plain.SpellRules.{SpellRules}
 use Rattle.hm_base.specs.declared.plain.TreeOptions.{TreeOptions}
 use Rattle.hm_elements.specs.Names.{words}
-use Rattle.hm_words.specs.Words.{asked, asks, minify, check, tree, measure, flags, options_of, rules_of}
+use Rattle.hm_words.specs.Words.{asked, asks, page_at, made, minifies, checks, shows, measures, flags, choices_of}
 
 abbrev pub no_rewrites : TreeOptions
 no_rewrites = record { doctype = false; comments = false; booleans = false; empty = false; redundant = false; space = false; conservative = false }
@@ -14,15 +14,15 @@ no_rules = record { omit = false; unquote = false; tight = false; ascii = false;
 abbrev all_rules : SpellRules
 all_rules = record { omit = true; unquote = true; tight = true; ascii = true; frame = false }
 
-requests : (asked (words "minify none page out cert --omit --unquote") ≡ Some (asks (minify (codes "none") (codes "page") (codes "out") (codes "cert")) no_rewrites (record { rules = record no_rules { omit = true; unquote = true }; sparse = false })))
-    × (asked (words "--ascii minify --unquote table page --tight out cert --omit --comments") ≡ Some (asks (minify (codes "table") (codes "page") (codes "out") (codes "cert")) (record no_rewrites { comments = true }) (record { rules = all_rules; sparse = false })))
-    × (asked (words "check none page out cert --tight") ≡ Some (asks (check (codes "none") (codes "page") (codes "out") (codes "cert")) no_rewrites (record { rules = record no_rules { tight = true }; sparse = false })))
-    × (asked (words "tree none none") ≡ Some (asks (tree (codes "none") (codes "none")) no_rewrites (record { rules = no_rules; sparse = false })))
-    × (asked (words "--space tree none --conservative page") ≡ Some (asks (tree (codes "none") (codes "page")) (record no_rewrites { space = true; conservative = true }) (record { rules = no_rules; sparse = false })))
-    × (asked (words "--omit tree none page") ≡ Some (asks (tree (codes "none") (codes "page")) no_rewrites (record { rules = record no_rules { omit = true }; sparse = false })))
-    × (asked (words "measure none 0 1") ≡ Some (asks (measure (codes "none") 0 1) no_rewrites (record { rules = no_rules; sparse = false })))
-    × (asked (words "measure 4294967295 --omit 4294967295 20000") ≡ Some (asks (measure (codes "4294967295") 4294967295 20000) no_rewrites (record { rules = record no_rules { omit = true }; sparse = false })))
-    × (asked (words "minify none page --sparse out cert") ≡ Some (asks (minify (codes "none") (codes "page") (codes "out") (codes "cert")) no_rewrites (record { rules = no_rules; sparse = true })))
+requests : (asked (words "minify none page out cert --omit --unquote") ≡ Some (asks (page_at (codes "none") (codes "page")) (minifies (codes "out") (codes "cert")) no_rewrites (record { rules = record no_rules { omit = true; unquote = true }; sparse = false })))
+    × (asked (words "--ascii minify --unquote table page --tight out cert --omit --comments") ≡ Some (asks (page_at (codes "table") (codes "page")) (minifies (codes "out") (codes "cert")) (record no_rewrites { comments = true }) (record { rules = all_rules; sparse = false })))
+    × (asked (words "check none page out cert --tight") ≡ Some (asks (page_at (codes "none") (codes "page")) (checks (codes "out") (codes "cert")) no_rewrites (record { rules = record no_rules { tight = true }; sparse = false })))
+    × (asked (words "tree none none") ≡ Some (asks (page_at (codes "none") (codes "none")) shows no_rewrites (record { rules = no_rules; sparse = false })))
+    × (asked (words "--space tree none --conservative page") ≡ Some (asks (page_at (codes "none") (codes "page")) shows (record no_rewrites { space = true; conservative = true }) (record { rules = no_rules; sparse = false })))
+    × (asked (words "--omit tree none page") ≡ Some (asks (page_at (codes "none") (codes "page")) shows no_rewrites (record { rules = record no_rules { omit = true }; sparse = false })))
+    × (asked (words "measure none 0 1") ≡ Some (asks (made (codes "none") 0 1) measures no_rewrites (record { rules = no_rules; sparse = false })))
+    × (asked (words "measure 4294967295 --omit 4294967295 20000") ≡ Some (asks (made (codes "4294967295") 4294967295 20000) measures no_rewrites (record { rules = record no_rules { omit = true }; sparse = false })))
+    × (asked (words "minify none page --sparse out cert") ≡ Some (asks (page_at (codes "none") (codes "page")) (minifies (codes "out") (codes "cert")) no_rewrites (record { rules = no_rules; sparse = true })))
     × (asked (words "tree none page --sparse --sparse") ≡ None)
     × (asked (words "tree none page --conservative") ≡ None)
     × (asked (words "minify none page out cert --conservative") ≡ None)
@@ -49,5 +49,5 @@ requests : (asked (words "minify none page out cert --omit --unquote") ≡ Some 
     × (asked (codes "measure" ∷ codes "none" ∷ codes "0" ∷ [] ∷ []) ≡ None)
     × (asked (codes "measure" ∷ [] ∷ codes "0" ∷ codes "1" ∷ []) ≡ None)
     × (asked [] ≡ None)
-unfolding asked flags options_of rules_of
+unfolding asked flags choices_of
 requests = (refl, refl, refl, refl, refl, refl, refl, refl, refl, refl, refl, refl, refl, refl, refl, refl, refl, refl, refl, refl, refl, refl, refl, refl, refl, refl, refl, refl, refl, refl, refl, refl, refl, refl, refl)

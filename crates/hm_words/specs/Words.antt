@@ -1,29 +1,40 @@
 -- What the words of a call ask for.
-use Rattle.std.specs.Prelude.{ℕ, Bool, true, false, not, ◌&&◌, ◌||◌, ◌==◌, List, [], ◌∷◌, Option, Some, None, if◌then◌else◌, codes, bytes_eq, nat_le, filter, count_by}
+use Rattle.std.specs.Prelude.{ℕ, Bool, true, false, not, ◌&&◌, ◌||◌, ◌==◌, List, [], ◌∷◌, Option, Some, None, if◌then◌else◌, codes, bytes_eq, nat_le, filter, count_by, fold, map}
 use Rattle.std.specs.Char.{is_ascii_digit}
 use Rattle.std.specs.List.{list_any, list_all}
 use Rattle.std.specs.Str.Parse.{digits_value}
 use Rattle.hm_base.specs.Bytes.{is_null}
-use Rattle.hm_base.specs.declared.plain.SpellRules.{SpellRules}
 use Rattle.hm_base.specs.declared.plain.TreeOptions.{TreeOptions}
-use Rattle.hm_elements.specs.Names.{words}
+use Rattle.hm_words.specs.declared.flags.Choices.{Choices}
+use Rattle.hm_words.specs.declared.flags.Setting.{Setting}
+use Rattle.hm_words.specs.declared.flags.Setting.TheVariants.{Comments, Booleans, Empty, Redundant, Doctype, Space, Conservative, Omit, Unquote, Tight, Ascii, Sparse}
 use Rattle.hm_words.specs.declared.writing.Writing.{Writing}
 
--- what is done, with the names of its files, or with the number and the blocks of a page that is made
-pub data Command : Type 0 where
-  minify : List ℕ → List ℕ → List ℕ → List ℕ → Command  -- TABLE, PAGE, OUT, CERT
-  check : List ℕ → List ℕ → List ℕ → List ℕ → Command  -- TABLE, PAGE, OUT, CERT
-  tree : List ℕ → List ℕ → Command  -- TABLE, PAGE
-  measure : List ℕ → ℕ → ℕ → Command  -- TABLE, NUMBER, SIZE
+-- where the tree of a request comes from, with the names of its files
+pub data Origin : Type 0 where
+  page_at : List ℕ → List ℕ → Origin  -- TABLE, PAGE
+  made : List ℕ → ℕ → ℕ → Origin  -- TABLE, NUMBER, SIZE: the page of so many blocks that is made of a number
 
--- a request: a command, the rewrites of the tree that it works on, and how that is written
+-- what is done with the tree, with the names of its files
+pub data Work : Type 0 where
+  minifies : List ℕ → List ℕ → Work  -- OUT, CERT
+  checks : List ℕ → List ℕ → Work  -- OUT, CERT
+  shows : Work
+  measures : Work
+
+-- a command: where its tree comes from, and what is done with it
+abbrev pub Command : Type 0
+Command = Origin × Work
+
+-- a request: a command, the rewrites of the tree, and how that is written
 pub record Asked : Type 0 where
-  pub command : Command
+  pub origin : Origin
+  pub work : Work
   pub options : TreeOptions
   pub writing : Writing
 
-abbrev pub asks : Command → TreeOptions → Writing → Asked
-asks command options writing = record { command = command; options = options; writing = writing }
+abbrev pub asks : Origin → Work → TreeOptions → Writing → Asked
+asks origin work options writing = record { origin = origin; work = work; options = options; writing = writing }
 
 -- the names of table and page differ, where the table `none` is no name
 abbrev pub are_apart : List ℕ → List ℕ → Bool
@@ -39,9 +50,38 @@ is_flag (c ∷ s) = c == 45
 abbrev pub names_in : List (List ℕ) → List (List ℕ)
 names_in ws = filter (λ w. not (is_flag w)) ws
 
--- the flags of every command
+-- the word of a flag: its name after two hyphens
+abbrev pub dashed : List ℕ → List ℕ
+dashed name = 45 ∷ 45 ∷ name
+
+-- a flag: its name, and what it sets
+pub record Row : Type 0 where
+  pub name : List ℕ
+  pub setting : Setting
+
+abbrev row : List ℕ → Setting → Row
+row name setting = record { name = name; setting = setting }
+
+-- the table of flags
+abbrev pub rows : List Row
+rows =
+    row (codes "comments") Comments
+    ∷ row (codes "booleans") Booleans
+    ∷ row (codes "empty") Empty
+    ∷ row (codes "redundant") Redundant
+    ∷ row (codes "doctype") Doctype
+    ∷ row (codes "space") Space
+    ∷ row (codes "conservative") Conservative
+    ∷ row (codes "omit") Omit
+    ∷ row (codes "unquote") Unquote
+    ∷ row (codes "tight") Tight
+    ∷ row (codes "ascii") Ascii
+    ∷ row (codes "sparse") Sparse
+    ∷ []
+
+-- the words of the flags
 unfoldable pub flags : List (List ℕ)
-flags = words "--comments --booleans --empty --redundant --doctype --space --conservative --omit --unquote --tight --ascii --sparse"
+flags = map (λ (r : Row). dashed r.name) rows
 
 -- the word is one of these
 abbrev pub has : List (List ℕ) → List ℕ → Bool
@@ -59,61 +99,69 @@ is_single ws word = nat_le (count_by (λ w. bytes_eq w word) ws) 1
 abbrev pub are_single : List (List ℕ) → List (List ℕ) → Bool
 are_single known ws = list_all (is_single ws) known
 
+-- no word is empty
+abbrev pub are_filled : List (List ℕ) → Bool
+are_filled ws = list_all (λ w. not (is_null w)) ws
+
 -- known flags, each at most once, and `--conservative` only beside `--space`
 abbrev pub are_flags : List (List ℕ) → Bool
 are_flags ws = are_known flags ws && (are_single flags ws && (not (has ws (codes "--conservative")) || has ws (codes "--space")))
 
--- the rewrites whose flags are among the words
-unfoldable pub options_of : List (List ℕ) → TreeOptions
-options_of ws = record {
-  doctype = has ws (codes "--doctype");
-  comments = has ws (codes "--comments");
-  booleans = has ws (codes "--booleans");
-  empty = has ws (codes "--empty");
-  redundant = has ws (codes "--redundant");
-  space = has ws (codes "--space");
-  conservative = has ws (codes "--conservative");
+-- the choices with one of them set, where its flag is given, or not
+abbrev pub set : Setting → Bool → Choices → Choices
+set Comments given c = record c { options = record c.options { comments = given } }
+set Booleans given c = record c { options = record c.options { booleans = given } }
+set Empty given c = record c { options = record c.options { empty = given } }
+set Redundant given c = record c { options = record c.options { redundant = given } }
+set Doctype given c = record c { options = record c.options { doctype = given } }
+set Space given c = record c { options = record c.options { space = given } }
+set Conservative given c = record c { options = record c.options { conservative = given } }
+set Omit given c = record c { writing = record c.writing { rules = record c.writing.rules { omit = given } } }
+set Unquote given c = record c { writing = record c.writing { rules = record c.writing.rules { unquote = given } } }
+set Tight given c = record c { writing = record c.writing { rules = record c.writing.rules { tight = given } } }
+set Ascii given c = record c { writing = record c.writing { rules = record c.writing.rules { ascii = given } } }
+set Sparse given c = record c { writing = record c.writing { sparse = given } }
+
+-- nothing is chosen; the start tag of body may always be left out
+abbrev pub no_choices : Choices
+no_choices = record {
+  options = record { doctype = false; comments = false; booleans = false; empty = false; redundant = false; space = false; conservative = false };
+  writing = record { rules = record { omit = false; unquote = false; tight = false; ascii = false; frame = false }; sparse = false };
 }
 
--- the rules of spelling whose flags are among the words; the start tag of body may always be left out
-unfoldable pub rules_of : List (List ℕ) → SpellRules
-rules_of ws = record {
-  omit = has ws (codes "--omit");
-  unquote = has ws (codes "--unquote");
-  tight = has ws (codes "--tight");
-  ascii = has ws (codes "--ascii");
-  frame = false;
-}
+-- what a flag sets, by the words
+abbrev pub set_by : List (List ℕ) → Choices → Row → Choices
+set_by ws c r = set r.setting (has ws (dashed r.name)) c
 
--- how a tree is written, by the flags among the words
-abbrev pub writing_of : List (List ℕ) → Writing
-writing_of ws = record { rules = rules_of ws; sparse = has ws (codes "--sparse") }
+-- what the flags among the words set
+unfoldable pub choices_of : List (List ℕ) → Choices
+choices_of ws = fold (set_by ws) no_choices rows
 
 -- ---- The names of a command's files
 
--- three names that differ from each other
-abbrev pub are_distinct : List ℕ → List ℕ → List ℕ → Bool
-are_distinct page out cert = not (bytes_eq page out) && (not (bytes_eq page cert) && not (bytes_eq out cert))
+-- the names of the origin's files differ, where the table `none` is no name
+abbrev pub is_origin_apart : Origin → Bool
+is_origin_apart (page_at table page) = are_apart table page
+is_origin_apart (made table number size) = true
 
-abbrev pub are_four_apart : List ℕ → List ℕ → List ℕ → List ℕ → Bool
-are_four_apart table page out cert = are_apart table page && (are_apart table out && (are_apart table cert && are_distinct page out cert))
+-- no file of the origin has this name
+abbrev pub is_away : Origin → List ℕ → Bool
+is_away (page_at table page) name = are_apart table name && not (bytes_eq page name)
+is_away (made table number size) name = are_apart table name
 
--- The names differ, where the table `none` is no name.
-abbrev pub is_apart : Command → Bool
-is_apart (minify table page out cert) = are_four_apart table page out cert
-is_apart (check table page out cert) = are_four_apart table page out cert
-is_apart (tree table page) = are_apart table page
-is_apart (measure table number size) = true
+-- two further files have names of their own
+abbrev pub are_files_apart : Origin → List ℕ → List ℕ → Bool
+are_files_apart origin out cert = is_away origin out && (is_away origin cert && not (bytes_eq out cert))
 
-abbrev pub are_four_filled : List ℕ → List ℕ → List ℕ → List ℕ → Bool
-are_four_filled table page out cert = not (is_null table) && (not (is_null page) && (not (is_null out) && not (is_null cert)))
+abbrev pub is_work_apart : Origin → Work → Bool
+is_work_apart origin (minifies out cert) = are_files_apart origin out cert
+is_work_apart origin (checks out cert) = are_files_apart origin out cert
+is_work_apart origin shows = true
+is_work_apart origin measures = true
 
--- no name is empty
-abbrev pub is_filled : Command → Bool
-is_filled (minify table page out cert) = are_four_filled table page out cert
-is_filled (check table page out cert) = are_four_filled table page out cert
-is_filled (tree table page) = not (is_null table) && not (is_null page)
-is_filled (measure table number size) = not (is_null table)
+-- all names differ
+abbrev pub is_apart : Origin → Work → Bool
+is_apart origin work = is_origin_apart origin && is_work_apart origin work
 
 -- ---- Numbers
 
@@ -135,18 +183,18 @@ number_in least most word = if is_number word && (nat_le least (digits_value 10 
 -- minify TABLE PAGE OUT CERT, and check with the same names
 abbrev pub four_of : List (List ℕ) → Option Command
 four_of (command ∷ table ∷ page ∷ out ∷ cert ∷ []) =
-    if bytes_eq command (codes "minify") then Some (minify table page out cert)
-    else if bytes_eq command (codes "check") then Some (check table page out cert)
+    if bytes_eq command (codes "minify") then Some (page_at table page, minifies out cert)
+    else if bytes_eq command (codes "check") then Some (page_at table page, checks out cert)
     else None
 four_of names = None
 
 -- tree TABLE PAGE
 abbrev pub tree_of : List (List ℕ) → Option Command
-tree_of (command ∷ table ∷ page ∷ []) = if bytes_eq command (codes "tree") then Some (tree table page) else None
+tree_of (command ∷ table ∷ page ∷ []) = if bytes_eq command (codes "tree") then Some (page_at table page, shows) else None
 tree_of names = None
 
 abbrev pub measured : List ℕ → Option ℕ → Option ℕ → Option Command
-measured table (Some number) (Some size) = Some (measure table number size)
+measured table (Some number) (Some size) = Some (made table number size, measures)
 measured table number size = None
 
 -- measure TABLE NUMBER SIZE: a number of 32 bits, and from 1 to 20,000 blocks
@@ -162,10 +210,15 @@ or_else (Some a) b = Some a
 abbrev pub command_in : List (List ℕ) → Option Command
 command_in names = or_else (four_of names) (or_else (measure_of names) (tree_of names))
 
+-- the flags may stand with the command: today any with each
+abbrev pub fits : Command → List (List ℕ) → Bool
+fits command ws = true
+
+-- a command is asked for, where the names of its files differ, and its flags may stand with it
 abbrev pub with_flags : List (List ℕ) → Option Command → Option Asked
 with_flags ws None = None
-with_flags ws (Some command) = if is_filled command && is_apart command then Some (asks command (options_of ws) (writing_of ws)) else None
+with_flags ws (Some command) = if is_apart command.0 command.1 && fits command ws then Some (asks command.0 command.1 (choices_of ws).options (choices_of ws).writing) else None
 
 -- what the words ask for, where they have a meaning
 unfoldable pub asked : List (List ℕ) → Option Asked
-asked ws = if are_flags ws then with_flags ws (command_in (names_in ws)) else None
+asked ws = if are_filled ws && are_flags ws then with_flags ws (command_in (names_in ws)) else None

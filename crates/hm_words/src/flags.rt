@@ -1,25 +1,122 @@
 //! The flags among the words of a call.
 ghost use Rattle.std.specs.Prelude.{◌≡◌};
+ghost use Rattle.std.specs.Str.{bytes_eq};
 ghost use Rattle.hm_words.specs.Words as spec;
+ghost use Rattle.hm_words.specs.Words.{dashed};
 ghost use Rattle.hm_words.specs.Answers as answers;
 
-use hm_base::Word;
+use crate::writing::Writing;
+use hm_base::{TreeOptions, Word};
 
-/// The flags of every command.
-const FLAGS: [&str; 12] = [
-    "--comments",
-    "--booleans",
-    "--empty",
-    "--redundant",
-    "--doctype",
-    "--space",
-    "--conservative",
-    "--omit",
-    "--unquote",
-    "--tight",
-    "--ascii",
-    "--sparse",
+/// What a flag sets.
+#[derive(Clone, Copy, Debug, PartialEq, Eq)]
+pub enum Setting {
+    Comments,
+    Booleans,
+    Empty,
+    Redundant,
+    Doctype,
+    Space,
+    Conservative,
+    Omit,
+    Unquote,
+    Tight,
+    Ascii,
+    Sparse,
+}
+
+/// A flag: its name, which follows two hyphens in its word, and what it sets.
+#[derive(Clone, Copy, Debug, PartialEq, Eq)]
+pub struct Flag {
+    pub name: &'static str,
+    pub setting: Setting,
+}
+
+/// The table of flags. A further flag is a row of it.
+pub const FLAGS: [Flag; 12] = [
+    Flag {
+        name: "comments",
+        setting: Setting::Comments,
+    },
+    Flag {
+        name: "booleans",
+        setting: Setting::Booleans,
+    },
+    Flag {
+        name: "empty",
+        setting: Setting::Empty,
+    },
+    Flag {
+        name: "redundant",
+        setting: Setting::Redundant,
+    },
+    Flag {
+        name: "doctype",
+        setting: Setting::Doctype,
+    },
+    Flag {
+        name: "space",
+        setting: Setting::Space,
+    },
+    Flag {
+        name: "conservative",
+        setting: Setting::Conservative,
+    },
+    Flag {
+        name: "omit",
+        setting: Setting::Omit,
+    },
+    Flag {
+        name: "unquote",
+        setting: Setting::Unquote,
+    },
+    Flag {
+        name: "tight",
+        setting: Setting::Tight,
+    },
+    Flag {
+        name: "ascii",
+        setting: Setting::Ascii,
+    },
+    Flag {
+        name: "sparse",
+        setting: Setting::Sparse,
+    },
 ];
+
+/// What all flags set.
+#[derive(Clone, Copy, Debug, PartialEq, Eq)]
+pub struct Choices {
+    pub options: TreeOptions,
+    pub writing: Writing,
+}
+
+impl Setting {
+    /// The choices with this one set, where its flag is given, or not.
+    pub fn set(self, given: bool, choices: Choices) -> Choices
+        ensures { result ≡ spec.set self given choices }
+    {
+        let Choices {
+            mut options,
+            mut writing,
+        } = choices;
+        match self {
+            Setting::Comments => options.comments = given,
+            Setting::Booleans => options.booleans = given,
+            Setting::Empty => options.empty = given,
+            Setting::Redundant => options.redundant = given,
+            Setting::Doctype => options.doctype = given,
+            Setting::Space => options.space = given,
+            Setting::Conservative => options.conservative = given,
+            Setting::Omit => writing.rules.omit = given,
+            Setting::Unquote => writing.rules.unquote = given,
+            Setting::Tight => writing.rules.tight = given,
+            Setting::Ascii => writing.rules.ascii = given,
+            Setting::Sparse => writing.sparse = given,
+        }
+        Choices { options, writing }
+    }
+}
 
 /// Whether a word begins with `-`.
 fn is_flag(word: &str) -> bool
@@ -31,43 +128,61 @@ fn is_flag(word: &str) -> bool
     }
 }
 
-/// Whether a word is one of these flags.
-fn is_one_of(word: &str, flags: &[&str]) -> bool
+/// Whether a word is that of the flag of this name.
+fn is_word_of(name: &str, word: &str) -> bool
+    ensures { result ≡ bytes_eq word.now (dashed name.now) }
+{
+    match word.as_bytes() {
+        [b'-', b'-', rest @ ..] => rest == name.as_bytes(),
+        _ => false,
+    }
+}
+
+/// Whether a flag of this name has this word.
+#[tactic(auto, using(crate::proofs::Walks::bytes_flip))]
+fn has_word(flag: &Flag, word: &str) -> bool
+    ensures { result ≡ bytes_eq (dashed flag.now.name.now) word.now }
+{
+    is_word_of(flag.name, word)
+}
+
+/// Whether a word is that of one of these flags.
+fn is_one_of(word: &str, flags: &[Flag]) -> bool
     ensures { result ≡ answers.is_one_of flags.now word.now }
 {
-    flags.iter().any(|flag| *flag == word)
+    flags.iter().any(|flag| has_word(flag, word))
 }
 
 /// Whether no word is empty.
 fn are_filled(words: &[Word]) -> bool
-    ensures { result ≡ answers.are_filled words.now }
+    ensures { result ≡ spec.are_filled words.now }
 {
     words.iter().all(|word| !word.text.as_str().is_empty())
 }
 
 /// Whether each flag is one of these.
-fn are_known(words: &[Word], flags: &[&str]) -> bool
+fn are_known(words: &[Word], flags: &[Flag]) -> bool
     ensures { result ≡ answers.are_known flags.now words.now }
 {
     words.iter().all(|word| !is_flag(word.text.as_str()) || is_one_of(word.text.as_str(), flags))
 }
 
-/// Whether this word stands at most once.
-fn is_single(words: &[Word], text: &str) -> bool
-    ensures { result ≡ spec.is_single words.now text.now }
+/// Whether the word of the flag of this name stands at most once.
+fn is_single(words: &[Word], name: &str) -> bool
+    ensures { result ≡ spec.is_single words.now (dashed name.now) }
 {
     words
         .iter()
-        .filter(|word| word.text.as_str() == text)
+        .filter(|word| is_word_of(name, word.text.as_str()))
         .count()
         <= 1
 }
 
 /// Whether each of these stands at most once.
-fn are_single(words: &[Word], flags: &[&str]) -> bool
+fn are_single(words: &[Word], flags: &[Flag]) -> bool
     ensures { result ≡ answers.are_single flags.now words.now }
 {
-    flags.iter().all(|flag| is_single(words, flag))
+    flags.iter().all(|flag| is_single(words, flag.name))
 }
 
 /// Whether no word is empty, and each that begins with `-` is one of the flags, which stands at most once. A command

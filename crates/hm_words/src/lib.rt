@@ -7,5 +7,6 @@ mod numbers;
 mod words;
 mod writing;
 
-pub use words::{Asked, Command, WordsFault};
+pub use flags::{Choices, FLAGS, Flag, Setting};
+pub use words::{Asked, Origin, WordsFault, Work};
 pub use writing::Writing;

@@ -1,17 +1,26 @@
 //! The command line: its flags, and then names.
-ghost use Rattle.std.specs.Prelude.{◌≡◌, ℕ, List, [], IfOk, IfErr, IfSome, IfNone, true, false};
+ghost use Rattle.std.specs.Prelude.{◌≡◌, ℕ, List, [], IfOk, IfErr, IfSome, IfNone, true, false, fold};
 ghost use Rattle.clap.specs.Words.{app_of, rule_of};
 ghost use Rattle.clap.specs.Walk.{texts};
 ghost use Rattle.clap.specs.Values.{kind_of};
 ghost use Rattle.hm_words.specs.Answers as answers;
 ghost use Rattle.hm_words.specs.Matches as spec;
-ghost use Rattle.hm_words.specs.Matches.{IsMatched, dashed};
-ghost use Rattle.hm_words.specs.Words.{flags, has, names_in};
+ghost use Rattle.hm_words.specs.Matches.{IsMatched};
+ghost use Rattle.hm_words.specs.declared.flags.Flag.{Flag};
+ghost use Rattle.hm_words.specs.Words.{dashed, flags, has, names_in};
 
+use crate::flags::{FLAGS, Flag};
 use clap::error::ErrorKind;
 use clap::{Arg, ArgAction, ArgMatches, Command, Error};
 use hm_base::Word;
 use std::alloc::{AllocError, Global};
+
+/// A name that stands for ever, for as long as it is needed.
+fn lent<'t>(name: &'static str) -> &'t str
+    ensures { result.now ≡ name.now }
+{
+    name
+}
 
 /// A flag of this name.
 fn flag<'t>(alloc: Global, name: &'t str) -> Arg<'t>
@@ -31,24 +40,35 @@ fn bare_line<'t>(alloc: Global) -> Command<'t>
         .disable_version_flag(true)
 }
 
+/// A command with one more flag.
+fn with_flag<'t>(alloc: Global, command: Command<'t>, row: &Flag) -> Result<Command<'t>, AllocError>
+    ensures { IfOk result (λ made. app_of made ≡ spec.with_flag (app_of command.entry) row.now.name.now) }
+{
+    command.arg(flag(alloc, lent(row.name)))
+}
+
+/// A command with these flags.
+fn with_flags<'t>(
+    alloc: Global,
+    command: Command<'t>,
+    rows: &[Flag],
+) -> Result<Command<'t>, AllocError>
+    ensures { IfOk result (λ made. app_of made ≡ fold (λ app (row : Flag). spec.with_flag app row.name.now) (app_of command.entry) rows.now) }
+{
+    let mut command = command;
+    for row in rows {
+        command = with_flag(alloc, command, row)?;
+    }
+    Ok(command)
+}
+
 /// The command line: each flag, and any number of names.
 fn line<'t>(alloc: Global) -> Result<Command<'t>, AllocError>
     ensures { IfOk result (λ command. app_of command ≡ spec.line) }
 {
-    bare_line(alloc)
-        .arg(flag(alloc, "comments"))?
-        .arg(flag(alloc, "booleans"))?
-        .arg(flag(alloc, "empty"))?
-        .arg(flag(alloc, "redundant"))?
-        .arg(flag(alloc, "doctype"))?
-        .arg(flag(alloc, "space"))?
-        .arg(flag(alloc, "conservative"))?
-        .arg(flag(alloc, "omit"))?
-        .arg(flag(alloc, "unquote"))?
-        .arg(flag(alloc, "tight"))?
-        .arg(flag(alloc, "ascii"))?
-        .arg(flag(alloc, "sparse"))?
-        .arg(Arg::new(alloc, "names").action(ArgAction::Append))
+    with_flags(alloc, bare_line(alloc), &FLAGS)?.arg(Arg::new(alloc, "names").action(
+        ArgAction::Append,
+    ))
 }
 
 /// What clap finds in words that can be read. The only error is lack of memory.

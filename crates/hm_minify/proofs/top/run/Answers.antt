@@ -1,73 +1,80 @@
-use Rattle.std.proofs.Common.{ap}
-use Rattle.hm_minify.specs.Endings.{ending, is_fault}
+use Rattle.std.proofs.Common.{ap, subst}
+use Rattle.hm_words.specs.Words.{asked}
+use Rattle.hm_minify.specs.Endings.{IsReadableAsked, ending, is_fault}
 use Rattle.hm_minify.specs.Lines.{usage_line}
-use Rattle.hm_minify.proofs.Courses.{answer, complete, whole, left, store_cause, store_said, sink_cause, sink_front, memory}
+use Rattle.hm_minify.specs.Outside.{outside}
+use Rattle.hm_minify.proofs.Courses.{answer, answered, complete, whole, left, store_cause, store_said, sink_cause, sink_front, memory}
 use Rattle.hm_minify.proofs.Meanings.{usage_answers, usage_unasked, usage_or_fault, minified, checks, denies, shows, measures, always_measures, refuses_page, refuses_table}
 use Rattle.hm_minify.proofs.Others.{others}
 use Rattle.hm_minify.proofs.top.run.Goals as goal
 
 pub returns-clause-usage : goal.returns-clause-usage
 returns-clause-usage g c = λ is.
-    let u = usage_unasked c.args.words.now c.perform.result (g.S.Store.files c.args.store.now) (g.S.Store.files c.perform.new.store) (g.O.Sink.contents c.args.out.now) (g.O.Sink.contents c.perform.new.out) (answer (ending c.args.words.now) (g.S.Store.files c.args.store.now) (g.S.Store.files c.perform.new.store) (g.S.Store.faults c.args.store.now) (g.S.Store.faults c.perform.new.store) (g.O.Sink.contents c.args.out.now) (g.O.Sink.contents c.perform.new.out) (g.O.Sink.faults c.args.out.now) (g.O.Sink.faults c.perform.new.out) c.perform.result c.perform.ensures.course (usage_answers c.perform.result is)) is in
+    let u = usage_unasked c.args.words.now c.perform.result _ _ (answer (ending c.args.words.now) (IsReadableAsked (asked c.args.words.now)) c.perform.result _ _ c.perform.ensures.course (usage_answers c.perform.result is)) is in
     (u.0, (c.perform.ensures.unasked u.0).0, u.1)
 
 pub returns-clause-no_meaning : goal.returns-clause-no_meaning
 returns-clause-no_meaning g c = λ none.
     let p = c.perform.ensures.unasked none in
-    (p.0, usage_or_fault (g.O.Sink.faults c.args.out.now) (g.O.Sink.faults c.perform.new.out) (g.O.Sink.contents c.args.out.now) (g.O.Sink.contents c.perform.new.out) usage_line c.perform.result p.1)
+    (p.0, usage_or_fault usage_line c.perform.result (outside g.S.Store g.O.Sink c.args.store.now c.args.out.now) (outside g.S.Store g.O.Sink c.perform.new.store c.perform.new.out) p.1)
 
 pub returns-clause-answer : goal.returns-clause-answer
-returns-clause-answer g c = λ a. answer (ending c.args.words.now) (g.S.Store.files c.args.store.now) (g.S.Store.files c.perform.new.store) (g.S.Store.faults c.args.store.now) (g.S.Store.faults c.perform.new.store) (g.O.Sink.contents c.args.out.now) (g.O.Sink.contents c.perform.new.out) (g.O.Sink.faults c.args.out.now) (g.O.Sink.faults c.perform.new.out) c.perform.result c.perform.ensures.course a
+returns-clause-answer g c = λ a. answer (ending c.args.words.now) (IsReadableAsked (asked c.args.words.now)) c.perform.result _ _ c.perform.ensures.course a
 
 pub returns-clause-complete : goal.returns-clause-complete
-returns-clause-complete g c = λ still quiet. complete (ending c.args.words.now) (g.S.Store.files c.args.store.now) (g.S.Store.files c.perform.new.store) (g.S.Store.faults c.args.store.now) (g.S.Store.faults c.perform.new.store) (g.O.Sink.contents c.args.out.now) (g.O.Sink.contents c.perform.new.out) (g.O.Sink.faults c.args.out.now) (g.O.Sink.faults c.perform.new.out) c.perform.result c.perform.ensures.course still quiet
+returns-clause-complete g c = λ still quiet. complete (ending c.args.words.now) (IsReadableAsked (asked c.args.words.now)) c.perform.result _ _ c.perform.ensures.course still quiet
 
 pub returns-clause-whole : goal.returns-clause-whole
-returns-clause-whole g c = λ still ready. whole (ending c.args.words.now) (g.S.Store.files c.args.store.now) (g.S.Store.files c.perform.new.store) (g.S.Store.faults c.args.store.now) (g.S.Store.faults c.perform.new.store) (g.O.Sink.contents c.args.out.now) (g.O.Sink.contents c.perform.new.out) (g.O.Sink.faults c.args.out.now) (g.O.Sink.faults c.perform.new.out) c.perform.result c.perform.ensures.course still ready
+returns-clause-whole g c = λ still ready. whole (ending c.args.words.now) (IsReadableAsked (asked c.args.words.now)) c.perform.result _ _ c.perform.ensures.course still ready
 
 pub returns-clause-left : goal.returns-clause-left
-returns-clause-left g c = left (ending c.args.words.now) (g.S.Store.files c.args.store.now) (g.S.Store.files c.perform.new.store) (g.S.Store.faults c.args.store.now) (g.S.Store.faults c.perform.new.store) (g.O.Sink.contents c.args.out.now) (g.O.Sink.contents c.perform.new.out) (g.O.Sink.faults c.args.out.now) (g.O.Sink.faults c.perform.new.out) c.perform.result c.perform.ensures.course
+returns-clause-left g c = left (ending c.args.words.now) (IsReadableAsked (asked c.args.words.now)) c.perform.result _ _ c.perform.ensures.course
 
 pub returns-clause-others : goal.returns-clause-others
-returns-clause-others g c = λ name h. others c.args.words.now (g.S.Store.files c.args.store.now) (g.S.Store.files c.perform.new.store) name (left (ending c.args.words.now) (g.S.Store.files c.args.store.now) (g.S.Store.files c.perform.new.store) (g.S.Store.faults c.args.store.now) (g.S.Store.faults c.perform.new.store) (g.O.Sink.contents c.args.out.now) (g.O.Sink.contents c.perform.new.out) (g.O.Sink.faults c.args.out.now) (g.O.Sink.faults c.perform.new.out) c.perform.result c.perform.ensures.course) h
+returns-clause-others g c = λ name h. others c.args.words.now _ _ name (left (ending c.args.words.now) (IsReadableAsked (asked c.args.words.now)) c.perform.result _ _ c.perform.ensures.course) h
 
 pub returns-clause-store_cause : goal.returns-clause-store_cause
-returns-clause-store_cause g c = λ is. store_cause (ending c.args.words.now) (g.S.Store.files c.args.store.now) (g.S.Store.files c.perform.new.store) (g.S.Store.faults c.args.store.now) (g.S.Store.faults c.perform.new.store) (g.O.Sink.contents c.args.out.now) (g.O.Sink.contents c.perform.new.out) (g.O.Sink.faults c.args.out.now) (g.O.Sink.faults c.perform.new.out) c.perform.result c.perform.ensures.course is
+returns-clause-store_cause g c = λ is. store_cause (ending c.args.words.now) (IsReadableAsked (asked c.args.words.now)) c.perform.result _ _ c.perform.ensures.course is
 
 pub returns-clause-store_line : goal.returns-clause-store_line
-returns-clause-store_line g c = λ is. store_said (ending c.args.words.now) (g.S.Store.files c.args.store.now) (g.S.Store.files c.perform.new.store) (g.S.Store.faults c.args.store.now) (g.S.Store.faults c.perform.new.store) (g.O.Sink.contents c.args.out.now) (g.O.Sink.contents c.perform.new.out) (g.O.Sink.faults c.args.out.now) (g.O.Sink.faults c.perform.new.out) c.perform.result c.perform.ensures.course is
+returns-clause-store_line g c = λ is. store_said (ending c.args.words.now) (IsReadableAsked (asked c.args.words.now)) c.perform.result _ _ c.perform.ensures.course is
 
 pub returns-clause-sink_cause : goal.returns-clause-sink_cause
-returns-clause-sink_cause g c = λ is. sink_cause (ending c.args.words.now) (g.S.Store.files c.args.store.now) (g.S.Store.files c.perform.new.store) (g.S.Store.faults c.args.store.now) (g.S.Store.faults c.perform.new.store) (g.O.Sink.contents c.args.out.now) (g.O.Sink.contents c.perform.new.out) (g.O.Sink.faults c.args.out.now) (g.O.Sink.faults c.perform.new.out) c.perform.result c.perform.ensures.course is
+returns-clause-sink_cause g c = λ is. sink_cause (ending c.args.words.now) (IsReadableAsked (asked c.args.words.now)) c.perform.result _ _ c.perform.ensures.course is
 
 pub returns-clause-sink_front : goal.returns-clause-sink_front
-returns-clause-sink_front g c = λ is. sink_front (ending c.args.words.now) (g.S.Store.files c.args.store.now) (g.S.Store.files c.perform.new.store) (g.S.Store.faults c.args.store.now) (g.S.Store.faults c.perform.new.store) (g.O.Sink.contents c.args.out.now) (g.O.Sink.contents c.perform.new.out) (g.O.Sink.faults c.args.out.now) (g.O.Sink.faults c.perform.new.out) c.perform.result c.perform.ensures.course is
+returns-clause-sink_front g c = λ is. sink_front (ending c.args.words.now) (IsReadableAsked (asked c.args.words.now)) c.perform.result _ _ c.perform.ensures.course is
 
 pub returns-clause-memory : goal.returns-clause-memory
 returns-clause-memory g c = λ is.
-    let m = memory (ending c.args.words.now) (g.S.Store.files c.args.store.now) (g.S.Store.files c.perform.new.store) (g.S.Store.faults c.args.store.now) (g.S.Store.faults c.perform.new.store) (g.O.Sink.contents c.args.out.now) (g.O.Sink.contents c.perform.new.out) (g.O.Sink.faults c.args.out.now) (g.O.Sink.faults c.perform.new.out) c.perform.result c.perform.ensures.course is in
+    let m = memory (ending c.args.words.now) (IsReadableAsked (asked c.args.words.now)) c.perform.result _ _ c.perform.ensures.course is in
     (m.0, m.1, c.perform.ensures.writing is)
 
 pub returns-clause-minified : goal.returns-clause-minified
-returns-clause-minified g c = λ table page output cert options writing e is. minified c.args.words.now table page output cert options writing c.perform.result (g.S.Store.files c.args.store.now) (g.S.Store.files c.perform.new.store) (g.O.Sink.contents c.args.out.now) (g.O.Sink.contents c.perform.new.out) e (c.perform.ensures.writable (ap is_fault is)) is
+returns-clause-minified g c = λ request output cert e work is. minified c.args.words.now request output cert c.perform.result _ _ e work (answered (ending c.args.words.now) (IsReadableAsked (asked c.args.words.now)) c.perform.result _ _ c.perform.ensures.course (ap is_fault is)) is
 
 pub returns-clause-checked : goal.returns-clause-checked
-returns-clause-checked g c = λ table page output cert options writing e is. checks c.args.words.now table page output cert options writing c.perform.result (g.S.Store.files c.args.store.now) (g.S.Store.files c.perform.new.store) (g.O.Sink.contents c.args.out.now) (g.O.Sink.contents c.perform.new.out) e (answer (ending c.args.words.now) (g.S.Store.files c.args.store.now) (g.S.Store.files c.perform.new.store) (g.S.Store.faults c.args.store.now) (g.S.Store.faults c.perform.new.store) (g.O.Sink.contents c.args.out.now) (g.O.Sink.contents c.perform.new.out) (g.O.Sink.faults c.args.out.now) (g.O.Sink.faults c.perform.new.out) c.perform.result c.perform.ensures.course (ap is_fault is)) is
+returns-clause-checked g c = λ request output cert e work is. checks c.args.words.now request output cert c.perform.result _ _ e work (answer (ending c.args.words.now) (IsReadableAsked (asked c.args.words.now)) c.perform.result _ _ c.perform.ensures.course (ap is_fault is)) is
 
 pub returns-clause-denied : goal.returns-clause-denied
-returns-clause-denied g c = λ command options writing e is. denies c.args.words.now command options writing c.perform.result (g.S.Store.files c.args.store.now) (g.S.Store.files c.perform.new.store) (g.O.Sink.contents c.args.out.now) (g.O.Sink.contents c.perform.new.out) e (answer (ending c.args.words.now) (g.S.Store.files c.args.store.now) (g.S.Store.files c.perform.new.store) (g.S.Store.faults c.args.store.now) (g.S.Store.faults c.perform.new.store) (g.O.Sink.contents c.args.out.now) (g.O.Sink.contents c.perform.new.out) (g.O.Sink.faults c.args.out.now) (g.O.Sink.faults c.perform.new.out) c.perform.result c.perform.ensures.course (ap is_fault is)) is
+returns-clause-denied g c = λ request e is. denies c.args.words.now request c.perform.result _ _ e (answer (ending c.args.words.now) (IsReadableAsked (asked c.args.words.now)) c.perform.result _ _ c.perform.ensures.course (ap is_fault is)) is
 
 pub returns-clause-shown : goal.returns-clause-shown
-returns-clause-shown g c = λ table page options writing e is. shows c.args.words.now table page options writing c.perform.result (g.S.Store.files c.args.store.now) (g.S.Store.files c.perform.new.store) (g.O.Sink.contents c.args.out.now) (g.O.Sink.contents c.perform.new.out) e (answer (ending c.args.words.now) (g.S.Store.files c.args.store.now) (g.S.Store.files c.perform.new.store) (g.S.Store.faults c.args.store.now) (g.S.Store.faults c.perform.new.store) (g.O.Sink.contents c.args.out.now) (g.O.Sink.contents c.perform.new.out) (g.O.Sink.faults c.args.out.now) (g.O.Sink.faults c.perform.new.out) c.perform.result c.perform.ensures.course (ap is_fault is)) is
+returns-clause-shown g c = λ request e work is. shows c.args.words.now request c.perform.result _ _ e work (answer (ending c.args.words.now) (IsReadableAsked (asked c.args.words.now)) c.perform.result _ _ c.perform.ensures.course (ap is_fault is)) is
 
 pub returns-clause-measured : goal.returns-clause-measured
-returns-clause-measured g c = λ table number size options writing e is. measures c.args.words.now table number size options writing c.perform.result (g.S.Store.files c.args.store.now) (g.S.Store.files c.perform.new.store) (g.O.Sink.contents c.args.out.now) (g.O.Sink.contents c.perform.new.out) e (c.perform.ensures.writable (ap is_fault is)) is
+returns-clause-measured g c = λ request e work is. measures c.args.words.now request c.perform.result _ _ e work (answered (ending c.args.words.now) (IsReadableAsked (asked c.args.words.now)) c.perform.result _ _ c.perform.ensures.course (ap is_fault is)) is
 
 pub returns-clause-always_measured : goal.returns-clause-always_measured
-returns-clause-always_measured g c = λ table number size options writing e is. always_measures c.args.words.now table number size options writing c.perform.result (g.S.Store.files c.args.store.now) (g.S.Store.files c.perform.new.store) (g.O.Sink.contents c.args.out.now) (g.O.Sink.contents c.perform.new.out) e (answer (ending c.args.words.now) (g.S.Store.files c.args.store.now) (g.S.Store.files c.perform.new.store) (g.S.Store.faults c.args.store.now) (g.S.Store.faults c.perform.new.store) (g.O.Sink.contents c.args.out.now) (g.O.Sink.contents c.perform.new.out) (g.O.Sink.faults c.args.out.now) (g.O.Sink.faults c.perform.new.out) c.perform.result c.perform.ensures.course is) is
+returns-clause-always_measured g c = λ request e work is. always_measures c.args.words.now request c.perform.result _ _ e work (answer (ending c.args.words.now) (IsReadableAsked (asked c.args.words.now)) c.perform.result _ _ c.perform.ensures.course is) is
 
 pub returns-clause-refused_page : goal.returns-clause-refused_page
-returns-clause-refused_page g c = λ command options writing e is. refuses_page c.args.words.now command options writing c.perform.result (g.S.Store.files c.args.store.now) (g.S.Store.files c.perform.new.store) (g.O.Sink.contents c.args.out.now) (g.O.Sink.contents c.perform.new.out) e (answer (ending c.args.words.now) (g.S.Store.files c.args.store.now) (g.S.Store.files c.perform.new.store) (g.S.Store.faults c.args.store.now) (g.S.Store.faults c.perform.new.store) (g.O.Sink.contents c.args.out.now) (g.O.Sink.contents c.perform.new.out) (g.O.Sink.faults c.args.out.now) (g.O.Sink.faults c.perform.new.out) c.perform.result c.perform.ensures.course (ap is_fault is)) is
+returns-clause-refused_page g c = λ request e is. refuses_page c.args.words.now request c.perform.result _ _ e (answer (ending c.args.words.now) (IsReadableAsked (asked c.args.words.now)) c.perform.result _ _ c.perform.ensures.course (ap is_fault is)) is
 
 pub returns-clause-refused_table : goal.returns-clause-refused_table
-returns-clause-refused_table g c = λ command options writing e is. refuses_table c.args.words.now command options writing c.perform.result (g.S.Store.files c.args.store.now) (g.S.Store.files c.perform.new.store) (g.O.Sink.contents c.args.out.now) (g.O.Sink.contents c.perform.new.out) e (answer (ending c.args.words.now) (g.S.Store.files c.args.store.now) (g.S.Store.files c.perform.new.store) (g.S.Store.faults c.args.store.now) (g.S.Store.faults c.perform.new.store) (g.O.Sink.contents c.args.out.now) (g.O.Sink.contents c.perform.new.out) (g.O.Sink.faults c.args.out.now) (g.O.Sink.faults c.perform.new.out) c.perform.result c.perform.ensures.course (ap is_fault is)) is
+returns-clause-refused_table g c = λ request e is. refuses_table c.args.words.now request c.perform.result _ _ e (answer (ending c.args.words.now) (IsReadableAsked (asked c.args.words.now)) c.perform.result _ _ c.perform.ensures.course (ap is_fault is)) is
+
+pub returns-clause-readable : goal.returns-clause-readable
+returns-clause-readable g c = λ asked_is e is.
+    let w = answered (ending c.args.words.now) (IsReadableAsked (asked c.args.words.now)) c.perform.result _ _ c.perform.ensures.course (ap is_fault is) in
+    record { seen = w.seen; are_told = w.are_told; holds = subst (λ x. IsReadableAsked x w.seen) e w.holds.1 }

@@ -1,0 +1,119 @@
+-- A check of what was minified says yes.
+use Rattle.std.proofs.Common.{◌≡◌, ◌∙◌, ℕ, ◌≤◌, ◌||◌, ◌&&◌, Bool, true, false, cond, List, [], ◌∷◌, length, Option, Some, None, Result, Ok, Err, refl, sym, ap, arith}
+use Rattle.std.proofs.lemmas.Bool.Decides.{nat_tests}
+use Rattle.std.specs.Bool.{nat_lt}
+use Rattle.std.specs.Str.{bytes_eq}
+use Rattle.hm_base.specs.Walks.{Event}
+use Rattle.hm_base.specs.declared.limits.TheConstants.{CERTIFICATE_LIMIT, OUTPUT_LIMIT}
+use Rattle.hm_base.specs.declared.plain.TreeOptions.{TreeOptions}
+use Rattle.hm_cert.specs.Certificate.{AreRows}
+use Rattle.hm_cert.specs.Reading.{given}
+use Rattle.hm_cert.specs.declared.certificate.Certificate.{Certificate}
+use Rattle.hm_check.specs.Verdicts.{verdict}
+use Rattle.hm_check.specs.declared.verdicts.Verdict.{Verdict}
+use Rattle.hm_check.specs.declared.verdicts.Verdict.TheVariants.{Yes}
+use Rattle.hm_elements.specs.Settled.{Settled}
+use Rattle.hm_plan.specs.Shortest.{certificate_of, certified_rows, shortest_text}
+use Rattle.hm_refs.proofs.Places.{same_bytes}
+use Rattle.hm_refs.specs.Names.{Entry}
+use Rattle.hm_refs.specs.Tables.{IsTable}
+use Rattle.hm_store.specs.Contents.{Contents}
+use Rattle.hm_words.specs.Words.{Asked, Command, Origin, Work, are_filled, are_files_apart, are_flags, asked, asks, checks, choices_of, command_in, fits, is_apart, minifies, names_in, with_flags}
+use Rattle.hm_words.specs.declared.writing.Writing.{Writing}
+use Rattle.hm_minify.specs.Endings.{certificate_ending, check_ending, checked_ending, format_of, says, tree_ending, verdict_ending, with_tree}
+use Rattle.hm_minify.specs.Inputs.{Input, missing, bad_table, bad_page, tree as tree_input, input_of, origin_input, wanted}
+use Rattle.hm_minify.specs.Laws.{MinifiedIsChecked, judged, own_verdict, with_writes}
+use Rattle.hm_minify.specs.Lines.{yes_line}
+use Rattle.hm_minify.specs.Writes.{write}
+use Rattle.hm_minify.specs.declared.status.Status.TheVariants as status
+use Rattle.hm_minify.proofs.Accepted.{own_is_accepted}
+use Rattle.hm_minify.proofs.Answered.{away, files_apart, is_either, work_apart}
+use Rattle.hm_minify.proofs.Headline.{request_sound}
+use Rattle.hm_minify.proofs.Seen.{mixed, origin_stays}
+
+-- ---- the names differ
+
+some_is : {A : Type 0} (x y : A) → Some x ≡ Some y → x ≡ y
+some_is x y e = let h : x ≡ y = cc in h
+
+first : (a b : Bool) → (a && b) ≡ true → a ≡ true
+first true b h = refl
+first false b h = cc
+
+flagged_apart : (ws : List (List ℕ)) (x : Option Command) (q : Asked) → with_flags ws x ≡ Some q → is_apart q.origin q.work ≡ true
+flagged_apart ws None q e = cc
+flagged_apart ws (Some command) q e = by_test (is_apart command.0 command.1 && fits command ws) refl e
+  where
+    by_test : (b : Bool) → (is_apart command.0 command.1 && fits command ws) ≡ b → cond b (Some (asks command.0 command.1 (choices_of ws).options (choices_of ws).writing)) None ≡ Some q → is_apart q.origin q.work ≡ true
+    by_test true t h = ap (λ (z : Asked). is_apart z.origin z.work) (sym (some_is _ q h)) ∙ first (is_apart command.0 command.1) (fits command ws) t
+    by_test false t h = cc
+
+asked_apart : (ws : List (List ℕ)) (q : Asked) → asked ws ≡ Some q → is_apart q.origin q.work ≡ true
+unfolding asked
+asked_apart ws q e = by_test (are_filled ws && are_flags ws) e
+  where
+    by_test : (b : Bool) → cond b (with_flags ws (command_in (names_in ws))) None ≡ Some q → is_apart q.origin q.work ≡ true
+    by_test true h = flagged_apart ws (command_in (names_in ws)) q h
+    by_test false h = cc
+
+-- ---- the contents afterwards
+
+-- those of the two files
+abbrev written_to : List ℕ → List ℕ → List ℕ → Contents
+written_to cert o c name = cond (bytes_eq name cert) (Some c) (Some o)
+
+mixed_at : (a b : Bool) (x y z : Option (List ℕ)) → cond b z (cond a y x) ≡ cond (a || b) (cond b z y) x
+mixed_at true true x y z = refl
+mixed_at true false x y z = refl
+mixed_at false true x y z = refl
+mixed_at false false x y z = refl
+
+-- all others are as before
+writes_mix : (seen : Contents) (out cert o c : List ℕ) → with_writes seen (write out o ∷ write cert c ∷ []) ≡ mixed (is_either out cert) seen (written_to cert o c)
+writes_mix seen out cert o c = λ i name. mixed_at (bytes_eq name out) (bytes_eq name cert) (seen name) (Some o) (Some c) i
+
+out_there : (seen : Contents) (out cert o c : List ℕ) → bytes_eq out cert ≡ false → with_writes seen (write out o ∷ write cert c ∷ []) out ≡ Some o
+out_there seen out cert o c apart = rw (apart, same_bytes out) refl
+
+cert_there : (seen : Contents) (out cert o c : List ℕ) → with_writes seen (write out o ∷ write cert c ∷ []) cert ≡ Some c
+cert_there seen out cert o c = rw (same_bytes cert) refl
+
+-- ---- the ending of the check
+
+within : (n m : ℕ) → m ≤ n → nat_lt n m ≡ false
+within n m h = grind (arith, nat_tests)
+
+judged_ending : (find : Certificate → Verdict) (g : Result Certificate ℕ) (n : ℕ) → judged find g ≡ Ok (Yes n) → certificate_ending find g ≡ says status.Done (yes_line n)
+judged_ending find (Err line) n e = cc
+judged_ending find (Ok c) n e = let is : find c ≡ Yes n = cc in ap verdict_ending is
+
+own_ending : (t : List Entry) → IsTable t → (x : Writing) (w : List Event) → Settled w → AreRows (certified_rows t x.rules (format_of x.sparse) w) → length (shortest_text t x.rules w) ≤ OUTPUT_LIMIT → length (certificate_of t x.rules (format_of x.sparse) w) ≤ CERTIFICATE_LIMIT
+    → checked_ending x.rules t w (shortest_text t x.rules w) (certificate_of t x.rules (format_of x.sparse) w) ≡ says status.Done (yes_line (length (shortest_text t x.rules w)))
+own_ending t k x w s rows short few =
+    let yes : own_verdict x t w ≡ Ok (Yes (length (shortest_text t x.rules w))) = own_is_accepted t k x w s short rows in
+    rw (within CERTIFICATE_LIMIT (length (certificate_of t x.rules (format_of x.sparse) w)) few)
+    (judged_ending (verdict t x.rules w (shortest_text t x.rules w)) (given (certificate_of t x.rules (format_of x.sparse) w)) (length (shortest_text t x.rules w)) yes)
+
+-- what is wanted doesn't depend on what is done with it
+same_wanted : (origin : Origin) (a b : Work) (options : TreeOptions) (x : Writing) (i : Input) → wanted (asks origin b options x) i ≡ wanted (asks origin a options x) i
+same_wanted origin a b options x missing = refl
+same_wanted origin a b options x (bad_table fault) = refl
+same_wanted origin a b options x (bad_page rule at) = refl
+same_wanted origin a b options x (tree_input n t w) = refl
+
+pub minified_is_checked : MinifiedIsChecked
+minified_is_checked words origin out cert options x e seen bytes t w reads rows short few =
+    let q : Asked = asks origin (minifies out cert) options x in
+    let o : List ℕ = shortest_text t x.rules w in
+    let c : List ℕ = certificate_of t x.rules (format_of x.sparse) w in
+    let now : Contents = with_writes seen (write out o ∷ write cert c ∷ []) in
+    let apart : are_files_apart origin out cert ≡ true = work_apart origin (minifies out cert) (asked_apart words q e) in
+    let sound = request_sound q seen bytes t w reads in
+    let same : origin_input origin options now ≡ origin_input origin options seen =
+    ap (origin_input origin options) (writes_mix seen out cert o c) ∙ origin_stays (is_either out cert) origin options seen (written_to cert o c) (away origin out cert apart) in
+    let input : input_of (asks origin (checks out cert) options x) now ≡ tree_input bytes t w =
+    ap (wanted (asks origin (checks out cert) options x)) same ∙ same_wanted origin (minifies out cert) (checks out cert) options x (origin_input origin options seen) ∙ reads in
+    ap (λ y. with_tree y (tree_ending (checks out cert) x now)) input
+    ∙ ap (λ y. check_ending x.rules t w y (now cert)) (out_there seen out cert o c (files_apart origin out cert apart))
+    ∙ ap (check_ending x.rules t w (Some o)) (cert_there seen out cert o c)
+    ∙ own_ending t sound.table x w sound.settled rows short few

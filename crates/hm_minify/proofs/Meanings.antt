@@ -9,7 +9,7 @@ use Rattle.hm_store.specs.Contents.{AreTold, Contents}
 use Rattle.hm_minify.specs.Inputs.{Input, missing, bad_table, bad_page, tree as tree_input, input_of}
 use Rattle.hm_plan.specs.Shortest.{certificate_of, shortest_text}
 use Rattle.hm_words.specs.Words.{Asked, Work, minifies, checks as checks_files, shows as shows_tree, measures as measures_tree, asked}
-use Rattle.hm_minify.specs.Endings.{format_of, is_fault, with_tree, tree_ending, check_ending, asked_ending, request_ending}
+use Rattle.hm_minify.specs.Endings.{IsReadableAsked, IsReadableBy, format_of, is_fault, with_tree, tree_ending, check_ending, asked_ending, request_ending, ending}
 use Rattle.hm_minify.specs.Lines.{usage_line}
 use Rattle.hm_minify.specs.Outside.{Outside, Prints}
 use Rattle.hm_minify.specs.Runs.{Ends, EndsAs, Puts, HasMinified, HasChecked, HasDenied, HasShown, HasMeasured, HasRefusedPage, HasRefusedTable}

@@ -1,18 +1,30 @@
 -- What an answer on the tree of a request says of the request.
+<<<<<<< HEAD
 use Rattle.std.proofs.Common.{◌≡◌, ℕ, Bool, true, false, not, ◌||◌, ◌&&◌, List, IsSome, Result, Ok, Err, IfOk, refl, sym, ap, ◌∙◌, subst}
+=======
+use Rattle.std.proofs.Common.{◌≡◌, ℕ, Bool, true, false, not, ◌||◌, ◌&&◌, List, refl, sym, ap, ◌∙◌, subst}
+>>>>>>> 7312f872dd3ccd965a0229ba3fc563f4b7af67f4
 use Rattle.std.specs.declared.option.Option.{Option}
 use Rattle.std.specs.Str.{bytes_eq}
 use Rattle.hm_base.specs.Walks.{Event}
 use Rattle.hm_base.specs.declared.plain.SpellRules.{SpellRules}
+<<<<<<< HEAD
 use Rattle.hm_base.specs.declared.plain.TreeOptions.{TreeOptions}
 use Rattle.hm_minify.specs.Inputs.{IsInput, Input, missing, tree as tree_input, input_of, is_none, origin_input, wanted}
+=======
+use Rattle.hm_minify.specs.Inputs.{IsInput, Input, tree as tree_input, is_none, origin_input, wanted}
+>>>>>>> 7312f872dd3ccd965a0229ba3fc563f4b7af67f4
 use Rattle.hm_refs.proofs.Places.{same_bytes}
 use Rattle.hm_refs.specs.Names.{Entry}
-use Rattle.hm_store.specs.Contents.{Contents, Sees, Tells}
+use Rattle.hm_store.specs.Contents.{Contents, Sees}
 use Rattle.hm_store.specs.Files.{FileMap, file_of}
 use Rattle.hm_words.specs.Words.{Asked, Origin, Work, page_at, made, minifies, checks, shows, measures, is_apart, is_away, is_origin_apart, is_work_apart, are_apart, are_files_apart}
 use Rattle.hm_words.specs.declared.writing.Writing.{Writing}
+<<<<<<< HEAD
 use Rattle.hm_minify.specs.Endings.{Ending, IsReadable, IsReadableTree, with_tree, tree_ending, asked_ending, check_ending, store_fault}
+=======
+use Rattle.hm_minify.specs.Endings.{Ending, with_tree, tree_ending, asked_ending, check_ending}
+>>>>>>> 7312f872dd3ccd965a0229ba3fc563f4b7af67f4
 use Rattle.hm_minify.proofs.Seen.{IsApartFrom, mixed, sees_both, origin_stays}
 
 -- ---- names that differ
@@ -64,10 +76,7 @@ away origin out cert apart =
     both_away origin out cert (left (is_away origin out) (is_away origin cert && not (bytes_eq out cert)) apart)
     (left (is_away origin cert) (not (bytes_eq out cert)) (right (is_away origin out) (is_away origin cert && not (bytes_eq out cert)) apart))
 
--- the names of an origin's files differ
-pub origin_apart : (origin : Origin) (work : Work) → is_apart origin work ≡ true → is_origin_apart origin ≡ true
-origin_apart origin work apart = left (is_origin_apart origin) (is_work_apart origin work) apart
-
+-- the names of a work's files differ from the origin's, and from each other
 pub work_apart : (origin : Origin) (work : Work) → is_apart origin work ≡ true → is_work_apart origin work ≡ true
 work_apart origin work apart = right (is_origin_apart origin) (is_work_apart origin work) apart
 
@@ -121,22 +130,3 @@ if_both (Err e) P Q p q = tt
 -- the files are as they were before the tree was loaded
 pub answer_before : (told mid : Option FileMap) (work : Work) (r : Writing) (bytes : ℕ) (t : List Entry) (w : List Event) (ended : Ending) → mid ≡ told → Sees mid (λ seen. ended ≡ tree_ending work r seen bytes t w) → Sees told (λ seen. ended ≡ tree_ending work r seen bytes t w)
 answer_before told mid work r bytes t w ended same a = subst (λ files. Sees files (λ seen. ended ≡ tree_ending work r seen bytes t w)) same a
-
--- a file of the origin isn't there
-pub origin_missing : (told : Option FileMap) (a : Asked) → Tells told (λ seen. origin_input a.origin a.options seen ≡ missing) → Tells told (λ seen. asked_ending a seen ≡ store_fault)
-origin_missing told a m = record { some = m.some; holds = ap (λ x. with_tree (wanted a x) (tree_ending a.work a.writing (file_of told))) m.holds }
-
--- where the files are known, the contents that were seen are theirs
-seen_is_told : (told : Option FileMap) (origin : Origin) (o : TreeOptions) (x : Input) → IsSome told → IsInput told origin o x → origin_input origin o (file_of told) ≡ x
-seen_is_told told origin o x some i = ap (origin_input origin o) (λ j name. sym (i.are_told some name) j) ∙ i.holds
-
--- a further file isn't there
-pub work_missing : (told mid : Option FileMap) (a : Asked) (x : Input) (bytes : ℕ) (t : List Entry) (w : List Event) → mid ≡ told → IsInput told a.origin a.options x → tree_input bytes t w ≡ wanted a x
-    → Tells mid (λ seen. tree_ending a.work a.writing seen bytes t w ≡ store_fault) → Tells told (λ seen. asked_ending a seen ≡ store_fault)
-work_missing told mid a x bytes t w same i is m =
-    let n = subst (λ files. Tells files (λ seen. tree_ending a.work a.writing seen bytes t w ≡ store_fault)) same m in
-    record {
-      some = n.some;
-      holds = ap (λ y. with_tree (wanted a y) (tree_ending a.work a.writing (file_of told))) (seen_is_told told a.origin a.options x n.some i)
-          ∙ ap (λ y. with_tree y (tree_ending a.work a.writing (file_of told))) (sym is) ∙ n.holds;
-    }

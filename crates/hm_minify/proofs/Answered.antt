@@ -1,30 +1,18 @@
 -- What an answer on the tree of a request says of the request.
-<<<<<<< HEAD
 use Rattle.std.proofs.Common.{◌≡◌, ℕ, Bool, true, false, not, ◌||◌, ◌&&◌, List, IsSome, Result, Ok, Err, IfOk, refl, sym, ap, ◌∙◌, subst}
-=======
-use Rattle.std.proofs.Common.{◌≡◌, ℕ, Bool, true, false, not, ◌||◌, ◌&&◌, List, refl, sym, ap, ◌∙◌, subst}
->>>>>>> 7312f872dd3ccd965a0229ba3fc563f4b7af67f4
 use Rattle.std.specs.declared.option.Option.{Option}
 use Rattle.std.specs.Str.{bytes_eq}
 use Rattle.hm_base.specs.Walks.{Event}
 use Rattle.hm_base.specs.declared.plain.SpellRules.{SpellRules}
-<<<<<<< HEAD
 use Rattle.hm_base.specs.declared.plain.TreeOptions.{TreeOptions}
 use Rattle.hm_minify.specs.Inputs.{IsInput, Input, missing, tree as tree_input, input_of, is_none, origin_input, wanted}
-=======
-use Rattle.hm_minify.specs.Inputs.{IsInput, Input, tree as tree_input, is_none, origin_input, wanted}
->>>>>>> 7312f872dd3ccd965a0229ba3fc563f4b7af67f4
 use Rattle.hm_refs.proofs.Places.{same_bytes}
 use Rattle.hm_refs.specs.Names.{Entry}
 use Rattle.hm_store.specs.Contents.{Contents, Sees}
 use Rattle.hm_store.specs.Files.{FileMap, file_of}
 use Rattle.hm_words.specs.Words.{Asked, Origin, Work, page_at, made, minifies, checks, shows, measures, is_apart, is_away, is_origin_apart, is_work_apart, are_apart, are_files_apart}
 use Rattle.hm_words.specs.declared.writing.Writing.{Writing}
-<<<<<<< HEAD
 use Rattle.hm_minify.specs.Endings.{Ending, IsReadable, IsReadableTree, with_tree, tree_ending, asked_ending, check_ending, store_fault}
-=======
-use Rattle.hm_minify.specs.Endings.{Ending, with_tree, tree_ending, asked_ending, check_ending}
->>>>>>> 7312f872dd3ccd965a0229ba3fc563f4b7af67f4
 use Rattle.hm_minify.proofs.Seen.{IsApartFrom, mixed, sees_both, origin_stays}
 
 -- ---- names that differ

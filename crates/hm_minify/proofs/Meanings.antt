@@ -5,7 +5,7 @@ use Rattle.std.specs.Io.KnownBytes.{append_known}
 use Rattle.hm_base.specs.Walks.{Event}
 use Rattle.hm_words.specs.declared.writing.Writing.{Writing}
 use Rattle.hm_refs.specs.Names.{Entry}
-use Rattle.hm_store.specs.Contents.{AreTold, Contents}
+use Rattle.hm_store.specs.Contents.{AreTold, Contents, Sees}
 use Rattle.hm_minify.specs.Inputs.{Input, missing, bad_table, bad_page, tree as tree_input, input_of}
 use Rattle.hm_plan.specs.Shortest.{certificate_of, shortest_text}
 use Rattle.hm_words.specs.Words.{Asked, Work, minifies, checks as checks_files, shows as shows_tree, measures as measures_tree, asked}

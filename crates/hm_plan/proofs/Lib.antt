@@ -9,3 +9,4 @@ pub mod Ends
 pub mod Headline
 pub mod Graphs
 pub mod Written
+pub mod FewChoices

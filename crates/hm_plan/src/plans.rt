@@ -4,6 +4,7 @@ ghost use Rattle.std.specs.Prelude.{◌≡◌, true, ◌++◌, ◌∷◌, [], �
 ghost use Rattle.hm_cert.specs.Certificate.{head_lines, row_line};
 ghost use Rattle.hm_cert.specs.Layout.{told};
 ghost use Rattle.hm_graph_laws.specs.Ways.{over};
+ghost use Rattle.hm_graph.specs.FewHops.{IsFewStep};
 ghost use Rattle.hm_graph.specs.Graphs.{AreLowHops, IsLowStep, IsPlace};
 ghost use Rattle.hm_graph.specs.Prices.{best_price, row_over, zeros};
 ghost use Rattle.hm_graph.specs.Prices as prices;
@@ -17,6 +18,7 @@ use hm_base::{Format, Memory, SpellRules};
 use hm_cert::{CLOSED, ReversedText, add_each, more};
 use hm_graph::laws::every_graph;
 use hm_graph::{Cursor, Graph, Hop, Step};
+use hm_refs::laws::every_table;
 use std::alloc::Global;
 use std::mem;
 
@@ -75,15 +77,13 @@ fn find_best(hops: &[Hop], behind: &[u64]) -> Best
     best
 }
 
-/// Appends a choice, where there is something to choose. A place that does not fit in 8 bits is refused as memory is.
+/// Appends a choice, where there is something to choose.
 fn put_choice(choices: &mut Vec<u8>, forced: bool, place: usize) -> Result<(), Memory>
+    requires { place < 256 }
     ensures { OnOk result (choices.new.items ≡ choices.old.items ++ (if forced then [] else place ∷ [])) }
 {
     if !forced {
-        match u8::try_from(place) {
-            Ok(place) => choices.push(place)?,
-            Err(_) => return Err(Memory),
-        }
+        choices.push(place as u8)?;
     }
     Ok(())
 }
@@ -111,6 +111,7 @@ fn find_row(
 ) -> Result<(), Memory>
     requires below { AreBelow (2 ^ 63 + 2 ^ 62) (map told behind.now) }
     requires low { IsLowStep step.now }
+    requires few { IsFewStep step.now }
     ensures row { OnOk result (map told row.new.items ≡ row_over (map told behind.now) step.now) }
     ensures choices { OnOk result (choices.new.items ≡ choices.old.items ++ step_choices (map told behind.now) step.now) }
 {
@@ -205,6 +206,7 @@ impl Back {
     fn find(&mut self, step: &Step) -> Result<(), Memory>
         requires below { AreBelow (2 ^ 63 + 2 ^ 62) (map told self.old.row.items) }
         requires low { IsLowStep step.now }
+        requires few { IsFewStep step.now }
         ensures text { self.new.text ≡ self.old.text }
         ensures choices { OnOk result (self.new.choices.items ≡ self.old.choices.items ++ step_choices (map told self.old.row.items) step.now) }
         ensures row { OnOk result (map told self.new.row.items ≡ row_over (map told self.old.row.items) step.now) }
@@ -223,6 +225,7 @@ impl Back {
         requires one { length step.now ≡ 1 }
         requires below { AreBelow (2 ^ 63 + 2 ^ 62) (map told self.old.row.items) }
         requires low { IsLowStep step.now }
+        requires few { IsFewStep step.now }
         ensures text { self.new.text ≡ self.old.text }
         ensures choices { OnOk result (self.new.choices.items ≡ self.old.choices.items ++ step_choices (map told self.old.row.items) step.now) }
         ensures row { OnOk result (map told self.new.row.items ≡ row_over (map told self.old.row.items) step.now) }
@@ -237,6 +240,7 @@ impl Back {
     fn pass(&mut self, step: &Step) -> Result<(), Memory>
         requires below { AreBelow (2 ^ 63 + 2 ^ 62) (map told self.old.row.items) }
         requires low { IsLowStep step.now }
+        requires few { IsFewStep step.now }
         ensures text { self.new.text ≡ self.old.text }
         ensures choices { OnOk result (self.new.choices.items ≡ self.old.choices.items ++ step_choices (map told self.old.row.items) step.now) }
         ensures row { OnOk result (map told self.new.row.items ≡ row_over (map told self.old.row.items) step.now) }
@@ -254,6 +258,7 @@ impl Back {
     fn go_over(&mut self, format: Format, k: usize, step: &Step) -> Result<(), Memory>
         requires below { AreBelow (2 ^ 63 + 2 ^ 62) (map told self.old.row.items) }
         requires low { IsLowStep step.now }
+        requires few { IsFewStep step.now }
         ensures text { OnOk result (self.new.text ≡ self.old.text
             ++ (if prices.is_left_out format k step.now then [] else reverse (row_line (row_over (map told self.old.row.items) step.now)))) }
         ensures choices { OnOk result (self.new.choices.items ≡ self.old.choices.items ++ step_choices (map told self.old.row.items) step.now) }
@@ -326,6 +331,7 @@ fn go_back(back: &mut Back, graph: &Graph, at: Cursor) -> Result<Cursor, Memory>
     ensures found { IfOk result (λ front. IsFound graph.now front.layer back.new) }
 {
     every_graph(graph);
+    every_table(graph.table());
     let format = graph.format();
     let step = graph.step(at);
     if let Some(len) = step.still() {

@@ -1,7 +1,9 @@
 use Rattle.std.proofs.Common.{◌≡◌, ◌∙◌, ◌+◌, ◌-◌, ◌^◌, ◌++◌, [], cond, get_or, length, map, reverse, refl, ap, sym, subst, arith}
 use Rattle.hm_cert.specs.Certificate.{row_line}
 use Rattle.hm_cert.specs.Layout.{told}
+use Rattle.hm_graph.specs.FewHops.{IsFewStep}
 use Rattle.hm_graph.specs.Graphs.{IsLowStep}
+use Rattle.hm_refs.specs.Tables.{IsTable}
 use Rattle.std.proofs.lemmas.List.{length-map}
 use Rattle.hm_graph.specs.Still.{AreStill}
 use Rattle.hm_graph.specs.Prices.{is_left_out, row_over}
@@ -11,6 +13,7 @@ use Rattle.hm_plan.specs.Plans.{IsFound}
 use Rattle.hm_plan.proofs.Alike.{along_found, along_low, still_forced}
 use Rattle.hm_graph.proofs.Low.{low_step}
 use Rattle.hm_plan.proofs.FromLast.{are_below, back_more, prices_below, step_cut}
+use Rattle.hm_plan.proofs.FewChoices.{graph_step_few}
 use Rattle.hm_plan.proofs.plans.go_back.Goals as goal
 
 pub pass_alike-requires-clause-below : goal.pass_alike-requires-clause-below
@@ -54,3 +57,8 @@ returns-then-len-width-clause-found c =
     along_found c.args.graph.now c.args.at.layer c.back_alike-front.result.layer (c.args.at.layer - c.back_alike-front.result.layer + 1) c.in-Some.len c.args.back.now.text c.pass_alike.new.self.text c.args.back.now.choices.items
     c.pass_alike.new.self.choices.items row (map told c.pass_alike.new.self.row.items) c.is_left_out.result still (still_forced c.in-Some.len step still) left same c.requires.inside c.back_alike-front.ensures.layer.0 (omega (arith, c.if-at-gt0.true, c.back_alike-front.ensures.layer.1)) refl
     c.back_alike-front.ensures.alike c.requires.found c.in_ok-pass_alike.ensures.text (ap (λ v. v.items) c.in_ok-pass_alike.ensures.choices) c.in_ok-pass_alike.ensures.row
+
+pub go_over-requires-clause-few : goal.go_over-requires-clause-few
+go_over-requires-clause-few c =
+    let table : IsTable c.args.graph.now.source.table.entries = subst (λ t. IsTable t.entries) c.table.ensures c.every_table.ensures.names in
+    subst IsFewStep (sym c.step-step.ensures) (graph_step_few c.args.graph.now table c.every_graph.ensures.graph c.args.at.layer)

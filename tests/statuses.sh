@@ -1,6 +1,7 @@
 #!/bin/sh
-# Runs the program once for each exit status that it can give, and a second time onto longer files. Ends with 1 where a status,
-# what is printed, or a file isn't as it should be. The program is the word of the call, or the one that was built last.
+# Runs the program once for each exit status that it can give, a second time onto longer files, and at the limits of files and
+# numbers. Ends with 1 where a status, what is printed, or a file isn't as it should be. The program is the word of the call, or
+# the one that was built last.
 set -u
 here=$(CDPATH='' cd -- "$(dirname -- "$0")/.." && pwd -P)
 program=${1:-$here/crates/hminify/out/hminify}
@@ -37,6 +38,12 @@ ends() {
 bytes() {
     cat "$1"
     echo '|'
+}
+
+# A text that ends with one byte many times: what comes before, the number, and the byte.
+fill() {
+    printf '%s' "$1"
+    head -c "$2" /dev/zero | tr '\0' "$3"
 }
 
 right_out='<!doctype html><p>a<p>b|'
@@ -77,11 +84,9 @@ if [ -c /dev/full ]; then
 fi
 
 # Little memory: OUT and CERT are as before.
-{
-    printf '<!doctype html>'
-    head -c 8000000 /dev/zero | tr '\0' x
-} >large
+fill '<!doctype html>' 8000000 x >large
 (
+    # shellcheck disable=SC3045 # dash has it, and bash
     ulimit -v 16384
     "$program" minify none large out cert --omit --unquote >said 2>err
 )
@@ -89,4 +94,16 @@ same 'little memory: status' $? 7
 same 'little memory: line' "$(cat said)" ''
 same 'little memory: OUT' "$(bytes out)" "$right_out"
 same 'little memory: CERT' "$(bytes cert)" "$right_cert"
+# At the limits, and one byte above. The page is written with the tags that it leaves out, 39 bytes.
+fill '' 1048576 ' ' >table
+ends 'a table of 1,048,576 spaces' 4 'table refused: NotJson' tree table page
+fill '' 1048577 ' ' >table
+ends 'a table of 1,048,577 spaces' 4 'table refused: TooLong' tree table page
+fill '<!doctype html>' 16777201 a >large
+ends 'a page of 16,777,216 bytes' 0 'length 16777255' minify none large out cert
+fill '<!doctype html>' 16777202 a >large
+ends 'a page of 16,777,217 bytes' 3 'page refused: TooLong at 16777216' minify none large out cert
+for time in once twice; do
+    ends "the greatest page that is made, $time" 0 'page 631773 output 704307 layers 325137 yes' measure none 7 20000
+done
 exit "$failed"

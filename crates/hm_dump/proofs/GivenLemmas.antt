@@ -48,7 +48,7 @@ module _ (sink_old sink_new : Option (List ℕ)) (faults_old faults_new : ℕ) (
       go true false sink faults given before h = absurd (false≢true h.0)
       go false false sink faults given before h =
           let split = before.1 in (
-            omega (arith, before.0, h.0),
+            h.0 ∙ before.0,
             record {
               put = split.put ++ put;
               sunk = h.1 ∙ ap (λ o. append_known o put) split.sunk ∙ known_twice sink split.put put;
@@ -58,7 +58,7 @@ module _ (sink_old sink_new : Option (List ℕ)) (faults_old faults_new : ℕ) (
       go false true sink faults given before h =
           let split = before.1 in
           let whole : split.put ++ put ≡ given ++ more = ap (λ s. split.put ++ s) is ∙ sym (append_assoc split.put old.bytes.items more) ∙ ap (λ s. s ++ more) split.whole in
-          (omega (arith, before.0, h.0), subst (AppendsFront sink sink_new) whole (front_behind sink sink_old sink_new split.put put split.sunk h.1), rose_later faults faults_old faults_new before.0 h.2)
+          (omega (arith, before.0, h.0), subst (AppendsFront sink sink_new) whole (front_behind sink sink_old sink_new split.put put split.sunk h.1), rose_later faults faults_old faults_new (omega (arith, before.0)) h.2)
 
   -- once a put has failed, more is left out
   pub Gives-failed : (rest : List ℕ) → new.failed ≡ true → Gives sink_old sink_new faults_old faults_new old new more → Gives sink_old sink_new faults_old faults_new old new (more ++ rest)
@@ -70,7 +70,7 @@ module _ (sink_old sink_new : Option (List ℕ)) (faults_old faults_new : ℕ) (
 
   -- all that was given to a buffer in which nothing waited
   pub Gives-all : IsFresh old → Gives sink_old sink_new faults_old faults_new old new more → ArePut sink_old sink_new faults_old faults_new more new.bytes.items new.failed
-  Gives-all fresh h = h.behind sink_old faults_old [] (rw (fresh.empty, fresh.sound) (omega arith, record { put = []; sunk = sym (known_none sink_old); whole = refl }))
+  Gives-all fresh h = h.behind sink_old faults_old [] (rw (fresh.empty, fresh.sound) (refl, record { put = []; sunk = sym (known_none sink_old); whole = refl }))
 
 module _ (sink : Option (List ℕ)) (faults : ℕ) (old new : Buffer) where
   -- more waits
@@ -94,10 +94,10 @@ Gives-then {sink_old} {sink_mid} {sink_new} {faults_old} {faults_mid} {faults_ne
 
 module _ (sink_old sink_new : Option (List ℕ)) (faults_old faults_new : ℕ) (old new : Buffer) (all : List ℕ) (fresh : IsFresh old) (given : Gives sink_old sink_new faults_old faults_new old new all) where
   -- where no put has failed and nothing waits, all was put
-  pub put_whole : new.failed ≡ false → new.bytes.items ≡ [] → (faults_old ≤ faults_new) × (sink_new ≡ append_known sink_old all)
+  pub put_whole : new.failed ≡ false → new.bytes.items ≡ [] → (faults_new ≡ faults_old) × (sink_new ≡ append_known sink_old all)
   put_whole sound empty = go new.bytes.items new.failed sound empty (Gives-all sink_old sink_new faults_old faults_new old new all fresh given)
     where
-      go : (waiting : List ℕ) (failed : Bool) → failed ≡ false → waiting ≡ [] → ArePut sink_old sink_new faults_old faults_new all waiting failed → (faults_old ≤ faults_new) × (sink_new ≡ append_known sink_old all)
+      go : (waiting : List ℕ) (failed : Bool) → failed ≡ false → waiting ≡ [] → ArePut sink_old sink_new faults_old faults_new all waiting failed → (faults_new ≡ faults_old) × (sink_new ≡ append_known sink_old all)
       go waiting true sound empty h = absurd (false≢true (sym sound))
       go waiting false sound empty h = (h.0, h.1.sunk ∙ ap (append_known sink_old) (sym (append-nil h.1.put) ∙ ap (λ w. h.1.put ++ w) (sym empty) ∙ h.1.whole))
 

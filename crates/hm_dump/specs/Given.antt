@@ -14,7 +14,7 @@ pub record IsFresh (buffer : Buffer) : Type 0 where
 -- bytes are put to a sink, unless a put has failed before; then the sink stays as it is
 abbrev pub Puts : (sink_old sink_new : Option (List ℕ)) (faults_old faults_new : ℕ) (failed_old failed_new : Bool) (bytes : List ℕ) → Type 0
 Puts sink_old sink_new faults_old faults_new true failed_new bytes = (failed_new ≡ true) × (sink_new ≡ sink_old) × (faults_new ≡ faults_old)
-Puts sink_old sink_new faults_old faults_new false false bytes = (faults_old ≤ faults_new) × (sink_new ≡ append_known sink_old bytes)
+Puts sink_old sink_new faults_old faults_new false false bytes = (faults_new ≡ faults_old) × (sink_new ≡ append_known sink_old bytes)
 Puts sink_old sink_new faults_old faults_new false true bytes = (faults_old ≤ faults_new) × AppendsFront sink_old sink_new bytes × Rose faults_old faults_new
 
 -- a prefix of the given bytes was put to the sink, and the others wait
@@ -25,7 +25,7 @@ pub record AreSplit (sink_old sink_new : Option (List ℕ)) (given waiting : Lis
 
 -- of the given bytes a prefix was put and the others wait; or a put has failed, and a prefix of them was put
 abbrev pub ArePut : (sink_old sink_new : Option (List ℕ)) (faults_old faults_new : ℕ) (given waiting : List ℕ) (failed : Bool) → Type 0
-ArePut sink_old sink_new faults_old faults_new given waiting false = (faults_old ≤ faults_new) × AreSplit sink_old sink_new given waiting
+ArePut sink_old sink_new faults_old faults_new given waiting false = (faults_new ≡ faults_old) × AreSplit sink_old sink_new given waiting
 ArePut sink_old sink_new faults_old faults_new given waiting true = (faults_old ≤ faults_new) × AppendsFront sink_old sink_new given × Rose faults_old faults_new
 
 -- Further bytes are given: whatever was given since the sink was as it began, these are given after it.

@@ -4,3 +4,4 @@ pub mod FileLemmas
 pub mod MemStoreLemmas
 pub mod NamedFileLemmas
 pub mod ResultLemmas
+pub mod TearLemmas

@@ -8,6 +8,7 @@ use Rattle.std.specs.Option.{unwrap_or}
 use Rattle.std.proofs.lemmas.Grind.{common_steps}
 use Rattle.std.proofs.lemmas.List.{take-append-drop}
 use Rattle.hm_store.specs.Calls.{CallLog}
+use Rattle.hm_store.specs.Tears.{TearLog}
 use Rattle.hm_store.specs.Files.{FileMap, content, Pulls}
 use Rattle.hm_store.specs.MemStore.{FileReading, StoredFiles, rest_of, advanced}
 
@@ -51,8 +52,8 @@ stays_by files reading (Ok n) = tt
 stays_by files None (Err e) = refl
 stays_by files (Some r) (Err e) = ap Some (stays r.taken (content files r.name))
 
-module _ {E : Type 0} (files : FileMap) (reading : Option FileReading) (result : Result ℕ E) (new : StoredFiles) (writing : Option (List ℕ)) (calls : CallLog)
-    (is : new ≡ record { files = files; reading = advanced reading (result_unwrap_or result 0); writing = writing; calls = calls }) where
+module _ {E : Type 0} (files : FileMap) (reading : Option FileReading) (result : Result ℕ E) (new : StoredFiles) (writing : Option (List ℕ)) (calls : CallLog) (tears : TearLog)
+    (is : new ≡ record { files = files; reading = advanced reading (result_unwrap_or result 0); writing = writing; calls = calls; tears = tears }) where
   pub pulls : (into was : List ℕ) → is_some reading ≡ true
       → IfOk result (λ n. n ≡ min (length (unwrap_or (rest_of files reading) [])) (length was)) → IfOk result (λ n. into ≡ take n (unwrap_or (rest_of files reading) []) ++ drop n was)
       → IfOk result (λ n. Pulls (rest_of files reading) (rest_of new.files new.reading) n into)

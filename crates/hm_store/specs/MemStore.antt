@@ -7,6 +7,7 @@ use Rattle.std.specs.Option.{option_map, option_map_or, unwrap_or}
 use Rattle.std.specs.Coded.{Coded, code_by, coded×, coded_ℕ, coded_list, coded_option}
 use Rattle.std.specs.FinMap as finmap
 use Rattle.hm_store.specs.Calls.{CallLog, call_log_code, no_calls}
+use Rattle.hm_store.specs.Tears.{TearLog, tear_log_code, no_tears}
 use Rattle.hm_store.specs.Files.{FileMap, content}
 
 -- the file that is being read, and how many of its bytes were taken
@@ -19,17 +20,18 @@ pub record StoredFiles : Type 0 where
   pub reading : Option FileReading
   pub writing : Option (List ℕ)  -- the name of the file that is being written
   pub calls : CallLog
+  pub tears : TearLog
 
 -- they are stored as the tuples of their fields
 abbrev pub reading_code : Coded FileReading
 reading_code = code_by (List ℕ × ℕ) (coded× (coded_list coded_ℕ) coded_ℕ) (λ r. (r.name, r.taken)) (λ p. record { name = p.0; taken = p.1 }) (λ _. refl)
 
 abbrev pub stored_files_code : Coded StoredFiles
-stored_files_code = code_by (FileMap × (Option FileReading × (Option (List ℕ) × CallLog))) (coded× (finmap.code (coded_list coded_ℕ) (coded_list coded_ℕ)) (coded× (coded_option reading_code) (coded× (coded_option (coded_list coded_ℕ)) call_log_code))) (λ s. (s.files, (s.reading, (s.writing, s.calls)))) (λ p. record { files = p.0; reading = p.1.0; writing = p.1.1.0; calls = p.1.1.1 }) (λ _. refl)
+stored_files_code = code_by (FileMap × (Option FileReading × (Option (List ℕ) × (CallLog × TearLog)))) (coded× (finmap.code (coded_list coded_ℕ) (coded_list coded_ℕ)) (coded× (coded_option reading_code) (coded× (coded_option (coded_list coded_ℕ)) (coded× call_log_code tear_log_code)))) (λ s. (s.files, (s.reading, (s.writing, (s.calls, s.tears))))) (λ p. record { files = p.0; reading = p.1.0; writing = p.1.1.0; calls = p.1.1.1.0; tears = p.1.1.1.1 }) (λ _. refl)
 
--- no files, none of which is read or written, and no call listed or made
+-- no files, none of which is read or written, no call made, and none listed to fail or to be torn
 abbrev pub empty_store : StoredFiles
-empty_store = record { files = finmap.empty; reading = None; writing = None; calls = no_calls }
+empty_store = record { files = finmap.empty; reading = None; writing = None; calls = no_calls; tears = no_tears }
 
 -- the name of the file that is being read
 abbrev pub source_of : Option FileReading → List ℕ

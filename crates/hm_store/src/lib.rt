@@ -11,6 +11,7 @@ mod file_table;
 mod mem_sink;
 mod mem_store;
 mod outside;
+mod tears;
 mod traits;
 mod whole_files;
 

@@ -1,20 +1,23 @@
 //! A sink in memory.
-ghost use Rattle.std.specs.Prelude.{◌≡◌, ◌++◌, IsErr, IsTrue, Some, OnOk, OnErr};
+ghost use Rattle.std.specs.Prelude.{◌≡◌, ◌++◌, ◌⊎◌, IsErr, IsTrue, IsSome, Some, OnOk, OnErr};
 ghost use Rattle.hm_store.specs.Calls.{fails_next, with_listed, after_call};
 ghost use Rattle.hm_store.specs.Causes.{HasCause};
 ghost use Rattle.hm_store.specs.MemSink.{no_bytes};
+ghost use Rattle.hm_store.specs.Tears.{tear_next, with_tear, after_put, front_of};
 
 use crate::calls::Calls;
+use crate::tears::{Tears, front};
 use crate::{Failed, Sink};
 use hm_base::Memory;
 use std::alloc::Global;
 use std::marker::Model;
 
-/// Bytes in memory, as a sink that fails at the calls that are listed to fail.
+/// Bytes in memory, as a sink that fails at the calls that are listed to fail or to be torn.
 #[derive(Drop)]
 pub struct MemSink {
     bytes: Vec<u8>,
     calls: Calls,
+    tears: Tears,
 }
 
 impl Model for MemSink {
@@ -27,6 +30,7 @@ impl Model for MemSink {
     ghost view = { λ s. record {
       bytes = s.bytes.items;
       calls = s.calls;
+      tears = s.tears;
     } };
 }
 
@@ -38,6 +42,7 @@ impl MemSink {
         MemSink {
             bytes: Vec::new(alloc),
             calls: Calls::new(alloc),
+            tears: Tears::new(alloc),
         }
     }
 
@@ -47,6 +52,16 @@ impl MemSink {
         ensures err { OnErr result (self.new ≡ self.old) }
     {
         self.calls.list(call)
+    }
+
+    /// Lists the put of that number to be torn: it appends the first `bytes` bytes of its own, all where it has fewer, and fails.
+    /// Calls of `put` are numbered from 1. One that is listed to fail too changes nothing, and a second tear of one put
+    /// replaces the first.
+    pub fn tear(&mut self, put: u32, bytes: u32) -> Result<(), Memory>
+        ensures ok { OnOk result (self.new ≡ record self.old { tears = with_tear self.old.tears put bytes }) }
+        ensures err { OnErr result (self.new ≡ self.old) }
+    {
+        self.tears.list(put, bytes)
     }
 
     /// The bytes that were put.
@@ -62,21 +77,28 @@ impl Sink for MemSink {
 
     ghost faults = { λ s. s.calls.faults };
 
-    /// It fails where the call is listed, and otherwise only for lack of memory; the bytes are then as before.
+    /// It fails where the call is listed to fail, and the bytes are then as before. A torn one appends the first of its bytes
+    /// and fails. Any other fails only for lack of memory; the bytes are then as before.
     fn put(&mut self, bytes: &[u8]) -> Result<(), Failed>
-        ensures listed { IsTrue (fails_next self.old.calls) → IsErr result }
-        ensures ok { OnOk result (self.new ≡ record {
-          bytes = self.old.bytes ++ bytes.now;
+        ensures listed { IsTrue (fails_next self.old.calls) → IsErr result × (self.new.bytes ≡ self.old.bytes) }
+        ensures torn { IsSome (tear_next self.old.tears) → IsErr result }
+        ensures ok { OnOk result (self.new.bytes ≡ self.old.bytes ++ bytes.now) }
+        ensures err { OnErr result ((self.new.bytes ≡ self.old.bytes)
+            ⊎ (self.new.bytes ≡ self.old.bytes ++ front_of (tear_next self.old.tears) bytes.now)) }
+        ensures after { self.new ≡ record {
+          bytes = self.new.bytes;
           calls = after_call self.old.calls result;
-        }) }
-        ensures err { OnErr result (self.new ≡ record self.old {
-          calls = after_call self.old.calls result;
-        }) }
+          tears = after_put self.old.tears;
+        } }
         ensures cause { HasCause self.old.calls.faults self.new.calls.faults result }
     {
-        if self.calls.begin() || self.bytes.extend_from_slice(bytes).is_err() {
+        let torn = self.tears.begin();
+        if self.calls.begin() || self.bytes.extend_from_slice(front(bytes, torn)).is_err() {
             return Err(self.calls.fail());
         }
-        Ok(())
+        match torn {
+            Some(_) => Err(self.calls.fail()),
+            None => Ok(()),
+        }
     }
 }

@@ -1,5 +1,5 @@
 //! A store in memory.
-ghost use Rattle.std.specs.Prelude.{◌≡◌, ◌+◌, ◌-◌, ◌++◌, min, ℕ, List, [], length, take, drop, true, is_some, is_err, IsTrue, IsErr, IfOk, OnOk, OnErr, Some, None};
+ghost use Rattle.std.specs.Prelude.{◌≡◌, ◌+◌, ◌-◌, ◌++◌, ◌⊎◌, min, ℕ, List, [], length, take, drop, true, is_some, is_err, IsTrue, IsErr, IsSome, IfOk, OnOk, OnErr, Some, None};
 ghost use Rattle.std.specs.Io.{ReadsAtMost};
 ghost use Rattle.std.specs.Option.{option_copied, option_map};
 ghost use Rattle.std.specs.Result.{result_unwrap_or};
@@ -7,9 +7,11 @@ ghost use Rattle.std.specs.FinMap as finmap;
 ghost use Rattle.hm_store.specs.Calls.{fails_next, with_listed, after_call};
 ghost use Rattle.hm_store.specs.Causes.{HasCause};
 ghost use Rattle.hm_store.specs.MemStore.{empty_store, source_of, rest_of, left_of, target_of, with_bytes, opened, advanced};
+ghost use Rattle.hm_store.specs.Tears.{tear_next, with_tear, after_put, front_of};
 
 use crate::calls::Calls;
 use crate::file_table::FileTable;
+use crate::tears::{Tears, front};
 use crate::{Failed, Store};
 use hm_base::Memory;
 use std::alloc::Global;
@@ -22,7 +24,7 @@ struct FileReading {
     taken: usize,
 }
 
-/// Files in memory, as a store that fails at the calls that are listed to fail.
+/// Files in memory, as a store that fails at the calls that are listed to fail and at the puts that are listed to be torn.
 #[derive(Drop)]
 pub struct MemStore {
     files: FileTable,
@@ -30,6 +32,7 @@ pub struct MemStore {
     // the place of the file that is being written
     writing: Option<usize>,
     calls: Calls,
+    tears: Tears,
 }
 
 impl Model for MemStore {
@@ -49,6 +52,7 @@ impl Model for MemStore {
       reading = reading_at s.files.names s.reading;
       writing = option_map (name_at s.files.names) s.writing;
       calls = s.calls;
+      tears = s.tears;
     } };
 
     ghost invariant = { λ s. AreWithin (length s.files.names) s.reading s.writing };
@@ -64,6 +68,7 @@ impl MemStore {
             reading: None,
             writing: None,
             calls: Calls::new(alloc),
+            tears: Tears::new(alloc),
         }
     }
 
@@ -84,6 +89,16 @@ impl MemStore {
         ensures err { OnErr result (self.new ≡ self.old) }
     {
         self.calls.list(call)
+    }
+
+    /// Lists the put of that number to be torn: it appends the first `bytes` bytes of its own, all where it has fewer, and fails.
+    /// Calls of `put` alone are numbered from 1. One that is listed to fail too changes nothing, and a second tear of one put
+    /// replaces the first.
+    pub fn tear(&mut self, put: u32, bytes: u32) -> Result<(), Memory>
+        ensures ok { OnOk result (self.new ≡ record self.old { tears = with_tear self.old.tears put bytes }) }
+        ensures err { OnErr result (self.new ≡ self.old) }
+    {
+        self.tears.list(put, bytes)
     }
 
     /// The bytes of a file, or None where there is none of that name.
@@ -204,28 +219,37 @@ impl Store for MemStore {
         }
     }
 
-    /// It fails where the call is listed, and otherwise only for lack of memory; the files are then as before.
+    /// It fails where the call is listed to fail, and the files are then as before. A torn one appends the first of its bytes
+    /// and fails. Any other fails only for lack of memory; the files are then as before.
     fn put(&mut self, bytes: &[u8]) -> Result<(), Failed>
         requires { is_some self.old.writing ≡ true }
-        ensures listed { IsTrue (fails_next self.old.calls) → IsErr result }
-        ensures ok { OnOk result (self.new ≡ record self.old {
-          files = with_bytes self.old bytes.now;
+        ensures listed { IsTrue (fails_next self.old.calls) → IsErr result × (self.new.files ≡ self.old.files) }
+        ensures torn { IsSome (tear_next self.old.tears) → IsErr result }
+        ensures ok { OnOk result (self.new.files ≡ with_bytes self.old bytes.now) }
+        ensures err { OnErr result ((self.new.files ≡ self.old.files)
+            ⊎ (self.new.files ≡ with_bytes self.old (front_of (tear_next self.old.tears) bytes.now))) }
+        ensures after { self.new ≡ record self.old {
+          files = self.new.files;
           calls = after_call self.old.calls result;
-        }) }
-        ensures err { OnErr result (self.new ≡ record self.old {
-          calls = after_call self.old.calls result;
-        }) }
+          tears = after_put self.old.tears;
+        } }
         ensures cause { HasCause self.old.calls.faults self.new.calls.faults result }
     {
+        let torn = self.tears.begin();
         if self.calls.begin() {
             return Err(self.calls.fail());
         }
         match self.writing {
             None => unreachable!(),
-            Some(place) => match self.files.append(place, bytes) {
-                Ok(()) => Ok(()),
-                Err(Memory) => Err(self.calls.fail()),
-            },
+            Some(place) => {
+                if self.files.append(place, front(bytes, torn)).is_err() {
+                    return Err(self.calls.fail());
+                }
+            }
+        }
+        match torn {
+            Some(_) => Err(self.calls.fail()),
+            None => Ok(()),
         }
     }
 

@@ -51,6 +51,7 @@ fn pull_more<S: Store>(
     ensures within { length bytes.new.items ≤ limit + 1 }
     ensures later { S.faults store.old ≤ S.faults store.new }
     ensures failed { result ≡ Err LoadFault.Store → Rose (S.faults store.old) (S.faults store.new) }
+    ensures steady { OnOk result (S.faults store.new ≡ S.faults store.old) }
 {
     let most = (limit + 1 - bytes.len()).min(piece.len());
     match store.pull(&mut piece[..most]) {
@@ -73,6 +74,7 @@ fn pull_all<S: Store>(alloc: Global, store: &mut S, limit: usize) -> Result<Vec<
     ensures within { IfOk result (λ bytes. length bytes.items ≤ limit + 1) }
     ensures later { S.faults store.old ≤ S.faults store.new }
     ensures failed { result ≡ Err LoadFault.Store → Rose (S.faults store.old) (S.faults store.new) }
+    ensures steady { OnOk result (S.faults store.new ≡ S.faults store.old) }
 {
     let mut piece = [0u8; PIECE];
     let mut bytes = Vec::new(alloc);
@@ -102,7 +104,8 @@ pub fn load<S: Store>(
     ensures writing { S.is_writing store.new ≡ S.is_writing store.old }
     ensures target { S.target store.new ≡ S.target store.old }
 
-    // A call has failed, or the file isn't there.
+    // A call has failed, or the file isn't there. Where the bytes are returned, none has.
+    ensures steady { OnOk result (S.faults store.new ≡ S.faults store.old) }
     ensures later { S.faults store.old ≤ S.faults store.new }
     ensures failed { result ≡ Err LoadFault.Store
         → Rose (S.faults store.old) (S.faults store.new) ⊎ IsMissing (S.files store.old) name.now }

@@ -8,5 +8,5 @@ abbrev pub invariant-loop-output : goal.invariant-loop-output
 invariant-loop-output g l = record {
   whole : after_writes (g.S.Store.files l.store) (drop l.output-index l.outputs) ≡ after_writes (g.S.Store.files l.initial.store) l.outputs;
   left : (new : Option FileMap) → IsLeft (g.S.Store.files l.store) (drop l.output-index l.outputs) new → IsLeft (g.S.Store.files l.initial.store) l.outputs new;
-  later : g.S.Store.faults l.initial.store ≤ g.S.Store.faults l.store;
+  steady : g.S.Store.faults l.store ≡ g.S.Store.faults l.initial.store;
 }

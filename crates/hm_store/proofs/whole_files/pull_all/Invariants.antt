@@ -10,7 +10,7 @@ invariant-loop-piece g l = record {
   target : g.S.Store.target l.store ≡ g.S.Store.target l.initial.store;
   whole : prepend_known l.bytes.items (g.S.Store.rest l.store) ≡ g.S.Store.rest l.initial.store;
   within : length l.bytes.items ≤ l.limit + 1;
-  later : g.S.Store.faults l.initial.store ≤ g.S.Store.faults l.store;
+  steady : g.S.Store.faults l.store ≡ g.S.Store.faults l.initial.store;
   piece : length l.piece ≡ 65536;
 }
 

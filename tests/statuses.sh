@@ -1,0 +1,109 @@
+#!/bin/sh
+# Runs the program once for each exit status that it can give, a second time onto longer files, and at the limits of files and
+# numbers. Ends with 1 where a status, what is printed, or a file isn't as it should be. The program is the word of the call, or
+# the one that was built last.
+set -u
+here=$(CDPATH='' cd -- "$(dirname -- "$0")/.." && pwd -P)
+program=${1:-$here/crates/hminify/out/hminify}
+room=$(mktemp -d) || exit 1
+trap 'rm -rf "$room"' EXIT
+failed=0
+if [ ! -x "$program" ]; then
+    echo "no program $program"
+    exit 1
+fi
+cd "$room" || exit 1
+
+# Says what isn't as it is wanted: a name, what is there, what is wanted.
+same() {
+    if [ "$2" = "$3" ]; then
+        echo "ok      $1"
+    else
+        printf 'failed  %s\n    is:     %s\n    wanted: %s\n' "$1" "$2" "$3"
+        failed=1
+    fi
+}
+
+# Runs the program: a name, the wanted status, the wanted line, and the words.
+ends() {
+    name=$1 status=$2 line=$3
+    shift 3
+    "$program" "$@" >said 2>err
+    same "$name: status" $? "$status"
+    same "$name: line" "$(cat said)" "$line"
+    same "$name: nothing on standard error" "$(cat err)" ''
+}
+
+# The bytes of a file, with one line for its end, so that a line feed more or less shows.
+bytes() {
+    cat "$1"
+    echo '|'
+}
+
+# A text that ends with one byte many times: what comes before, the number, and the byte.
+fill() {
+    printf '%s' "$1"
+    head -c "$2" /dev/zero | tr '\0' "$3"
+}
+
+right_out='<!doctype html><p>a<p>b|'
+right_cert=$(printf 'html-cert 2\nrules omit unquote\n23\n8\n8\n8\n8\n4\n0\n0\n0\n0\n|')
+usage='usage: hminify minify or check TABLE PAGE OUT CERT, tree TABLE PAGE, measure TABLE NUMBER SIZE'
+
+printf '<!doctype html><p>a</p><p>b</p>' >page
+printf '<!doctype html><p>a</i>' >wrong
+printf '[]' >table
+
+# What was there is longer than what is written, so bytes of it would be left where a file isn't emptied.
+head -c 5000 /dev/zero >out
+head -c 5000 /dev/zero >cert
+ends 'minify' 0 'length 23' minify none page out cert --omit --unquote
+same 'minify: OUT' "$(bytes out)" "$right_out"
+same 'minify: CERT' "$(bytes cert)" "$right_cert"
+ends 'check' 0 'yes 23' check none page out cert --omit --unquote
+ends 'check without the rules' 1 'no 1 rules differ' check none page out cert
+ends 'no words' 2 "$usage"
+ends 'a page that is refused' 3 'page refused: StrayEnd at 19' minify none wrong out cert --omit --unquote
+ends 'a table that is refused' 4 'table refused: NotObject' minify table page out cert --omit --unquote
+ends 'no page' 5 'store fault' minify none absent out cert --omit --unquote
+ends 'OUT in no folder' 5 'store fault' minify none page absent/out cert --omit --unquote
+same 'after all of these: OUT' "$(bytes out)" "$right_out"
+same 'after all of these: CERT' "$(bytes cert)" "$right_cert"
+
+# A full device: OUT and CERT are whole all the same.
+if [ -c /dev/full ]; then
+    rm out cert
+    "$program" minify none page out cert --omit --unquote >/dev/full 2>err
+    same 'a full standard output: status' $? 6
+    same 'a full standard output: OUT' "$(bytes out)" "$right_out"
+    same 'a full standard output: CERT' "$(bytes cert)" "$right_cert"
+    "$program" minify none page /dev/full cert --omit --unquote >said 2>err
+    same 'a full OUT: status' $? 5
+    same 'a full OUT: line' "$(cat said)" 'store fault'
+    same 'a full OUT: CERT' "$(bytes cert)" "$right_cert"
+fi
+
+# Little memory: OUT and CERT are as before.
+fill '<!doctype html>' 8000000 x >large
+(
+    # shellcheck disable=SC3045 # dash has it, and bash
+    ulimit -v 16384
+    "$program" minify none large out cert --omit --unquote >said 2>err
+)
+same 'little memory: status' $? 7
+same 'little memory: line' "$(cat said)" ''
+same 'little memory: OUT' "$(bytes out)" "$right_out"
+same 'little memory: CERT' "$(bytes cert)" "$right_cert"
+# At the limits, and one byte above. The page is written with the tags that it leaves out, 39 bytes.
+fill '' 1048576 ' ' >table
+ends 'a table of 1,048,576 spaces' 4 'table refused: NotJson' tree table page
+fill '' 1048577 ' ' >table
+ends 'a table of 1,048,577 spaces' 4 'table refused: TooLong' tree table page
+fill '<!doctype html>' 16777201 a >large
+ends 'a page of 16,777,216 bytes' 0 'length 16777255' minify none large out cert
+fill '<!doctype html>' 16777202 a >large
+ends 'a page of 16,777,217 bytes' 3 'page refused: TooLong at 16777216' minify none large out cert
+for time in once twice; do
+    ends "the greatest page that is made, $time" 0 'page 631773 output 704307 layers 325137 yes' measure none 7 20000
+done
+exit "$failed"

@@ -2,15 +2,17 @@
 use Rattle.std.proofs.Common.{◌≡◌, ◌≢◌, ℕ, zero, suc, ◌+◌, ◌<◌, ◌≤◌, Bool, true, false, cond, not, ◌&&◌, List, [], ◌∷◌, Option, Some, None, length, get_or, take, refl, sym, ap, ◌∙◌, arith, nat_eq, ltb, add-zero, zero-add}
 use Rattle.std.specs.Str.{IsUtf8, IsValidUpTo}
 use Rattle.std.specs.Str.Lossy.{utf8_valid_len}
-use Rattle.std.proofs.lemmas.Bool.{eqb-true, eq-eqb}
+use Rattle.std.specs.Bool.{nat_lt}
+use Rattle.std.proofs.lemmas.Bool.{eqb-true, eq-eqb, lt-ltb, le-ltb}
 use Rattle.std.proofs.lemmas.Bool.Decides.{nat_tests}
 use Rattle.std.proofs.lemmas.List.{get_or-take, length-take}
 use Rattle.std.proofs.lemmas.Str.{utf8_valid_len-IsUtf8}
 use Rattle.memchr.specs.Find.{IsFirstByte, is_byte}
-use Rattle.hm_base.specs.declared.rules.Rule.TheVariants.{NotUtf8, Nul}
+use Rattle.hm_base.specs.declared.rules.Rule.TheVariants.{NotUtf8, Nul, TooLong}
 use Rattle.hm_base.specs.Bytes.{all_pass}
+use Rattle.hm_base.specs.Faults.{page_fault}
 use Rattle.hm_base.specs.Places.{is_nonzero}
-use Rattle.hm_base.specs.Source.{bad_sequence, earlier, refusal_at, text_fault, zero_from}
+use Rattle.hm_base.specs.Source.{Refusal, bad_sequence, earlier, refusal_at, text_fault, zero_from}
 
 not_zero : (c : ℕ) → c ≢ 0 → nat_eq c 0 ≡ false
 not_zero c h = grind (arith, nat_tests)
@@ -95,3 +97,11 @@ nonzero_from (c ∷ s) n h = at_byte (nat_eq c 0) h (nonzero_from s (n + 1)) whe
 
 pub no_zero : (page : List ℕ) → text_fault page ≡ None → all_pass is_nonzero page ≡ true
 no_zero page h = nonzero_from page 0 (no_zero_of (bad_sequence page) (zero_from 0 page) h)
+
+-- ---- the refusal of a page
+
+pub long_fault : (limit : ℕ) (page : List ℕ) → limit < length page → page_fault limit page ≡ Some (refusal_at TooLong limit)
+long_fault limit page h = let long : nat_lt limit (length page) ≡ true = lt-ltb limit (length page) h in rw long refl
+
+pub first_fault : (limit : ℕ) (page : List ℕ) (r : Refusal) → length page ≤ limit → text_fault page ≡ Some r → page_fault limit page ≡ Some r
+first_fault limit page r h e = let short : nat_lt limit (length page) ≡ false = le-ltb limit (length page) h in rw short e

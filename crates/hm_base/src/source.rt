@@ -1,12 +1,13 @@
 //! The text of a page, with the place of each byte.
-ghost use Rattle.std.specs.Prelude.{◌≡◌, ◌+◌, ◌≤◌, ◌++◌, None, length, map, true, IfOk, OnOk, IfErr};
+ghost use Rattle.std.specs.Prelude.{◌≡◌, ◌+◌, ◌≤◌, ◌++◌, ℕ, List, None, length, map, true, IfOk, OnOk, IfErr};
 ghost use Rattle.hm_base.specs.Bytes.{all_pass};
-ghost use Rattle.hm_base.specs.Faults.{HasText, IsRefusedBy};
+ghost use Rattle.hm_base.specs.Faults.{HasText, IsRefusalOf, IsRefusedBy};
 ghost use Rattle.hm_base.specs.Places.{is_nonzero, mark_of, start_of, with_bytes, with_lines, with_pair};
 ghost use Rattle.hm_base.specs.Source.{byte_of, is_text_byte, numbered, place_in, source_of, text_fault, without_mark};
 
 use crate::limits::OUTPUT_LIMIT;
 use crate::plain::Memory;
+use crate::rules::{Refused, Rule};
 use memchr::memchr;
 use std::alloc::Global;
 use std::marker::Model;
@@ -37,6 +38,29 @@ impl From<Memory> for TextFault {
 
     fn from(_error: Memory) -> Self {
         TextFault::Memory
+    }
+}
+
+impl TextFault {
+    /// The refusal of a page with this fault, where at most `limit` bytes are read.
+    pub fn refusal(self, limit: u32) -> Refused
+        ensures { (page : List ℕ) → IsRefusedBy self limit page → IsRefusalOf result limit page }
+    {
+        match self {
+            TextFault::TooLong => Refused::Page {
+                rule: Rule::TooLong,
+                at: limit,
+            },
+            TextFault::NotUtf8 { at } => Refused::Page {
+                rule: Rule::NotUtf8,
+                at,
+            },
+            TextFault::Nul { at } => Refused::Page {
+                rule: Rule::Nul,
+                at,
+            },
+            TextFault::Memory => Refused::Memory,
+        }
     }
 }
 

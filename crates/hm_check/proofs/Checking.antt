@@ -1,16 +1,17 @@
 -- What the parts of a check find is its verdict.
-use Rattle.std.proofs.Common.{◌≡◌, ◌≤◌, ◌<◌, ℕ, true, false, List, length, nat_lt, Option, Some, None, refl, sym, ap, ◌∙◌, subst}
+use Rattle.std.proofs.Common.{◌≡◌, ◌≤◌, ◌<◌, ℕ, Bool, true, false, cond, List, length, nat_lt, Option, Some, None, refl, sym, ap, ◌∙◌, subst}
 use Rattle.std.specs.Option.{option_map, MatchOption}
 use Rattle.std.specs.declared.result.Result.{Result}
 use Rattle.std.specs.declared.result.Result.TheVariants.{Ok, Err}
 use Rattle.std.specs.Result.{IfOk, IfErr}
-use Rattle.std.proofs.lemmas.Bool.{lt-ltb, le-ltb}
-use Rattle.hm_base.specs.Faults.{HasText}
-use Rattle.hm_base.specs.Source.{refusal_at, Source, source_of, text_fault}
+use Rattle.std.proofs.lemmas.Bool.{lt-ltb, le-ltb, ltb-true, ltb-false}
+use Rattle.hm_base.specs.Faults.{HasText, IsRefusalOf}
+use Rattle.hm_base.specs.Source.{Refusal, refusal_at, Source, source_of, text_fault}
 use Rattle.hm_base.specs.Walks.{Event}
 use Rattle.hm_base.specs.declared.limits.TheConstants.{OUTPUT_LIMIT}
 use Rattle.hm_base.specs.declared.plain.SpellRules.{SpellRules}
 use Rattle.hm_base.specs.declared.rules.Refused.{Refused}
+use Rattle.hm_base.specs.declared.rules.Refused.TheVariants as refused
 use Rattle.hm_base.specs.declared.rules.Rule.{Rule}
 use Rattle.hm_base.specs.declared.rules.Rule.TheVariants as rules
 use Rattle.hm_build.specs.Parsing.{IsRefusedAs}
@@ -53,6 +54,17 @@ long_out t out h = let long : nat_lt OUTPUT_LIMIT (length out) ≡ true = lt-ltb
 pub faulty_out : (t : List Entry) (out : List ℕ) (rule : Rule) (at : ℕ) → length out ≤ OUTPUT_LIMIT → text_fault out ≡ Some (refusal_at rule at) → out_outcome t out ≡ refused_by rule at
 unfolding out_outcome page_tree
 faulty_out t out rule at h e = let short : nat_lt OUTPUT_LIMIT (length out) ≡ false = le-ltb OUTPUT_LIMIT (length out) h in rw (short, e) refl
+
+-- one that is refused
+pub out_refused : (t : List Entry) (out : List ℕ) (r : Refused) → IsRefusalOf r OUTPUT_LIMIT out → IsRefusedAs (out_outcome t out) r
+out_refused t out (refused.Page rule at) h = by_length (nat_lt OUTPUT_LIMIT (length out)) refl h
+  where
+    by_length : (long : Bool) → nat_lt OUTPUT_LIMIT (length out) ≡ long → cond long (Some (refusal_at rules.TooLong OUTPUT_LIMIT)) (text_fault out) ≡ Some (refusal_at rule at) → out_outcome t out ≡ refused_by rule at
+    by_length true e f =
+        let same : refusal_at rules.TooLong OUTPUT_LIMIT ≡ refusal_at rule at = cc in
+        long_out t out (ltb-true OUTPUT_LIMIT (length out) e) ∙ ap (λ (x : Refusal). refused_by x.rule x.at) same
+    by_length false e f = faulty_out t out rule at (ltb-false OUTPUT_LIMIT (length out) e) f
+out_refused t out refused.Memory h = tt
 
 -- and one that is read
 pub read_outcome : (t : List Entry) (out : List ℕ) (text : Source) (o : Outcome) → HasText OUTPUT_LIMIT out → text ≡ source_of out → tree_of_source t text ≡ o → out_outcome t out ≡ o

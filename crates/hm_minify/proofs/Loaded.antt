@@ -8,11 +8,13 @@ use Rattle.std.specs.Str.{bytes_eq}
 use Rattle.std.specs.Prelude.{Result, Ok, Err}
 use Rattle.std.specs.Result.{IsErrAnd, IfErr}
 use Rattle.std.specs.declared.option.Option.{Option}
-use Rattle.hm_base.specs.Faults.{HasText}
-use Rattle.hm_base.specs.Source.{Source, Refusal, source_of, text_fault}
+use Rattle.hm_base.specs.Faults.{HasText, IsRefusalOf}
+use Rattle.hm_base.specs.Source.{Source, Refusal, refusal_at, source_of, text_fault}
 use Rattle.hm_base.specs.Walks.{Event}
 use Rattle.hm_base.specs.declared.limits.TheConstants.{PAGE_LIMIT, TABLE_LIMIT}
 use Rattle.hm_base.specs.declared.plain.TreeOptions.{TreeOptions}
+use Rattle.hm_base.specs.declared.rules.Refused.{Refused}
+use Rattle.hm_base.specs.declared.rules.Refused.TheVariants as refused
 use Rattle.hm_base.specs.declared.rules.Rule.{Rule}
 use Rattle.hm_base.specs.declared.rules.Rule.TheVariants as rules
 use Rattle.hm_store.specs.Files.{FileMap, Takes, file_of}
@@ -25,6 +27,7 @@ use Rattle.hm_construction_laws.specs.Trees.{Outcome, built, refused_by, page_tr
 use Rattle.hm_words.specs.Words.{are_apart, page_at}
 use Rattle.hm_minify.specs.Inputs.{Input, IsInput, tree, bad_table, bad_page, is_none, table_names, page_outcome, rewritten_input, input_from}
 use Rattle.hm_minify.specs.Loads.{IsLoaded, IsPageText, IsTableOf, IsTextIn, IsTextOf, IsRefusedPage, IsTreeRead, NoTable, NoText, NoTextIn, NoTreeRead, NoInput}
+use Rattle.hm_minify.specs.Stops.{refused_as}
 use Rattle.hm_minify.specs.declared.unread.Unread.{Unread}
 use Rattle.hm_minify.specs.declared.unread.Unread.TheVariants as reasons
 
@@ -104,6 +107,17 @@ text_in page text h e = record { short = short_test PAGE_LIMIT (length page) h.s
 
 pub faulty_text : (page : List ℕ) (r : Refusal) → length page ≤ PAGE_LIMIT → text_fault page ≡ Some r → (t : List Entry) → page_outcome t page ≡ refused_by r.rule r.at
 faulty_text page r h e t = faulty_page t page r (short_test PAGE_LIMIT (length page) h) e
+
+-- a page that is refused
+pub no_text_in : (page : List ℕ) (r : Refused) → IsRefusalOf r PAGE_LIMIT page → NoTextIn page (refused_as r)
+no_text_in page (refused.Page rule at) h = λ t. by_length t (nat_lt PAGE_LIMIT (length page)) refl h
+  where
+    by_length : (t : List Entry) (long : Bool) → nat_lt PAGE_LIMIT (length page) ≡ long → cond long (Some (refusal_at rules.TooLong PAGE_LIMIT)) (text_fault page) ≡ Some (refusal_at rule at) → page_outcome t page ≡ refused_by rule at
+    by_length t true e f =
+        let same : refusal_at rules.TooLong PAGE_LIMIT ≡ refusal_at rule at = cc in
+        long_page t page (long_by_test PAGE_LIMIT (length page) e) ∙ ap (λ (x : Refusal). refused_by x.rule x.at) same
+    by_length t false e f = faulty_page t page (refusal_at rule at) e f
+no_text_in page refused.Memory h = tt
 
 -- what is found of the prefix that is loaded is found of the page
 page_front : (t : List Entry) (content : List ℕ) → page_outcome t (take (PAGE_LIMIT + 1) content) ≡ page_outcome t content

@@ -9,7 +9,7 @@ ghost use Rattle.hm_minify.specs.Inputs.{is_none};
 ghost use Rattle.hm_minify.specs.Loads.{IsPageText, IsTableOf, IsTextOf, NoTable, NoText, NoTextIn};
 
 use crate::Unread;
-use hm_base::{PAGE_LIMIT, Rule, SourceText, TABLE_LIMIT, TextFault};
+use hm_base::{PAGE_LIMIT, SourceText, TABLE_LIMIT, TextFault};
 use hm_gen::page_of;
 use hm_refs::{Table, TableFault};
 use hm_store::{Store, load};
@@ -63,19 +63,7 @@ fn text_of(alloc: Global, page: Vec<u8>) -> Result<(SourceText, usize), Unread>
     let bytes = page.len();
     match read_page(alloc, page) {
         Ok(text) => Ok((text, bytes)),
-        Err(TextFault::TooLong) => Err(Unread::Page {
-            rule: Rule::TooLong,
-            at: PAGE_LIMIT,
-        }),
-        Err(TextFault::NotUtf8 { at }) => Err(Unread::Page {
-            rule: Rule::NotUtf8,
-            at,
-        }),
-        Err(TextFault::Nul { at }) => Err(Unread::Page {
-            rule: Rule::Nul,
-            at,
-        }),
-        Err(TextFault::Memory) => Err(Unread::Memory),
+        Err(fault) => Err(Unread::from(fault.refusal(PAGE_LIMIT))),
     }
 }
 

@@ -15,23 +15,23 @@ use Rattle.hm_json_tree.specs.Laws.{NoBreakIsSettled, SettledHasNoBreak}
 
 -- ---- What an event without a break passes
 
-record Passes (p : Past) (e : Event) : Type 0 where
-  top : is_some (top_behind p.top p.path e) ≡ true
-  frame : is_some (frame_behind p.frame p.path e) ≡ true
-  nesting : nests p.path e [] ≡ true
-  svg : is_svg_in_place p.path e [] ≡ true
-  due : not (is_behind_void p.before) || is_end e ≡ true
-  texts : is_text_in_place p.path e [] && not (is_behind_text p.before && is_text e) ≡ true
-  raw_texts : is_raw_text p.path e [] ≡ true
-  comments : is_comment_in_form p.path e [] ≡ true
-  attributes : has_attributes_in_form p.path e [] ≡ true
-  depth : is_not_deep p.path e [] ≡ true
+pub record Passes (p : Past) (e : Event) : Type 0 where
+  pub top : is_some (top_behind p.top p.path e) ≡ true
+  pub frame : is_some (frame_behind p.frame p.path e) ≡ true
+  pub nesting : nests p.path e [] ≡ true
+  pub svg : is_svg_in_place p.path e [] ≡ true
+  pub due : not (is_behind_void p.before) || is_end e ≡ true
+  pub texts : is_text_in_place p.path e [] && not (is_behind_text p.before && is_text e) ≡ true
+  pub raw_texts : is_raw_text p.path e [] ≡ true
+  pub comments : is_comment_in_form p.path e [] ≡ true
+  pub attributes : has_attributes_in_form p.path e [] ≡ true
+  pub depth : is_not_deep p.path e [] ≡ true
 
 unless_none : (b : Bool) (n : ℕ) (more : Option ℕ) → unless b n more ≡ None → (b ≡ true) × (more ≡ None)
 unless_none true n more h = (refl, h)
 unless_none false n more h = cc
 
-passes : (p : Past) (e : Event) → point_at p e ≡ None → Passes p e
+pub passes : (p : Past) (e : Event) → point_at p e ≡ None → Passes p e
 passes p e h =
     let a = unless_none _ 1 _ h in
     let b = unless_none _ 2 _ a.1 in

@@ -1,10 +1,12 @@
 -- What an item says of an event, before the open elements are asked.
-use Rattle.std.specs.Prelude.{Bool, ◌&&◌, nat_le, length, List, [], map, Option, Some, unwrap_or}
+use Rattle.std.specs.Prelude.{◌≡◌, Bool, true, false, not, ◌&&◌, nat_le, length, List, [], map, Option, Some, unwrap_or}
 use Rattle.serde_json.specs.View.{view}
 use Rattle.serde_json.specs.Data.{no_items}
 use Rattle.serde_json.specs.declared.value.Value.{Value}
 use Rattle.hm_base.specs.declared.limits.TheConstants.{ATTRIBUTE_LIMIT}
 use Rattle.hm_elements.specs.Settled.{all_names_in_form}
+use Rattle.hm_base.specs.Bytes.{is_null}
+use Rattle.hm_tree.specs.Rows.{ends_in_text}
 use Rattle.hm_base.specs.Walks.{has_distinct_names, Attribute, Event, doctype, start, text, comment, end, Element}
 use Rattle.hm_elements.specs.Paths.{current, is_in_raw, is_in_svg}
 use Rattle.hm_json_tree.specs.Reading.{attribute_in, is_svg_here, end_in}
@@ -37,3 +39,27 @@ event_told path (Start n vs) = Some (told path (Start n vs))
 event_told path (Text s) = Some (told path (Text s))
 event_told path (Comment s) = Some (told path (Comment s))
 event_told path End = end_in path no_items
+
+-- the form is that of an end
+abbrev pub is_end : Form → Bool
+is_end (Doctype legacy) = false
+is_end (Start n vs) = false
+is_end (Text s) = false
+is_end (Comment s) = false
+is_end End = true
+
+-- these are the attributes of a start; of another event none are asked for
+abbrev pub HasAttributes : Form → List Attribute → Type 0
+HasAttributes (Doctype legacy) attributes = Unit {0}
+HasAttributes (Start n vs) attributes = attributes ≡ attributes_at vs.now
+HasAttributes (Text s) attributes = Unit {0}
+HasAttributes (Comment s) attributes = Unit {0}
+HasAttributes End attributes = Unit {0}
+
+-- a text isn't empty and doesn't touch another; other events may follow any
+abbrev pub may_join : Form → List Event → Bool
+may_join (Doctype legacy) w = true
+may_join (Start n vs) w = true
+may_join (Text s) w = not (is_null s.now) && not (ends_in_text w)
+may_join (Comment s) w = true
+may_join End w = true

@@ -8,6 +8,7 @@ use Rattle.hm_base.specs.Walks.{Attribute, Event, doctype, start, text, comment,
 use Rattle.hm_elements.specs.Names.{svg}
 use Rattle.hm_elements.specs.Paths.{is_in_svg, is_in_raw}
 use Rattle.hm_refs.specs.Json.{json}
+use Rattle.hm_json_tree.specs.declared.limits.TheConstants.{JSON_LIMIT}
 use Rattle.hm_json_tree.specs.Breaks.{Break, first_break}
 
 -- ---- One event
@@ -111,7 +112,7 @@ of_value (Some d) = of_array (as_array d)
 
 -- no more bytes are read
 abbrev pub json_limit : ℕ
-json_limit = 67108864
+json_limit = JSON_LIMIT
 
 -- the settled walk that JSON stands for, or the first reason why it stands for none
 unfoldable pub json_walk : List ℕ → JsonWalk

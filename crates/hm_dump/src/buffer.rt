@@ -6,9 +6,9 @@ use hm_store::Sink;
 
 /// Bytes that wait until they are put to a sink together. Once a put has failed, no further one is made.
 #[derive(Drop)]
-pub(crate) struct Buffer {
-    pub(crate) bytes: Vec<u8>,
-    pub(crate) failed: bool,
+pub struct Buffer {
+    pub bytes: Vec<u8>,
+    pub failed: bool,
 }
 
 /// Puts bytes, unless a put has failed before, and says whether one has failed.
@@ -28,7 +28,7 @@ fn append(waiting: &mut Vec<u8>, bytes: &[u8])
 
 impl Buffer {
     /// A buffer with the room of a list, which is emptied.
-    pub(crate) fn of(mut bytes: Vec<u8>) -> Buffer
+    pub fn of(mut bytes: Vec<u8>) -> Buffer
         ensures { IsFresh result }
     {
         bytes.clear();
@@ -40,7 +40,7 @@ impl Buffer {
 
     /// Gives bytes. They wait where there is room; more bytes than the whole room never wait.
     #[inline(always)]
-    pub(crate) fn give<O: Sink>(&mut self, out: &mut O, bytes: &[u8])
+    pub fn give<O: Sink>(&mut self, out: &mut O, bytes: &[u8])
         ensures { Gives (O.contents out.old) (O.contents out.new) (O.faults out.old) (O.faults out.new) self.old self.new bytes.now }
     {
         if bytes.len() <= self.bytes.capacity() - self.bytes.len() {
@@ -65,7 +65,7 @@ impl Buffer {
     }
 
     /// Puts what waits.
-    pub(crate) fn flush<O: Sink>(&mut self, out: &mut O)
+    pub fn flush<O: Sink>(&mut self, out: &mut O)
         ensures gives { Gives (O.contents out.old) (O.contents out.new) (O.faults out.old) (O.faults out.new) self.old self.new [] }
         ensures empty { self.new.bytes.items ≡ [] }
     {

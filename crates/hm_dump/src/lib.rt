@@ -6,4 +6,5 @@ mod lines;
 mod runs;
 mod shown;
 
+pub use buffer::Buffer;
 pub use shown::Shown;

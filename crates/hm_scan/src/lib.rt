@@ -25,8 +25,9 @@ mod values;
 
 pub use comments::{begins_cdata, begins_comment, scan_cdata, scan_comment};
 pub use doctypes::{begins_doctype, scan_doctype};
-pub use raw_texts::scan_raw;
-pub use scripts::scan_script;
+pub use names::is_tag_name;
+pub use raw_texts::{end_tag_place, scan_raw};
+pub use scripts::{scan_script, script_end};
 pub use tag::{scan_tag, scan_tag_into};
 pub use tag_begins::begins_tag;
 pub use text::{begins_markup, scan_text};

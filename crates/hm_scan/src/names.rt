@@ -80,7 +80,7 @@ fn are_tag_bytes(name: &[u8]) -> bool
 /// Whether this is a name of an element that is read: a lowercase letter, and lowercase letters, digits, `.`, `_`, `:`
 /// and `-` after it.
 #[tactic(auto, unfolding(hm_base::specs::Forms::is_tag_name))]
-pub(crate) fn is_tag_name(name: &[u8]) -> bool
+pub fn is_tag_name(name: &[u8]) -> bool
     ensures { result ≡ forms.is_tag_name name.now }
 {
     match name {

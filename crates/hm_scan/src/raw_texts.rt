@@ -42,8 +42,8 @@ fn begins_end_tag(bytes: &[u8], name: &[u8]) -> bool
     }
 }
 
-/// The place of the first end tag with that name from a place on.
-fn end_tag_place(bytes: &[u8], from: usize, name: &[u8]) -> Option<usize>
+/// The place of the first end tag with that name from a place on: `</`, the name in any ASCII case, and whitespace, `/` or `>`.
+pub fn end_tag_place(bytes: &[u8], from: usize, name: &[u8]) -> Option<usize>
     requires { from ≤ length bytes.now }
     ensures { FindsPlace bytes.now from (raw.raw_end name.now (drop from bytes.now)) result }
 {

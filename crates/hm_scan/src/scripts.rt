@@ -64,7 +64,7 @@ fn mark_at(bytes: &[u8]) -> Option<ScriptMark>
 }
 
 /// The place of the end tag that ends a script whose text begins at a place.
-fn script_end(bytes: &[u8], from: usize) -> Option<usize>
+pub fn script_end(bytes: &[u8], from: usize) -> Option<usize>
     requires { from ≤ length bytes.now }
     ensures { FindsPlace bytes.now from (raw.script_end (drop from bytes.now)) result }
 {

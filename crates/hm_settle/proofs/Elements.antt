@@ -53,7 +53,7 @@ known_at os i o at marked h =
 pub text_at : (os : List OpenElement) (o : OpenElement) → o ≡ get_or os (length os - 1) o → IsPath os → o.marks.text ≡ is_in_text (path_of os)
 text_at os o at path = ap (λ (m : Marks). m.text) (marked_at os (length os - 1) o at path.marked (omega (arith, path.least)))
 
-marked_first : (path : List Element) (n : ℕ) (os : List OpenElement) → AreMarked path os → AreMarked path (take n os)
+pub marked_first : (path : List Element) (n : ℕ) (os : List OpenElement) → AreMarked path os → AreMarked path (take n os)
 marked_first path zero os marked = tt
 marked_first path (suc n) [] marked = tt
 marked_first path (suc n) (o ∷ os) marked = (marked.0, marked_first (element_of o ∷ path) n os marked.1)

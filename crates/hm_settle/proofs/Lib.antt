@@ -7,3 +7,4 @@ pub mod Shapes
 pub mod Classes
 pub mod Ends
 pub mod Nested
+pub mod Opened

@@ -3,8 +3,10 @@
 
 mod element;
 mod moves;
+mod open_elements;
 mod path;
 mod plan;
 
 pub use moves::{Made, Moves, SettleFault};
+pub use open_elements::OpenElements;
 pub use path::Path;

@@ -1,0 +1,142 @@
+//! Items of the array as events, before the open elements are asked.
+ghost use Rattle.std.specs.Prelude.{◌≡◌, ◌∷◌, List, Some, None, IfSome, is_some, option_map, option_and_then};
+ghost use Rattle.serde_json.specs.View.{items_view, view};
+ghost use Rattle.hm_base.specs.Walks.{Element};
+ghost use Rattle.hm_json_tree.specs.Forms.{attribute_at, event_told};
+ghost use Rattle.hm_json_tree.specs.Reading as reading;
+
+use serde_json::Value;
+
+/// What an item says of an event.
+#[derive(Clone, Copy)]
+pub(crate) enum Form<'v> {
+    Doctype { legacy: bool },
+    Start { name: &'v str, attrs: &'v [Value] },
+    Text { text: &'v str },
+    Comment { text: &'v str },
+    End,
+}
+
+/// The event that an item stands for, if it is one.
+pub(crate) fn form_of(item: &Value) -> Option<Form<'_>>
+    ensures { (path : List Element) → reading.event_in path (view item.now) ≡ option_and_then (event_told path) result }
+{
+    match item.as_array()?.as_slice() {
+        [kind, rest @ ..] => form_of_kind(kind.as_str()?, rest),
+        [] => None,
+    }
+}
+
+/// The event of a kind that these say more of.
+fn form_of_kind<'v>(kind: &str, rest: &'v [Value]) -> Option<Form<'v>>
+    ensures { (path : List Element) → reading.event_of_kind kind.now path (items_view rest.now) ≡ option_and_then (event_told path) result }
+{
+    match kind {
+        "doctype" => doctype_in(rest),
+        "start" => start_in(rest),
+        "text" => text_in(rest),
+        "comment" => comment_in(rest),
+        "end" => end_in(rest),
+        _ => None,
+    }
+}
+
+fn doctype_in(rest: &[Value]) -> Option<Form<'_>>
+    ensures { (path : List Element) → reading.doctype_in (items_view rest.now) ≡ option_and_then (event_told path) result }
+{
+    match rest {
+        [word] => match word.as_str()? {
+            "plain" => Some(Form::Doctype { legacy: false }),
+            "legacy" => Some(Form::Doctype { legacy: true }),
+            _ => None,
+        },
+        [] => None,
+        [_, _, ..] => None,
+    }
+}
+
+fn start_in(rest: &[Value]) -> Option<Form<'_>>
+    ensures { (path : List Element) → reading.start_in path (items_view rest.now) ≡ option_and_then (event_told path) result }
+{
+    match rest {
+        [name, attrs] => {
+            let name = name.as_str()?;
+            let attrs = attrs.as_array()?.as_slice();
+            if are_pairs(attrs) {
+                Some(Form::Start { name, attrs })
+            } else {
+                None
+            }
+        }
+        [] => None,
+        [_] => None,
+        [_, _, _, ..] => None,
+    }
+}
+
+fn text_in(rest: &[Value]) -> Option<Form<'_>>
+    ensures { (path : List Element) → reading.text_in path (items_view rest.now) ≡ option_and_then (event_told path) result }
+{
+    match rest {
+        [text] => Some(Form::Text {
+            text: text.as_str()?,
+        }),
+        [] => None,
+        [_, _, ..] => None,
+    }
+}
+
+fn comment_in(rest: &[Value]) -> Option<Form<'_>>
+    ensures { (path : List Element) → reading.comment_in (items_view rest.now) ≡ option_and_then (event_told path) result }
+{
+    match rest {
+        [text] => Some(Form::Comment {
+            text: text.as_str()?,
+        }),
+        [] => None,
+        [_, _, ..] => None,
+    }
+}
+
+fn end_in(rest: &[Value]) -> Option<Form<'_>>
+    ensures { (path : List Element) → reading.end_in path (items_view rest.now) ≡ option_and_then (event_told path) result }
+{
+    match rest {
+        [] => Some(Form::End),
+        [_, ..] => None,
+    }
+}
+
+/// Whether each of these is a name and a value.
+fn are_pairs(items: &[Value]) -> bool
+    ensures { result ≡ is_some (reading.attributes_in (items_view items.now)) }
+{
+    for item in items {
+        if as_pair(item).is_none() {
+            return false;
+        }
+    }
+    true
+}
+
+/// The name and the value that an item says, if it is a pair of texts.
+fn as_pair(item: &Value) -> Option<(&str, &str)>
+    ensures { option_map (λ p. record { name = p.0.now; value = p.1.now }) result ≡ reading.attribute_in (view item.now) }
+{
+    match item.as_array()?.as_slice() {
+        [name, value] => Some((name.as_str()?, value.as_str()?)),
+        [] => None,
+        [_] => None,
+        [_, _, _, ..] => None,
+    }
+}
+
+/// The name and the value that an item says, which is a pair of texts; else both are empty.
+pub(crate) fn pair_of(item: &Value) -> (&str, &str)
+    ensures { record { name = result.0.now; value = result.1.now } ≡ attribute_at item.now }
+{
+    match as_pair(item) {
+        Some(pair) => pair,
+        None => ("", ""),
+    }
+}

@@ -1,0 +1,4 @@
+//! How much is read.
+
+/// The most bytes of a tree in JSON.
+pub const JSON_LIMIT: u32 = 67_108_864;

@@ -1,0 +1,137 @@
+//! A tree from JSON.
+ghost use Rattle.std.specs.Prelude.{◌≡◌, ◌≢◌, ◌+◌, ◌^◌, ◌<◌, ◌≤◌, [], List, None, Some, drop, length, IfOk, IfErr, OnOk, MatchOption};
+ghost use Rattle.serde_json.specs.View.{items_view, view};
+ghost use Rattle.hm_base.specs.Walks.{Element, Event, path_behind};
+ghost use Rattle.hm_elements.specs.Settled.{Settled};
+ghost use Rattle.hm_json_tree.specs.Progress.{fault_walk, put_events};
+ghost use Rattle.hm_json_tree.specs.Reading.{event_in, events_in, json_walk, listed, of_listed, walk};
+ghost use Rattle.hm_refs.specs.Json as json;
+
+use crate::JsonFault;
+use crate::form::{Form, form_of};
+use crate::limits::JSON_LIMIT;
+use crate::reader::Reader;
+use hm_base::Memory;
+use hm_tree::Tree;
+use serde_json::Value;
+use std::alloc::Global;
+
+/// Reads a tree: an array with an item for each event, as `["doctype","plain"]`, `["start",NAME,[[NAME,VALUE],..]]`,
+/// `["text",TEXT]`, `["comment",TEXT]` and `["end"]`. The tree is settled.
+pub fn read_tree(alloc: Global, bytes: &[u8]) -> Result<Tree, JsonFault>
+    ensures tree { IfOk result (λ tree. json_walk bytes.now ≡ walk tree) }
+    ensures settled { IfOk result (λ tree. Settled tree) }
+    ensures fault { IfErr result (λ fault. fault ≢ JsonFault.Memory → json_walk bytes.now ≡ fault_walk fault) }
+{
+    if bytes.len() > JSON_LIMIT as usize {
+        return Err(JsonFault::TooLong);
+    }
+    let value = parse(alloc, bytes)?;
+    match value.as_array() {
+        Some(items) => {
+            let tree = read_items(alloc, items)?;
+            // What is true of every tree comes with its length.
+            let _len = tree.len();
+            Ok(tree)
+        }
+        None => Err(JsonFault::NotArray),
+    }
+}
+
+fn parse(alloc: Global, bytes: &[u8]) -> Result<Value, JsonFault>
+    ensures ok { IfOk result (λ value. json.json bytes.now ≡ Some (view value)) }
+    ensures fault { IfErr result
+        (λ fault. fault ≢ JsonFault.Memory
+        → (fault ≡ JsonFault.NotJson) × (json.json bytes.now ≡ None)) }
+{
+    match Value::from_slice(alloc, bytes) {
+        Ok(value) => Ok(value),
+        Err(error) => if error.is_memory() {
+            Err(JsonFault::Memory)
+        } else {
+            Err(JsonFault::NotJson)
+        },
+    }
+}
+
+/// The tree of the events that the items stand for.
+fn read_items(alloc: Global, items: &[Value]) -> Result<Tree, JsonFault>
+    ensures tree { IfOk result (λ tree. of_listed (events_in 0 [] (items_view items.now)) ≡ walk tree) }
+    ensures fault { IfErr result (λ fault. fault ≢ JsonFault.Memory → of_listed (events_in 0 [] (items_view items.now)) ≡ fault_walk fault) }
+{
+    let mut reader = Reader::new(alloc);
+    for i in 0..items.len() {
+        let Some(form) = reader.form_of(&items[i]) else {
+            return Err(bad_event(i));
+        };
+        if let Some(point) = reader.take(alloc, &form)? {
+            follow(items, i, reader.path.len() as u32)?;
+            return Err(not_settled(i, point));
+        }
+    }
+    reader.finish()
+}
+
+/// Whether events stand from an item on, before which so many elements are open, and all elements are closed at the end.
+fn follow(items: &[Value], from: usize, opened: u32) -> Result<(), JsonFault>
+    requires { from ≤ length items.now }
+    ensures ok { OnOk result ((path : List Element) → length path ≡ opened → (w : List Event) × (events_in from path (items_view (drop from items.now)) ≡ listed w)) }
+    ensures fault { IfErr result (λ fault. fault ≢ JsonFault.Memory → (w : List Event) (path : List Element) → length path ≡ opened → of_listed (put_events w (events_in from path (items_view (drop from items.now)))) ≡ fault_walk fault) }
+{
+    let mut depth = opened;
+    for i in from..items.len() {
+        match next_depth(&items[i], depth)? {
+            Some(next) => depth = next,
+            None => return Err(bad_event(i)),
+        }
+    }
+    if depth > 0 {
+        return Err(JsonFault::Open { count: depth });
+    }
+    Ok(())
+}
+
+/// How many elements are open after an item, if it is an event.
+fn next_depth(item: &Value, depth: u32) -> Result<Option<u32>, Memory>
+    ensures { IfOk result (λ next. (path : List Element) → length path ≡ depth → MatchOption next (event_in path (view item.now) ≡ None)
+        (λ n. (e : Event) × (event_in path (view item.now) ≡ Some e) × (length (path_behind path e) ≡ n))) }
+{
+    let Some(form) = form_of(item) else {
+        return Ok(None);
+    };
+    match form {
+        Form::Start { .. } => if depth == u32::MAX {
+            Err(Memory)
+        } else {
+            Ok(Some(depth + 1))
+        },
+        Form::End => if depth == 0 {
+            Ok(None)
+        } else {
+            Ok(Some(depth - 1))
+        },
+        Form::Doctype { .. } => Ok(Some(depth)),
+        Form::Text { .. } => Ok(Some(depth)),
+        Form::Comment { .. } => Ok(Some(depth)),
+    }
+}
+
+/// The item that is no event, by its number.
+fn bad_event(i: usize) -> JsonFault
+    ensures { result ≢ JsonFault.Memory → result ≡ JsonFault.BadEvent i }
+{
+    match u32::try_from(i) {
+        Ok(event) => JsonFault::BadEvent { event },
+        Err(_) => JsonFault::Memory,
+    }
+}
+
+/// The event that breaks a rule, by its number.
+fn not_settled(i: usize, point: u8) -> JsonFault
+    ensures { result ≢ JsonFault.Memory → result ≡ JsonFault.NotSettled i point }
+{
+    match u32::try_from(i) {
+        Ok(event) => JsonFault::NotSettled { event, point },
+        Err(_) => JsonFault::Memory,
+    }
+}

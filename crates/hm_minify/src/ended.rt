@@ -17,18 +17,24 @@ use std::marker::Model;
 #[derive(Drop)]
 pub struct Output<'w> {
     pub name: &'w str,
+    /// The bytes of the file, after `from` bytes that aren't written.
     pub bytes: Vec<u8>,
+    /// Where the file begins in `bytes`, in bytes.
+    pub from: usize,
 }
 
 impl<'w> Model for Output<'w> {
+    ghost use Rattle.std.specs.Prelude.{◌≤◌, length, drop};
     ghost use Rattle.hm_minify.specs.Writes.{Write};
 
     ghost Value = { Write };
 
     ghost view = { λ o. record {
       name = o.name.now;
-      bytes = o.bytes.items;
+      bytes = drop o.from o.bytes.items;
     } };
+
+    ghost invariant = { λ o. o.from ≤ length o.bytes.items };
 }
 
 /// What is put to the sink: a line, or the lines of a tree, which never stand in memory together.

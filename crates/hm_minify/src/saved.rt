@@ -13,7 +13,7 @@ pub fn save<S: Store>(store: &mut S, outputs: &[Output<'_>]) -> Result<(), Faile
     ensures cause { HasCause (S.faults store.old) (S.faults store.new) result }
 {
     for output in outputs {
-        write_file(store, output.name, output.bytes.as_slice())?;
+        write_file(store, output.name, &output.bytes[output.from..])?;
     }
     Ok(())
 }

@@ -57,10 +57,12 @@ fn minify<'w>(
     outputs.push(Output {
         name: out,
         bytes: minified.out,
+        from: 0,
     })?;
     outputs.push(Output {
         name: cert,
         bytes: minified.certificate,
+        from: 0,
     })?;
     Ok(Ended {
         status: Status::Done,

@@ -1,5 +1,6 @@
 //! Reading and writing a whole file.
-ghost use Rattle.std.specs.Prelude.{◌≡◌, ◌+◌, ◌≤◌, ◌<◌, ◌⊎◌, ◌^◌, IfOk, OnOk, OnErr, IsOk, IsSome, Err, true, false, length};
+ghost use Rattle.std.specs.Prelude.{◌≡◌, ◌+◌, ◌≤◌, ◌<◌, ◌⊎◌, ◌^◌, IfOk, OnOk, OnErr, IsOk, IsSome, Err, true, false, length, drop};
+ghost use Rattle.std.specs.Io.{StartsWith};
 ghost use Rattle.hm_store.specs.Causes.{Rose, HasCause};
 ghost use Rattle.hm_store.specs.Files.{file_of, with_file, Takes, IsMissing, HasFront};
 ghost use Rattle.hm_store.specs.Loading.{FollowsOn};
@@ -40,7 +41,7 @@ fn pull_more<S: Store>(
 ) -> Result<bool, LoadFault>
     requires piece { 0 < length piece.old }
     requires reading { S.is_reading store.old ≡ true }
-    requires limit { limit < 2 ^ 32 }
+    requires limit { limit + 1 < 2 ^ 64 }
     requires room { length bytes.old.items ≤ limit }
     ensures same { S.files store.new ≡ S.files store.old }
     ensures reading { S.is_reading store.new ≡ true }
@@ -48,6 +49,7 @@ fn pull_more<S: Store>(
     ensures target { S.target store.new ≡ S.target store.old }
     ensures follows { IfOk result
         (λ more. FollowsOn bytes.old.items (S.rest store.old) bytes.new.items (S.rest store.new) more) }
+    ensures kept { StartsWith bytes.new.items bytes.old.items }
     ensures within { length bytes.new.items ≤ limit + 1 }
     ensures later { S.faults store.old ≤ S.faults store.new }
     ensures failed { result ≡ Err LoadFault.Store → Rose (S.faults store.old) (S.faults store.new) }
@@ -63,27 +65,68 @@ fn pull_more<S: Store>(
     }
 }
 
-/// The bytes of the file that is being read, at most one more than `limit`.
-fn pull_all<S: Store>(alloc: Global, store: &mut S, limit: usize) -> Result<Vec<u8>, LoadFault>
+/// `front`, and after it the bytes of the file that is being read, at most one more than `limit`.
+fn pull_all<S: Store>(
+    alloc: Global,
+    store: &mut S,
+    front: &[u8],
+    limit: usize,
+) -> Result<Vec<u8>, LoadFault>
     requires reading { S.is_reading store.old ≡ true }
     requires limit { limit < 2 ^ 32 }
     ensures same { S.files store.new ≡ S.files store.old }
     ensures writing { S.is_writing store.new ≡ S.is_writing store.old }
     ensures target { S.target store.new ≡ S.target store.old }
-    ensures loaded { IfOk result (λ bytes. Takes (S.rest store.old) (limit + 1) bytes.items) }
-    ensures within { IfOk result (λ bytes. length bytes.items ≤ limit + 1) }
+    ensures front { IfOk result (λ bytes. StartsWith bytes.items front.now) }
+    ensures loaded { IfOk result (λ bytes. Takes (S.rest store.old) (limit + 1) (drop (length front.now) bytes.items)) }
+    ensures within { IfOk result (λ bytes. length bytes.items ≤ length front.now + (limit + 1)) }
     ensures later { S.faults store.old ≤ S.faults store.new }
     ensures failed { result ≡ Err LoadFault.Store → Rose (S.faults store.old) (S.faults store.new) }
     ensures steady { OnOk result (S.faults store.new ≡ S.faults store.old) }
 {
     let mut piece = [0u8; PIECE];
     let mut bytes = Vec::new(alloc);
-    while bytes.len() <= limit {
-        if !pull_more(store, &mut piece, &mut bytes, limit)? {
+    bytes.extend_from_slice(front)?;
+    let most = front.len() + limit;
+    while bytes.len() <= most {
+        if !pull_more(store, &mut piece, &mut bytes, most)? {
             break;
         }
     }
     Ok(bytes)
+}
+
+/// `front`, and after it the bytes of a file, at most one more than `limit`, so that a longer file is noticed.
+pub fn load_behind<S: Store>(
+    alloc: Global,
+    store: &mut S,
+    name: &str,
+    front: &[u8],
+    limit: u32,
+) -> Result<Vec<u8>, LoadFault>
+    ensures front { IfOk result (λ bytes. StartsWith bytes.items front.now) }
+    ensures loaded { IfOk result
+        (λ bytes. Takes (file_of (S.files store.old) name.now) (limit + 1) (drop (length front.now) bytes.items)) }
+    ensures within { IfOk result (λ bytes. length bytes.items ≤ length front.now + (limit + 1)) }
+    ensures there { IsOk result → IsSome (S.files store.old)
+        → IsSome (file_of (S.files store.old) name.now) }
+
+    // It changes nothing but what is being read.
+    ensures same { S.files store.new ≡ S.files store.old }
+    ensures writing { S.is_writing store.new ≡ S.is_writing store.old }
+    ensures target { S.target store.new ≡ S.target store.old }
+
+    // A call has failed, or the file isn't there. Where the bytes are returned, none has.
+    ensures steady { OnOk result (S.faults store.new ≡ S.faults store.old) }
+    ensures later { S.faults store.old ≤ S.faults store.new }
+    ensures failed { result ≡ Err LoadFault.Store
+        → Rose (S.faults store.old) (S.faults store.new) ⊎ IsMissing (S.files store.old) name.now }
+    ensures missing { IsMissing (S.files store.old) name.now → result ≡ Err LoadFault.Store }
+{
+    match store.open_in(name) {
+        Ok(true) => pull_all(alloc, store, front, limit as usize),
+        Ok(false) | Err(Failed) => Err(LoadFault::Store),
+    }
 }
 
 /// The bytes of a file, at most one more than `limit`, so that a longer file is noticed.
@@ -111,10 +154,7 @@ pub fn load<S: Store>(
         → Rose (S.faults store.old) (S.faults store.new) ⊎ IsMissing (S.files store.old) name.now }
     ensures missing { IsMissing (S.files store.old) name.now → result ≡ Err LoadFault.Store }
 {
-    match store.open_in(name) {
-        Ok(true) => pull_all(alloc, store, limit as usize),
-        Ok(false) | Err(Failed) => Err(LoadFault::Store),
-    }
+    load_behind(alloc, store, name, &[], limit)
 }
 
 /// Writes a whole file: opens it, puts the bytes at once, and closes it. The first call that fails ends it.

@@ -1,21 +1,43 @@
 //! One case: words and files, and how the run should end.
 use crate::escapes::bytes_of;
+use crate::faults::{ends_at_each_fault, ends_at_each_tear};
 use hm_base::{Memory, Word};
-use hm_minify::run;
+use hm_minify::{Status, run};
 use hm_store::{MemSink, MemStore};
 use std::alloc::Global;
 use std::io::{self, ErrorKind};
+
+/// A file before the run.
+#[derive(Drop)]
+struct NamedFile {
+    name: String,
+    bytes: Vec<u8>,
+}
+
+/// The prefixes of a page that give one answer.
+#[derive(Drop)]
+struct Prefixes {
+    // the bytes of the last one; the first is that after those before
+    last: usize,
+    // the printed line, in which `#` at the end stands for the bytes of the prefix
+    line: String,
+}
 
 /// A run in memory, with what is wanted of it.
 #[derive(Drop)]
 pub struct Case {
     name: String,
     words: Vec<Word>,
+    // the files before the run
+    files: Vec<NamedFile>,
     store: MemStore,
     status: u8,
     wanted: Vec<u8>,
     out: Option<Vec<u8>>,
     cert: Option<Vec<u8>>,
+    // whether each put is to be torn at each of its bytes
+    torn: bool,
+    prefixes: Vec<Prefixes>,
 }
 
 /// How a run ended.
@@ -27,6 +49,12 @@ pub enum CaseVerdict {
     OtherOutput,
     /// The file `out` or `cert` is another one, or isn't there.
     OtherFile,
+    /// `check` doesn't say yes to what `minify` has written, in one of the formats that it writes.
+    NotShown,
+    /// Where a call on the files or on the output fails, or a put is torn, the run doesn't end as it should.
+    NotEnded,
+    /// The prefix of the page of so many bytes has another answer.
+    OtherPrefix(usize),
 }
 
 /// The error of a call for which memory was refused.
@@ -43,17 +71,29 @@ fn holds(store: &MemStore, name: &str, wanted: &Option<Vec<u8>>) -> bool {
     }
 }
 
+/// Whether a file is as before, or a prefix of what is wanted.
+fn is_front(before: &MemStore, store: &MemStore, name: &str, wanted: &Option<Vec<u8>>) -> bool {
+    let bytes = store.file(name);
+    match (bytes, wanted) {
+        (Some(bytes), Some(wanted)) if wanted.starts_with(bytes) => true,
+        _ => before.file(name) == bytes,
+    }
+}
+
 impl Case {
     /// A case of which nothing is known yet.
     pub fn new(alloc: Global) -> Self {
         Case {
             name: String::new(alloc),
             words: Vec::new(alloc),
+            files: Vec::new(alloc),
             store: MemStore::new(alloc),
             status: 0,
             wanted: Vec::new(alloc),
             out: None,
             cert: None,
+            torn: false,
+            prefixes: Vec::new(alloc),
         }
     }
 
@@ -84,17 +124,74 @@ impl Case {
     }
 
     /// Takes a file.
-    pub fn take_file(&mut self, name: &str, bytes: &[u8]) -> io::Result<()> {
+    pub fn take_file(&mut self, alloc: Global, name: &str, bytes: &[u8]) -> io::Result<()> {
+        self.files.push(NamedFile {
+            name: String::from_str(alloc, name)?,
+            bytes: Vec::from_slice(alloc, bytes)?,
+        })?;
         match self.store.add(name, bytes) {
             Ok(()) => Ok(()),
             Err(memory) => Err(no_memory(memory)),
         }
     }
 
+    /// A store of the files before the run.
+    pub fn fresh_store(&self, alloc: Global) -> io::Result<MemStore> {
+        let mut store = MemStore::new(alloc);
+        for file in &self.files {
+            match store.add(file.name.as_str(), file.bytes.as_slice()) {
+                Ok(()) => {}
+                Err(memory) => return Err(no_memory(memory)),
+            }
+        }
+        Ok(store)
+    }
+
+    /// Whether all files but OUT and CERT are as before the run.
+    fn keeps_inputs(&self, store: &MemStore) -> bool {
+        for file in &self.files {
+            let name = file.name.as_str();
+            let same = match store.file(name) {
+                Some(bytes) => bytes == file.bytes.as_slice(),
+                None => false,
+            };
+            if !same && name != "out" && name != "cert" {
+                return false;
+            }
+        }
+        true
+    }
+
+    /// Whether the files are as after the whole run.
+    pub fn is_whole(&self, store: &MemStore) -> bool {
+        self.keeps_inputs(store)
+            && holds(store, "out", &self.out)
+            && holds(store, "cert", &self.cert)
+    }
+
+    /// Whether the files are as a call that fails may leave them: OUT as before or a prefix of what is wanted, CERT too, but as
+    /// before where OUT isn't whole.
+    pub fn is_begun(&self, before: &MemStore, store: &MemStore) -> bool {
+        let out = is_front(before, store, "out", &self.out);
+        let cert = is_front(before, store, "cert", &self.cert);
+        let cert_kept = before.file("cert") == store.file("cert");
+        self.keeps_inputs(store) && out && cert && (cert_kept || holds(store, "out", &self.out))
+    }
+
+    /// Runs the words of the case over a store and a sink, and returns the exit status.
+    pub fn run_over(&self, alloc: Global, store: &mut MemStore, sink: &mut MemSink) -> u8 {
+        run(alloc, self.words.as_slice(), store, sink).code()
+    }
+
+    /// The printed bytes that are wanted.
+    pub fn wanted(&self) -> &[u8] {
+        self.wanted.as_slice()
+    }
+
     /// Takes the file `out` or `cert`, which is there before the run and is to be the same afterwards.
     fn take_kept(&mut self, alloc: Global, name: &str, text: &str) -> io::Result<()> {
         let bytes = bytes_of(alloc, text)?;
-        self.take_file(name, bytes.as_slice())?;
+        self.take_file(alloc, name, bytes.as_slice())?;
         if name == "out" {
             self.out = Some(bytes);
         } else {
@@ -103,12 +200,25 @@ impl Case {
         Ok(())
     }
 
+    /// Takes the answer of some prefixes of the page: the bytes of the last one, and the line.
+    fn take_prefixes(&mut self, alloc: Global, text: &str) -> io::Result<()> {
+        let (last, line) = text.split_once(' ').unwrap_or((text, ""));
+        match last.parse::<usize>() {
+            Ok(last) => {
+                let line = String::from_str(alloc, line)?;
+                self.prefixes.push(Prefixes { last, line })?;
+                Ok(())
+            }
+            Err(_) => Err(io::Error::from(ErrorKind::InvalidData)),
+        }
+    }
+
     /// Takes a line of the case, by its first word. A first word that no line of a case has is refused as `InvalidData`.
     pub fn take(&mut self, alloc: Global, key: &str, rest: &str) -> io::Result<()> {
         match key {
             "case" => Ok(self.name.push_str(rest)?),
             "words" => self.take_words(alloc, rest),
-            "table" | "page" => self.take_file(key, bytes_of(alloc, rest)?.as_slice()),
+            "table" | "page" => self.take_file(alloc, key, bytes_of(alloc, rest)?.as_slice()),
             "has_out" => self.take_kept(alloc, "out", rest),
             "has_cert" => self.take_kept(alloc, "cert", rest),
             "status" => match rest.parse::<u8>() {
@@ -119,6 +229,11 @@ impl Case {
                 Err(_) => Err(io::Error::from(ErrorKind::InvalidData)),
             },
             "|" => self.take_line(rest),
+            "torn" => {
+                self.torn = true;
+                Ok(())
+            }
+            "prefixes" => self.take_prefixes(alloc, rest),
             "out" => {
                 self.out = Some(bytes_of(alloc, rest)?);
                 Ok(())
@@ -131,18 +246,155 @@ impl Case {
         }
     }
 
+    /// The words of the case, with `check` in place of `minify`.
+    fn checking(&self, alloc: Global) -> io::Result<Vec<Word>> {
+        let mut words = Vec::new(alloc);
+        for word in &self.words {
+            let text = word.text.as_str();
+            let text = if text == "minify" { "check" } else { text };
+            let text = String::from_str(alloc, text)?;
+            words.push(Word { text })?;
+        }
+        Ok(words)
+    }
+
+    /// The words of the case without `--sparse`, or with it where they don't have it.
+    fn in_other_format(&self, alloc: Global) -> io::Result<Vec<Word>> {
+        let mut words = Vec::new(alloc);
+        for word in &self.words {
+            if word.text.as_str() != "--sparse" {
+                let text = String::from_str(alloc, word.text.as_str())?;
+                words.push(Word { text })?;
+            }
+        }
+        if words.len() == self.words.len() {
+            let text = String::from_str(alloc, "--sparse")?;
+            words.push(Word { text })?;
+        }
+        Ok(words)
+    }
+
+    /// Whether `check` says yes to the files that are there, with as many bytes as `minify` is to say.
+    fn is_checked(&mut self, alloc: Global) -> io::Result<bool> {
+        let words = self.checking(alloc)?;
+        let mut sink = MemSink::new(alloc);
+        let status = run(alloc, words.as_slice(), &mut self.store, &mut sink);
+        let length = self.wanted.strip_prefix(b"length ");
+        Ok(
+            status == Status::Done
+                && length.is_some()
+                && sink.bytes().strip_prefix(b"yes ") == length,
+        )
+    }
+
+    /// Whether `check` says yes to what the run has written, and to what it writes with a certificate of the other format.
+    fn is_shown(&mut self, alloc: Global) -> io::Result<bool> {
+        if !self.is_checked(alloc)? {
+            return Ok(false);
+        }
+        let words = self.in_other_format(alloc)?;
+        let mut sink = MemSink::new(alloc);
+        let status = run(alloc, words.as_slice(), &mut self.store, &mut sink);
+        let same = sink.bytes() == self.wanted.as_slice() && holds(&self.store, "out", &self.out);
+        Ok(status == Status::Done && same && self.is_checked(alloc)?)
+    }
+
+    /// Whether the case is that of a page that is minified.
+    fn is_minified(&self) -> bool {
+        self.wanted.starts_with(b"length ")
+    }
+
     /// Runs the case, and compares.
-    pub fn verdict(&mut self, alloc: Global) -> CaseVerdict {
+    pub fn verdict(&mut self, alloc: Global) -> io::Result<CaseVerdict> {
         let mut sink = MemSink::new(alloc);
         let status = run(alloc, self.words.as_slice(), &mut self.store, &mut sink).code();
         if status != self.status {
-            CaseVerdict::OtherStatus(status)
+            Ok(CaseVerdict::OtherStatus(status))
         } else if sink.bytes() != self.wanted.as_slice() {
-            CaseVerdict::OtherOutput
+            Ok(CaseVerdict::OtherOutput)
         } else if !holds(&self.store, "out", &self.out) || !holds(&self.store, "cert", &self.cert) {
-            CaseVerdict::OtherFile
+            Ok(CaseVerdict::OtherFile)
+        } else if self.is_minified() && !self.is_shown(alloc)? {
+            Ok(CaseVerdict::NotShown)
+        } else if !ends_at_each_fault(alloc, self)?
+            || self.torn && !ends_at_each_tear(alloc, self)?
+        {
+            Ok(CaseVerdict::NotEnded)
         } else {
-            CaseVerdict::Agrees
+            self.verdict_of_prefixes(alloc)
         }
+    }
+
+    /// The page, where there is one.
+    fn page(&self) -> &[u8] {
+        for file in &self.files {
+            if file.name.as_str() == "page" {
+                return file.bytes.as_slice();
+            }
+        }
+        &[]
+    }
+
+    /// Whether the prefix of the page of so many bytes has this answer.
+    fn answers(&self, alloc: Global, bytes: usize, line: &str) -> io::Result<bool> {
+        let mut store = self.fresh_store(alloc)?;
+        let page = self.page();
+        let page = &page[..bytes.min(page.len())];
+        match store.add("page", page) {
+            Ok(()) => {}
+            Err(memory) => return Err(no_memory(memory)),
+        }
+        let mut sink = MemSink::new(alloc);
+        let status = self.run_over(alloc, &mut store, &mut sink);
+        let line = match line.split_once('#') {
+            Some((front, _)) => format!(in alloc; "{front}{bytes}\n")?,
+            None => format!(in alloc; "{line}\n")?,
+        };
+        let wanted: u8 = if line.as_str().starts_with("length ") {
+            0
+        } else {
+            3
+        };
+        Ok(status == wanted && sink.bytes() == line.as_bytes())
+    }
+
+    /// The first of these prefixes that has another answer.
+    fn other_prefix(
+        &self,
+        alloc: Global,
+        first: usize,
+        prefixes: &Prefixes,
+    ) -> io::Result<Option<usize>> {
+        for bytes in first..=prefixes.last {
+            if !self.answers(alloc, bytes, prefixes.line.as_str())? {
+                return Ok(Some(bytes));
+            }
+        }
+        Ok(None)
+    }
+
+    /// Compares the answers of all prefixes of the page, where they are wanted.
+    fn verdict_of_prefixes(&self, alloc: Global) -> io::Result<CaseVerdict> {
+        let mut next: usize = 0;
+        for prefixes in &self.prefixes {
+            if let Some(bytes) = self.other_prefix(alloc, next, prefixes)? {
+                return Ok(CaseVerdict::OtherPrefix(bytes));
+            }
+            next = prefixes.last.saturating_add(1);
+        }
+        if !self.prefixes.is_empty() && next != self.page().len().saturating_add(1) {
+            return Ok(CaseVerdict::OtherPrefix(next));
+        }
+        Ok(CaseVerdict::Agrees)
+    }
+
+    /// The bytes of the file `out` that is wanted, 0 where there is none.
+    pub fn out_length(&self) -> usize {
+        self.out.as_ref().map_or(0, |out| out.len())
+    }
+
+    /// The bytes of the file `cert` that is wanted, 0 where there is none.
+    pub fn cert_length(&self) -> usize {
+        self.cert.as_ref().map_or(0, |cert| cert.len())
     }
 }

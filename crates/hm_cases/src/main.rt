@@ -5,6 +5,7 @@
 
 mod case;
 mod escapes;
+mod faults;
 
 use case::{Case, CaseVerdict};
 use std::alloc::Global;
@@ -12,7 +13,7 @@ use std::{fs, io};
 
 /// Runs a case and prints how it differs: whether it does.
 fn differs(rt: &impl Print, alloc: Global, case: &mut Case) -> io::Result<bool> {
-    match case.verdict(alloc) {
+    match case.verdict(alloc)? {
         CaseVerdict::Agrees => Ok(false),
         CaseVerdict::OtherStatus(status) => {
             let (name, wanted) = (case.name(), case.status());
@@ -27,6 +28,21 @@ fn differs(rt: &impl Print, alloc: Global, case: &mut Case) -> io::Result<bool> 
         CaseVerdict::OtherFile => {
             let name = case.name();
             println!(rt; "{name}: other file")?;
+            Ok(true)
+        }
+        CaseVerdict::NotShown => {
+            let name = case.name();
+            println!(rt; "{name}: check doesn't say yes")?;
+            Ok(true)
+        }
+        CaseVerdict::NotEnded => {
+            let name = case.name();
+            println!(rt; "{name}: a call that fails doesn't end the run")?;
+            Ok(true)
+        }
+        CaseVerdict::OtherPrefix(bytes) => {
+            let name = case.name();
+            println!(rt; "{name}: another answer for its first {bytes} bytes")?;
             Ok(true)
         }
     }
@@ -47,7 +63,7 @@ fn main(rt: HostRuntime) -> io::Result<()> {
             }
             case = Case::new(alloc);
         } else if key == "file" {
-            case.take_file("table", fs::read(&rt, rest)?.as_slice())?;
+            case.take_file(alloc, "table", fs::read(&rt, rest)?.as_slice())?;
         } else {
             case.take(alloc, key, rest)?;
         }

@@ -5,6 +5,7 @@
 use hm_base::Word;
 use hm_minify::run;
 use hm_store::{FileStore, WriteSink};
+use std::io::ErrorKind;
 use std::process::ExitCode;
 use std::rt::Env;
 use std::{env, io};
@@ -28,7 +29,10 @@ fn words<R: Env + AllocGlobal>(rt: &R) -> Result<Vec<Word>, NoWords> {
             }
             Ok(words)
         }
-        Err(_) => Err(NoWords::Unknown),
+        Err(error) => match error.kind() {
+            ErrorKind::OutOfMemory => Err(NoWords::Memory),
+            _ => Err(NoWords::Unknown),
+        },
     }
 }
 

@@ -8,7 +8,8 @@ use Rattle.std.proofs.lemmas.Bool.Decides.{nat_tests}
 use Rattle.std.proofs.lemmas.Str.Parse.{IsDigitsTest, IsNumeralModel, numerals_by_value, parse_digits}
 use Rattle.clap.specs.Walk.{Text, texts}
 use Rattle.hm_base.proofs.Bytes.{both_true, first_true, second_true}
-use Rattle.hm_words.specs.Words.{is_number, measure_of, number_in}
+use Rattle.hm_words.specs.Words.{is_number, number_in, origin_in}
+use Rattle.hm_words.specs.declared.commands.Source.TheVariants.{Number}
 
 digit_range : (c : ℕ) → is_ascii_digit c ≡ true → (48 ≤ c) × (c ≤ 57)
 digit_range c e = (grind (arith, nat_tests), grind (arith, nat_tests))
@@ -49,19 +50,10 @@ number_too_great word least most x r e h is high =
     none_either true n = refl
     none_either false n = refl
 
--- ---- the names of `measure`
+-- ---- the words of a page that is made of a number
 
-pub few_names : (names : List (Bor Text)) → length names < 4 → None ≡ measure_of (texts names)
+pub few_names : (names : List (Bor Text)) → length names < 3 → None ≡ origin_in Number (texts names)
 few_names [] h = refl
 few_names (a ∷ []) h = refl
 few_names (a ∷ b ∷ []) h = refl
-few_names (a ∷ b ∷ c ∷ []) h = refl
-few_names (a ∷ b ∷ c ∷ d ∷ names) h = absurd (omega arith)
-
-pub many_names : (names : List (Bor Text)) → 5 ≤ length names → None ≡ measure_of (texts names)
-many_names [] h = refl
-many_names (a ∷ []) h = refl
-many_names (a ∷ b ∷ []) h = refl
-many_names (a ∷ b ∷ c ∷ []) h = refl
-many_names (a ∷ b ∷ c ∷ d ∷ []) h = absurd (omega arith)
-many_names (a ∷ b ∷ c ∷ d ∷ e ∷ names) h = refl
+few_names (a ∷ b ∷ c ∷ names) h = absurd (omega arith)

@@ -12,12 +12,14 @@ use Rattle.hm_words.specs.Words as words
 
 abbrev pub origin_of : Origin → words.Origin
 origin_of (origins.PageAt table page) = words.page_at table.now page.now
+origin_of (origins.JsonAt table page) = words.json_at table.now page.now
 origin_of (origins.Made table number size) = words.made table.now number size
 
 abbrev pub work_of : Work → words.Work
 work_of (works.Minify out cert) = words.minifies out.now cert.now
 work_of (works.Check out cert) = words.checks out.now cert.now
 work_of works.Show = words.shows
+work_of works.TellJson = words.tells_json
 work_of works.Measure = words.measures
 
 abbrev pub command_of : Origin × Work → words.Command

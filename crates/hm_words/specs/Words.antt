@@ -5,6 +5,10 @@ use Rattle.std.specs.List.{list_any, list_all}
 use Rattle.std.specs.Str.Parse.{digits_value}
 use Rattle.hm_base.specs.Bytes.{is_null}
 use Rattle.hm_base.specs.declared.plain.TreeOptions.{TreeOptions}
+use Rattle.hm_words.specs.declared.commands.Deed.{Deed}
+use Rattle.hm_words.specs.declared.commands.Deed.TheVariants as deeds
+use Rattle.hm_words.specs.declared.commands.Source.{Source}
+use Rattle.hm_words.specs.declared.commands.Source.TheVariants as sources
 use Rattle.hm_words.specs.declared.flags.Choices.{Choices}
 use Rattle.hm_words.specs.declared.flags.Setting.{Setting}
 use Rattle.hm_words.specs.declared.flags.Setting.TheVariants.{Comments, Booleans, Empty, Redundant, Doctype, Space, Conservative, Omit, Unquote, Tight, Ascii, Sparse}
@@ -13,6 +17,7 @@ use Rattle.hm_words.specs.declared.writing.Writing.{Writing}
 -- where the tree of a request comes from, with the names of its files
 pub data Origin : Type 0 where
   page_at : List ℕ → List ℕ → Origin  -- TABLE, PAGE
+  json_at : List ℕ → List ℕ → Origin  -- TABLE, PAGE, which holds a tree as JSON
   made : List ℕ → ℕ → ℕ → Origin  -- TABLE, NUMBER, SIZE: the page of so many blocks that is made of a number
 
 -- what is done with the tree, with the names of its files
@@ -20,6 +25,7 @@ pub data Work : Type 0 where
   minifies : List ℕ → List ℕ → Work  -- OUT, CERT
   checks : List ℕ → List ℕ → Work  -- OUT, CERT
   shows : Work
+  tells_json : Work
   measures : Work
 
 -- a command: where its tree comes from, and what is done with it
@@ -142,11 +148,13 @@ choices_of ws = fold (set_by ws) no_choices rows
 -- the names of the origin's files differ, where the table `none` is no name
 abbrev pub is_origin_apart : Origin → Bool
 is_origin_apart (page_at table page) = are_apart table page
+is_origin_apart (json_at table page) = are_apart table page
 is_origin_apart (made table number size) = true
 
 -- no file of the origin has this name
 abbrev pub is_away : Origin → List ℕ → Bool
 is_away (page_at table page) name = are_apart table name && not (bytes_eq page name)
+is_away (json_at table page) name = are_apart table name && not (bytes_eq page name)
 is_away (made table number size) name = are_apart table name
 
 -- two further files have names of their own
@@ -157,6 +165,7 @@ abbrev pub is_work_apart : Origin → Work → Bool
 is_work_apart origin (minifies out cert) = are_files_apart origin out cert
 is_work_apart origin (checks out cert) = are_files_apart origin out cert
 is_work_apart origin shows = true
+is_work_apart origin tells_json = true
 is_work_apart origin measures = true
 
 -- all names differ
@@ -180,35 +189,76 @@ number_in least most word = if is_number word && (nat_le least (digits_value 10 
 
 -- ---- Commands
 
--- minify TABLE PAGE OUT CERT, and check with the same names
-abbrev pub four_of : List (List ℕ) → Option Command
-four_of (command ∷ table ∷ page ∷ out ∷ cert ∷ []) =
-    if bytes_eq command (codes "minify") then Some (page_at table page, minifies out cert)
-    else if bytes_eq command (codes "check") then Some (page_at table page, checks out cert)
-    else None
-four_of names = None
+-- a command by its name: where its tree comes from, and what is done with it
+pub record CommandRow : Type 0 where
+  pub name : List ℕ
+  pub source : Source
+  pub deed : Deed
 
--- tree TABLE PAGE
-abbrev pub tree_of : List (List ℕ) → Option Command
-tree_of (command ∷ table ∷ page ∷ []) = if bytes_eq command (codes "tree") then Some (page_at table page, shows) else None
-tree_of names = None
+abbrev command_row : List ℕ → Source → Deed → CommandRow
+command_row name source deed = record { name = name; source = source; deed = deed }
 
-abbrev pub measured : List ℕ → Option ℕ → Option ℕ → Option Command
-measured table (Some number) (Some size) = Some (made table number size, measures)
-measured table number size = None
+-- the table of commands
+abbrev pub commands : List CommandRow
+commands =
+    command_row (codes "minify") sources.Page deeds.Minify
+    ∷ command_row (codes "check") sources.Page deeds.Check
+    ∷ command_row (codes "tree") sources.Page deeds.Show
+    ∷ command_row (codes "json") sources.Page deeds.TellJson
+    ∷ command_row (codes "minifyjson") sources.Json deeds.Minify
+    ∷ command_row (codes "measure") sources.Number deeds.Measure
+    ∷ []
 
--- measure TABLE NUMBER SIZE: a number of 32 bits, and from 1 to 20,000 blocks
-abbrev pub measure_of : List (List ℕ) → Option Command
-measure_of (command ∷ table ∷ number ∷ size ∷ []) = if bytes_eq command (codes "measure") then measured table (number_in 0 4294967295 number) (number_in 1 20000 size) else None
-measure_of names = None
+-- the row of a name
+abbrev pub row_among : List CommandRow → List ℕ → Option (Source × Deed)
+row_among [] name = None
+row_among (row ∷ rows) name = if bytes_eq name row.name then Some (row.source, row.deed) else row_among rows name
 
-abbrev pub or_else : Option Command → Option Command → Option Command
-or_else None b = b
-or_else (Some a) b = Some a
+abbrev pub row_of : List ℕ → Option (Source × Deed)
+row_of name = row_among commands name
+
+-- an origin, and the words after its own
+abbrev pub with_rest : List (List ℕ) → Option Origin → Option (Origin × List (List ℕ))
+with_rest rest None = None
+with_rest rest (Some origin) = Some (origin, rest)
+
+abbrev pub made_of : List ℕ → Option ℕ → Option ℕ → Option Origin
+made_of table (Some number) (Some size) = Some (made table number size)
+made_of table number size = None
+
+-- The words of an origin come first: TABLE PAGE, or TABLE NUMBER SIZE, a number of 32 bits and from 1 to 20,000 blocks.
+abbrev pub origin_in : Source → List (List ℕ) → Option (Origin × List (List ℕ))
+origin_in sources.Page (table ∷ page ∷ rest) = Some (page_at table page, rest)
+origin_in sources.Json (table ∷ page ∷ rest) = Some (json_at table page, rest)
+origin_in sources.Number (table ∷ number ∷ size ∷ rest) = with_rest rest (made_of table (number_in 0 4294967295 number) (number_in 1 20000 size))
+origin_in source names = None
+
+-- those of the work are all that are left: OUT CERT, or none
+abbrev pub work_in : Deed → List (List ℕ) → Option Work
+work_in deeds.Minify (out ∷ cert ∷ []) = Some (minifies out cert)
+work_in deeds.Check (out ∷ cert ∷ []) = Some (checks out cert)
+work_in deeds.Show [] = Some shows
+work_in deeds.TellJson [] = Some tells_json
+work_in deeds.Measure [] = Some measures
+work_in deed names = None
+
+abbrev pub with_work : Origin → Option Work → Option Command
+with_work origin None = None
+with_work origin (Some work) = Some (origin, work)
+
+abbrev pub with_origin : Deed → Option (Origin × List (List ℕ)) → Option Command
+with_origin deed None = None
+with_origin deed (Some o) = with_work o.0 (work_in deed o.1)
+
+-- the command of a row, by the words after its name
+abbrev pub command_by : Option (Source × Deed) → List (List ℕ) → Option Command
+command_by None names = None
+command_by (Some row) names = with_origin row.1 (origin_in row.0 names)
 
 -- the command of the words that are no flags
 abbrev pub command_in : List (List ℕ) → Option Command
-command_in names = or_else (four_of names) (or_else (measure_of names) (tree_of names))
+command_in [] = None
+command_in (name ∷ names) = command_by (row_of name) names
 
 -- the flags may stand with the command: today any with each
 abbrev pub fits : Command → List (List ℕ) → Bool

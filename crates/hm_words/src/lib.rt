@@ -1,12 +1,14 @@
 //! What the words of a call ask for: a command with its files or numbers, and flags.
 #![tactic(auto)]
 
+mod commands;
 mod flags;
 mod line;
 mod numbers;
 mod words;
 mod writing;
 
+pub use commands::{Deed, Source};
 pub use flags::{Choices, FLAGS, Flag, Setting};
 pub use words::{Asked, Origin, WordsFault, Work};
 pub use writing::Writing;

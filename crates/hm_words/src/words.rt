@@ -8,6 +8,7 @@ ghost use Rattle.hm_words.specs.Answers as answers;
 ghost use Rattle.hm_words.specs.Answers.{command_of, origin_of, request_of, work_of};
 ghost use Rattle.hm_words.specs.Matches.{IsMatched};
 
+use crate::commands::{Deed, Source, row_of};
 use crate::flags::{Choices, FLAGS, Flag, are_readable};
 use crate::line::{is_given, names_of, parse};
 use crate::numbers::number_in;
@@ -24,6 +25,11 @@ const MOST_BLOCKS: u32 = 20_000;
 pub enum Origin<'w> {
     /// The page in a file, read with a table of names.
     PageAt {
+        table: &'w str,
+        page: &'w str,
+    },
+    /// The tree whose JSON is in a file, with a table of names.
+    JsonAt {
         table: &'w str,
         page: &'w str,
     },
@@ -44,6 +50,8 @@ pub enum Work<'w> {
     Check { out: &'w str, cert: &'w str },
     /// It is shown.
     Show,
+    /// It is told as JSON.
+    TellJson,
     /// It is written shortest, and what was written is checked in memory.
     Measure,
 }
@@ -79,6 +87,7 @@ fn is_origin_apart(origin: &Origin<'_>) -> bool
 {
     match *origin {
         Origin::PageAt { table, page } => are_apart(table, page),
+        Origin::JsonAt { table, page } => are_apart(table, page),
         Origin::Made {
             table: _,
             number: _,
@@ -93,6 +102,7 @@ fn is_away(origin: &Origin<'_>, name: &str) -> bool
 {
     match *origin {
         Origin::PageAt { table, page } => are_apart(table, name) && page != name,
+        Origin::JsonAt { table, page } => are_apart(table, name) && page != name,
         Origin::Made {
             table,
             number: _,
@@ -117,6 +127,7 @@ fn is_apart(origin: &Origin<'_>, work: &Work<'_>) -> bool
             Work::Minify { out, cert } => are_files_apart(origin, out, cert),
             Work::Check { out, cert } => are_files_apart(origin, out, cert),
             Work::Show => true,
+            Work::TellJson => true,
             Work::Measure => true,
         }
 }
@@ -164,83 +175,100 @@ fn choices_of(matches: &ArgMatches<'_>) -> Choices
     chosen(matches, &FLAGS)
 }
 
-/// The command `minify` or `check`, of its name and four others.
-fn four_of<'w>(names: &[&'w str]) -> Option<(Origin<'w>, Work<'w>)>
-    ensures { option_map command_of result ≡ spec.four_of (texts names.now) }
+/// The page that is made of a number, with this table, where the two words are numbers that it takes.
+fn made_of<'w>(table: &'w str, number: &str, size: &str) -> Option<Origin<'w>>
+    ensures { option_map origin_of result ≡ spec.made_of table.now (spec.number_in 0 4294967295 number.now) (spec.number_in 1 20000 size.now) }
 {
-    match names {
-        [command, table, page, out, cert] => {
-            let origin = Origin::PageAt { table, page };
-            if *command == "minify" {
-                return Some((origin, Work::Minify { out, cert }));
-            }
-            if *command == "check" {
-                return Some((origin, Work::Check { out, cert }));
-            }
-            None
-        }
-        _ => None,
-    }
-}
-
-/// The command `measure` with this table, where the two words are numbers that it takes.
-fn measure_command<'w>(
-    command: &str,
-    table: &'w str,
-    number: &str,
-    size: &str,
-) -> Option<(Origin<'w>, Work<'w>)>
-    ensures { option_map command_of result ≡ spec.measure_of (command.now ∷ table.now ∷ number.now ∷ size.now ∷ []) }
-{
-    if command != "measure" {
-        return None;
-    }
     let number = number_in(number, 0, u32::MAX)?;
     let size = number_in(size, 1, MOST_BLOCKS)?;
-    let origin = Origin::Made {
+    Some(Origin::Made {
         table,
         number,
         size,
-    };
-    Some((origin, Work::Measure))
+    })
 }
 
-/// The command `measure`, of its name, a table and two numbers that it takes.
-fn measure_of<'w>(names: &[&'w str]) -> Option<(Origin<'w>, Work<'w>)>
-    ensures { option_map command_of result ≡ spec.measure_of (texts names.now) }
+/// The page of a table, a number and a size with which these words begin, and the words after them.
+fn number_in_front<'m, 'w>(names: &'m [&'w str]) -> Option<(Origin<'w>, &'m [&'w str])>
+    ensures { option_map (λ o. (origin_of o.0, texts o.1.now)) result ≡ spec.origin_in Source.Number (texts names.now) }
 {
     match names {
-        [command, table, number, size] => measure_command(command, table, number, size),
-        _ => None,
-    }
-}
-
-/// The command `tree`, of its name and two others.
-fn tree_of<'w>(names: &[&'w str]) -> Option<(Origin<'w>, Work<'w>)>
-    ensures { option_map command_of result ≡ spec.tree_of (texts names.now) }
-{
-    match names {
-        [command, table, page] => {
-            if *command != "tree" {
-                return None;
-            }
-            Some((Origin::PageAt { table, page }, Work::Show))
+        [table, number, size, rest @ ..] => {
+            let origin = made_of(table, number, size)?;
+            Some((origin, rest))
         }
         _ => None,
     }
+}
+
+/// The origin with which these words begin, and the words after it.
+fn origin_in<'m, 'w>(
+    source: Source,
+    names: &'m [&'w str],
+) -> Option<(Origin<'w>, &'m [&'w str])>
+    ensures { option_map (λ o. (origin_of o.0, texts o.1.now)) result ≡ spec.origin_in source (texts names.now) }
+{
+    match source {
+        Source::Page => match names {
+            [table, page, rest @ ..] => Some((Origin::PageAt { table, page }, rest)),
+            _ => None,
+        },
+        Source::Json => match names {
+            [table, page, rest @ ..] => Some((Origin::JsonAt { table, page }, rest)),
+            _ => None,
+        },
+        Source::Number => number_in_front(names),
+    }
+}
+
+/// The work of these words, which are all that are left.
+fn work_in<'w>(deed: Deed, names: &[&'w str]) -> Option<Work<'w>>
+    ensures { option_map work_of result ≡ spec.work_in deed (texts names.now) }
+{
+    match deed {
+        Deed::Minify => match names {
+            [out, cert] => Some(Work::Minify { out, cert }),
+            _ => None,
+        },
+        Deed::Check => match names {
+            [out, cert] => Some(Work::Check { out, cert }),
+            _ => None,
+        },
+        Deed::Show => match names {
+            [] => Some(Work::Show),
+            _ => None,
+        },
+        Deed::TellJson => match names {
+            [] => Some(Work::TellJson),
+            _ => None,
+        },
+        Deed::Measure => match names {
+            [] => Some(Work::Measure),
+            _ => None,
+        },
+    }
+}
+
+/// The command of a row, by the words after its name.
+fn command_by<'w>(source: Source, deed: Deed, names: &[&'w str]) -> Option<(Origin<'w>, Work<'w>)>
+    ensures { option_map command_of result ≡ spec.command_by (Some (source, deed)) (texts names.now) }
+{
+    let (origin, rest) = origin_in(source, names)?;
+    let work = work_in(deed, rest)?;
+    Some((origin, work))
 }
 
 /// The command of the words that are no flags.
 fn command_in<'w>(names: &[&'w str]) -> Option<(Origin<'w>, Work<'w>)>
     ensures { option_map command_of result ≡ spec.command_in (texts names.now) }
 {
-    if let Some(command) = four_of(names) {
-        return Some(command);
+    match names {
+        [] => None,
+        [name, rest @ ..] => {
+            let (source, deed) = row_of(name)?;
+            command_by(source, deed, rest)
+        }
     }
-    if let Some(command) = measure_of(names) {
-        return Some(command);
-    }
-    tree_of(names)
 }
 
 /// Whether `--conservative` is given only beside `--space`.

@@ -1,0 +1,50 @@
+//! The table of commands.
+ghost use Rattle.std.specs.Prelude.{◌≡◌};
+ghost use Rattle.hm_words.specs.Words as spec;
+
+/// Where the tree of a command comes from.
+#[derive(Clone, Copy, Debug, PartialEq, Eq)]
+pub enum Source {
+    /// A page in a file.
+    Page,
+    /// The JSON of a tree in a file.
+    Json,
+    /// The page that is made of a number.
+    Number,
+}
+
+/// What a command does with its tree.
+#[derive(Clone, Copy, Debug, PartialEq, Eq)]
+pub enum Deed {
+    /// It is written shortest, with its certificate.
+    Minify,
+    /// A text of it and its certificate are checked.
+    Check,
+    /// It is shown.
+    Show,
+    /// It is told as JSON.
+    TellJson,
+    /// It is written shortest, and what was written is checked in memory.
+    Measure,
+}
+
+/// The command of this name, if there is one. A further command is a row here.
+pub fn row_of(name: &str) -> Option<(Source, Deed)>
+    ensures { result ≡ spec.row_of name.now }
+{
+    if name == "minify" {
+        Some((Source::Page, Deed::Minify))
+    } else if name == "check" {
+        Some((Source::Page, Deed::Check))
+    } else if name == "tree" {
+        Some((Source::Page, Deed::Show))
+    } else if name == "json" {
+        Some((Source::Page, Deed::TellJson))
+    } else if name == "minifyjson" {
+        Some((Source::Json, Deed::Minify))
+    } else if name == "measure" {
+        Some((Source::Number, Deed::Measure))
+    } else {
+        None
+    }
+}

@@ -21,14 +21,14 @@ use Rattle.hm_store.specs.Contents.{Contents}
 use Rattle.hm_words.specs.Words.{Asked, Command, Origin, Work, are_filled, are_files_apart, are_flags, asked, asks, checks, choices_of, command_in, fits, is_apart, minifies, names_in, with_flags}
 use Rattle.hm_words.specs.declared.writing.Writing.{Writing}
 use Rattle.hm_minify.specs.Endings.{certificate_ending, check_ending, checked_ending, format_of, says, tree_ending, verdict_ending, with_tree}
-use Rattle.hm_minify.specs.Inputs.{Input, missing, bad_table, bad_page, tree as tree_input, input_of, origin_input, wanted}
+use Rattle.hm_minify.specs.Inputs.{Input, missing, bad_table, bad_page, bad_json, tree as tree_input, input_of, origin_input, wanted}
 use Rattle.hm_minify.specs.Laws.{MinifiedIsChecked, judged, own_verdict, with_writes}
 use Rattle.hm_minify.specs.Lines.{yes_line}
 use Rattle.hm_minify.specs.Writes.{write}
 use Rattle.hm_minify.specs.declared.status.Status.TheVariants as status
 use Rattle.hm_minify.proofs.Accepted.{own_is_accepted}
 use Rattle.hm_minify.proofs.Answered.{away, files_apart, is_either, work_apart}
-use Rattle.hm_minify.proofs.Headline.{request_sound}
+use Rattle.hm_minify.proofs.Headline.{request_table}
 use Rattle.hm_minify.proofs.Seen.{mixed, origin_stays}
 
 -- ---- the names differ
@@ -99,16 +99,16 @@ same_wanted : (origin : Origin) (a b : Work) (options : TreeOptions) (x : Writin
 same_wanted origin a b options x missing = refl
 same_wanted origin a b options x (bad_table fault) = refl
 same_wanted origin a b options x (bad_page rule at) = refl
+same_wanted origin a b options x (bad_json fault) = refl
 same_wanted origin a b options x (tree_input n t w) = refl
 
 pub minified_is_checked : MinifiedIsChecked
-minified_is_checked words origin out cert options x e seen bytes t w reads rows short few =
+minified_is_checked words origin out cert options x e seen bytes t w reads settled rows short few =
     let q : Asked = asks origin (minifies out cert) options x in
     let o : List ℕ = shortest_text t x.rules w in
     let c : List ℕ = certificate_of t x.rules (format_of x.sparse) w in
     let now : Contents = with_writes seen (write out o ∷ write cert c ∷ []) in
     let apart : are_files_apart origin out cert ≡ true = work_apart origin (minifies out cert) (asked_apart words q e) in
-    let sound = request_sound q seen bytes t w reads in
     let same : origin_input origin options now ≡ origin_input origin options seen =
     ap (origin_input origin options) (writes_mix seen out cert o c) ∙ origin_stays (is_either out cert) origin options seen (written_to cert o c) (away origin out cert apart) in
     let input : input_of (asks origin (checks out cert) options x) now ≡ tree_input bytes t w =
@@ -116,4 +116,4 @@ minified_is_checked words origin out cert options x e seen bytes t w reads rows 
     ap (λ y. with_tree y (tree_ending (checks out cert) x now)) input
     ∙ ap (λ y. check_ending x.rules t w y (now cert)) (out_there seen out cert o c (files_apart origin out cert apart))
     ∙ ap (check_ending x.rules t w (Some o)) (cert_there seen out cert o c)
-    ∙ own_ending t sound.table x w sound.settled rows short few
+    ∙ own_ending t (request_table q seen bytes t w reads) x w settled rows short few

@@ -1,18 +1,18 @@
 -- What an answer on the tree of a request says of the request.
-use Rattle.std.proofs.Common.{◌≡◌, ℕ, Bool, true, false, not, ◌||◌, ◌&&◌, List, IsSome, Result, Ok, Err, IfOk, refl, sym, ap, ◌∙◌, subst}
+use Rattle.std.proofs.Common.{◌≡◌, ℕ, Bool, true, false, not, ◌||◌, ◌&&◌, List, Result, Ok, Err, IfOk, refl, sym, ap, ◌∙◌, subst}
 use Rattle.std.specs.declared.option.Option.{Option}
 use Rattle.std.specs.Str.{bytes_eq}
 use Rattle.hm_base.specs.Walks.{Event}
 use Rattle.hm_base.specs.declared.plain.SpellRules.{SpellRules}
-use Rattle.hm_base.specs.declared.plain.TreeOptions.{TreeOptions}
-use Rattle.hm_minify.specs.Inputs.{IsInput, Input, missing, tree as tree_input, input_of, is_none, origin_input, wanted}
+use Rattle.hm_elements.specs.Settled.{Settled}
+use Rattle.hm_minify.specs.Inputs.{IsInput, Input, tree as tree_input, input_of, is_none, origin_input, wanted}
 use Rattle.hm_refs.proofs.Places.{same_bytes}
 use Rattle.hm_refs.specs.Names.{Entry}
 use Rattle.hm_store.specs.Contents.{Contents, Sees}
 use Rattle.hm_store.specs.Files.{FileMap, file_of}
-use Rattle.hm_words.specs.Words.{Asked, Origin, Work, page_at, made, minifies, checks, shows, measures, is_apart, is_away, is_origin_apart, is_work_apart, are_apart, are_files_apart}
+use Rattle.hm_words.specs.Words.{Asked, Origin, Work, page_at, json_at, made, minifies, checks, shows, tells_json, measures, is_apart, is_away, is_origin_apart, is_work_apart, are_apart, are_files_apart}
 use Rattle.hm_words.specs.declared.writing.Writing.{Writing}
-use Rattle.hm_minify.specs.Endings.{Ending, IsReadable, IsReadableTree, with_tree, tree_ending, asked_ending, check_ending, store_fault}
+use Rattle.hm_minify.specs.Endings.{Ending, IsReadable, IsReadableTree, with_tree, tree_ending, asked_ending, check_ending}
 use Rattle.hm_minify.proofs.Seen.{IsApartFrom, mixed, sees_both, origin_stays}
 
 -- ---- names that differ
@@ -51,11 +51,16 @@ pub files_apart : (origin : Origin) (out cert : List ℕ) → are_files_apart or
 files_apart origin out cert apart =
     not_true (bytes_eq out cert) (right (is_away origin cert) (not (bytes_eq out cert)) (right (is_away origin out) (is_away origin cert && not (bytes_eq out cert)) apart))
 
-both_away : (origin : Origin) (out cert : List ℕ) → is_away origin out ≡ true → is_away origin cert ≡ true → IsApartFrom (is_either out cert) origin
-both_away (page_at table page) out cert h k = (
+-- neither is that of a table or of a second file
+both_apart : (table page out cert : List ℕ) → (are_apart table out && not (bytes_eq page out)) ≡ true → (are_apart table cert && not (bytes_eq page cert)) ≡ true → ((is_none table || not (is_either out cert table)) ≡ true) × (is_either out cert page ≡ false)
+both_apart table page out cert h k = (
   apart_of_both (is_none table) (bytes_eq table out) (bytes_eq table cert) (left (are_apart table out) (not (bytes_eq page out)) h) (left (are_apart table cert) (not (bytes_eq page cert)) k),
   neither (bytes_eq page out) (bytes_eq page cert) (right (are_apart table out) (not (bytes_eq page out)) h) (right (are_apart table cert) (not (bytes_eq page cert)) k),
 )
+
+both_away : (origin : Origin) (out cert : List ℕ) → is_away origin out ≡ true → is_away origin cert ≡ true → IsApartFrom (is_either out cert) origin
+both_away (page_at table page) out cert h k = both_apart table page out cert h k
+both_away (json_at table page) out cert h k = both_apart table page out cert h k
 both_away (made table number size) out cert h k = apart_of_both (is_none table) (bytes_eq table out) (bytes_eq table cert) h k
 
 -- they aren't those of the origin's files
@@ -96,10 +101,11 @@ ending_seen told origin (checks out cert) r Reads bytes t w ended apart stays i 
     (λ seen more h. stays (is_either out cert) seen more (away origin out cert apart) h)
     (λ seen more h. check_comes r.rules t w out cert ended seen more h) i a
 ending_seen told origin shows r Reads bytes t w ended apart stays i a = record { seen = i.seen; are_told = i.are_told; holds = (i.holds, a.holds) }
+ending_seen told origin tells_json r Reads bytes t w ended apart stays i a = record { seen = i.seen; are_told = i.are_told; holds = (i.holds, a.holds) }
 ending_seen told origin measures r Reads bytes t w ended apart stays i a = record { seen = i.seen; are_told = i.are_told; holds = (i.holds, a.holds) }
 
 pub asked_seen : (told : Option FileMap) (a : Asked) (x : Input) (bytes : ℕ) (t : List Entry) (w : List Event) (ended : Ending) → is_work_apart a.origin a.work ≡ true → IsInput told a.origin a.options x → tree_input bytes t w ≡ wanted a x
-    → Sees told (λ seen. ended ≡ tree_ending a.work a.writing seen bytes t w) → IsReadableTree a.work a.writing t w → Sees told (λ seen. (ended ≡ asked_ending a seen) × IsReadable a (input_of a seen))
+    → Sees told (λ seen. ended ≡ tree_ending a.work a.writing seen bytes t w) → Settled w × IsReadableTree a.work a.writing t w → Sees told (λ seen. (ended ≡ asked_ending a seen) × IsReadable a (input_of a seen))
 asked_seen told a x bytes t w ended apart i is e readable =
     let s = ending_seen told a.origin a.work a.writing (λ seen. origin_input a.origin a.options seen ≡ x) bytes t w ended apart (λ theirs seen more away h. origin_stays theirs a.origin a.options seen more away ∙ h) i e in
     let reads : tree_input bytes t w ≡ input_of a s.seen = is ∙ ap (wanted a) (sym s.holds.0) in

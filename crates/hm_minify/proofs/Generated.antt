@@ -1,9 +1,11 @@
 -- A page that is made of a number is never refused.
-use Rattle.std.proofs.Common.{◌≡◌, ◌∙◌, ◌≤◌, ◌<◌, ◌^◌, ◌&&◌, ℕ, Bool, true, false, cond, List, [], ◌∷◌, length, Option, Some, None, Result, Ok, Err, refl, sym, ap, subst, arith, codes}
+use Rattle.std.proofs.Common.{◌≡◌, ◌∙◌, ◌≤◌, ◌<◌, ◌^◌, ◌&&◌, ◌||◌, not, ℕ, Bool, true, false, cond, List, [], ◌∷◌, length, Option, Some, None, Result, Ok, Err, refl, sym, ap, subst, arith}
 use Rattle.std.specs.Bool.{nat_le, nat_lt}
+use Rattle.std.specs.List.{list_all}
 use Rattle.std.specs.Str.{bytes_eq}
 use Rattle.std.specs.Str.Parse.{digits_value}
 use Rattle.std.proofs.lemmas.Bool.Decides.{nat_tests}
+use Rattle.hm_base.proofs.Bytes.{first_true, second_true}
 use Rattle.hm_base.specs.declared.limits.TheConstants.{PAGE_LIMIT}
 use Rattle.hm_base.specs.declared.plain.TreeOptions.{TreeOptions}
 use Rattle.hm_base.specs.declared.rules.Rule.{Rule}
@@ -11,12 +13,17 @@ use Rattle.hm_construction_laws.specs.Trees.{Outcome, built, refused_by}
 use Rattle.hm_gen.proofs.Lengths.{pages_are_within_limit}
 use Rattle.hm_gen.specs.Pages.{page as made_page}
 use Rattle.hm_gen_laws.proofs.Page.{pages_are_built}
-use Rattle.hm_minify.specs.Inputs.{Input, missing, bad_table, bad_page, tree as tree_input, input_from, input_of, is_none, origin_input, page_outcome, rewritten_input, table_names, wanted}
+use Rattle.hm_minify.specs.Inputs.{Input, missing, bad_table, bad_page, bad_json, tree as tree_input, input_from, input_of, is_none, origin_input, page_input, page_outcome, rewritten_input, table_names, wanted}
+use Rattle.hm_json_tree.specs.declared.fault.JsonFault.{JsonFault}
 use Rattle.hm_refs.specs.Names.{Entry}
 use Rattle.hm_refs.specs.Tables.{IsTable}
 use Rattle.hm_refs.specs.declared.fault.TableFault.{TableFault}
 use Rattle.hm_store.specs.Contents.{Contents}
-use Rattle.hm_words.specs.Words.{Command, Origin, Work, page_at, made, minifies, checks, shows, measures, Asked, asked, asks, are_filled, are_flags, command_in, four_of, fits, is_apart, is_number, measure_of, measured, names_in, number_in, choices_of, or_else, tree_of, with_flags}
+use Rattle.hm_words.specs.Words.{Command, CommandRow, Origin, Work, page_at, json_at, made, minifies, checks, shows, tells_json, measures, Asked, asked, asks, are_filled, are_flags, choices_of, command_by, command_in, commands, fits, is_apart, is_number, made_of, names_in, number_in, origin_in, row_among, with_flags, with_origin, with_rest, with_work, work_in}
+use Rattle.hm_words.specs.declared.commands.Deed.{Deed}
+use Rattle.hm_words.specs.declared.commands.Deed.TheVariants as deeds
+use Rattle.hm_words.specs.declared.commands.Source.{Source}
+use Rattle.hm_words.specs.declared.commands.Source.TheVariants as sources
 use Rattle.hm_minify.proofs.Headline.{table_is}
 
 -- ---- The numbers of the words
@@ -44,76 +51,110 @@ pub record IsMeasured (number size : ℕ) : Type 0 where
 -- such a page can be asked for
 abbrev pub IsGenerated : Origin → Type 0
 IsGenerated (page_at table page) = ⊥
+IsGenerated (json_at table page) = ⊥
 IsGenerated (made table number size) = IsMeasured number size
 
--- a command that measures has such a page
-abbrev IsLimited : Option Command → Type 0
-IsLimited x = (command : Command) → x ≡ Some command → command.1 ≡ measures → IsGenerated command.0
-
-measured_limits : (t n s : List ℕ) → IsLimited (measured t (number_in 0 4294967295 n) (number_in 1 20000 s))
-measured_limits t n s command e work = by_numbers (number_in 0 4294967295 n) (number_in 1 20000 s) refl refl e
+made_limited : (table number size : List ℕ) (origin : Origin) → made_of table (number_in 0 4294967295 number) (number_in 1 20000 size) ≡ Some origin → IsGenerated origin
+made_limited table number size origin e = by_numbers (number_in 0 4294967295 number) (number_in 1 20000 size) refl refl e
   where
-    by_numbers : (a b : Option ℕ) → number_in 0 4294967295 n ≡ a → number_in 1 20000 s ≡ b → measured t a b ≡ Some command → IsGenerated command.0
+    by_numbers : (a b : Option ℕ) → number_in 0 4294967295 number ≡ a → number_in 1 20000 size ≡ b → made_of table a b ≡ Some origin → IsGenerated origin
     by_numbers None b f g h = cc
     by_numbers (Some a) None f g h = cc
-    by_numbers (Some a) (Some b) f g h =
-        let is : made t a b ≡ command.0 = (λ i. (some_is (made t a b, measures) command h i).0) in
-        subst IsGenerated is (record { fits = omega (arith, number_limit 0 4294967295 a n f); few = omega (arith, number_limit 1 20000 b s g) })
+    by_numbers (Some a) (Some b) f g h = subst IsGenerated (some_is (made table a b) origin h) (record { fits = omega (arith, number_limit 0 4294967295 a number f); few = omega (arith, number_limit 1 20000 b size g) })
 
-none_limited : IsLimited None
-none_limited command e work = cc
+-- the words of a number give one
+front_limited : (names : List (List ℕ)) (o : Origin × List (List ℕ)) → origin_in sources.Number names ≡ Some o → IsGenerated o.0
+front_limited [] o e = cc
+front_limited (t ∷ []) o e = cc
+front_limited (t ∷ n ∷ []) o e = cc
+front_limited (t ∷ n ∷ s ∷ rest) o e = by_origin (made_of t (number_in 0 4294967295 n) (number_in 1 20000 s)) refl e
+  where
+    by_origin : (x : Option Origin) → made_of t (number_in 0 4294967295 n) (number_in 1 20000 s) ≡ x → with_rest rest x ≡ Some o → IsGenerated o.0
+    by_origin None is h = cc
+    by_origin (Some origin) is h = subst IsGenerated (ap (λ (p : Origin × List (List ℕ)). p.0) (some_is (origin, rest) o h)) (made_limited t n s origin is)
 
--- another work
-other_limited : (origin : Origin) (work : Work) → (work ≡ measures → ⊥) → IsLimited (Some (origin, work))
-other_limited origin work other command e is = absurd (other (ap (λ (c : Command). c.1) (some_is (origin, work) command e) ∙ is))
+-- ---- The table of commands
 
-either_limited : (b : Bool) (x y : Option Command) → IsLimited x → IsLimited y → IsLimited (cond b x y)
-either_limited true x y h k = h
-either_limited false x y h k = k
+abbrev is_measure : Deed → Bool
+is_measure deeds.Measure = true
+is_measure deed = false
 
-else_limited : (x y : Option Command) → IsLimited x → IsLimited y → IsLimited (or_else x y)
-else_limited None y h k = k
-else_limited (Some c) y h k = h
+abbrev is_number_source : Source → Bool
+is_number_source sources.Number = true
+is_number_source source = false
 
-writes_else : (out cert : List ℕ) → minifies out cert ≡ measures → ⊥
-writes_else out cert e = cc
+-- what is measured is made of a number
+abbrev measures_made : Source × Deed → Bool
+measures_made row = not (is_measure row.1) || is_number_source row.0
 
-checks_else : (out cert : List ℕ) → checks out cert ≡ measures → ⊥
-checks_else out cert e = cc
+rows_measure_made : list_all (λ (row : CommandRow). measures_made (row.source, row.deed)) commands ≡ true
+rows_measure_made = refl
 
-shows_else : shows ≡ measures → ⊥
-shows_else e = cc
+among_measures_made : (rows : List CommandRow) (name : List ℕ) (row : Source × Deed) → list_all (λ (row : CommandRow). measures_made (row.source, row.deed)) rows ≡ true → row_among rows name ≡ Some row → measures_made row ≡ true
+among_measures_made [] name row all e = cc
+among_measures_made (first ∷ rows) name row all e = by_name (bytes_eq name first.name) (among_measures_made rows name row (second_true _ _ all)) e
+  where
+    by_name : (b : Bool) → (row_among rows name ≡ Some row → measures_made row ≡ true) → cond b (Some (first.source, first.deed)) (row_among rows name) ≡ Some row → measures_made row ≡ true
+    by_name true more h = ap measures_made (sym (some_is (first.source, first.deed) row h)) ∙ first_true _ _ all
+    by_name false more h = more h
 
-four_limited : (names : List (List ℕ)) → IsLimited (four_of names)
-four_limited [] = none_limited
-four_limited (c ∷ []) = none_limited
-four_limited (c ∷ t ∷ []) = none_limited
-four_limited (c ∷ t ∷ p ∷ []) = none_limited
-four_limited (c ∷ t ∷ p ∷ o ∷ []) = none_limited
-four_limited (c ∷ t ∷ p ∷ o ∷ k ∷ []) =
-    either_limited (bytes_eq c (codes "minify")) (Some (page_at t p, minifies o k)) (cond (bytes_eq c (codes "check")) (Some (page_at t p, checks o k)) None) (other_limited (page_at t p) (minifies o k) (writes_else o k))
-    (either_limited (bytes_eq c (codes "check")) (Some (page_at t p, checks o k)) None (other_limited (page_at t p) (checks o k) (checks_else o k)) none_limited)
-four_limited (c ∷ t ∷ p ∷ o ∷ k ∷ x ∷ xs) = none_limited
+-- the deed of a work is that of its words
+abbrev deed_of : Work → Deed
+deed_of (minifies out cert) = deeds.Minify
+deed_of (checks out cert) = deeds.Check
+deed_of shows = deeds.Show
+deed_of tells_json = deeds.TellJson
+deed_of measures = deeds.Measure
 
-measure_limited : (names : List (List ℕ)) → IsLimited (measure_of names)
-measure_limited [] = none_limited
-measure_limited (c ∷ []) = none_limited
-measure_limited (c ∷ t ∷ []) = none_limited
-measure_limited (c ∷ t ∷ n ∷ []) = none_limited
-measure_limited (c ∷ t ∷ n ∷ s ∷ []) = either_limited (bytes_eq c (codes "measure")) (measured t (number_in 0 4294967295 n) (number_in 1 20000 s)) None (measured_limits t n s) none_limited
-measure_limited (c ∷ t ∷ n ∷ s ∷ x ∷ xs) = none_limited
+worded : (deed : Deed) (names : List (List ℕ)) (work : Work) → work_in deed names ≡ Some work → deed_of work ≡ deed
+worded deeds.Minify [] work e = cc
+worded deeds.Minify (out ∷ []) work e = cc
+worded deeds.Minify (out ∷ cert ∷ []) work e = ap deed_of (sym (some_is (minifies out cert) work e))
+worded deeds.Minify (out ∷ cert ∷ more ∷ names) work e = cc
+worded deeds.Check [] work e = cc
+worded deeds.Check (out ∷ []) work e = cc
+worded deeds.Check (out ∷ cert ∷ []) work e = ap deed_of (sym (some_is (checks out cert) work e))
+worded deeds.Check (out ∷ cert ∷ more ∷ names) work e = cc
+worded deeds.Show [] work e = ap deed_of (sym (some_is shows work e))
+worded deeds.Show (name ∷ names) work e = cc
+worded deeds.TellJson [] work e = ap deed_of (sym (some_is tells_json work e))
+worded deeds.TellJson (name ∷ names) work e = cc
+worded deeds.Measure [] work e = ap deed_of (sym (some_is measures work e))
+worded deeds.Measure (name ∷ names) work e = cc
 
-tree_limited : (names : List (List ℕ)) → IsLimited (tree_of names)
-tree_limited [] = none_limited
-tree_limited (c ∷ []) = none_limited
-tree_limited (c ∷ t ∷ []) = none_limited
-tree_limited (c ∷ t ∷ p ∷ []) = either_limited (bytes_eq c (codes "tree")) (Some (page_at t p, shows)) None (other_limited (page_at t p) shows shows_else) none_limited
-tree_limited (c ∷ t ∷ p ∷ x ∷ xs) = none_limited
+-- a command that measures has such a page
+abbrev IsLimited : Command → Type 0
+IsLimited command = command.1 ≡ measures → IsGenerated command.0
 
-command_limited : (names : List (List ℕ)) → IsLimited (command_in names)
-command_limited names = else_limited (four_of names) (or_else (measure_of names) (tree_of names)) (four_limited names) (else_limited (measure_of names) (tree_of names) (measure_limited names) (tree_limited names))
+number_source : (source : Source) → is_number_source source ≡ true → source ≡ sources.Number
+number_source sources.Page e = cc
+number_source sources.Json e = cc
+number_source sources.Number e = refl
 
-asked_limited : (ws : List (List ℕ)) (x : Option Command) (q : Asked) → IsLimited x → with_flags ws x ≡ Some q → q.work ≡ measures → IsGenerated q.origin
+row_limited : (row : Source × Deed) (names : List (List ℕ)) (command : Command) → measures_made row ≡ true → command_by (Some row) names ≡ Some command → IsLimited command
+row_limited row names command made_only e is = by_origin (origin_in row.0 names) refl e
+  where
+    by_work : (o : Origin × List (List ℕ)) (x : Option Work) → origin_in row.0 names ≡ Some o → work_in row.1 o.1 ≡ x → with_work o.0 x ≡ Some command → IsGenerated command.0
+    by_work o None here there h = cc
+    by_work o (Some work) here there h =
+        let same : (o.0, work) ≡ command = some_is (o.0, work) command h in
+        let measure : row.1 ≡ deeds.Measure = sym (worded row.1 o.1 work there) ∙ ap deed_of (ap (λ (c : Command). c.1) same ∙ is) in
+        let number : row.0 ≡ sources.Number = number_source row.0 (ap (λ d. not (is_measure d) || is_number_source row.0) (sym measure) ∙ made_only) in
+        subst IsGenerated (ap (λ (c : Command). c.0) same) (front_limited names o (ap (λ s. origin_in s names) (sym number) ∙ here))
+
+    by_origin : (x : Option (Origin × List (List ℕ))) → origin_in row.0 names ≡ x → with_origin row.1 x ≡ Some command → IsGenerated command.0
+    by_origin None here h = cc
+    by_origin (Some o) here h = by_work o (work_in row.1 o.1) here refl h
+
+command_limited : (names : List (List ℕ)) (command : Command) → command_in names ≡ Some command → IsLimited command
+command_limited [] command e = cc
+command_limited (name ∷ names) command e = by_row (row_among commands name) refl e
+  where
+    by_row : (x : Option (Source × Deed)) → row_among commands name ≡ x → command_by x names ≡ Some command → IsLimited command
+    by_row None is h = cc
+    by_row (Some row) is h = row_limited row names command (among_measures_made commands name row rows_measure_made is) h
+
+asked_limited : (ws : List (List ℕ)) (x : Option Command) (q : Asked) → ((command : Command) → x ≡ Some command → IsLimited command) → with_flags ws x ≡ Some q → q.work ≡ measures → IsGenerated q.origin
 asked_limited ws None q limited e work = cc
 asked_limited ws (Some command) q limited e work = by_test (is_apart command.0 command.1 && fits command ws) e
   where
@@ -152,20 +193,47 @@ never_refused t k number size m o n (refused_by known place) is rule at e = outc
 made_never_refused : (o : TreeOptions) (seen : Contents) (table : List ℕ) (number size : ℕ) → IsMeasured number size → (rule : Rule) (at : ℕ) → origin_input (made table number size) o seen ≡ bad_page rule at → ⊥
 made_never_refused o seen table number size m rule at e = by_names (table_names (is_none table) (seen table)) refl e
   where
-    by_names : (names : Option (Result (List Entry) TableFault)) → table_names (is_none table) (seen table) ≡ names → input_from o names (Some (made_page number size)) ≡ bad_page rule at → ⊥
+    by_names : (names : Option (Result (List Entry) TableFault)) → table_names (is_none table) (seen table) ≡ names → input_from (page_input o) names (Some (made_page number size)) ≡ bad_page rule at → ⊥
     by_names None is h = cc
     by_names (Some (Err fault)) is h = cc
     by_names (Some (Ok t)) is h = never_refused t (table_is (is_none table) (seen table) t is) number size m o (length (made_page number size)) (page_outcome t (made_page number size)) refl rule at h
 
 origin_never_refused : (origin : Origin) (o : TreeOptions) (seen : Contents) → IsGenerated origin → (rule : Rule) (at : ℕ) → origin_input origin o seen ≡ bad_page rule at → ⊥
 origin_never_refused (page_at table page) o seen m rule at e = m
+origin_never_refused (json_at table page) o seen m rule at e = m
 origin_never_refused (made table number size) o seen m rule at e = made_never_refused o seen table number size m rule at e
 
 wanted_never_refused : (q : Asked) (x : Input) → ((rule : Rule) (at : ℕ) → x ≡ bad_page rule at → ⊥) → (rule : Rule) (at : ℕ) → wanted q x ≡ bad_page rule at → ⊥
 wanted_never_refused q missing never rule at e = cc
 wanted_never_refused q (bad_table fault) never rule at e = cc
+wanted_never_refused q (bad_json fault) never rule at e = cc
 wanted_never_refused q (bad_page known place) never rule at e = never known place refl
 wanted_never_refused q (tree_input n t w) never rule at e = cc
 
 pub page_never_refused : (q : Asked) (seen : Contents) → IsGenerated q.origin → (rule : Rule) (at : ℕ) → input_of q seen ≡ bad_page rule at → ⊥
 page_never_refused q seen m rule at e = wanted_never_refused q (origin_input q.origin q.options seen) (origin_never_refused q.origin q.options seen m) rule at e
+
+-- and no JSON is read for it
+rewritten_never_json : (o : TreeOptions) (t : List Entry) (n : ℕ) (x : Outcome) (fault : JsonFault) → rewritten_input o t n x ≡ bad_json fault → ⊥
+rewritten_never_json o t n (built w) fault e = cc
+rewritten_never_json o t n (refused_by rule at) fault e = cc
+
+names_never_json : (o : TreeOptions) (page : List ℕ) (names : Option (Result (List Entry) TableFault)) (fault : JsonFault) → input_from (page_input o) names (Some page) ≡ bad_json fault → ⊥
+names_never_json o page None fault e = cc
+names_never_json o page (Some (Err known)) fault e = cc
+names_never_json o page (Some (Ok t)) fault e = rewritten_never_json o t (length page) (page_outcome t page) fault e
+
+origin_never_json : (origin : Origin) (o : TreeOptions) (seen : Contents) → IsGenerated origin → (fault : JsonFault) → origin_input origin o seen ≡ bad_json fault → ⊥
+origin_never_json (page_at table page) o seen m fault e = m
+origin_never_json (json_at table page) o seen m fault e = m
+origin_never_json (made table number size) o seen m fault e = names_never_json o (made_page number size) (table_names (is_none table) (seen table)) fault e
+
+wanted_never_json : (q : Asked) (x : Input) → ((fault : JsonFault) → x ≡ bad_json fault → ⊥) → (fault : JsonFault) → wanted q x ≡ bad_json fault → ⊥
+wanted_never_json q missing never fault e = cc
+wanted_never_json q (bad_table known) never fault e = cc
+wanted_never_json q (bad_page rule at) never fault e = cc
+wanted_never_json q (bad_json known) never fault e = never known refl
+wanted_never_json q (tree_input n t w) never fault e = cc
+
+pub json_never_refused : (q : Asked) (seen : Contents) → IsGenerated q.origin → (fault : JsonFault) → input_of q seen ≡ bad_json fault → ⊥
+json_never_refused q seen m fault e = wanted_never_json q (origin_input q.origin q.options seen) (origin_never_json q.origin q.options seen m) fault e

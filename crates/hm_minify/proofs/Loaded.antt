@@ -1,5 +1,5 @@
 -- What the loaded prefix of a file says about the file.
-use Rattle.std.proofs.Common.{true≢false, ◌≡◌, ℕ, ◌+◌, ◌≤◌, ◌<◌, Bool, true, false, not, ◌||◌, cond, List, [], length, take, Some, None, IsSome, refl, sym, ap, ap₂, ◌∙◌, subst, arith}
+use Rattle.std.proofs.Common.{true≢false, ◌≡◌, ◌≢◌, ℕ, ◌+◌, ◌≤◌, ◌<◌, Bool, true, false, not, ◌||◌, cond, List, [], length, take, Some, None, IsSome, refl, sym, ap, ap₂, ◌∙◌, subst, arith}
 use Rattle.std.proofs.lemmas.Bool.Decides.{nat_tests}
 use Rattle.std.proofs.lemmas.Grind.{common_steps}
 use Rattle.std.proofs.lemmas.List.{take_all}
@@ -15,8 +15,8 @@ use Rattle.hm_base.specs.declared.limits.TheConstants.{PAGE_LIMIT, TABLE_LIMIT}
 use Rattle.hm_base.specs.declared.plain.TreeOptions.{TreeOptions}
 use Rattle.hm_base.specs.declared.rules.Refused.{Refused}
 use Rattle.hm_base.specs.declared.rules.Refused.TheVariants as refused
-use Rattle.hm_base.specs.declared.rules.Rule.{Rule}
 use Rattle.hm_base.specs.declared.rules.Rule.TheVariants as rules
+use Rattle.hm_store.specs.Contents.{Sees}
 use Rattle.hm_store.specs.Files.{FileMap, Takes, file_of}
 use Rattle.hm_refs.proofs.Places.{same_bytes}
 use Rattle.hm_refs.specs.Json.{names}
@@ -24,9 +24,15 @@ use Rattle.hm_refs.specs.Names.{Entry}
 use Rattle.hm_refs.specs.declared.fault.TableFault.{TableFault}
 use Rattle.hm_refs.specs.declared.fault.TableFault.TheVariants.{TooLong}
 use Rattle.hm_construction_laws.specs.Trees.{Outcome, built, refused_by, page_tree, tree_of_source}
-use Rattle.hm_words.specs.Words.{are_apart, page_at}
-use Rattle.hm_minify.specs.Inputs.{Input, IsInput, tree, bad_table, bad_page, is_none, table_names, page_outcome, rewritten_input, input_from}
-use Rattle.hm_minify.specs.Loads.{IsLoaded, IsPageText, IsTableOf, IsTextIn, IsTextOf, IsRefusedPage, IsTreeRead, NoTable, NoText, NoTextIn, NoTreeRead, NoInput}
+use Rattle.hm_json_tree.specs.Progress.{fault_walk}
+use Rattle.hm_json_tree.specs.Reading.{json_walk, too_long, walk}
+use Rattle.hm_json_tree.specs.declared.fault.JsonFault.{JsonFault}
+use Rattle.hm_json_tree.specs.declared.fault.JsonFault.TheVariants as json_faults
+use Rattle.hm_json_tree.specs.declared.limits.TheConstants.{JSON_LIMIT}
+use Rattle.hm_options.specs.Rewrites.{rewrite}
+use Rattle.hm_words.specs.Words.{are_apart, json_at, page_at}
+use Rattle.hm_minify.specs.Inputs.{Input, IsInput, tree, bad_table, bad_page, bad_json, file_with_table, is_none, json_input, page_input, table_names, page_outcome, rewritten_input, input_from, walk_input}
+use Rattle.hm_minify.specs.Loads.{IsLoaded, IsPageText, IsTableOf, IsTextIn, IsTextOf, IsRefusedJson, IsTreeRead, IsWalkOf, NoTable, NoText, NoTextIn, NoTreeRead, NoInput, NoInputWhere, NoWalk}
 use Rattle.hm_minify.specs.Stops.{refused_as}
 use Rattle.hm_minify.specs.declared.unread.Unread.{Unread}
 use Rattle.hm_minify.specs.declared.unread.Unread.TheVariants as reasons
@@ -137,6 +143,7 @@ text_of_bytes told name bytes text n l r =
 pub no_text_of_bytes : (told : Option FileMap) (name bytes : List ℕ) (unread : Unread) → IsLoaded told name PAGE_LIMIT bytes → NoTextIn bytes unread → NoText told name unread
 no_text_of_bytes told name bytes (reasons.Table fault) l n = absurd n
 no_text_of_bytes told name bytes (reasons.Page rule at) l n = record { page = l.content; there = l.there; refused = λ t. sym (page_front t l.content) ∙ ap (page_outcome t) (sym l.front) ∙ n t }
+no_text_of_bytes told name bytes (reasons.Json fault) l n = absurd n
 no_text_of_bytes told name bytes reasons.Store l n = absurd n
 no_text_of_bytes told name bytes reasons.Memory l n = tt
 
@@ -147,74 +154,140 @@ pub page_read : (t : List Entry) (text : Source) (page : List ℕ) (outcome : Ou
 unfolding page_outcome page_tree
 page_read t text page outcome r e = rw (r.short, r.sound) (ap (tree_of_source t) (sym r.is) ∙ e)
 
--- contents of two files that differ, or of a page alone, are contents that can be those of all files
-pub seen_input : (told : Option FileMap) (table page : List ℕ) (o : TreeOptions) (table_content page_content : Option (List ℕ)) (input : Input) → are_apart table page ≡ true
-    → (IsSome told → file_of told table ≡ table_content) → (IsSome told → file_of told page ≡ page_content) → input_from o (table_names (is_none table) table_content) page_content ≡ input → IsInput told (page_at table page) o input
-seen_input (Some files) table page o table_content page_content input apart is_table is_page is = record {
+-- contents of two files that differ, or of the second one alone, are contents that can be those of all files
+pub seen_file : (told : Option FileMap) (reads : List Entry → List ℕ → Input) (table name : List ℕ) (table_content content : Option (List ℕ)) (input : Input) → are_apart table name ≡ true
+    → (IsSome told → file_of told table ≡ table_content) → (IsSome told → file_of told name ≡ content) → input_from reads (table_names (is_none table) table_content) content ≡ input
+    → Sees told (λ seen. file_with_table reads table name seen ≡ input)
+seen_file (Some files) reads table name table_content content input apart is_table is_file is = record {
   seen = file_of (Some files);
   are_told = λ _ _. refl;
-  holds = ap (λ c. input_from o (table_names (is_none table) c) (file_of (Some files) page)) (is_table refl) ∙ ap (input_from o (table_names (is_none table) table_content)) (is_page refl) ∙ is;
+  holds = ap (λ c. input_from reads (table_names (is_none table) c) (file_of (Some files) name)) (is_table refl) ∙ ap (input_from reads (table_names (is_none table) table_content)) (is_file refl) ∙ is;
 }
-seen_input None table page o table_content page_content input apart is_table is_page is = by_none (is_none table) refl
+seen_file None reads table name table_content content input apart is_table is_file is = by_none (is_none table) refl
   where
-    apart_by : (b : Bool) → is_none table ≡ b → (b || not (bytes_eq table page)) ≡ true
-    apart_by b e = ap (λ x. x || not (bytes_eq table page)) (sym e) ∙ apart
+    apart_by : (b : Bool) → is_none table ≡ b → (b || not (bytes_eq table name)) ≡ true
+    apart_by b e = ap (λ x. x || not (bytes_eq table name)) (sym e) ∙ apart
 
     differ : (b : Bool) → (false || not b) ≡ true → b ≡ false
     differ true h = cc
     differ false h = refl
 
-    by_none : (none : Bool) → is_none table ≡ none → IsInput None (page_at table page) o input
+    by_none : (none : Bool) → is_none table ≡ none → Sees None (λ seen. file_with_table reads table name seen ≡ input)
     by_none true e = record {
-      seen = λ _. page_content;
+      seen = λ _. content;
       are_told = λ h. cc;
-      holds = ap (λ b. input_from o (table_names b page_content) page_content) e ∙ ap (λ b. input_from o (table_names b table_content) page_content) (sym e) ∙ is;
+      holds = ap (λ b. input_from reads (table_names b content) content) e ∙ ap (λ b. input_from reads (table_names b table_content) content) (sym e) ∙ is;
     }
     by_none false e = record {
-      seen = λ name. cond (bytes_eq table name) table_content page_content;
+      seen = λ other. cond (bytes_eq table other) table_content content;
       are_told = λ h. cc;
-      holds = ap (λ b. input_from o (table_names (is_none table) (cond b table_content page_content)) (cond (bytes_eq table page) table_content page_content)) (same_bytes table)
-          ∙ ap (λ b. input_from o (table_names (is_none table) table_content) (cond b table_content page_content)) (differ (bytes_eq table page) (apart_by false e)) ∙ is;
+      holds = ap (λ b. input_from reads (table_names (is_none table) (cond b table_content content)) (cond (bytes_eq table name) table_content content)) (same_bytes table)
+          ∙ ap (λ b. input_from reads (table_names (is_none table) table_content) (cond b table_content content)) (differ (bytes_eq table name) (apart_by false e)) ∙ is;
     }
 
+-- where the table can be read, the second file gives what its content gives
+seen_content : (told : Option FileMap) (reads : List Entry → List ℕ → Input) (table name : List ℕ) (t : List Entry) (content : List ℕ) (input : Input) → are_apart table name ≡ true → IsTableOf told table (Ok t)
+    → (IsSome told → file_of told name ≡ Some content) → reads t content ≡ input → Sees told (λ seen. file_with_table reads table name seen ≡ input)
+seen_content told reads table name t content input apart a there is = seen_file told reads table name a.content (Some content) input apart a.there there (ap (λ x. input_from reads x (Some content)) a.is ∙ is)
+
+-- a table that is refused is told first
+seen_fault : (told : Option FileMap) (reads : List Entry → List ℕ → Input) (table name : List ℕ) (fault : TableFault) → are_apart table name ≡ true → IsTableOf told table (Err fault) → Sees told (λ seen. file_with_table reads table name seen ≡ bad_table fault)
+seen_fault told reads table name fault apart a = seen_file told reads table name a.content (file_of told name) (bad_table fault) apart a.there (λ i. refl) (ap (λ x. input_from reads x (file_of told name)) a.is)
+
+-- there is no table
+seen_no_table : (told : Option FileMap) (reads : List Entry → List ℕ → Input) (table name : List ℕ) (unread : Unread) → are_apart table name ≡ true → NoTable told table unread → NoInputWhere (λ input. Sees told (λ seen. file_with_table reads table name seen ≡ input)) unread
+seen_no_table told reads table name (reasons.Table fault) apart n = seen_fault told reads table name fault apart n
+seen_no_table told reads table name (reasons.Page rule at) apart n = absurd n
+seen_no_table told reads table name (reasons.Json fault) apart n = absurd n
+seen_no_table told reads table name reasons.Store apart n = tt
+seen_no_table told reads table name reasons.Memory apart n = tt
+
+-- ---- a page with its table
+
 pub input_of_tree : (told : Option FileMap) (table page : List ℕ) (o : TreeOptions) (t : List Entry) (text : Source) (n : ℕ) (w : List Event) → are_apart table page ≡ true → IsTableOf told table (Ok t) → IsTextOf told page text n → IsTreeRead t text o w → IsInput told (page_at table page) o (tree n t w)
-input_of_tree told table page o t text n w apart a b r = seen_input told table page o a.content (Some b.page) (tree n t w) apart a.there b.there
-    (ap (λ x. input_from o x (Some b.page)) a.is ∙ ap (rewritten_input o t (length b.page)) (page_read t text b.page (built r.walk) b.read.read r.reads) ∙ ap₂ (λ m v. tree m t v) (sym b.read.all) (sym r.is))
-
-pub input_of_no_tree : (told : Option FileMap) (table page : List ℕ) (o : TreeOptions) (t : List Entry) (text : Source) (n : ℕ) (rule : Rule) (at : ℕ) → are_apart table page ≡ true → IsTableOf told table (Ok t) → IsTextOf told page text n → tree_of_source t text ≡ refused_by rule at → IsInput told (page_at table page) o (bad_page rule at)
-input_of_no_tree told table page o t text n rule at apart a b e = seen_input told table page o a.content (Some b.page) (bad_page rule at) apart a.there b.there
-    (ap (λ x. input_from o x (Some b.page)) a.is ∙ ap (rewritten_input o t (length b.page)) (page_read t text b.page (refused_by rule at) b.read.read e))
-
-pub input_of_page : (told : Option FileMap) (table page : List ℕ) (o : TreeOptions) (t : List Entry) (rule : Rule) (at : ℕ) → are_apart table page ≡ true → IsTableOf told table (Ok t) → IsRefusedPage told page rule at → IsInput told (page_at table page) o (bad_page rule at)
-input_of_page told table page o t rule at apart a b = seen_input told table page o a.content (Some b.page) (bad_page rule at) apart a.there b.there
-    (ap (λ x. input_from o x (Some b.page)) a.is ∙ ap (rewritten_input o t (length b.page)) (b.refused t))
-
-pub input_of_table : (told : Option FileMap) (table page : List ℕ) (o : TreeOptions) (fault : TableFault) → are_apart table page ≡ true → IsTableOf told table (Err fault) → IsInput told (page_at table page) o (bad_table fault)
-input_of_table told table page o fault apart a = seen_input told table page o a.content (file_of told page) (bad_table fault) apart a.there (λ i. refl)
-    (ap (λ x. input_from o x (file_of told page)) a.is)
-
--- ---- by the reason why there is no tree
+input_of_tree told table page o t text n w apart a b r = seen_content told (page_input o) table page t b.page (tree n t w) apart a b.there
+    (ap (rewritten_input o t (length b.page)) (page_read t text b.page (built r.walk) b.read.read r.reads) ∙ ap₂ (λ m v. tree m t v) (sym b.read.all) (sym r.is))
 
 pub no_table : (told : Option FileMap) (table page : List ℕ) (o : TreeOptions) (unread : Unread) → are_apart table page ≡ true → NoTable told table unread → NoInput told (page_at table page) o unread
-no_table told table page o (reasons.Table fault) apart n = input_of_table told table page o fault apart n
-no_table told table page o (reasons.Page rule at) apart n = absurd n
-no_table told table page o reasons.Store apart n = tt
-no_table told table page o reasons.Memory apart n = tt
+no_table told table page o unread apart n = seen_no_table told (page_input o) table page unread apart n
 
 pub no_text : (told : Option FileMap) (table page : List ℕ) (o : TreeOptions) (t : List Entry) (unread : Unread) → are_apart table page ≡ true → IsTableOf told table (Ok t) → NoText told page unread → NoInput told (page_at table page) o unread
 no_text told table page o t (reasons.Table fault) apart a n = absurd n
-no_text told table page o t (reasons.Page rule at) apart a n = input_of_page told table page o t rule at apart a n
+no_text told table page o t (reasons.Page rule at) apart a n = seen_content told (page_input o) table page t n.page (bad_page rule at) apart a n.there (ap (rewritten_input o t (length n.page)) (n.refused t))
+no_text told table page o t (reasons.Json fault) apart a n = absurd n
 no_text told table page o t reasons.Store apart a n = tt
 no_text told table page o t reasons.Memory apart a n = tt
 
-no_tree : (told : Option FileMap) (table page : List ℕ) (o : TreeOptions) (t : List Entry) (text : Source) (n : ℕ) (unread : Unread) → are_apart table page ≡ true → IsTableOf told table (Ok t) → IsTextOf told page text n → NoTreeRead t text unread → NoInput told (page_at table page) o unread
+pub no_tree : (told : Option FileMap) (table page : List ℕ) (o : TreeOptions) (t : List Entry) (text : Source) (n : ℕ) (unread : Unread) → are_apart table page ≡ true → IsTableOf told table (Ok t) → IsTextOf told page text n → NoTreeRead t text unread → NoInput told (page_at table page) o unread
 no_tree told table page o t text n (reasons.Table fault) apart a b h = absurd h
-no_tree told table page o t text n (reasons.Page rule at) apart a b h = input_of_no_tree told table page o t text n rule at apart a b h
+no_tree told table page o t text n (reasons.Page rule at) apart a b h = seen_content told (page_input o) table page t b.page (bad_page rule at) apart a b.there
+    (ap (rewritten_input o t (length b.page)) (page_read t text b.page (refused_by rule at) b.read.read h))
+no_tree told table page o t text n (reasons.Json fault) apart a b h = absurd h
 no_tree told table page o t text n reasons.Store apart a b h = tt
 no_tree told table page o t text n reasons.Memory apart a b h = tt
 
-pub no_tree_answer : (told : Option FileMap) (table page : List ℕ) (o : TreeOptions) (t : List Entry) (text : Source) (n : ℕ) (unread : Unread) → are_apart table page ≡ true → IsTableOf told table (Ok t) → IsTextOf told page text n → NoTreeRead t text unread → NoInput told (page_at table page) o unread
-no_tree_answer told table page o t text n unread apart a b h = no_tree told table page o t text n unread apart a b h
+-- ---- JSON with a table
+
+pub input_of_walk : (told : Option FileMap) (table page : List ℕ) (o : TreeOptions) (t : List Entry) (w : List Event) (n : ℕ) (v : List Event) → are_apart table page ≡ true → IsTableOf told table (Ok t) → IsWalkOf told page w n → v ≡ rewrite o w → IsInput told (json_at table page) o (tree n t v)
+input_of_walk told table page o t w n v apart a b is = seen_content told (json_input o) table page t b.json (tree n t v) apart a b.there
+    (ap (walk_input o t (length b.json)) b.reads ∙ ap₂ (λ m x. tree m t x) (sym b.all) (sym is))
+
+pub no_json_table : (told : Option FileMap) (table page : List ℕ) (o : TreeOptions) (unread : Unread) → are_apart table page ≡ true → NoTable told table unread → NoInput told (json_at table page) o unread
+no_json_table told table page o unread apart n = seen_no_table told (json_input o) table page unread apart n
+
+pub no_walk : (told : Option FileMap) (table page : List ℕ) (o : TreeOptions) (t : List Entry) (unread : Unread) → are_apart table page ≡ true → IsTableOf told table (Ok t) → NoWalk told page unread → NoInput told (json_at table page) o unread
+no_walk told table page o t (reasons.Table fault) apart a n = absurd n
+no_walk told table page o t (reasons.Page rule at) apart a n = absurd n
+no_walk told table page o t (reasons.Json fault) apart a n = seen_content told (json_input o) table page t n.json (bad_json fault) apart a n.there (n.refused o t)
+no_walk told table page o t reasons.Store apart a n = tt
+no_walk told table page o t reasons.Memory apart a n = tt
+
+-- JSON that is too long is so by its prefix
+long_json : (content : List ℕ) → JSON_LIMIT < length content → json_walk content ≡ too_long
+unfolding json_walk
+long_json content h =
+    let long : nat_lt JSON_LIMIT (length content) ≡ true = grind (arith, nat_tests) in
+    rw long refl
+
+json_front : (content : List ℕ) → json_walk (take (JSON_LIMIT + 1) content) ≡ json_walk content
+json_front content = by_length (nat_lt JSON_LIMIT (length content)) refl
+  where
+    by_length : (long : Bool) → nat_lt JSON_LIMIT (length content) ≡ long → json_walk (take (JSON_LIMIT + 1) content) ≡ json_walk content
+    by_length true e =
+        let h : JSON_LIMIT < length content = long_by_test JSON_LIMIT (length content) e in
+        long_json (take (JSON_LIMIT + 1) content) (still_long content JSON_LIMIT h) ∙ sym (long_json content h)
+    by_length false e = ap json_walk (take_all (JSON_LIMIT + 1) content (short_by_test JSON_LIMIT (length content) e))
+
+-- where a walk is read, the JSON isn't too long
+walk_is_short : (content : List ℕ) (w : List Event) → json_walk content ≡ walk w → nat_lt JSON_LIMIT (length content) ≡ false
+walk_is_short content w e = by_length (nat_lt JSON_LIMIT (length content)) refl
+  where
+    by_length : (long : Bool) → nat_lt JSON_LIMIT (length content) ≡ long → long ≡ false
+    by_length true h = let k : too_long ≡ walk w = sym (long_json content (long_by_test JSON_LIMIT (length content) h)) ∙ e in cc
+    by_length false h = refl
+
+pub walk_of_bytes : (told : Option FileMap) (name json : List ℕ) (w : List Event) (n : ℕ) → IsLoaded told name JSON_LIMIT json → n ≡ length json → json_walk json ≡ walk w → IsWalkOf told name w n
+walk_of_bytes told name json w n l all e =
+    let reads : json_walk l.content ≡ walk w = sym (json_front l.content) ∙ ap json_walk (sym l.front) ∙ e in
+    let whole : json ≡ l.content = l.front ∙ take_all (JSON_LIMIT + 1) l.content (short_by_test JSON_LIMIT (length l.content) (walk_is_short l.content w reads)) in
+    record { json = l.content; there = l.there; reads = reads; all = all ∙ ap length whole }
+
+-- a fault says of an input what it says of a walk
+fault_is_said : (fault : JsonFault) → (fault ≡ json_faults.Memory → ⊥) → (o : TreeOptions) (t : List Entry) (n : ℕ) → walk_input o t n (fault_walk fault) ≡ bad_json fault
+fault_is_said json_faults.TooLong other o t n = refl
+fault_is_said json_faults.NotJson other o t n = refl
+fault_is_said json_faults.NotArray other o t n = refl
+fault_is_said (json_faults.BadEvent i) other o t n = refl
+fault_is_said (json_faults.Open k) other o t n = refl
+fault_is_said (json_faults.NotSettled i k) other o t n = refl
+fault_is_said json_faults.Memory other o t n = absurd (other refl)
+
+pub json_of_bytes : (told : Option FileMap) (name json : List ℕ) (fault : JsonFault) → IsLoaded told name JSON_LIMIT json → (fault ≡ json_faults.Memory → ⊥) → (fault ≢ json_faults.Memory → json_walk json ≡ fault_walk fault) → IsRefusedJson told name fault
+json_of_bytes told name json fault l other e = record {
+  json = l.content;
+  there = l.there;
+  refused = λ o t. ap (walk_input o t (length l.content)) (sym (json_front l.content) ∙ ap json_walk (sym l.front) ∙ e other) ∙ fault_is_said fault other o t (length l.content);
+}
 
 -- what is loaded of a file
 none_found : (told : Option (List ℕ)) (bytes : List ℕ) → IsSome {T = List ℕ} None → told ≡ Some bytes
@@ -242,3 +315,9 @@ told_text old new name unread e n = subst (λ told. NoText told name unread) e n
 
 pub told_page : (old new : Option FileMap) (name : List ℕ) (text : Source) (n : ℕ) → new ≡ old → IsTextOf new name text n → IsTextOf old name text n
 told_page old new name text n e h = subst (λ told. IsTextOf told name text n) e h
+
+pub told_no_walk : (old new : Option FileMap) (name : List ℕ) (unread : Unread) → new ≡ old → NoWalk new name unread → NoWalk old name unread
+told_no_walk old new name unread e n = subst (λ told. NoWalk told name unread) e n
+
+pub told_walk : (old new : Option FileMap) (name : List ℕ) (w : List Event) (n : ℕ) → new ≡ old → IsWalkOf new name w n → IsWalkOf old name w n
+told_walk old new name w n e h = subst (λ told. IsWalkOf told name w n) e h

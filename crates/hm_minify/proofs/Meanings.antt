@@ -1,48 +1,42 @@
 -- What the ending of a run says of its request.
-use Rattle.std.proofs.Common.{◌≡◌, ℕ, ◌⊎◌, inl, inr, true, false, List, Some, None, refl, sym, ap, ◌∙◌, subst}
+use Rattle.std.proofs.Common.{◌≡◌, ℕ, ◌⊎◌, inl, inr, Bool, true, false, ◌||◌, List, Some, None, refl, sym, ap, ◌∙◌, subst}
 use Rattle.std.specs.declared.option.Option.{Option}
 use Rattle.std.specs.Io.KnownBytes.{append_known}
 use Rattle.hm_base.specs.Walks.{Event}
 use Rattle.hm_words.specs.declared.writing.Writing.{Writing}
 use Rattle.hm_refs.specs.Names.{Entry}
 use Rattle.hm_store.specs.Contents.{AreTold, Contents, Sees}
-use Rattle.hm_minify.specs.Inputs.{Input, missing, bad_table, bad_page, tree as tree_input, input_of}
+use Rattle.hm_elements.specs.Settled.{Settled}
+use Rattle.hm_minify.specs.Inputs.{Input, missing, bad_table, bad_page, bad_json, tree as tree_input, input_of}
 use Rattle.hm_plan.specs.Shortest.{certificate_of, shortest_text}
-use Rattle.hm_words.specs.Words.{Asked, Work, minifies, checks as checks_files, shows as shows_tree, measures as measures_tree, asked}
+use Rattle.hm_words.specs.Words.{Asked, Work, minifies, checks as checks_files, shows as shows_tree, tells_json, measures as measures_tree, asked}
 use Rattle.hm_minify.specs.Endings.{IsReadableAsked, IsReadableBy, format_of, is_fault, with_tree, tree_ending, check_ending, asked_ending, request_ending, ending}
 use Rattle.hm_minify.specs.Lines.{usage_line}
 use Rattle.hm_minify.specs.Outside.{Outside, Prints}
-use Rattle.hm_minify.specs.Runs.{Ends, EndsAs, Puts, HasMinified, HasChecked, HasDenied, HasShown, HasMeasured, HasRefusedPage, HasRefusedTable}
+use Rattle.hm_minify.specs.Runs.{Ends, EndsAs, Puts, HasMinified, HasChecked, HasDenied, HasShown, HasToldJson, HasMeasured, HasRefusedPage, HasRefusedJson, HasRefusedTable}
 use Rattle.hm_minify.specs.Writes.{after_writes}
 use Rattle.hm_minify.specs.declared.status.Status.{Status}
 use Rattle.hm_minify.specs.declared.status.Status.TheVariants as status
-use Rattle.hm_minify.proofs.Found.{check_other, check_writes, checked_yes}
-use Rattle.hm_minify.proofs.Generated.{IsGenerated, asked_limits, page_never_refused}
-use Rattle.hm_minify.proofs.Headline.{request_sound, input_is_shortest}
+use Rattle.hm_minify.proofs.Found.{check_other, check_writes, checked_yes, is_found}
+use Rattle.hm_minify.proofs.Generated.{IsGenerated, asked_limits, json_never_refused, page_never_refused}
+use Rattle.hm_minify.proofs.Headline.{request_table, input_is_shortest}
 
 -- ---- statuses that no tree gives
 
--- such a status is the ending of no work on a tree
-abbrev IsOther : Status → Type 0
-IsOther s = (work : Work) (r : Writing) (seen : Contents) (n : ℕ) (t : List Entry) (w : List Event) → (tree_ending work r seen n t w).status ≡ s → ⊥
+-- a status that work on a tree can give
+abbrev is_of_tree : Status → Bool
+is_of_tree s = is_found s || is_fault s
 
-usage_other : IsOther status.Usage
-usage_other (minifies out cert) r seen n t w e = cc
-usage_other (checks_files out cert) r seen n t w e = let h : false ≡ true = check_other r.rules t w (seen out) (seen cert) status.Usage e in cc
-usage_other shows_tree r seen n t w e = cc
-usage_other measures_tree r seen n t w e = cc
+tree_status : (work : Work) (r : Writing) (seen : Contents) (n : ℕ) (t : List Entry) (w : List Event) → is_of_tree (tree_ending work r seen n t w).status ≡ true
+tree_status (minifies out cert) r seen n t w = refl
+tree_status (checks_files out cert) r seen n t w = check_other r.rules t w (seen out) (seen cert) (check_ending r.rules t w (seen out) (seen cert)).status refl
+tree_status shows_tree r seen n t w = refl
+tree_status tells_json r seen n t w = refl
+tree_status measures_tree r seen n t w = refl
 
-page_other : IsOther status.PageRefused
-page_other (minifies out cert) r seen n t w e = cc
-page_other (checks_files out cert) r seen n t w e = let h : false ≡ true = check_other r.rules t w (seen out) (seen cert) status.PageRefused e in cc
-page_other shows_tree r seen n t w e = cc
-page_other measures_tree r seen n t w e = cc
-
-table_other : IsOther status.TableRefused
-table_other (minifies out cert) r seen n t w e = cc
-table_other (checks_files out cert) r seen n t w e = let h : false ≡ true = check_other r.rules t w (seen out) (seen cert) status.TableRefused e in cc
-table_other shows_tree r seen n t w e = cc
-table_other measures_tree r seen n t w e = cc
+-- another one is the ending of no work on a tree
+other_status : (s : Status) → is_of_tree s ≡ false → (work : Work) (r : Writing) (seen : Contents) (n : ℕ) (t : List Entry) (w : List Event) → (tree_ending work r seen n t w).status ≡ s → ⊥
+other_status s other work r seen n t w e = let h : true ≡ false = sym (tree_status work r seen n t w) ∙ ap is_of_tree e ∙ other in cc
 
 -- ---- words without a meaning
 
@@ -50,7 +44,8 @@ input_is_asked : (work : Work) (r : Writing) (seen : Contents) (x : Input) → (
 input_is_asked work r seen missing e = cc
 input_is_asked work r seen (bad_table fault) e = cc
 input_is_asked work r seen (bad_page rule at) e = cc
-input_is_asked work r seen (tree_input n t w) e = usage_other work r seen n t w e
+input_is_asked work r seen (bad_json fault) e = cc
+input_is_asked work r seen (tree_input n t w) e = other_status status.Usage refl work r seen n t w e
 
 unasked : (a : Option Asked) (seen : Contents) → (request_ending a seen).status ≡ status.Usage → a ≡ None
 unasked None seen e = refl
@@ -90,6 +85,7 @@ minified_of : (q : Asked) (out cert : List ℕ) (r : Status) (b a : Outside) (se
 minified_of q out cert r b a seen missing told reads w h is = let e : status.StoreFault ≡ status.Done = sym w.status ∙ is in cc
 minified_of q out cert r b a seen (bad_table fault) told reads w h is = let e : status.TableRefused ≡ status.Done = sym w.status ∙ is in cc
 minified_of q out cert r b a seen (bad_page rule at) told reads w h is = let e : status.PageRefused ≡ status.Done = sym w.status ∙ is in cc
+minified_of q out cert r b a seen (bad_json fault) told reads w h is = let e : status.JsonRefused ≡ status.Done = sym w.status ∙ is in cc
 minified_of q out cert r b a seen (tree_input n t v) told reads w h is = record {
   seen = seen;
   are_told = told;
@@ -99,7 +95,7 @@ minified_of q out cert r b a seen (tree_input n t v) told reads w h is = record 
   reads = reads;
   out = shortest_text t q.writing.rules v;
   cert = certificate_of t q.writing.rules (format_of q.writing.sparse) v;
-  shortest = input_is_shortest q seen n t v reads h;
+  shortest = input_is_shortest q seen n t v reads h.0 h.1;
   files = w.files;
   line = w.line;
 }
@@ -110,13 +106,12 @@ minified words q out cert r b a e work w is = minified_of q out cert r b a w.see
 
 -- ---- check
 
-checked_of : (q : Asked) (name : List ℕ) (r : Status) (b a : Outside) (seen : Contents) (n : ℕ) (t : List Entry) (v : List Event) (out cert : Option (List ℕ)) → AreTold b.files seen → input_of q seen ≡ tree_input n t v → seen name ≡ out
+checked_of : (q : Asked) (name : List ℕ) (r : Status) (b a : Outside) (seen : Contents) (n : ℕ) (t : List Entry) (v : List Event) (out cert : Option (List ℕ)) → AreTold b.files seen → input_of q seen ≡ tree_input n t v → Settled v → seen name ≡ out
     → EndsAs (check_ending q.writing.rules t v out cert) r b a → r ≡ status.Done → HasChecked q name b a
-checked_of q name r b a seen n t v None cert told reads there w is = let e : status.StoreFault ≡ status.Done = sym w.status ∙ is in cc
-checked_of q name r b a seen n t v (Some out) None told reads there w is = let e : status.StoreFault ≡ status.Done = sym w.status ∙ is in cc
-checked_of q name r b a seen n t v (Some out) (Some cert) told reads there w is =
-    let sound = request_sound q seen n t v reads in
-    let yes = checked_yes t sound.table q.writing.rules v sound.settled out cert (sym w.status ∙ is) in
+checked_of q name r b a seen n t v None cert told reads settled there w is = let e : status.StoreFault ≡ status.Done = sym w.status ∙ is in cc
+checked_of q name r b a seen n t v (Some out) None told reads settled there w is = let e : status.StoreFault ≡ status.Done = sym w.status ∙ is in cc
+checked_of q name r b a seen n t v (Some out) (Some cert) told reads settled there w is =
+    let yes = checked_yes t (request_table q seen n t v reads) q.writing.rules v settled out cert (sym w.status ∙ is) in
     record {
       seen = seen;
       are_told = told;
@@ -132,14 +127,16 @@ checked_of q name r b a seen n t v (Some out) (Some cert) told reads there w is 
       line = w.line ∙ ap (append_known b.printed) yes.line;
     }
 
-checked_input : (q : Asked) (out cert : List ℕ) (r : Status) (b a : Outside) (seen : Contents) (x : Input) → AreTold b.files seen → input_of q seen ≡ x → EndsBy q (checks_files out cert) seen x r b a → r ≡ status.Done → HasChecked q out b a
-checked_input q out cert r b a seen missing told reads w is = let e : status.StoreFault ≡ status.Done = sym w.status ∙ is in cc
-checked_input q out cert r b a seen (bad_table fault) told reads w is = let e : status.TableRefused ≡ status.Done = sym w.status ∙ is in cc
-checked_input q out cert r b a seen (bad_page rule at) told reads w is = let e : status.PageRefused ≡ status.Done = sym w.status ∙ is in cc
-checked_input q out cert r b a seen (tree_input n t v) told reads w is = checked_of q out r b a seen n t v (seen out) (seen cert) told reads refl w is
+checked_input : (q : Asked) (out cert : List ℕ) (r : Status) (b a : Outside) (seen : Contents) (x : Input) → AreTold b.files seen → input_of q seen ≡ x → EndsBy q (checks_files out cert) seen x r b a → IsReadableBy (checks_files out cert) q.writing x → r ≡ status.Done → HasChecked q out b a
+checked_input q out cert r b a seen missing told reads w h is = let e : status.StoreFault ≡ status.Done = sym w.status ∙ is in cc
+checked_input q out cert r b a seen (bad_table fault) told reads w h is = let e : status.TableRefused ≡ status.Done = sym w.status ∙ is in cc
+checked_input q out cert r b a seen (bad_page rule at) told reads w h is = let e : status.PageRefused ≡ status.Done = sym w.status ∙ is in cc
+checked_input q out cert r b a seen (bad_json fault) told reads w h is = let e : status.JsonRefused ≡ status.Done = sym w.status ∙ is in cc
+checked_input q out cert r b a seen (tree_input n t v) told reads w h is = checked_of q out r b a seen n t v (seen out) (seen cert) told reads h.0 refl w is
 
-pub checks : (words : List (List ℕ)) (q : Asked) (out cert : List ℕ) (r : Status) (b a : Outside) → asked words ≡ Some q → q.work ≡ checks_files out cert → Ends words r b a → r ≡ status.Done → HasChecked q out b a
-checks words q out cert r b a e work w is = checked_input q out cert r b a w.seen (input_of q w.seen) w.are_told refl (of_work words q (checks_files out cert) r b a w.seen e work w.holds) is
+pub checks : (words : List (List ℕ)) (q : Asked) (out cert : List ℕ) (r : Status) (b a : Outside) → asked words ≡ Some q → q.work ≡ checks_files out cert → Sees b.files (λ seen. EndsAs (ending words seen) r b a × IsReadableAsked (asked words) seen) → r ≡ status.Done → HasChecked q out b a
+checks words q out cert r b a e work w is = checked_input q out cert r b a w.seen (input_of q w.seen) w.are_told refl (of_work words q (checks_files out cert) r b a w.seen e work w.holds.0)
+    (subst (λ k. IsReadableBy k q.writing (input_of q w.seen)) work (subst (λ x. IsReadableAsked x w.seen) e w.holds.1)) is
 
 denied_of : (q : Asked) (name lines : List ℕ) (r : Status) (b a : Outside) (seen : Contents) (n : ℕ) (t : List Entry) (v : List Event) (out cert : Option (List ℕ)) → q.work ≡ checks_files name lines → AreTold b.files seen → input_of q seen ≡ tree_input n t v → seen name ≡ out → seen lines ≡ cert
     → EndsAs (check_ending q.writing.rules t v out cert) r b a → r ≡ status.No → HasDenied q b a
@@ -170,12 +167,14 @@ denied_tree : (q : Asked) (work : Work) (r : Status) (b a : Outside) (seen : Con
 denied_tree q (minifies out cert) r b a seen n t v work told reads w is = let e : status.Done ≡ status.No = sym w.status ∙ is in cc
 denied_tree q (checks_files out cert) r b a seen n t v work told reads w is = denied_of q out cert r b a seen n t v (seen out) (seen cert) work told reads refl refl w is
 denied_tree q shows_tree r b a seen n t v work told reads w is = let e : status.Done ≡ status.No = sym w.status ∙ is in cc
+denied_tree q tells_json r b a seen n t v work told reads w is = let e : status.Done ≡ status.No = sym w.status ∙ is in cc
 denied_tree q measures_tree r b a seen n t v work told reads w is = let e : status.Done ≡ status.No = sym w.status ∙ is in cc
 
 denied_input : (q : Asked) (r : Status) (b a : Outside) (seen : Contents) (x : Input) → AreTold b.files seen → input_of q seen ≡ x → EndsBy q q.work seen x r b a → r ≡ status.No → HasDenied q b a
 denied_input q r b a seen missing told reads w is = let e : status.StoreFault ≡ status.No = sym w.status ∙ is in cc
 denied_input q r b a seen (bad_table fault) told reads w is = let e : status.TableRefused ≡ status.No = sym w.status ∙ is in cc
 denied_input q r b a seen (bad_page rule at) told reads w is = let e : status.PageRefused ≡ status.No = sym w.status ∙ is in cc
+denied_input q r b a seen (bad_json fault) told reads w is = let e : status.JsonRefused ≡ status.No = sym w.status ∙ is in cc
 denied_input q r b a seen (tree_input n t v) told reads w is = denied_tree q q.work r b a seen n t v refl told reads w is
 
 pub denies : (words : List (List ℕ)) (q : Asked) (r : Status) (b a : Outside) → asked words ≡ Some q → Ends words r b a → r ≡ status.No → HasDenied q b a
@@ -187,10 +186,23 @@ shown_of : (q : Asked) (r : Status) (b a : Outside) (seen : Contents) (x : Input
 shown_of q r b a seen missing told reads w is = let e : status.StoreFault ≡ status.Done = sym w.status ∙ is in cc
 shown_of q r b a seen (bad_table fault) told reads w is = let e : status.TableRefused ≡ status.Done = sym w.status ∙ is in cc
 shown_of q r b a seen (bad_page rule at) told reads w is = let e : status.PageRefused ≡ status.Done = sym w.status ∙ is in cc
+shown_of q r b a seen (bad_json fault) told reads w is = let e : status.JsonRefused ≡ status.Done = sym w.status ∙ is in cc
 shown_of q r b a seen (tree_input n t v) told reads w is = record { seen = seen; are_told = told; bytes = n; table = t; tree = v; reads = reads; files = w.files; lines = w.line }
 
 pub shows : (words : List (List ℕ)) (q : Asked) (r : Status) (b a : Outside) → asked words ≡ Some q → q.work ≡ shows_tree → Ends words r b a → r ≡ status.Done → HasShown q b a
 shows words q r b a e work w is = shown_of q r b a w.seen (input_of q w.seen) w.are_told refl (of_work words q shows_tree r b a w.seen e work w.holds) is
+
+-- ---- json
+
+told_of : (q : Asked) (r : Status) (b a : Outside) (seen : Contents) (x : Input) → AreTold b.files seen → input_of q seen ≡ x → EndsBy q tells_json seen x r b a → r ≡ status.Done → HasToldJson q b a
+told_of q r b a seen missing told reads w is = let e : status.StoreFault ≡ status.Done = sym w.status ∙ is in cc
+told_of q r b a seen (bad_table fault) told reads w is = let e : status.TableRefused ≡ status.Done = sym w.status ∙ is in cc
+told_of q r b a seen (bad_page rule at) told reads w is = let e : status.PageRefused ≡ status.Done = sym w.status ∙ is in cc
+told_of q r b a seen (bad_json fault) told reads w is = let e : status.JsonRefused ≡ status.Done = sym w.status ∙ is in cc
+told_of q r b a seen (tree_input n t v) told reads w is = record { seen = seen; are_told = told; bytes = n; table = t; tree = v; reads = reads; files = w.files; lines = w.line }
+
+pub tells : (words : List (List ℕ)) (q : Asked) (r : Status) (b a : Outside) → asked words ≡ Some q → q.work ≡ tells_json → Ends words r b a → r ≡ status.Done → HasToldJson q b a
+tells words q r b a e work w is = told_of q r b a w.seen (input_of q w.seen) w.are_told refl (of_work words q tells_json r b a w.seen e work w.holds) is
 
 -- ---- measure
 
@@ -198,6 +210,7 @@ measured_of : (q : Asked) (r : Status) (b a : Outside) (seen : Contents) (x : In
 measured_of q r b a seen missing told reads w h is = let e : status.StoreFault ≡ status.Done = sym w.status ∙ is in cc
 measured_of q r b a seen (bad_table fault) told reads w h is = let e : status.TableRefused ≡ status.Done = sym w.status ∙ is in cc
 measured_of q r b a seen (bad_page rule at) told reads w h is = let e : status.PageRefused ≡ status.Done = sym w.status ∙ is in cc
+measured_of q r b a seen (bad_json fault) told reads w h is = let e : status.JsonRefused ≡ status.Done = sym w.status ∙ is in cc
 measured_of q r b a seen (tree_input n t v) told reads w h is = record {
   seen = seen;
   are_told = told;
@@ -207,7 +220,7 @@ measured_of q r b a seen (tree_input n t v) told reads w h is = record {
   reads = reads;
   out = shortest_text t q.writing.rules v;
   cert = certificate_of t q.writing.rules (format_of q.writing.sparse) v;
-  shortest = input_is_shortest q seen n t v reads h;
+  shortest = input_is_shortest q seen n t v reads h.0 h.1;
   files = w.files;
   line = w.line;
 }
@@ -220,6 +233,7 @@ always_input : (q : Asked) (r : Status) (b a : Outside) (seen : Contents) (x : I
 always_input q r b a seen missing m reads w h = let k : is_fault r ≡ true = ap is_fault w.status in cc
 always_input q r b a seen (bad_table fault) m reads w h = inl w.status
 always_input q r b a seen (bad_page rule at) m reads w h = absurd (page_never_refused q seen m rule at reads)
+always_input q r b a seen (bad_json fault) m reads w h = absurd (json_never_refused q seen m fault reads)
 always_input q r b a seen (tree_input n t v) m reads w h = inr w.status
 
 -- every answer to `measure` but a refused table is that it is done
@@ -232,7 +246,8 @@ page_of : (q : Asked) (r : Status) (b a : Outside) (seen : Contents) (x : Input)
 page_of q r b a seen missing told reads w is = let e : status.StoreFault ≡ status.PageRefused = sym w.status ∙ is in cc
 page_of q r b a seen (bad_table fault) told reads w is = let e : status.TableRefused ≡ status.PageRefused = sym w.status ∙ is in cc
 page_of q r b a seen (bad_page rule at) told reads w is = record { seen = seen; are_told = told; rule = rule; at = at; reads = reads; files = w.files; line = w.line }
-page_of q r b a seen (tree_input n t v) told reads w is = absurd (page_other q.work q.writing seen n t v (sym w.status ∙ is))
+page_of q r b a seen (bad_json fault) told reads w is = let e : status.JsonRefused ≡ status.PageRefused = sym w.status ∙ is in cc
+page_of q r b a seen (tree_input n t v) told reads w is = absurd (other_status status.PageRefused refl q.work q.writing seen n t v (sym w.status ∙ is))
 
 pub refuses_page : (words : List (List ℕ)) (q : Asked) (r : Status) (b a : Outside) → asked words ≡ Some q → Ends words r b a → r ≡ status.PageRefused → HasRefusedPage q b a
 refuses_page words q r b a e w is = page_of q r b a w.seen (input_of q w.seen) w.are_told refl (of_asked words q r b a w.seen e w.holds) is
@@ -241,7 +256,18 @@ table_of : (q : Asked) (r : Status) (b a : Outside) (seen : Contents) (x : Input
 table_of q r b a seen missing told reads w is = let e : status.StoreFault ≡ status.TableRefused = sym w.status ∙ is in cc
 table_of q r b a seen (bad_table fault) told reads w is = record { seen = seen; are_told = told; fault = fault; reads = reads; files = w.files; line = w.line }
 table_of q r b a seen (bad_page rule at) told reads w is = let e : status.PageRefused ≡ status.TableRefused = sym w.status ∙ is in cc
-table_of q r b a seen (tree_input n t v) told reads w is = absurd (table_other q.work q.writing seen n t v (sym w.status ∙ is))
+table_of q r b a seen (bad_json fault) told reads w is = let e : status.JsonRefused ≡ status.TableRefused = sym w.status ∙ is in cc
+table_of q r b a seen (tree_input n t v) told reads w is = absurd (other_status status.TableRefused refl q.work q.writing seen n t v (sym w.status ∙ is))
 
 pub refuses_table : (words : List (List ℕ)) (q : Asked) (r : Status) (b a : Outside) → asked words ≡ Some q → Ends words r b a → r ≡ status.TableRefused → HasRefusedTable q b a
 refuses_table words q r b a e w is = table_of q r b a w.seen (input_of q w.seen) w.are_told refl (of_asked words q r b a w.seen e w.holds) is
+
+json_of : (q : Asked) (r : Status) (b a : Outside) (seen : Contents) (x : Input) → AreTold b.files seen → input_of q seen ≡ x → EndsBy q q.work seen x r b a → r ≡ status.JsonRefused → HasRefusedJson q b a
+json_of q r b a seen missing told reads w is = let e : status.StoreFault ≡ status.JsonRefused = sym w.status ∙ is in cc
+json_of q r b a seen (bad_table fault) told reads w is = let e : status.TableRefused ≡ status.JsonRefused = sym w.status ∙ is in cc
+json_of q r b a seen (bad_page rule at) told reads w is = let e : status.PageRefused ≡ status.JsonRefused = sym w.status ∙ is in cc
+json_of q r b a seen (bad_json fault) told reads w is = record { seen = seen; are_told = told; fault = fault; reads = reads; files = w.files; line = w.line }
+json_of q r b a seen (tree_input n t v) told reads w is = absurd (other_status status.JsonRefused refl q.work q.writing seen n t v (sym w.status ∙ is))
+
+pub refuses_json : (words : List (List ℕ)) (q : Asked) (r : Status) (b a : Outside) → asked words ≡ Some q → Ends words r b a → r ≡ status.JsonRefused → HasRefusedJson q b a
+refuses_json words q r b a e w is = json_of q r b a w.seen (input_of q w.seen) w.are_told refl (of_asked words q r b a w.seen e w.holds) is

@@ -11,8 +11,8 @@ use Rattle.hm_words.specs.declared.writing.Writing.{Writing}
 use Rattle.hm_refs.specs.Names.{Entry}
 use Rattle.hm_store.specs.Contents.{Contents, Sees}
 use Rattle.hm_store.specs.Files.{FileMap, file_of, with_file, HasFront}
-use Rattle.hm_minify.specs.Inputs.{Input, missing, bad_table, bad_page, tree as tree_input, input_of}
-use Rattle.hm_words.specs.Words.{Work, Asked, minifies, checks, shows, measures, asked, has}
+use Rattle.hm_minify.specs.Inputs.{Input, missing, bad_table, bad_page, bad_json, tree as tree_input, input_of}
+use Rattle.hm_words.specs.Words.{Work, Asked, minifies, checks, shows, tells_json, measures, asked, has}
 use Rattle.hm_minify.specs.Endings.{with_tree, tree_ending, request_ending, ending, outputs, asked_outputs}
 use Rattle.hm_minify.specs.Writes.{Write, IsLeft}
 use Rattle.hm_minify.proofs.Found.{check_writes}
@@ -55,12 +55,14 @@ tree_names : (work : Work) (r : Writing) (seen : Contents) (bytes : ℕ) (t : Li
 tree_names (minifies out cert) r seen bytes t w name h = h
 tree_names (checks out cert) r seen bytes t w name h = ap (λ ws. has (names_of ws) name) (check_writes r.rules t w (seen out) (seen cert))
 tree_names shows r seen bytes t w name h = refl
+tree_names tells_json r seen bytes t w name h = refl
 tree_names measures r seen bytes t w name h = refl
 
 input_names : (work : Work) (r : Writing) (seen : Contents) (x : Input) (name : List ℕ) → has (outputs work) name ≡ false → has (names_of (with_tree x (tree_ending work r seen)).writes) name ≡ false
 input_names work r seen missing name h = refl
 input_names work r seen (bad_table fault) name h = refl
 input_names work r seen (bad_page rule at) name h = refl
+input_names work r seen (bad_json fault) name h = refl
 input_names work r seen (tree_input bytes t w) name h = tree_names work r seen bytes t w name h
 
 request_names : (a : Option Asked) (seen : Contents) (name : List ℕ) → has (asked_outputs a) name ≡ false → has (names_of (request_ending a seen).writes) name ≡ false

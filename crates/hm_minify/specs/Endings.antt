@@ -1,5 +1,5 @@
 -- How a run ends, by its words and by what the files hold.
-use Rattle.std.specs.Prelude.{ℕ, Bool, true, false, List, [], ◌∷◌, length, nat_lt, Option, Some, None, Result, Ok, Err, if◌then◌else◌}
+use Rattle.std.specs.Prelude.{ℕ, Bool, true, false, List, [], ◌∷◌, ◌++◌, length, nat_lt, Option, Some, None, Result, Ok, Err, if◌then◌else◌}
 use Rattle.hm_base.specs.declared.plain.SpellRules.{SpellRules}
 use Rattle.hm_base.specs.declared.limits.TheConstants.{CERTIFICATE_LIMIT}
 use Rattle.hm_cert.specs.Certificate.{AreRows}
@@ -15,10 +15,12 @@ use Rattle.hm_base.specs.Walks.{Event}
 use Rattle.hm_refs.specs.Names.{Entry}
 use Rattle.hm_plan.specs.Shortest.{certificate_of, certified_rows, layer_count, shortest_text}
 use Rattle.hm_dump.specs.Dump.{dump_of}
-use Rattle.hm_minify.specs.Inputs.{Input, missing, bad_table, bad_page, tree as tree_input, input_of}
-use Rattle.hm_words.specs.Words.{Work, Asked, minifies, checks, shows, measures, asked}
+use Rattle.hm_elements.specs.Settled.{Settled}
+use Rattle.hm_json_tree.specs.Texts.{json_text}
+use Rattle.hm_minify.specs.Inputs.{Input, missing, bad_table, bad_page, bad_json, tree as tree_input, input_of}
+use Rattle.hm_words.specs.Words.{Work, Asked, minifies, checks, shows, tells_json, measures, asked}
 use Rattle.hm_words.specs.declared.writing.Writing.{Writing}
-use Rattle.hm_minify.specs.Lines.{length_line, refused_line, table_line, usage_line, store_line, yes_line, too_long_line, bad_line_line, why_line, measured_line}
+use Rattle.hm_minify.specs.Lines.{length_line, refused_line, json_line, table_line, usage_line, store_line, yes_line, too_long_line, bad_line_line, why_line, measured_line}
 use Rattle.hm_minify.specs.Writes.{Write, write}
 use Rattle.hm_minify.specs.declared.status.Status.{Status}
 use Rattle.hm_minify.specs.declared.status.Status.TheVariants as status
@@ -51,6 +53,7 @@ abbrev pub with_tree : Input → (ℕ → List Entry → List Event → Ending) 
 with_tree missing work = store_fault
 with_tree (bad_table fault) work = says status.TableRefused (table_line fault)
 with_tree (bad_page rule at) work = says status.PageRefused (refused_line rule at)
+with_tree (bad_json fault) work = says status.JsonRefused (json_line fault)
 with_tree (tree_input bytes t w) work = work bytes t w
 
 -- the format of a certificate that is written
@@ -94,6 +97,7 @@ abbrev pub tree_ending : Work → Writing → Contents → ℕ → List Entry �
 tree_ending (minifies out cert) x seen bytes t w = minified_ending x out cert t w
 tree_ending (checks out cert) x seen bytes t w = check_ending x.rules t w (seen out) (seen cert)
 tree_ending shows x seen bytes t w = says status.Done (dump_of w)
+tree_ending tells_json x seen bytes t w = says status.Done (json_text w ++ 10 ∷ [])
 tree_ending measures x seen bytes t w = measured_ending bytes x t w
 
 -- the certificate that is written of a tree can be read
@@ -101,11 +105,12 @@ abbrev pub IsReadableTree : Work → Writing → List Entry → List Event → T
 IsReadableTree (minifies out cert) x t w = AreRows (certified_rows t x.rules (format_of x.sparse) w)
 IsReadableTree (checks out cert) x t w = Unit {0}
 IsReadableTree shows x t w = Unit {0}
+IsReadableTree tells_json x t w = Unit {0}
 IsReadableTree measures x t w = AreRows (certified_rows t x.rules (format_of x.sparse) w)
 
--- where there is a tree, what is written of it can be read
+-- where there is a tree, it is settled, and what is written of it can be read
 abbrev pub IsReadableBy : Work → Writing → Input → Type 0
-IsReadableBy work x (tree_input bytes t w) = IsReadableTree work x t w
+IsReadableBy work x (tree_input bytes t w) = Settled w × IsReadableTree work x t w
 IsReadableBy work x input = Unit {0}
 
 abbrev pub IsReadable : Asked → Input → Type 0
@@ -134,6 +139,7 @@ abbrev pub outputs : Work → List (List ℕ)
 outputs (minifies out cert) = out ∷ cert ∷ []
 outputs (checks out cert) = []
 outputs shows = []
+outputs tells_json = []
 outputs measures = []
 
 abbrev pub asked_outputs : Option Asked → List (List ℕ)

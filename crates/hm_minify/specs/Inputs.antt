@@ -12,14 +12,18 @@ use Rattle.hm_refs.specs.Names.{Entry}
 use Rattle.hm_refs.specs.declared.fault.TableFault.{TableFault}
 use Rattle.hm_construction_laws.specs.Trees.{Outcome, built, refused_by, page_tree}
 use Rattle.hm_gen.specs.Pages.{page as made_page}
+use Rattle.hm_json_tree.specs.Reading.{JsonWalk, walk, too_long, not_json, not_array, no_event, some_open, not_settled, json_walk}
+use Rattle.hm_json_tree.specs.declared.fault.JsonFault.{JsonFault}
+use Rattle.hm_json_tree.specs.declared.fault.JsonFault.TheVariants as json_faults
 use Rattle.hm_options.specs.Rewrites.{rewrite}
-use Rattle.hm_words.specs.Words.{Origin, page_at, made, Asked}
+use Rattle.hm_words.specs.Words.{Origin, page_at, json_at, made, Asked}
 
 pub data Input : Type 0 where
   missing : Input  -- a file isn't there
   bad_table : TableFault → Input
   bad_page : Rule → ℕ → Input  -- at a byte of the page
-  tree : ℕ → List Entry → List Event → Input  -- how many bytes the page has, the names of the table, and the tree
+  bad_json : JsonFault → Input  -- the JSON stands for no tree
+  tree : ℕ → List Entry → List Event → Input  -- how many bytes the page has, or its JSON, the names of the table, and the tree
 
 -- ---- a table
 
@@ -43,30 +47,48 @@ abbrev pub rewritten_input : TreeOptions → List Entry → ℕ → Outcome → 
 rewritten_input o t bytes (built w) = tree bytes t (rewrite o w)
 rewritten_input o t bytes (refused_by rule at) = bad_page rule at
 
-abbrev pub page_input : TreeOptions → List Entry → Option (List ℕ) → Input
-page_input o t None = missing
-page_input o t (Some page) = rewritten_input o t (length page) (page_outcome t page)
+-- what a page gives with the names of a table
+abbrev pub page_input : TreeOptions → List Entry → List ℕ → Input
+page_input o t page = rewritten_input o t (length page) (page_outcome t page)
+
+-- ---- a tree as JSON
+
+-- the tree for which `bytes` bytes of JSON stand
+abbrev pub walk_input : TreeOptions → List Entry → ℕ → JsonWalk → Input
+walk_input o t bytes (walk w) = tree bytes t (rewrite o w)
+walk_input o t bytes too_long = bad_json json_faults.TooLong
+walk_input o t bytes not_json = bad_json json_faults.NotJson
+walk_input o t bytes not_array = bad_json json_faults.NotArray
+walk_input o t bytes (no_event i) = bad_json (json_faults.BadEvent i)
+walk_input o t bytes (some_open n) = bad_json (json_faults.Open n)
+walk_input o t bytes (not_settled b) = bad_json (json_faults.NotSettled b.event b.point)
+
+-- what JSON gives, whatever the names of the table
+abbrev pub json_input : TreeOptions → List Entry → List ℕ → Input
+json_input o t bytes = walk_input o t (length bytes) (json_walk bytes)
 
 -- ---- both
 
--- what the contents of two files give: the table is read first
-abbrev pub input_from : TreeOptions → Option (Result (List Entry) TableFault) → Option (List ℕ) → Input
-input_from o None page = missing
-input_from o (Some (Err fault)) page = bad_table fault
-input_from o (Some (Ok t)) page = page_input o t page
+-- what the contents of two files give, by what the second one gives with a table: the table is read first
+abbrev pub input_from : (List Entry → List ℕ → Input) → Option (Result (List Entry) TableFault) → Option (List ℕ) → Input
+input_from reads None content = missing
+input_from reads (Some (Err fault)) content = bad_table fault
+input_from reads (Some (Ok t)) None = missing
+input_from reads (Some (Ok t)) (Some content) = reads t content
 
--- what a table and a page give
-abbrev pub page_with_table : List ℕ → List ℕ → TreeOptions → Contents → Input
-page_with_table table page o seen = input_from o (table_names (is_none table) (seen table)) (seen page)
+-- what a table and a second file give
+abbrev pub file_with_table : (List Entry → List ℕ → Input) → List ℕ → List ℕ → Contents → Input
+file_with_table reads table name seen = input_from reads (table_names (is_none table) (seen table)) (seen name)
 
--- what a table gives with the page that is made of a number, with `size` blocks
-abbrev pub made_with_table : List ℕ → ℕ → ℕ → TreeOptions → Contents → Input
-made_with_table table number size o seen = input_from o (table_names (is_none table) (seen table)) (Some (made_page number size))
+-- what a table gives with a page
+abbrev pub given_with_table : TreeOptions → List ℕ → List ℕ → Contents → Input
+given_with_table o table page seen = input_from (page_input o) (table_names (is_none table) (seen table)) (Some page)
 
 -- what the files of an origin give
 abbrev pub origin_input : Origin → TreeOptions → Contents → Input
-origin_input (page_at table page) o seen = page_with_table table page o seen
-origin_input (made table number size) o seen = made_with_table table number size o seen
+origin_input (page_at table page) o seen = file_with_table (page_input o) table page seen
+origin_input (json_at table page) o seen = file_with_table (json_input o) table page seen
+origin_input (made table number size) o seen = given_with_table o table (made_page number size) seen
 
 -- An origin gives this, as far as the store's files are known.
 abbrev pub IsInput : Option FileMap → Origin → TreeOptions → Input → Type 0
@@ -82,6 +104,7 @@ abbrev pub wanted : Asked → Input → Input
 wanted request missing = missing
 wanted request (bad_table fault) = bad_table fault
 wanted request (bad_page rule at) = bad_page rule at
+wanted request (bad_json fault) = bad_json fault
 wanted request (tree bytes t w) = tree bytes t (wanted_tree request t w)
 
 -- what the files give a request to work on

@@ -43,10 +43,10 @@ abbrev pub with_writes : Contents → List Write → Contents
 with_writes seen [] = seen
 with_writes seen (w ∷ ws) = with_writes (λ name. if bytes_eq name w.name then Some w.bytes else seen name) ws
 
--- Where words ask to minify, and that is done with a text and a certificate that can be read and are within the limits of a
--- check, the same request with the check on the contents afterwards ends with a yes, and the length of the text.
+-- Where words ask to minify, and that is done for a settled tree with a text and a certificate that can be read and are within the
+-- limits of a check, the same request with the check on the contents afterwards ends with a yes, and the length of the text.
 abbrev pub MinifiedIsChecked : Type 0
 MinifiedIsChecked = (words : List (List ℕ)) (origin : Origin) (out cert : List ℕ) (options : TreeOptions) (x : Writing) → asked words ≡ Some (asks origin (minifies out cert) options x)
     → (seen : Contents) (bytes : ℕ) (t : List Entry) (w : List Event) → input_of (asks origin (minifies out cert) options x) seen ≡ tree_input bytes t w
-    → IsReadableTree (minifies out cert) x t w → length (shortest_text t x.rules w) ≤ OUTPUT_LIMIT → length (certificate_of t x.rules (format_of x.sparse) w) ≤ CERTIFICATE_LIMIT
+    → Settled w → IsReadableTree (minifies out cert) x t w → length (shortest_text t x.rules w) ≤ OUTPUT_LIMIT → length (certificate_of t x.rules (format_of x.sparse) w) ≤ CERTIFICATE_LIMIT
     → asked_ending (asks origin (checks out cert) options x) (with_writes seen (minified_ending x out cert t w).writes) ≡ says status.Done (yes_line (length (shortest_text t x.rules w)))

@@ -5,6 +5,8 @@ use Rattle.hm_base.specs.Rules.{name_of}
 use Rattle.hm_base.specs.declared.rules.Rule.{Rule}
 use Rattle.hm_check.specs.declared.verdicts.Why.{Why}
 use Rattle.hm_check.specs.declared.verdicts.Why.TheVariants as whys
+use Rattle.hm_json_tree.specs.declared.fault.JsonFault.{JsonFault}
+use Rattle.hm_json_tree.specs.declared.fault.JsonFault.TheVariants as json_faults
 use Rattle.hm_refs.specs.Faults.{fault_name}
 use Rattle.hm_refs.specs.declared.fault.TableFault.{TableFault}
 use Rattle.hm_refs.specs.declared.fault.TableFault.TheVariants as faults
@@ -16,6 +18,16 @@ length_line n = codes "length " ++ decimal n ++ 10 ∷ []
 -- a page is refused by a rule, at a byte
 abbrev pub refused_line : Rule → ℕ → List ℕ
 refused_line rule at = codes "page refused: " ++ name_of rule ++ codes " at " ++ decimal at ++ 10 ∷ []
+
+-- the JSON of a tree is refused by this fault, at an event, with so many open elements, or by a rule of settled trees
+abbrev pub json_line : JsonFault → List ℕ
+json_line json_faults.TooLong = codes "json refused: TooLong" ++ 10 ∷ []
+json_line json_faults.NotJson = codes "json refused: NotJson" ++ 10 ∷ []
+json_line json_faults.NotArray = codes "json refused: NotArray" ++ 10 ∷ []
+json_line (json_faults.BadEvent event) = codes "json refused: BadEvent event " ++ decimal event ++ 10 ∷ []
+json_line (json_faults.Open count) = codes "json refused: Open open " ++ decimal count ++ 10 ∷ []
+json_line (json_faults.NotSettled event point) = codes "json refused: NotSettled event " ++ decimal event ++ codes " point " ++ decimal point ++ 10 ∷ []
+json_line json_faults.Memory = codes "json refused: Memory" ++ 10 ∷ []
 
 -- a key or a number after the name of a fault
 abbrev pub fault_about : TableFault → List ℕ
@@ -66,7 +78,7 @@ abbrev pub table_line : TableFault → List ℕ
 table_line fault = codes "table refused: " ++ fault_name fault ++ fault_about fault ++ 10 ∷ []
 
 abbrev pub usage_line : List ℕ
-usage_line = codes "usage: hminify minify or check TABLE PAGE OUT CERT, tree TABLE PAGE, measure TABLE NUMBER SIZE" ++ 10 ∷ []
+usage_line = codes "usage: hminify minify, check or minifyjson TABLE PAGE OUT CERT, tree or json TABLE PAGE, measure TABLE NUMBER SIZE" ++ 10 ∷ []
 
 abbrev pub store_line : List ℕ
 store_line = codes "store fault" ++ 10 ∷ []

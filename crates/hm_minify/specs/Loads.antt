@@ -9,8 +9,10 @@ use Rattle.hm_store.specs.Files.{FileMap, file_of, IsMissing}
 use Rattle.hm_refs.specs.Names.{Entry}
 use Rattle.hm_refs.specs.declared.fault.TableFault.{TableFault}
 use Rattle.hm_construction_laws.specs.Trees.{built, refused_by, tree_of_source}
+use Rattle.hm_json_tree.specs.Reading.{json_walk, walk}
+use Rattle.hm_json_tree.specs.declared.fault.JsonFault.{JsonFault}
 use Rattle.hm_options.specs.Rewrites.{rewrite}
-use Rattle.hm_minify.specs.Inputs.{Input, IsInput, bad_table, bad_page, is_none, table_names, page_outcome}
+use Rattle.hm_minify.specs.Inputs.{Input, IsInput, bad_table, bad_page, bad_json, is_none, json_input, table_names, page_outcome}
 use Rattle.hm_words.specs.Words.{Origin}
 use Rattle.hm_minify.specs.declared.unread.Unread.{Unread}
 use Rattle.hm_minify.specs.declared.unread.Unread.TheVariants as reasons
@@ -56,10 +58,28 @@ pub record IsTreeRead (t : List Entry) (text : Source) (o : TreeOptions) (tree :
   pub reads : tree_of_source t text ≡ built walk
   pub is : tree ≡ rewrite o walk
 
+-- the tree for which the JSON in a file stands, with how many bytes that has
+pub record IsWalkOf (told : Option FileMap) (name : List ℕ) (tree : List Event) (bytes : ℕ) : Type 0 where
+  pub json : List ℕ
+  pub there : IsSome told → file_of told name ≡ Some json
+  pub reads : json_walk json ≡ walk tree
+  pub all : bytes ≡ length json
+
+-- JSON stands for no tree, whatever the rewrites and the names of references
+abbrev pub IsNoWalk : List ℕ → JsonFault → Type 0
+IsNoWalk json fault = (o : TreeOptions) (t : List Entry) → json_input o t json ≡ bad_json fault
+
+-- so does that in a file
+pub record IsRefusedJson (told : Option FileMap) (name : List ℕ) (fault : JsonFault) : Type 0 where
+  pub json : List ℕ
+  pub there : IsSome told → file_of told name ≡ Some json
+  pub refused : IsNoWalk json fault
+
 -- why a text has no tree
 abbrev pub NoTreeRead : List Entry → Source → Unread → Type 0
 NoTreeRead t text (reasons.Table fault) = ⊥
 NoTreeRead t text (reasons.Page rule at) = tree_of_source t text ≡ refused_by rule at
+NoTreeRead t text (reasons.Json fault) = ⊥
 NoTreeRead t text reasons.Store = ⊥
 NoTreeRead t text reasons.Memory = Unit {0}
 
@@ -76,6 +96,7 @@ IsFileMissing told table page = ((is_none table ≡ false) × IsMissing told tab
 abbrev pub NoTable : Option FileMap → List ℕ → Unread → Type 0
 NoTable told name (reasons.Table fault) = IsTableOf told name (Err fault)
 NoTable told name (reasons.Page rule at) = ⊥
+NoTable told name (reasons.Json fault) = ⊥
 NoTable told name reasons.Store = Unit {0}
 NoTable told name reasons.Memory = Unit {0}
 
@@ -83,6 +104,7 @@ NoTable told name reasons.Memory = Unit {0}
 abbrev pub NoTextIn : List ℕ → Unread → Type 0
 NoTextIn page (reasons.Table fault) = ⊥
 NoTextIn page (reasons.Page rule at) = (t : List Entry) → page_outcome t page ≡ refused_by rule at
+NoTextIn page (reasons.Json fault) = ⊥
 NoTextIn page reasons.Store = ⊥
 NoTextIn page reasons.Memory = Unit {0}
 
@@ -90,13 +112,23 @@ NoTextIn page reasons.Memory = Unit {0}
 abbrev pub NoText : Option FileMap → List ℕ → Unread → Type 0
 NoText told name (reasons.Table fault) = ⊥
 NoText told name (reasons.Page rule at) = IsRefusedPage told name rule at
+NoText told name (reasons.Json fault) = ⊥
 NoText told name reasons.Store = Unit {0}
 NoText told name reasons.Memory = Unit {0}
+
+-- why there is no tree in the JSON of a file
+abbrev pub NoWalk : Option FileMap → List ℕ → Unread → Type 0
+NoWalk told name (reasons.Table fault) = ⊥
+NoWalk told name (reasons.Page rule at) = ⊥
+NoWalk told name (reasons.Json fault) = IsRefusedJson told name fault
+NoWalk told name reasons.Store = Unit {0}
+NoWalk told name reasons.Memory = Unit {0}
 
 -- why there is no tree, by what is said of an input
 abbrev pub NoInputWhere : (Input → Type 0) → Unread → Type 0
 NoInputWhere Is (reasons.Table fault) = Is (bad_table fault)
 NoInputWhere Is (reasons.Page rule at) = Is (bad_page rule at)
+NoInputWhere Is (reasons.Json fault) = Is (bad_json fault)
 NoInputWhere Is reasons.Store = Unit {0}
 NoInputWhere Is reasons.Memory = Unit {0}
 

@@ -1,5 +1,5 @@
 -- What a run has done: what stands after it, and why.
-use Rattle.std.specs.Prelude.{ℕ, ◌≡◌, ◌⊎◌, false, List, length, [], ◌∷◌, Option, Some}
+use Rattle.std.specs.Prelude.{ℕ, ◌≡◌, ◌⊎◌, false, List, length, [], ◌∷◌, ◌++◌, Option, Some}
 use Rattle.std.specs.Io.KnownBytes.{append_known}
 use Rattle.hm_base.specs.Walks.{Event}
 use Rattle.hm_base.specs.declared.rules.Rule.{Rule}
@@ -12,10 +12,12 @@ use Rattle.hm_construction_laws.specs.Trees.{built, page_tree}
 use Rattle.hm_plan.specs.Shortest.{IsShortest, layer_count}
 use Rattle.hm_spelling_spec.specs.Spellings.{Shortest}
 use Rattle.hm_dump.specs.Dump.{dump_of}
-use Rattle.hm_minify.specs.Inputs.{bad_table, bad_page, tree as tree_input, input_of}
+use Rattle.hm_json_tree.specs.Texts.{json_text}
+use Rattle.hm_json_tree.specs.declared.fault.JsonFault.{JsonFault}
+use Rattle.hm_minify.specs.Inputs.{bad_table, bad_page, bad_json, tree as tree_input, input_of}
 use Rattle.hm_words.specs.Words.{Asked, checks}
 use Rattle.hm_minify.specs.Endings.{format_of, Ending, store_fault, is_fault, checked_ending, ending}
-use Rattle.hm_minify.specs.Lines.{length_line, yes_line, measured_line, refused_line, table_line, store_line}
+use Rattle.hm_minify.specs.Lines.{length_line, yes_line, measured_line, refused_line, json_line, table_line, store_line}
 use Rattle.hm_minify.specs.Outside.{Outside, Prints, StoreFails}
 use Rattle.hm_minify.specs.Writes.{write, after_writes, IsLeft}
 use Rattle.hm_minify.specs.declared.status.Status.{Status}
@@ -118,6 +120,17 @@ pub record HasShown (request : Asked) (before after : Outside) : Type 0 where
   pub files : after.files ≡ before.files
   pub lines : Prints (dump_of tree) before after
 
+-- the files give a tree, whose JSON is told
+pub record HasToldJson (request : Asked) (before after : Outside) : Type 0 where
+  pub seen : Contents
+  pub are_told : AreTold before.files seen
+  pub bytes : ℕ
+  pub table : List Entry
+  pub tree : List Event
+  pub reads : input_of request seen ≡ tree_input bytes table tree
+  pub files : after.files ≡ before.files
+  pub lines : Prints (json_text tree ++ 10 ∷ []) before after
+
 -- The files give a table and the tree of a page of `bytes` bytes. The line says how many bytes the page has, how many the
 -- tree written shortest, and how many layers its graph.
 pub record HasMeasured (request : Asked) (before after : Outside) : Type 0 where
@@ -144,6 +157,15 @@ pub record HasRefusedPage (request : Asked) (before after : Outside) : Type 0 wh
   pub reads : input_of request seen ≡ bad_page rule at
   pub files : after.files ≡ before.files
   pub line : Prints (refused_line rule at) before after
+
+-- the files give JSON that stands for no tree, and the line says by which fault
+pub record HasRefusedJson (request : Asked) (before after : Outside) : Type 0 where
+  pub seen : Contents
+  pub are_told : AreTold before.files seen
+  pub fault : JsonFault
+  pub reads : input_of request seen ≡ bad_json fault
+  pub files : after.files ≡ before.files
+  pub line : Prints (json_line fault) before after
 
 -- the files give a table that is refused, and the line says for which fault
 pub record HasRefusedTable (request : Asked) (before after : Outside) : Type 0 where

@@ -9,6 +9,7 @@ ghost use Rattle.hm_minify.specs.Sayings.{bytes_said};
 use crate::Status;
 use hm_base::Memory;
 use hm_dump::Shown;
+use hm_json_tree::JsonShown;
 use hm_store::{Failed, LoadFault, Sink};
 use std::alloc::{AllocError, AllocFailed, Global};
 use std::marker::Model;
@@ -37,11 +38,12 @@ impl<'w> Model for Output<'w> {
     ghost invariant = { λ o. o.from ≤ length o.bytes.items };
 }
 
-/// What is put to the sink: a line, or the lines of a tree, which never stand in memory together.
+/// What is put to the sink: a line, or the lines of a tree or its JSON, which never stand in memory together.
 #[derive(Drop)]
 pub enum Said {
     Line { line: String },
     Tree { shown: Shown },
+    Json { shown: JsonShown },
 }
 
 impl Said {
@@ -54,6 +56,7 @@ impl Said {
         match self {
             Said::Line { line } => out.put(line.as_bytes()),
             Said::Tree { shown } => shown.put(out),
+            Said::Json { shown } => shown.put(out),
         }
     }
 }
@@ -97,6 +100,17 @@ pub fn shows<'w>(alloc: Global, status: Status, shown: Shown) -> Ended<'w>
     Ended {
         status,
         said: Said::Tree { shown },
+        outputs: Vec::new(alloc),
+    }
+}
+
+/// The JSON of a tree is put, and nothing is written.
+pub fn tells_json<'w>(alloc: Global, status: Status, shown: JsonShown) -> Ended<'w>
+    ensures { result ≡ spec.says status shown }
+{
+    Ended {
+        status,
+        said: Said::Json { shown },
         outputs: Vec::new(alloc),
     }
 }

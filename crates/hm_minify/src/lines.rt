@@ -4,12 +4,13 @@ ghost use Rattle.hm_minify.specs.Lines as spec;
 
 use hm_base::Rule;
 use hm_check::Why;
+use hm_json_tree::JsonFault;
 use hm_refs::TableFault;
 use std::alloc::{AllocError, Global};
 
 /// What is said of words without a meaning.
 pub const USAGE: &[u8] =
-    b"usage: hminify minify or check TABLE PAGE OUT CERT, tree TABLE PAGE, measure TABLE NUMBER SIZE\n";
+    b"usage: hminify minify, check or minifyjson TABLE PAGE OUT CERT, tree or json TABLE PAGE, measure TABLE NUMBER SIZE\n";
 
 /// What is said where a call on the store has failed, or a file isn't there.
 pub const STORE_FAULT: &[u8] = b"store fault\n";
@@ -27,6 +28,25 @@ pub fn refused_line(alloc: Global, rule: Rule, at: u32) -> Result<String, AllocE
 {
     let name = rule.name();
     format!(in alloc; "page refused: {name} at {at}\n")
+}
+
+/// The line of JSON that stands for no tree.
+pub fn json_line(alloc: Global, fault: JsonFault) -> Result<String, AllocError>
+    ensures { IfOk result (λ line. string_bytes line ≡ spec.json_line fault) }
+{
+    match fault {
+        JsonFault::TooLong => String::from_str(alloc, "json refused: TooLong\n"),
+        JsonFault::NotJson => String::from_str(alloc, "json refused: NotJson\n"),
+        JsonFault::NotArray => String::from_str(alloc, "json refused: NotArray\n"),
+        JsonFault::BadEvent { event } => format!(in alloc;
+            "json refused: BadEvent event {event}\n"
+        ),
+        JsonFault::Open { count } => format!(in alloc; "json refused: Open open {count}\n"),
+        JsonFault::NotSettled { event, point } => {
+            format!(in alloc; "json refused: NotSettled event {event} point {point}\n")
+        }
+        JsonFault::Memory => String::from_str(alloc, "json refused: Memory\n"),
+    }
 }
 
 /// The line of a text of `length` bytes that is shown to be the shortest.

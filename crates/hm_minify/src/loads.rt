@@ -2,17 +2,20 @@
 ghost use Rattle.std.specs.Prelude.{◌≡◌, ◌≢◌, ◌⊎◌, ◌≤◌, ℕ, List, Option, IfOk, IfErr, OnOk, Ok, Err, false};
 ghost use Rattle.hm_base.specs.Faults.{HasText, IsRefusedBy};
 ghost use Rattle.hm_base.specs.Source.{source_of};
+ghost use Rattle.hm_elements.specs.Settled.{Settled};
 ghost use Rattle.hm_gen.specs.Pages.{page as made_page};
 ghost use Rattle.hm_store.specs.Causes.{Rose};
 ghost use Rattle.hm_store.specs.Files.{FileMap, IsMissing};
 ghost use Rattle.hm_minify.specs.Inputs.{is_none};
-ghost use Rattle.hm_minify.specs.Loads.{IsPageText, IsTableOf, IsTextOf, NoTable, NoText, NoTextIn};
+ghost use Rattle.hm_minify.specs.Loads.{IsPageText, IsTableOf, IsRefusedJson, IsTextOf, IsWalkOf, NoTable, NoText, NoTextIn, NoWalk};
 
 use crate::Unread;
 use hm_base::{PAGE_LIMIT, SourceText, TABLE_LIMIT, TextFault};
 use hm_gen::page_of;
+use hm_json_tree::{JSON_LIMIT, JsonFault, read_tree};
 use hm_refs::{Table, TableFault};
 use hm_store::{Store, load};
+use hm_tree::Tree;
 use std::alloc::Global;
 
 /// Why there is no table with this fault.
@@ -91,4 +94,37 @@ pub fn make_text(alloc: Global, number: u32, size: u32) -> Result<(SourceText, u
 {
     let page = page_of(alloc, number, size)?;
     text_of(alloc, page.into_bytes())
+}
+
+/// Why there is no tree with this fault of its JSON.
+fn unread_json(fault: JsonFault) -> Unread
+    ensures other { result ≢ Unread.Store }
+    ensures reason { (told : Option FileMap) (name : List ℕ) → (fault ≢ JsonFault.Memory → IsRefusedJson told name fault) → NoWalk told name result }
+{
+    match fault {
+        JsonFault::Memory => Unread::Memory,
+        fault => Unread::Json { fault },
+    }
+}
+
+/// The tree for which the JSON of that name stands, and how many bytes the JSON has.
+pub fn load_json<S: Store>(
+    alloc: Global,
+    store: &mut S,
+    name: &str,
+) -> Result<(Tree, usize), Unread>
+    ensures same { S.files store.new ≡ S.files store.old }
+    ensures writing { S.is_writing store.new ≡ S.is_writing store.old }
+    ensures ok { IfOk result (λ read. IsWalkOf (S.files store.old) name.now read.0 read.1) }
+    ensures settled { IfOk result (λ read. Settled read.0) }
+    ensures err { IfErr result (NoWalk (S.files store.old) name.now) }
+    ensures later { S.faults store.old ≤ S.faults store.new }
+    ensures store { result ≡ Err Unread.Store → Rose (S.faults store.old) (S.faults store.new) ⊎ IsMissing (S.files store.old) name.now }
+{
+    let json = load(alloc, store, name, JSON_LIMIT)?;
+    let bytes = json.len();
+    match read_tree(alloc, json.as_slice()) {
+        Ok(tree) => Ok((tree, bytes)),
+        Err(fault) => Err(unread_json(fault)),
+    }
 }

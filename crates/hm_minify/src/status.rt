@@ -21,6 +21,8 @@ pub enum Status {
     SinkFault,
     /// Memory was refused.
     Memory,
+    /// The JSON of a tree is refused.
+    JsonRefused,
 }
 
 impl Status {
@@ -37,6 +39,7 @@ impl Status {
             Status::StoreFault => 5,
             Status::SinkFault => 6,
             Status::Memory => 7,
+            Status::JsonRefused => 8,
         }
     }
 }

@@ -71,7 +71,7 @@ fn perform<S: Store, O: Sink>(alloc: Global, words: &[Word], store: &mut S, out:
     }
 }
 
-/// Does what the words ask for, and puts one line to the sink, or the lines of a tree.
+/// Does what the words ask for, and puts one line to the sink, or the lines of a tree or its JSON.
 pub fn run<S: Store, O: Sink>(alloc: Global, words: &[Word], store: &mut S, out: &mut O) -> Status
     // The words alone decide whether they have a meaning. Without one, nothing is asked of the store; memory may be refused first.
     ensures usage { result ≡ Status.Usage → (asked_by words.now ≡ None) × (store.new ≡ store.old) × Between S.Store O.Sink store.old out.old store.new out.new (Prints usage_line) }
@@ -112,7 +112,7 @@ pub fn run<S: Store, O: Sink>(alloc: Global, words: &[Word], store: &mut S, out:
     ensures minified { (asked : Request) (output cert : List ℕ) → asked_by words.now ≡ Some asked → asked.work ≡ request.minifies output cert
         → result ≡ Status.Done → Between S.Store O.Sink store.old out.old store.new out.new (spec.HasMinified asked output cert) }
 
-    // What is written shortest can be read: with it, the ending of the check on the same page is a yes (`laws::minified_is_checked`).
+    // The tree that is worked on is settled, and what is written of it can be read: with it, the ending of the check on the same page is a yes (`laws::minified_is_checked`).
     ensures readable { (asked : Request) → asked_by words.now ≡ Some asked → result ≡ Status.Done
         → Sees (S.files store.old) (λ seen. endings.IsReadable asked (input_of asked seen)) }
 
@@ -127,15 +127,21 @@ pub fn run<S: Store, O: Sink>(alloc: Global, words: &[Word], store: &mut S, out:
     ensures shown { (asked : Request) → asked_by words.now ≡ Some asked → asked.work ≡ request.shows → result ≡ Status.Done
         → Between S.Store O.Sink store.old out.old store.new out.new (spec.HasShown asked) }
 
+    // Its JSON is told.
+    ensures told_json { (asked : Request) → asked_by words.now ≡ Some asked → asked.work ≡ request.tells_json → result ≡ Status.Done
+        → Between S.Store O.Sink store.old out.old store.new out.new (spec.HasToldJson asked) }
+
     // The page that is made of a number is written shortest and checked: there is no other answer to `measure`, but where the table is refused.
     ensures measured { (asked : Request) → asked_by words.now ≡ Some asked → asked.work ≡ request.measures → result ≡ Status.Done
         → Between S.Store O.Sink store.old out.old store.new out.new (spec.HasMeasured asked) }
     ensures always_measured { (asked : Request) → asked_by words.now ≡ Some asked → asked.work ≡ request.measures
         → is_fault result ≡ false → (result ≡ Status.TableRefused) ⊎ (result ≡ Status.Done) }
 
-    // Whatever is done, a page is refused at its first offending place with its rule, and a table for its first fault.
+    // Whatever is done, a page is refused at its first offending place with its rule, and JSON and a table for their first fault.
     ensures refused_page { (asked : Request) → asked_by words.now ≡ Some asked → result ≡ Status.PageRefused
         → Between S.Store O.Sink store.old out.old store.new out.new (spec.HasRefusedPage asked) }
+    ensures refused_json { (asked : Request) → asked_by words.now ≡ Some asked → result ≡ Status.JsonRefused
+        → Between S.Store O.Sink store.old out.old store.new out.new (spec.HasRefusedJson asked) }
     ensures refused_table { (asked : Request) → asked_by words.now ≡ Some asked → result ≡ Status.TableRefused
         → Between S.Store O.Sink store.old out.old store.new out.new (spec.HasRefusedTable asked) }
 {

@@ -1,5 +1,6 @@
 //! Why there is no tree.
 use hm_base::{Memory, Refused, Rule};
+use hm_json_tree::JsonFault;
 use hm_refs::TableFault;
 use hm_store::LoadFault;
 
@@ -10,6 +11,8 @@ pub enum Unread {
     Table { fault: TableFault },
     /// The page is refused, at a byte of it.
     Page { rule: Rule, at: u32 },
+    /// The JSON stands for no tree.
+    Json { fault: JsonFault },
     /// A call on the store has failed, or a file isn't there.
     Store,
     /// Memory was refused.

@@ -1,24 +1,26 @@
 //! What a request ends with, made in memory.
-ghost use Rattle.std.specs.Prelude.{◌≡◌, ◌≢◌, ◌⊎◌, ◌≤◌, IfOk, Err, true, false};
+ghost use Rattle.std.specs.Prelude.{◌≡◌, ◌≢◌, ◌⊎◌, ◌≤◌, ◌++◌, ◌∷◌, [], IfOk, Err, true, false};
 ghost use Rattle.hm_cert.specs.Certificate.{AreRows};
 ghost use Rattle.hm_elements.specs.Settled.{Settled};
 ghost use Rattle.hm_plan.specs.Shortest.{certified_rows};
 ghost use Rattle.hm_store.specs.Causes.{Rose};
 ghost use Rattle.hm_store.specs.Contents.{Sees, Tells};
 ghost use Rattle.hm_dump.specs.Dump.{dump_of};
+ghost use Rattle.hm_json_tree.specs.Texts.{json_text};
 ghost use Rattle.hm_words.specs.Answers.{origin_of, request_of, work_of};
 ghost use Rattle.hm_words.specs.Words as request;
 ghost use Rattle.hm_minify.specs.Endings as spec;
 ghost use Rattle.hm_minify.specs.Inputs.{input_of};
 
 use crate::checked::check_files;
-use crate::ended::{Ended, Output, Said, Stop, says, shows};
+use crate::ended::{Ended, Output, Said, Stop, says, shows, tells_json};
 use crate::input::{load_input, wanted};
-use crate::lines::{length_line, refused_line, table_line};
+use crate::lines::{json_line, length_line, refused_line, table_line};
 use crate::measured::measure;
 use crate::{Input, Status, Unread};
 use hm_base::Format;
 use hm_dump::Shown;
+use hm_json_tree::JsonShown;
 use hm_plan::minify_tree;
 use hm_store::Store;
 use hm_tree::Tree;
@@ -79,7 +81,15 @@ fn show<'w>(alloc: Global, tree: Tree) -> Result<Ended<'w>, Stop>
     Ok(shows(alloc, Status::Done, Shown::of(alloc, tree)?))
 }
 
-/// What a request makes of a tree, which is freed, except where it is shown. A check reads two further files.
+/// The JSON of a tree.
+fn tell_json<'w>(alloc: Global, tree: Tree) -> Result<Ended<'w>, Stop>
+    ensures ended { IfOk result (λ ended. ended ≡ spec.says Status.Done (json_text tree ++ 10 ∷ [])) }
+    ensures memory { result ≢ Err Stop.Store }
+{
+    Ok(tells_json(alloc, Status::Done, JsonShown::of(alloc, tree)?))
+}
+
+/// What a request makes of a tree, which is freed, except where it is shown or told. A check reads two further files.
 fn answer<'w, S: Store>(
     alloc: Global,
     asked: &Asked<'w>,
@@ -103,6 +113,7 @@ fn answer<'w, S: Store>(
             check_files(alloc, store, &input, asked.writing.rules, out, cert)
         }
         Work::Show => show(alloc, input.tree),
+        Work::TellJson => tell_json(alloc, input.tree),
         Work::Measure => measure(alloc, &input, asked.writing),
     }
 }
@@ -129,6 +140,9 @@ pub fn work<'w, S: Store>(
         }
         Err(Unread::Page { rule, at }) => {
             Ok(says(alloc, Status::PageRefused, refused_line(alloc, rule, at)?))
+        }
+        Err(Unread::Json { fault }) => {
+            Ok(says(alloc, Status::JsonRefused, json_line(alloc, fault)?))
         }
         Err(Unread::Store) => Err(Stop::Store),
         Err(Unread::Memory) => Err(Stop::Memory),

@@ -1,4 +1,4 @@
-use Rattle.hm_minify.proofs.Loaded.{given_on, no_table, no_text, input_of_tree, no_tree_answer, told_text, told_page}
+use Rattle.hm_minify.proofs.Loaded.{given_on, no_table, no_text, input_of_tree, no_tree, told_text, told_page}
 use Rattle.hm_minify.proofs.input.load_tree.Goals as goal
 
 pub returns-in_err-table-clause-err : goal.returns-in_err-table-clause-err
@@ -10,7 +10,7 @@ returns-in_err-text-clause-err g c = given_on c.from_residual-in_err-text.result
 
 pub returns-in_err-tree-clause-err : goal.returns-in_err-tree-clause-err
 returns-in_err-tree-clause-err g c = given_on c.from_residual-in_err-tree.result _ _ c.from_residual-in_err-tree.ensures.1
-    (no_tree_answer _ c.args.table.now c.args.page.now c.args.options.now c.in_ok-table.table.entries c.in_ok-text.text c.in_ok-text.bytes c.in_err-tree.field-0.0 c.requires.apart c.in_ok-table.ensures.ok
+    (no_tree _ c.args.table.now c.args.page.now c.args.options.now c.in_ok-table.table.entries c.in_ok-text.text c.in_ok-text.bytes c.in_err-tree.field-0.0 c.requires.apart c.in_ok-table.ensures.ok
     (told_page _ _ c.args.page.now c.in_ok-text.text c.in_ok-text.bytes c.in_ok-table.ensures.same c.in_ok-text.ensures.ok) c.in_err-tree.ensures.err)
 
 pub returns-clause-ok : goal.returns-clause-ok

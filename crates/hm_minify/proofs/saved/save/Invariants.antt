@@ -1,4 +1,4 @@
-use Rattle.std.proofs.Common.{◌≡◌, ◌≤◌, drop}
+use Rattle.std.proofs.Common.{◌≡◌, drop}
 use Rattle.std.specs.declared.option.Option.{Option}
 use Rattle.hm_store.specs.Files.{FileMap}
 use Rattle.hm_minify.specs.Writes.{after_writes, IsLeft}

@@ -4,7 +4,7 @@ use Rattle.hm_minify.specs.Endings.{IsReadableAsked, ending, is_fault}
 use Rattle.hm_minify.specs.Lines.{usage_line}
 use Rattle.hm_minify.specs.Outside.{outside}
 use Rattle.hm_minify.proofs.Courses.{answer, answered, complete, whole, left, store_cause, store_said, sink_cause, sink_front, memory}
-use Rattle.hm_minify.proofs.Meanings.{usage_answers, usage_unasked, usage_or_fault, minified, checks, denies, shows, measures, always_measures, refuses_page, refuses_table}
+use Rattle.hm_minify.proofs.Meanings.{usage_answers, usage_unasked, usage_or_fault, minified, checks, denies, shows, measures, always_measures, refuses_json, refuses_page, refuses_table, tells}
 use Rattle.hm_minify.proofs.Others.{others}
 use Rattle.hm_minify.proofs.top.run.Goals as goal
 
@@ -54,13 +54,16 @@ pub returns-clause-minified : goal.returns-clause-minified
 returns-clause-minified g c = λ request output cert e work is. minified c.args.words.now request output cert c.perform.result _ _ e work (answered (ending c.args.words.now) (IsReadableAsked (asked c.args.words.now)) c.perform.result _ _ c.perform.ensures.course (ap is_fault is)) is
 
 pub returns-clause-checked : goal.returns-clause-checked
-returns-clause-checked g c = λ request output cert e work is. checks c.args.words.now request output cert c.perform.result _ _ e work (answer (ending c.args.words.now) (IsReadableAsked (asked c.args.words.now)) c.perform.result _ _ c.perform.ensures.course (ap is_fault is)) is
+returns-clause-checked g c = λ request output cert e work is. checks c.args.words.now request output cert c.perform.result _ _ e work (answered (ending c.args.words.now) (IsReadableAsked (asked c.args.words.now)) c.perform.result _ _ c.perform.ensures.course (ap is_fault is)) is
 
 pub returns-clause-denied : goal.returns-clause-denied
 returns-clause-denied g c = λ request e is. denies c.args.words.now request c.perform.result _ _ e (answer (ending c.args.words.now) (IsReadableAsked (asked c.args.words.now)) c.perform.result _ _ c.perform.ensures.course (ap is_fault is)) is
 
 pub returns-clause-shown : goal.returns-clause-shown
 returns-clause-shown g c = λ request e work is. shows c.args.words.now request c.perform.result _ _ e work (answer (ending c.args.words.now) (IsReadableAsked (asked c.args.words.now)) c.perform.result _ _ c.perform.ensures.course (ap is_fault is)) is
+
+pub returns-clause-told_json : goal.returns-clause-told_json
+returns-clause-told_json g c = λ request e work is. tells c.args.words.now request c.perform.result _ _ e work (answer (ending c.args.words.now) (IsReadableAsked (asked c.args.words.now)) c.perform.result _ _ c.perform.ensures.course (ap is_fault is)) is
 
 pub returns-clause-measured : goal.returns-clause-measured
 returns-clause-measured g c = λ request e work is. measures c.args.words.now request c.perform.result _ _ e work (answered (ending c.args.words.now) (IsReadableAsked (asked c.args.words.now)) c.perform.result _ _ c.perform.ensures.course (ap is_fault is)) is
@@ -70,6 +73,9 @@ returns-clause-always_measured g c = λ request e work is. always_measures c.arg
 
 pub returns-clause-refused_page : goal.returns-clause-refused_page
 returns-clause-refused_page g c = λ request e is. refuses_page c.args.words.now request c.perform.result _ _ e (answer (ending c.args.words.now) (IsReadableAsked (asked c.args.words.now)) c.perform.result _ _ c.perform.ensures.course (ap is_fault is)) is
+
+pub returns-clause-refused_json : goal.returns-clause-refused_json
+returns-clause-refused_json g c = λ request e is. refuses_json c.args.words.now request c.perform.result _ _ e (answer (ending c.args.words.now) (IsReadableAsked (asked c.args.words.now)) c.perform.result _ _ c.perform.ensures.course (ap is_fault is)) is
 
 pub returns-clause-refused_table : goal.returns-clause-refused_table
 returns-clause-refused_table g c = λ request e is. refuses_table c.args.words.now request c.perform.result _ _ e (answer (ending c.args.words.now) (IsReadableAsked (asked c.args.words.now)) c.perform.result _ _ c.perform.ensures.course (ap is_fault is)) is

@@ -15,6 +15,11 @@ returns-in-Show-clause-ended g c = IfOk-weaker c.show.result _ _
     (λ ended e. told_ending (g.S.Store.files c.args.store.now) (work_of c.args.asked.now.work) words.shows c.args.asked.now.writing c.args.input.bytes c.args.input.table.entries c.args.input.tree ended (ap work_of c.in-Show.is) e)
     c.show.ensures.ended
 
+pub returns-in-TellJson-clause-ended : goal.returns-in-TellJson-clause-ended
+returns-in-TellJson-clause-ended g c = IfOk-weaker c.tell_json.result _ _
+    (λ ended e. told_ending (g.S.Store.files c.args.store.now) (work_of c.args.asked.now.work) words.tells_json c.args.asked.now.writing c.args.input.bytes c.args.input.table.entries c.args.input.tree ended (ap work_of c.in-TellJson.is) e)
+    c.tell_json.ensures.ended
+
 pub returns-clause-ended : goal.returns-clause-ended
 returns-clause-ended g c = IfOk-weaker c.measure.result _ _
     (λ ended e. told_ending (g.S.Store.files c.args.store.now) (work_of c.args.asked.now.work) words.measures c.args.asked.now.writing c.args.input.bytes c.args.input.table.entries c.args.input.tree ended (ap work_of c.in-Measure.is) e)

@@ -11,5 +11,5 @@ returns-in-Ok-clause-ended g c =
     let made = c.wanted.result in
     IfOk-weaker c.answer.result _ _
     (λ ended e. asked_seen told request (tree c.in-Ok.input.bytes c.in-Ok.input.table.entries c.in-Ok.input.tree) made.bytes made.table.entries made.tree ended (work_apart request.origin request.work c.requires.apart)
-    c.in-Ok.ensures.ok c.wanted.ensures.wanted (answer_before told _ request.work request.writing made.bytes made.table.entries made.tree ended c.in-Ok.ensures.same e.0) e.1)
+    c.in-Ok.ensures.ok c.wanted.ensures.wanted (answer_before told _ request.work request.writing made.bytes made.table.entries made.tree ended c.in-Ok.ensures.same e.0) (c.wanted.ensures.settled, e.1))
     (if_both c.answer.result _ _ c.answer.ensures.ended c.answer.ensures.readable)

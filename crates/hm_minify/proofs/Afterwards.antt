@@ -22,7 +22,7 @@ use Rattle.hm_words.specs.Words.{Asked, Command, Origin, Work, are_filled, are_f
 use Rattle.hm_words.specs.declared.writing.Writing.{Writing}
 use Rattle.hm_minify.specs.Endings.{certificate_ending, check_ending, checked_ending, format_of, says, tree_ending, verdict_ending, with_tree}
 use Rattle.hm_minify.specs.Inputs.{Input, missing, bad_table, bad_page, bad_json, tree as tree_input, input_of, origin_input, wanted}
-use Rattle.hm_minify.specs.Laws.{MinifiedIsChecked, judged, own_verdict, with_writes}
+use Rattle.hm_minify.specs.Laws.{MinifiedIsChecked, TreeIsChecked, judged, own_verdict, with_writes}
 use Rattle.hm_minify.specs.Lines.{yes_line}
 use Rattle.hm_minify.specs.Writes.{write}
 use Rattle.hm_minify.specs.declared.status.Status.TheVariants as status
@@ -94,6 +94,13 @@ own_ending t k x w s rows short few =
     rw (within CERTIFICATE_LIMIT (length (certificate_of t x.rules (format_of x.sparse) w)) few)
     (judged_ending (verdict t x.rules w (shortest_text t x.rules w)) (given (certificate_of t x.rules (format_of x.sparse) w)) (length (shortest_text t x.rules w)) yes)
 
+pub tree_is_checked : TreeIsChecked
+tree_is_checked q out cert work seen bytes t w reads settled sparse text lines rows short few =
+    let x : Writing = record q.writing { sparse = sparse } in
+    ap (λ y. with_tree y (tree_ending q.work q.writing seen)) reads ∙ ap (λ k. tree_ending k q.writing seen bytes t w) work
+    ∙ ap (λ o. check_ending q.writing.rules t w o (seen cert)) text ∙ ap (check_ending q.writing.rules t w (Some (shortest_text t q.writing.rules w))) lines
+    ∙ own_ending t (request_table q seen bytes t w reads) x w settled rows short few
+
 -- what is wanted doesn't depend on what is done with it
 same_wanted : (origin : Origin) (a b : Work) (options : TreeOptions) (x : Writing) (i : Input) → wanted (asks origin b options x) i ≡ wanted (asks origin a options x) i
 same_wanted origin a b options x missing = refl
@@ -113,7 +120,4 @@ minified_is_checked words origin out cert options x e seen bytes t w reads settl
     ap (origin_input origin options) (writes_mix seen out cert o c) ∙ origin_stays (is_either out cert) origin options seen (written_to cert o c) (away origin out cert apart) in
     let input : input_of (asks origin (checks out cert) options x) now ≡ tree_input bytes t w =
     ap (wanted (asks origin (checks out cert) options x)) same ∙ same_wanted origin (minifies out cert) (checks out cert) options x (origin_input origin options seen) ∙ reads in
-    ap (λ y. with_tree y (tree_ending (checks out cert) x now)) input
-    ∙ ap (λ y. check_ending x.rules t w y (now cert)) (out_there seen out cert o c (files_apart origin out cert apart))
-    ∙ ap (check_ending x.rules t w (Some o)) (cert_there seen out cert o c)
-    ∙ own_ending t (request_table q seen bytes t w reads) x w settled rows short few
+    tree_is_checked (asks origin (checks out cert) options x) out cert refl now bytes t w input settled x.sparse (out_there seen out cert o c (files_apart origin out cert apart)) (cert_there seen out cert o c) rows short few

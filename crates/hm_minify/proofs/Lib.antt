@@ -12,3 +12,4 @@ pub mod Steps
 pub mod Others
 pub mod Meanings
 pub mod Afterwards
+pub mod JsonRead

@@ -1,5 +1,5 @@
 -- What the check finds of what is written.
-use Rattle.std.specs.Prelude.{◌≡◌, ◌≤◌, ℕ, List, [], ◌∷◌, length, Some, Result, Ok, Err, bytes_eq, if◌then◌else◌}
+use Rattle.std.specs.Prelude.{◌≡◌, ◌≤◌, ℕ, Bool, List, [], ◌∷◌, length, Some, Result, Ok, Err, bytes_eq, if◌then◌else◌}
 use Rattle.hm_base.specs.Walks.{Event}
 use Rattle.hm_base.specs.declared.limits.TheConstants.{CERTIFICATE_LIMIT, OUTPUT_LIMIT}
 use Rattle.hm_cert.specs.Certificate.{AreRows}
@@ -19,7 +19,7 @@ use Rattle.hm_minify.specs.Writes.{Write}
 use Rattle.hm_minify.specs.declared.status.Status.TheVariants as status
 use Rattle.hm_store.specs.Contents.{Contents}
 use Rattle.hm_base.specs.declared.plain.TreeOptions.{TreeOptions}
-use Rattle.hm_words.specs.Words.{Origin, asked, asks, checks, minifies}
+use Rattle.hm_words.specs.Words.{Asked, Origin, asked, asks, checks, minifies}
 use Rattle.hm_words.specs.declared.writing.Writing.{Writing}
 
 -- what is found of a certificate, or its first bad line
@@ -37,6 +37,15 @@ OwnIsAccepted = (t : List Entry) → IsTable t → (x : Writing) (w : List Event
     → own_verdict x t w ≡ Ok (Yes (length (shortest_text t x.rules w)))
 
 -- ---- A check of what was minified
+
+-- Whatever gives a settled tree, a check of its shortest text and a certificate of that, of any format that is written, ends with a
+-- yes and the length of the text, where both are within the limits of a check and the prices can be written.
+abbrev pub TreeIsChecked : Type 0
+TreeIsChecked = (q : Asked) (out cert : List ℕ) → q.work ≡ checks out cert
+    → (seen : Contents) (bytes : ℕ) (t : List Entry) (w : List Event) → input_of q seen ≡ tree_input bytes t w → Settled w
+    → (sparse : Bool) → seen out ≡ Some (shortest_text t q.writing.rules w) → seen cert ≡ Some (certificate_of t q.writing.rules (format_of sparse) w)
+    → AreRows (certified_rows t q.writing.rules (format_of sparse) w) → length (shortest_text t q.writing.rules w) ≤ OUTPUT_LIMIT → length (certificate_of t q.writing.rules (format_of sparse) w) ≤ CERTIFICATE_LIMIT
+    → asked_ending q seen ≡ says status.Done (yes_line (length (shortest_text t q.writing.rules w)))
 
 -- the contents after these writes
 abbrev pub with_writes : Contents → List Write → Contents

@@ -9,12 +9,14 @@ use Rattle.hm_store.specs.Files.{AppendsFront}
 use Rattle.hm_refs.specs.Names.{Entry}
 use Rattle.hm_refs.specs.declared.fault.TableFault.{TableFault}
 use Rattle.hm_construction_laws.specs.Trees.{built, page_tree}
+use Rattle.hm_options.specs.Rewrites.{rewrite}
 use Rattle.hm_plan.specs.Shortest.{IsShortest, layer_count}
 use Rattle.hm_spelling_spec.specs.Spellings.{Shortest}
 use Rattle.hm_dump.specs.Dump.{dump_of}
+use Rattle.hm_json_tree.specs.Reading.{json_walk, walk}
 use Rattle.hm_json_tree.specs.Texts.{json_text}
 use Rattle.hm_json_tree.specs.declared.fault.JsonFault.{JsonFault}
-use Rattle.hm_minify.specs.Inputs.{bad_table, bad_page, bad_json, tree as tree_input, input_of}
+use Rattle.hm_minify.specs.Inputs.{bad_table, bad_page, bad_json, tree as tree_input, input_of, wanted_tree}
 use Rattle.hm_words.specs.Words.{Asked, checks}
 use Rattle.hm_minify.specs.Endings.{format_of, Ending, store_fault, is_fault, checked_ending, ending}
 use Rattle.hm_minify.specs.Lines.{length_line, yes_line, measured_line, refused_line, json_line, table_line, store_line}
@@ -72,6 +74,22 @@ pub record HasMinified (request : Asked) (out_name cert_name : List ℕ) (before
   pub out : List ℕ
   pub cert : List ℕ
   pub shortest : IsShortest table request.writing.rules (format_of request.writing.sparse) tree out cert
+  pub files : after.files ≡ after_writes before.files (write out_name out ∷ write cert_name cert ∷ [])
+  pub line : Prints (length_line (length out)) before after
+
+-- The JSON in a file stands for a walk. OUT and CERT hold the tree that is wanted of the rewritten walk shortest and certified, and
+-- the line says the length.
+pub record HasMinifiedJson (request : Asked) (json_name out_name cert_name : List ℕ) (before after : Outside) : Type 0 where
+  pub seen : Contents
+  pub are_told : AreTold before.files seen
+  pub table : List Entry
+  pub json : List ℕ
+  pub there : seen json_name ≡ Some json
+  pub read : List Event
+  pub reads : json_walk json ≡ walk read
+  pub out : List ℕ
+  pub cert : List ℕ
+  pub shortest : IsShortest table request.writing.rules (format_of request.writing.sparse) (wanted_tree request table (rewrite request.options read)) out cert
   pub files : after.files ≡ after_writes before.files (write out_name out ∷ write cert_name cert ∷ [])
   pub line : Prints (length_line (length out)) before after
 

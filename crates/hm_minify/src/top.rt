@@ -112,6 +112,10 @@ pub fn run<S: Store, O: Sink>(alloc: Global, words: &[Word], store: &mut S, out:
     ensures minified { (asked : Request) (output cert : List ℕ) → asked_by words.now ≡ Some asked → asked.work ≡ request.minifies output cert
         → result ≡ Status.Done → Between S.Store O.Sink store.old out.old store.new out.new (spec.HasMinified asked output cert) }
 
+    // The same of the walk that JSON stands for.
+    ensures json_minified { (asked : Request) (table json output cert : List ℕ) → asked_by words.now ≡ Some asked → asked.origin ≡ request.json_at table json → asked.work ≡ request.minifies output cert
+        → result ≡ Status.Done → Between S.Store O.Sink store.old out.old store.new out.new (spec.HasMinifiedJson asked json output cert) }
+
     // The tree that is worked on is settled, and what is written of it can be read: with it, the ending of the check on the same page is a yes (`laws::minified_is_checked`).
     ensures readable { (asked : Request) → asked_by words.now ≡ Some asked → result ≡ Status.Done
         → Sees (S.files store.old) (λ seen. endings.IsReadable asked (input_of asked seen)) }

@@ -4,6 +4,7 @@ use Rattle.hm_minify.specs.Endings.{IsReadableAsked, ending, is_fault}
 use Rattle.hm_minify.specs.Lines.{usage_line}
 use Rattle.hm_minify.specs.Outside.{outside}
 use Rattle.hm_minify.proofs.Courses.{answer, answered, complete, whole, left, store_cause, store_said, sink_cause, sink_front, memory}
+use Rattle.hm_minify.proofs.JsonRead.{json_minified}
 use Rattle.hm_minify.proofs.Meanings.{usage_answers, usage_unasked, usage_or_fault, minified, checks, denies, shows, measures, always_measures, refuses_json, refuses_page, refuses_table, tells}
 use Rattle.hm_minify.proofs.Others.{others}
 use Rattle.hm_minify.proofs.top.run.Goals as goal
@@ -52,6 +53,9 @@ returns-clause-memory g c = λ is.
 
 pub returns-clause-minified : goal.returns-clause-minified
 returns-clause-minified g c = λ request output cert e work is. minified c.args.words.now request output cert c.perform.result _ _ e work (answered (ending c.args.words.now) (IsReadableAsked (asked c.args.words.now)) c.perform.result _ _ c.perform.ensures.course (ap is_fault is)) is
+
+pub returns-clause-json_minified : goal.returns-clause-json_minified
+returns-clause-json_minified g c = λ request table json output cert e origin work is. json_minified request table json output cert _ _ origin (minified c.args.words.now request output cert c.perform.result _ _ e work (answered (ending c.args.words.now) (IsReadableAsked (asked c.args.words.now)) c.perform.result _ _ c.perform.ensures.course (ap is_fault is)) is)
 
 pub returns-clause-checked : goal.returns-clause-checked
 returns-clause-checked g c = λ request output cert e work is. checks c.args.words.now request output cert c.perform.result _ _ e work (answered (ending c.args.words.now) (IsReadableAsked (asked c.args.words.now)) c.perform.result _ _ c.perform.ensures.course (ap is_fault is)) is

@@ -80,6 +80,20 @@ fn is_front(before: &MemStore, store: &MemStore, name: &str, wanted: &Option<Vec
     }
 }
 
+/// Whether a word is the flag of a rewrite.
+fn rewrites(word: &str) -> bool {
+    [
+        "--doctype",
+        "--comments",
+        "--booleans",
+        "--empty",
+        "--redundant",
+        "--space",
+        "--conservative",
+    ]
+    .contains(&word)
+}
+
 impl Case {
     /// A case of which nothing is known yet.
     pub fn new(alloc: Global) -> Self {
@@ -246,16 +260,47 @@ impl Case {
         }
     }
 
-    /// The words of the case, with `check` in place of `minify`.
+    /// Whether the tree is given as JSON.
+    fn is_of_json(&self) -> bool {
+        self.words
+            .iter()
+            .any(|word| word.text.as_str() == "minifyjson")
+    }
+
+    /// The words of the case, with `check` in place of `minify`. Where the tree is given as JSON the page is `copy`, and nothing is
+    /// rewritten.
     fn checking(&self, alloc: Global) -> io::Result<Vec<Word>> {
+        let of_json = self.is_of_json();
         let mut words = Vec::new(alloc);
         for word in &self.words {
             let text = word.text.as_str();
-            let text = if text == "minify" { "check" } else { text };
+            if of_json && rewrites(text) {
+                continue;
+            }
+            let text = match text {
+                "minify" | "minifyjson" => "check",
+                "page" if of_json => "copy",
+                _ => text,
+            };
             let text = String::from_str(alloc, text)?;
             words.push(Word { text })?;
         }
         Ok(words)
+    }
+
+    /// Where the tree is given as JSON, puts what was written beside it as the page `copy`.
+    fn put_copy(&mut self, alloc: Global) -> io::Result<()> {
+        if !self.is_of_json() {
+            return Ok(());
+        }
+        let copy = match &self.out {
+            Some(out) => Vec::from_slice(alloc, out.as_slice())?,
+            None => Vec::new(alloc),
+        };
+        match self.store.add("copy", copy.as_slice()) {
+            Ok(()) => Ok(()),
+            Err(memory) => Err(no_memory(memory)),
+        }
     }
 
     /// The words of the case without `--sparse`, or with it where they don't have it.
@@ -276,6 +321,7 @@ impl Case {
 
     /// Whether `check` says yes to the files that are there, with as many bytes as `minify` is to say.
     fn is_checked(&mut self, alloc: Global) -> io::Result<bool> {
+        self.put_copy(alloc)?;
         let words = self.checking(alloc)?;
         let mut sink = MemSink::new(alloc);
         let status = run(alloc, words.as_slice(), &mut self.store, &mut sink);

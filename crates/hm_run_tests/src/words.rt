@@ -40,7 +40,13 @@ fn is_command(asked: &Asked<'_>, wanted: &[&str]) -> bool {
             Work::Minify { out, cert } => wanted == ["minify", table, page, out, cert].as_slice(),
             Work::Check { out, cert } => wanted == ["check", table, page, out, cert].as_slice(),
             Work::Show => wanted == ["tree", table, page].as_slice(),
+            Work::TellJson => wanted == ["json", table, page].as_slice(),
             Work::Measure => false,
+        },
+        Origin::JsonAt { table, page } => match asked.work {
+            Work::Minify { out, cert } => wanted
+                == ["minifyjson", table, page, out, cert].as_slice(),
+            _ => false,
         },
         Origin::Made {
             table,

@@ -44,7 +44,7 @@ builds() {
 
 # A repository of three crates and one that the program isn't made of. Its rt notes each call, fails in a crate with a file
 # `bad`, leaves a broken program and fails in one with a file `worse`, sleeps for the seconds that a file `slow` has, and leaves a
-# program that is there. Its program prints its words and its folder, and ends with 3. What it tries prints its words, says a
+# program that is there. It proves all crates at once where the repository has no file `lone`. Its program prints its words and its folder, and ends with 3. What it tries prints its words, says a
 # line on standard error, and ends with 3.
 repository() {
     rm -rf "$room/a place"
@@ -63,6 +63,14 @@ repository() {
 crate=$(basename "$PWD")
 echo "$1 $crate" >>"$CALLS"
 [ "$1" = try ] || echo 'rt: noise'
+if [ "$1" = all ]; then
+    [ ! -e lone ] || exit 1
+    for it in crates/*; do
+        mkdir -p "$it/out"
+        echo "== $(basename "$it")"
+    done
+    exit
+fi
 [ ! -e slow ] || sleep "$(cat slow)"
 if [ "$1" = try ]; then
     if [ -e bad ]; then
@@ -105,6 +113,26 @@ wants 'the next call builds nothing' is "$(builds)" 1
 wants 'the next call says nothing' says_nothing
 wants 'the next call: exit status' is "$status" 3
 
+repository
+for crate in 1 2 3 4 5 6 7 8 9; do
+    mkdir -p "$top/crates/hm_$crate/src"
+    echo "hm_$crate: hm_base" >>"$top/crates.txt"
+done
+sed -i 's/^hminify.*/hminify: hm_tree hm_1 hm_2 hm_3 hm_4 hm_5 hm_6 hm_7 hm_8 hm_9/' "$top/crates.txt"
+if [ "$(nproc)" -gt 1 ]; then
+    call "$top/hminify" x
+    wants 'many crates are proved side by side' is "$(tr '\n' ' ' <calls)" 'all of mine run hminify '
+    wants 'many crates: how many are proved is told' grep -q 'proved hminify (13 of 13), 0:0' err
+    wants 'many crates: output' is "$(cat out)" "<x>$room"
+    rm -r "$top"/crates/*/out
+    touch "$top/lone"
+    : >calls
+    call "$top/hminify" x
+    wants 'where that fails they are proved one by one' is "$(wc -l <calls | tr -d ' ')$(tail -n 1 calls)" '13run hminify'
+fi
+
+repository
+call "$top/hminify" tree 'a b' ''
 ln -s "$top/hminify" "$room/one"
 mkdir -p "$room/links" && ln -s ../one "$room/links/two"
 cd links || exit 1

@@ -2,9 +2,10 @@
 use hm_refs::Node;
 
 /// Where in the markup a spelling stands.
-#[derive(Clone, Copy, Debug, PartialEq, Eq)]
+#[derive(Clone, Copy, Debug, Default, PartialEq, Eq)]
 pub enum Where {
     /// Outside of tags.
+    #[default]
     Outside,
     /// Outside of tags, after an end tag of a table's section or of colgroup that was left out.
     Loose,
@@ -28,8 +29,9 @@ pub enum Where {
 
 /// What the bytes that were written may become together with those that follow. A place in the names of references is a
 /// node of the table's trie.
-#[derive(Clone, Copy, Debug, PartialEq, Eq)]
+#[derive(Clone, Copy, Debug, Default, PartialEq, Eq)]
 pub enum Pending {
+    #[default]
     Nothing,
     /// After a `<` that stands as itself.
     LessThan,
@@ -54,7 +56,8 @@ pub enum Pending {
 }
 
 /// Where a spelling stands, and what is pending there. Two states of a table that mean the same are equal.
-#[derive(Clone, Copy, Debug, PartialEq, Eq)]
+/// The default is the state before the first unit.
+#[derive(Clone, Copy, Debug, Default, PartialEq, Eq)]
 pub struct State {
     pub at: Where,
     pub pending: Pending,

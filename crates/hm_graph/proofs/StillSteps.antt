@@ -1,12 +1,14 @@
 -- Going back over steps over which no state changes its place.
-use Rattle.std.proofs.Common.{◌≡◌, ◌∙◌, ℕ, zero, suc, ◌+◌, ◌-◌, ◌*◌, ◌<◌, ◌≤◌, ◌^◌, true, List, [], ◌∷◌, length, get_or, drop, sym, ap, subst, arith, ⊎_elim}
+use Rattle.std.proofs.Common.{◌≡◌, ◌∙◌, ℕ, zero, suc, ◌+◌, ◌-◌, ◌*◌, ◌<◌, ◌≤◌, ◌^◌, true, List, [], ◌∷◌, length, get_or, drop, refl, sym, ap, subst, arith, ⊎_elim}
 use Rattle.std.proofs.Math.Nat.{mul-le-mul_left}
 use Rattle.std.proofs.lemmas.Bool.{cases_lt}
 use Rattle.std.proofs.lemmas.List.{drop_more}
 use Rattle.hm_base.specs.declared.plain.Format.{Format}
 use Rattle.hm_graph.specs.StillRuns.{AreStillOver}
-use Rattle.hm_graph.specs.Steps.{Step, leaves_out}
-use Rattle.hm_graph.specs.Still.{AreStill}
+use Rattle.hm_graph_laws.specs.Layers.{is_single}
+use Rattle.hm_graph.specs.declared.hops.Hop.{Hop}
+use Rattle.hm_graph.specs.Steps.{Step, is_forced, leaves_out}
+use Rattle.hm_graph.specs.Still.{AreStill, Stays}
 
 more_bytes : (n own len : ℕ) → len + suc n * own ≡ own + (len + n * own)
 more_bytes n own len = grind arith
@@ -47,3 +49,19 @@ low_bytes count own low = mul-le-mul_left count (omega (arith, low))
 
 pub more_low : (at front next to own len : ℕ) → next + 1 ≡ front → front ≤ at → to ≤ next → own < 2 ^ 33 → len ≤ (at - front) * 2 ^ 33 → len + (next - to + 1) * own ≤ (at - to) * 2 ^ 33
 more_low at front next to own len one before low few h = omega (arith, one, before, low, h, low_bytes (next - to + 1) own few)
+
+-- ---- A state that doesn't change its place has one hop
+
+single_of : (len place : ℕ) (hops : List Hop) → Stays len place hops → is_single hops ≡ true
+single_of len place [] stays = absurd stays
+single_of len place (h ∷ []) stays = refl
+single_of len place (h ∷ g ∷ hops) stays = absurd stays
+
+all_single : (step : Step) → ((place : ℕ) → place < length step → is_single (get_or step place []) ≡ true) → is_forced step ≡ true
+all_single [] each = refl
+all_single (hops ∷ step) each =
+    let first : is_single hops ≡ true = each 0 (omega arith) in
+    rw first (all_single step (λ place inside. each (suc place) (omega (arith, inside))))
+
+pub still_forced : (step : Step) (len : ℕ) → AreStill len step → is_forced step ≡ true
+still_forced step len still = all_single step (λ place inside. single_of len place (get_or step place []) (still place inside))

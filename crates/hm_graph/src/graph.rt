@@ -1,10 +1,9 @@
 //! The steps of a tree.
-ghost use Rattle.std.specs.Prelude.{◌≡◌, ◌+◌, ◌-◌, ◌<◌, ◌≤◌, ◌^◌, ℕ, [], true, drop, length, slice_index_or, IfSome, IsSome};
+ghost use Rattle.std.specs.Prelude.{◌≡◌, ◌+◌, ◌-◌, ◌<◌, ◌≤◌, ◌^◌, ℕ, [], true, drop, length, slice_index_or, IfSome, IsSome, IsTrue};
 ghost use Rattle.hm_graph.specs.Graphs.{IsGraph, IsLowStep, IsPlace};
 ghost use Rattle.hm_graph.specs.Kept.{kept_count};
-ghost use Rattle.hm_graph.specs.StillRuns.{AreStillOver};
-ghost use Rattle.hm_graph.specs.Steps.{leaves_out};
-ghost use Rattle.hm_graph.specs.Still.{AreStill};
+ghost use Rattle.hm_graph.specs.Still.{IsStill};
+ghost use Rattle.hm_graph.specs.StillRuns.{AreStillOver, LeavesOutStill};
 
 use crate::numbers::Run;
 use crate::step::Step;
@@ -45,16 +44,26 @@ pub struct Passed {
     pub len: u64,
 }
 
-/// The length in bytes of each hop, where no state changes its place over a step of `width` states, and the layer
-/// before it is left out in this format.
+/// Whether layers of `width` states are left out in this format where no state changes its place over the step after them.
 #[inline(always)]
-fn still_over(step: &Step, format: Format, width: usize) -> Option<u64>
-    ensures still { IfSome result (λ len. AreStill len step.now) }
+fn leaves_out_still(format: Format, width: usize) -> bool
+    ensures { IsTrue result → LeavesOutStill format width }
+{
+    match format {
+        Format::One => false,
+        Format::Two => width == 1,
+        Format::Three => true,
+    }
+}
+
+/// The length of each hop in bytes, where no state changes its place over a step of `width` states.
+#[inline(always)]
+fn still_over(step: &Step, width: usize) -> Option<u64>
+    ensures still { IfSome result (λ len. IsStill len step.now) }
     ensures width { IsSome result → length step.now ≡ width }
-    ensures out { IsSome result → leaves_out format step.now ≡ true }
     ensures low { IsLowStep step.now → IfSome result (λ len. len < 2 ^ 33) }
 {
-    if step.width() == width && step.is_left_out(format) {
+    if step.width() == width {
         step.still()
     } else {
         None
@@ -268,11 +277,14 @@ impl<'t> Graph<'t> {
         ensures low { result.len < 2 ^ 62 }
     {
         every_graph(self);
+        if !leaves_out_still(self.format, width) {
+            return Passed { front: at, len: 0 };
+        }
         let mut front = at;
         let mut len = 0;
         while front.layer > 1 {
             let next = self.back(front);
-            let own = match still_over(self.step(next), self.format, width) {
+            let own = match still_over(self.step(next), width) {
                 Some(own) => own,
                 None => return Passed { front, len },
             };
@@ -287,9 +299,10 @@ impl<'t> Graph<'t> {
     pub fn count_kept(&self) -> usize
         ensures { result ≡ kept_count self.now.source.format self.now.steps }
     {
+        let format = self.format;
         let mut count = 0;
         for run in &self.runs {
-            if !self.steps[run.number as usize].is_left_out(self.format) {
+            if !self.steps[run.number as usize].is_left_out(format) {
                 count += run.count as usize;
             }
         }

@@ -6,7 +6,7 @@ ghost use Rattle.hm_graph.specs.Layers.{HaveNodes};
 ghost use Rattle.hm_edges.specs.declared.units.Unit.TheVariants.{Character};
 ghost use Rattle.hm_graph.specs.Interned.{BeginsNoPair, Grows, IsListOf, Leads, IsStepOf, list_at, first_states, made_at, only_first};
 
-use crate::layer::{Layer, find_layer, is_state};
+use crate::layer::{Layer, States, find_layer, is_state};
 use crate::made::{Front, KnownStep, MadeStep, Reached, equal_made};
 use crate::pairs::{lone_characters, pair_of};
 use crate::plain::{Alike, PlainRow, keep, no_rows, none_alike, row_of};
@@ -15,6 +15,7 @@ use crate::step::Step;
 use hm_base::Memory;
 use hm_edges::{Pending, State, TextKind, Unit, Where};
 use hm_refs::Table;
+use smallvec::SmallVec;
 use std::alloc::Global;
 use std::collections::HashMap;
 use std::marker::Model;
@@ -31,7 +32,7 @@ pub(crate) struct Interned<'t> {
     alloc: Global,
     table: &'t Table,
     rules: EdgeRules,
-    lists: Vec<Vec<State>>,
+    lists: Vec<States>,
     steps: Vec<MadeStep>,
     /// The steps of lists and units that were asked for.
     memo: Vec<KnownStep>,
@@ -130,7 +131,7 @@ fn are_same(one: &[State], other: &[State]) -> bool
 }
 
 /// The place of a list with just these states, where it is one of the first lists.
-fn number_of(lists: &[Vec<State>], states: &[State]) -> Option<u32>
+fn number_of(lists: &[States], states: &[State]) -> Option<u32>
     ensures there { IfSome result (λ k. k < length lists.now) }
     ensures list { IfSome result (HoldsAt (λ l. l.items ≡ states.now) lists.now) }
 {
@@ -146,10 +147,10 @@ fn number_of(lists: &[Vec<State>], states: &[State]) -> Option<u32>
 }
 
 /// The list of the state before the first unit.
-fn first_lists(alloc: Global) -> Result<Vec<Vec<State>>, Memory>
+fn first_lists(alloc: Global) -> Result<Vec<States>, Memory>
     ensures { IfOk result (λ lists. map (λ l. l.items) lists.items ≡ first_states ∷ []) }
 {
-    let mut states = Vec::new(alloc);
+    let mut states = SmallVec::new(alloc);
     states.push(State {
         at: Where::Outside,
         pending: Pending::Nothing,
@@ -304,7 +305,7 @@ impl<'t> Interned<'t> {
     }
 
     /// The number of a list with these states: of an earlier one, or of one that is added.
-    fn list_of(&mut self, states: Vec<State>) -> Result<u32, Memory>
+    fn list_of(&mut self, states: States) -> Result<u32, Memory>
         requires { HaveNodes self.old.table states.items }
         ensures list { IfOk result (IsListOf self.new states.items) }
         ensures kept { Grows self.old self.new }

@@ -12,7 +12,11 @@ use crate::rules::EdgeRules;
 use hm_base::Memory;
 use hm_edges::{Edge, State, Unit, find_edges, piece_len};
 use hm_refs::Table;
+use smallvec::SmallVec;
 use std::alloc::Global;
+
+/// The states of a layer. Up to four lie in the value itself: few layers of pages have more.
+pub(crate) type States = SmallVec<State, 4>;
 
 /// Whether the two are equal.
 pub(crate) fn is_state(one: &State, other: &State) -> bool
@@ -34,7 +38,7 @@ fn place_in(states: &[State], state: &State) -> Option<usize>
 }
 
 /// The place of a state among these. It is added at the end where it isn't one of them.
-fn place(states: &mut Vec<State>, state: &State) -> Result<usize, Memory>
+fn place(states: &mut States, state: &State) -> Result<usize, Memory>
     ensures { (v : TableView) → HaveNodes v states.old.items → HasNodes v state.now.pending → IfOk result (IsPlaced v state.now states.old.items states.new.items) }
 {
     if let Some(place) = place_in(states.as_slice(), state) {
@@ -46,7 +50,7 @@ fn place(states: &mut Vec<State>, state: &State) -> Result<usize, Memory>
 }
 
 /// The hop of an edge of the unit. Its end is added to the next layer's states, where it isn't one of them.
-fn hop_of(table: &Table, unit: Unit, edge: &Edge, behind: &mut Vec<State>) -> Result<Hop, Memory>
+fn hop_of(table: &Table, unit: Unit, edge: &Edge, behind: &mut States) -> Result<Hop, Memory>
     requires edge { IsOfTable table.now edge.now }
     requires nodes { HaveNodes table.now behind.old.items }
     ensures { IfOk result (IsHop table.now unit edge.now behind.old.items behind.new.items) }
@@ -66,7 +70,7 @@ fn hops_of(
     table: &Table,
     unit: Unit,
     edges: &[Edge],
-    behind: &mut Vec<State>,
+    behind: &mut States,
 ) -> Result<Vec<Hop>, Memory>
     requires edges { AreOfTable table.now edges.now }
     requires nodes { HaveNodes table.now behind.old.items }
@@ -83,7 +87,7 @@ fn hops_of(
 #[derive(Drop)]
 pub(crate) struct Layer {
     pub(crate) hops: Vec<Vec<Hop>>,
-    pub(crate) behind: Vec<State>,
+    pub(crate) behind: States,
 }
 
 /// The edges of a unit from a state.
@@ -114,7 +118,7 @@ pub(crate) fn find_layer(
     requires { HaveNodes table.now from.now }
     ensures { IfOk result (λ layer. IsLayer table.now rules unit from.now layer.behind.items (map (λ hops. hops.items) layer.hops.items)) }
 {
-    let mut behind = Vec::new(alloc);
+    let mut behind = SmallVec::new(alloc);
     let mut hops = Vec::new(alloc);
     for state in from {
         let edges = edges_from(alloc, table, rules, unit, *state)?;

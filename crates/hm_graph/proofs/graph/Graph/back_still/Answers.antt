@@ -1,7 +1,6 @@
-use Rattle.std.proofs.Common.{refl, ap, ◌∙◌, ◌≡◌, ◌<◌, ◌+◌, ◌-◌, ◌^◌, ℕ, drop, sym, subst, arith}
+use Rattle.std.proofs.Common.{refl, ◌≡◌, ◌<◌, ◌+◌, ◌-◌, ◌^◌, ℕ, drop, sym, subst, arith}
 use Rattle.hm_graph.specs.Graphs.{IsLowStep}
-use Rattle.hm_graph.specs.Steps.{leaves_out}
-use Rattle.hm_graph.specs.StillRuns.{AreStillOver}
+use Rattle.hm_graph.specs.StillRuns.{AreStillOver, LeavesOutStill}
 use Rattle.hm_graph.proofs.Low.{low_step}
 use Rattle.hm_graph.proofs.StillSteps.{back_over, more_low}
 use Rattle.hm_graph.proofs.graph.Graph.back_still.Goals as goal
@@ -38,12 +37,13 @@ loop-front-preserved c =
     let to : ℕ = c.back_alike-front.result.layer in
     let one : next + 1 ≡ l.front.layer = omega (arith, c.back-next.ensures.layer, c.loop-front-test.true) in
     let few : c.in-Some.own < 2 ^ 33 = c.in-Some.ensures.low (subst IsLowStep (sym c.step.ensures) (low_step c.args.self.now.steps next c.every_graph.ensures.graph.low)) in
+    let out : LeavesOutStill c.args.self.now.source.format c.args.width = subst (λ g. LeavesOutStill g.source.format c.args.width) c.self.view_is (c.if-not-leaves_out_still.ensures refl) in
     record {
       place = c.back_alike-front.ensures.place;
       low = omega (arith, one, l.invariant.low, c.back_alike-front.ensures.layer.0);
       first = λ some. omega (arith, c.back-next.ensures.layer, c.loop-front-test.true, c.back_alike-front.ensures.layer.1);
       still =
           back_over c.args.self.now.source.format c.args.self.now.steps c.args.at.layer l.front.layer next to c.args.width c.in-Some.own l.len c.step.result.now c.step.ensures one l.invariant.low c.requires.within c.back_alike-front.ensures.layer.0
-          c.back_alike-front.ensures.alike (c.in-Some.ensures.width refl) (ap (λ g. leaves_out g.source.format c.step.result.now) (sym c.self.view_is) ∙ c.in-Some.ensures.out refl) c.in-Some.ensures.still l.invariant.still;
+          c.back_alike-front.ensures.alike (c.in-Some.ensures.width refl) (out c.step.result.now c.in-Some.own c.in-Some.ensures.still (c.in-Some.ensures.width refl)) c.in-Some.ensures.still.1 l.invariant.still;
       bytes = more_low c.args.at.layer l.front.layer next to c.in-Some.own l.len one l.invariant.low c.back_alike-front.ensures.layer.0 few l.invariant.bytes;
     }

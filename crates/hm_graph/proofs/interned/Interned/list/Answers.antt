@@ -8,5 +8,5 @@ pub returns-clause-nodes : goal.returns-clause-nodes
 returns-clause-nodes c =
     let inside : c.args.list < length (map (λ l. l.items) c.self.inside.lists.items) = subst (λ m. c.args.list < length m.lists) (sym c.self.view_is) c.requires in
     let read : c.as_slice.result.now ≡ list_at c.args.self.now c.args.list =
-    c.as_slice.ensures.value ∙ memo_at (λ l. l.items) c.self.inside.lists.items c.args.list c.index.result.now [] inside c.index.ensures ∙ ap (λ m. list_at m c.args.list) c.self.view_is in
+    c.as_slice.ensures ∙ memo_at (λ l. l.items) c.self.inside.lists.items c.args.list c.index.result.now [] inside c.index.ensures ∙ ap (λ m. list_at m c.args.list) c.self.view_is in
     subst (HaveNodes c.args.self.now.table) (sym read) (subst (λ m. HaveNodes m.table (list_at m c.args.list)) c.self.view_is (c.self.invariant.0.nodes c.args.list))

@@ -10,7 +10,7 @@ pub returns-in-Some-clause-list : goal.returns-in-Some-clause-list
 returns-in-Some-clause-list c =
     subst (λ m. IsListOf m c.args.states.items c.in-Some.number) c.self.view_is
     (seen_there (λ l. l.items) c.self.inside.table.now c.self.inside.rules c.self.inside.lists.items c.as_slice.result.now c.self.inside.steps.items c.args.states.items c.as_slice-2.result.now c.in-Some.number c.args.states
-    c.as_slice.ensures.value c.as_slice-2.ensures.value c.in-Some.ensures.there (c.in-Some.ensures.list c.args.states))
+    c.as_slice.ensures.value c.as_slice-2.ensures c.in-Some.ensures.there (c.in-Some.ensures.list c.args.states))
 
 pub invariant_of-self-2 : goal.invariant_of-self-2
 invariant_of-self-2 c =

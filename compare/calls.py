@@ -1,8 +1,8 @@
 #!/usr/bin/env python3
 """calls.py [PROGRAM]: each call on the system fails in turn.
 
-Runs PROGRAM (`crates/hminify/out/hminify` where none is named) under strace on a small page, with and without a table file, and has
-each call that it makes to open, read, write and close a file fail in turn, with ENOSPC, EIO, EINTR and EAGAIN. The run has to end so:
+Runs PROGRAM (`crates/hminify/out/hminify` where none is named) under strace on a small page and on a tree as JSON, with and without a
+table file, and has each call that it makes to open, read, write and close a file fail in turn, with ENOSPC, EIO, EINTR and EAGAIN. The run has to end so:
 
 - a file that isn't opened or read: status 5, `store fault`, no file changed;
 - OUT or CERT not opened or written: status 5, `store fault`, OUT as before or a prefix of what is right, CERT as before unless OUT
@@ -25,7 +25,8 @@ HERE = os.path.dirname(os.path.abspath(__file__))
 BUILT = os.path.join(HERE, "../crates/hminify/out/hminify")
 FLAGS = ["--omit", "--unquote"]
 TABLE = b'{"&lt;":{"codepoints":[60]},"&lt":{"codepoints":[60]}}'
-BEFORE = {"table": TABLE, "page": b"<!doctype html><p>a&#60;b</p>", "out": b"before " * 99, "cert": b"before, too " * 99}
+TREE = b'[["doctype","plain"],["start","html",[]],["start","head",[]],["end"],["start","body",[]],["text","a<b"],["end"],["end"]]'
+BEFORE = {"table": TABLE, "tree": TREE, "page": b"<!doctype html><p>a&#60;b</p>", "out": b"before " * 99, "cert": b"before, too " * 99}
 ERRORS = ["ENOSPC", "EIO", "EINTR", "EAGAIN"]
 KINDS = ["openat", "read", "write", "close"]
 
@@ -90,9 +91,11 @@ def main():
         folder = os.path.join(top, "files")
         os.mkdir(folder)
         written = None
-        for words in (["minify", "table"], ["check", "table"], ["minify", "none"], ["tree", "table"]):
+        for words in ("minify table", "check table", "minify none", "tree table", "json table", "minifyjson table"):
+            words = words.split()
             before = BEFORE if words[0] != "check" else written
-            words = words + (["page"] if words[0] == "tree" else ["page", "out", "cert"]) + FLAGS
+            page = "tree" if words[0] == "minifyjson" else "page"
+            words = words + [page] + ([] if words[0] in ("tree", "json") else ["out", "cert"]) + FLAGS
             *plain, lines = ended(program, words, before, folder)
             plain = tuple(plain)
             written = written or plain[2]

@@ -234,7 +234,7 @@ def put(path, data):
     """Writes a text, or the pieces of a long one, and gives the number of its bytes."""
     size = 0
     with open(path, "wb") as file:
-        for piece, times in data if isinstance(data, list) else [(data, 1)]:
+        for piece, times in [(data, 1)] if isinstance(data, bytes) else data:
             size += len(piece) * times
             whole, rest = divmod(times, max(1, 65536 // max(1, len(piece))))
             block = piece * ((times - rest) // whole) if whole else b""

@@ -1,13 +1,15 @@
 #!/usr/bin/env python3
-"""speed.py [--program PROGRAM] [--peer COMMAND] [--runs N] [NAME=FILE ..]: time and memory of hminify and a peer.
+"""speed.py [--program PROGRAM] [--peer COMMAND] [--runs N] [--json] [--size N] [NAME=FILE ..]: time and memory of hminify and a peer.
 
-Each FILE is a page that hminify takes; what stands in its body is repeated until the page has 4 MB. On each page
+Each FILE is a page that hminify takes; what stands in its body is repeated until the page has 4 MB (or N bytes). On each page
 `minify none PAGE OUT CERT --omit --unquote --space`, `check` with the same words, both with `--sparse` too, `tree none PAGE` and
 the peer (tdewolff's `minify`, its defaults) run by turns, N times (15 where nothing is said), with their output in files of a temporary folder.
 Printed are megabytes of the page a second: by the processor time of the run (user and system, of all its threads), which
 other work on the machine disturbs less, and by the wall's clock, median and best of the runs; and the peak of memory in
 bytes for a byte of the page. A peak can't be less than that of this script, some 3 bytes a byte. PROGRAM is
-`crates/hminify/out/hminify` where none is named; `--peer none` leaves the peer out. Without a FILE there are five documents
+`crates/hminify/out/hminify` where none is named; `--peer none` leaves the peer out. With `--json` there is no peer, and `json` and `minifyjson`
+run beside `minify`; for `minifyjson` all is told for the bytes of the JSON. In "reading alone" the tree breaks a rule after its last event, so
+that it is read and judged, and nothing is written. Without a FILE there are five documents
 of Debian's packages, and a made page of long values. Needs Linux and the standard library of Python 3.9 or later.
 """
 import argparse
@@ -38,7 +40,7 @@ WORDS = ("a view of the old harbour in the morning, with boats on their way out;
 PACKAGES = "python-django-doc anarchism developers-reference apache2-doc erlang-doc"
 
 
-def repeated(source, target):
+def repeated(source, target, least):
     """Writes the page with its body repeated, and gives the number of its bytes."""
     with open(source, "rb") as file:
         page = file.read()
@@ -51,19 +53,19 @@ def repeated(source, target):
     size = len(front) + len(behind)
     with open(target, "wb") as file:
         file.write(front)
-        while size < SIZE:
+        while size < least:
             file.write(body)
             size += len(body)
         file.write(behind)
     return size
 
 
-def long_values(target):
+def long_values(target, least):
     """Writes a page of figures whose attributes have values of some 300 bytes of words each, and gives the number of its bytes."""
     choose = random.Random(7)
     parts = ["<!DOCTYPE html>\n<html>\n<head>\n<title>Figures</title>\n</head>\n<body>\n"]
     size = len(parts[0])
-    while size < SIZE:
+    while size < least:
         alt, title = (" ".join(choose.choice(WORDS) for _ in range(choose.randint(30, 90))) for _ in range(2))
         parts.append('<p><img src="figures/%d.png" alt="%s" title="%s"></p>\n' % (len(parts), alt, title))
         size += len(parts[-1])
@@ -76,8 +78,8 @@ def long_values(target):
 class Call:
     """A command with the runs that it had."""
 
-    def __init__(self, name, words, output):
-        self.name, self.words, self.output = name, words, output
+    def __init__(self, name, words, output, reads=None, status=0):
+        self.name, self.words, self.output, self.reads, self.status = name, words, output, reads, status
         self.wall, self.processor, self.peak = [], [], 0
 
     def run(self, folder):
@@ -88,7 +90,7 @@ class Call:
             _, status, usage = os.wait4(child.pid, 0)
             self.wall.append(time.perf_counter() - begun)
         child.returncode = os.waitstatus_to_exitcode(status)
-        if child.returncode != 0:
+        if child.returncode != self.status:
             with open(os.path.join(folder, "stdout"), "rb") as out:
                 said = out.read(200).decode("utf-8", "replace")
             raise SystemExit("%s: status %d, %s" % (" ".join(self.words), child.returncode, said.strip()))
@@ -96,6 +98,9 @@ class Call:
         self.peak = max(self.peak, usage.ru_maxrss * 1024)
 
     def line(self, page, size, folder):
+        if self.reads:
+            size = os.path.getsize(os.path.join(folder, self.reads))
+            page = "JSON of %s, %d bytes" % (page.split(",")[0], size)
         def speeds(times):
             return "%.1f | %.1f" % tuple(size / 1e6 / t for t in (statistics.median(times), min(times)))
         written = "+".join(str(os.path.getsize(os.path.join(folder, name))) for name in self.output) or "-"
@@ -117,18 +122,42 @@ def calls(program, peer):
     return found
 
 
+def json_calls(program):
+    """The commands of a tree as JSON beside `minify`."""
+    found = [it for it in calls(program, None) if it.words[1] == "minify"]
+    found.append(Call("json", [program, "json", "none", "page.html"], []))
+    for name, output, more in [("minifyjson", ["out4.html", "cert4"], []), ("minifyjson --sparse", ["out5.html", "cert5"], ["--sparse"])]:
+        found.append(Call(name, [program, "minifyjson", "none", "tree", *output, *more, *FLAGS], output, "tree"))
+    found.append(Call("reading alone", [program, "minifyjson", "none", "broken", "out6.html", "cert6"], [], "broken", 8))
+    return found
+
+
+def put_trees(program, folder):
+    """The page's tree as JSON, and the same with a text behind its last event."""
+    tree, broken = os.path.join(folder, "tree"), os.path.join(folder, "broken")
+    with open(tree, "wb") as file:
+        subprocess.run([program, "json", "none", "page.html"], cwd=folder, stdout=file, check=True)
+    shutil.copyfile(tree, broken)
+    with open(broken, "r+b") as file:
+        file.seek(-2, os.SEEK_END)
+        file.write(b',["text","x"]]\n')
+
+
 def main():
     parser = argparse.ArgumentParser()
     parser.add_argument("--program", default=BUILT)
     parser.add_argument("--peer", default="minify")
     parser.add_argument("--runs", type=int, default=15)
+    parser.add_argument("--json", action="store_true")
+    parser.add_argument("--size", type=int, default=SIZE)
     parser.add_argument("documents", nargs="*", metavar="NAME=FILE")
     given = parser.parse_args()
     program = os.path.abspath(given.program)
     if not os.access(program, os.X_OK):
         raise SystemExit("no program %s: ./hminify --build makes it" % program)
-    peer = None if given.peer == "none" else shutil.which(given.peer)
-    if given.peer != "none" and peer is None:
+    wants_peer = given.peer != "none" and not given.json
+    peer = shutil.which(given.peer) if wants_peer else None
+    if wants_peer and peer is None:
         raise SystemExit("no %s: apt-get install minify, or say --peer none" % given.peer)
     documents = dict(word.split("=", 1) for word in given.documents) or dict(DOCUMENTS, **{"long values": None})
     for path in documents.values():
@@ -144,8 +173,10 @@ def main():
     for name, path in documents.items():
         with tempfile.TemporaryDirectory(prefix="hminify-speed-") as folder:
             target = os.path.join(folder, "page.html")
-            size = repeated(path, target) if path else long_values(target)
-            turns = calls(program, peer)
+            size = repeated(path, target, given.size) if path else long_values(target, given.size)
+            if given.json:
+                put_trees(program, folder)
+            turns = json_calls(program) if given.json else calls(program, peer)
             for _ in range(given.runs):
                 for call in turns:
                     call.run(folder)

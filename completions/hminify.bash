@@ -20,7 +20,7 @@ _hminify() {
         return
     fi
     case $command,$names in
-        ,0) mapfile -t COMPREPLY < <(compgen -W 'minify check tree measure' -- "$word") ;;
+        ,0) mapfile -t COMPREPLY < <(compgen -W 'minify check tree json minifyjson measure' -- "$word") ;;
         minify,1) mapfile -t COMPREPLY < <(compgen -W 'none' -- "$word"; compgen -f -- "$word") ;;
         minify,2) mapfile -t COMPREPLY < <(compgen -f -- "$word") ;;
         minify,3) mapfile -t COMPREPLY < <(compgen -f -- "$word") ;;
@@ -31,6 +31,12 @@ _hminify() {
         check,4) mapfile -t COMPREPLY < <(compgen -f -- "$word") ;;
         tree,1) mapfile -t COMPREPLY < <(compgen -W 'none' -- "$word"; compgen -f -- "$word") ;;
         tree,2) mapfile -t COMPREPLY < <(compgen -f -- "$word") ;;
+        json,1) mapfile -t COMPREPLY < <(compgen -W 'none' -- "$word"; compgen -f -- "$word") ;;
+        json,2) mapfile -t COMPREPLY < <(compgen -f -- "$word") ;;
+        minifyjson,1) mapfile -t COMPREPLY < <(compgen -W 'none' -- "$word"; compgen -f -- "$word") ;;
+        minifyjson,2) mapfile -t COMPREPLY < <(compgen -f -- "$word") ;;
+        minifyjson,3) mapfile -t COMPREPLY < <(compgen -f -- "$word") ;;
+        minifyjson,4) mapfile -t COMPREPLY < <(compgen -f -- "$word") ;;
         measure,1) mapfile -t COMPREPLY < <(compgen -W 'none' -- "$word"; compgen -f -- "$word") ;;
     esac
 }

@@ -1,11 +1,11 @@
 #!/usr/bin/env python3
-"""Compares each table of flags and commands with the flags that the program reads, and makes the completions.
+"""Compares each table of flags, commands and exit statuses with those of the program, and makes the completions.
 
     python3 tests/flags.py            prints each difference, and then ends with 1
     python3 tests/flags.py --write    makes completions/ anew from the table of flags
 
-The flags are those of the definitions of hm_words. What a completion says of a flag or a command is what the README says
-of it. Where all is well one line is printed."""
+Flags and commands are those of the definitions of hm_words, statuses and the usage line those of hm_minify. What a completion says
+of a flag or a command is what the README says of it. Where all is well one line is printed."""
 import re
 import shutil
 import subprocess
@@ -68,6 +68,27 @@ def program_flags():
     if len(most) < 8:
         fault('crates/hm_words/specs', f'no table of flags; the longest list is {most}')
     return ['--' + it for it in most]
+
+
+def program_commands():
+    """The commands of hm_words, by the rows of their table."""
+    found = re.findall(r'^\s+(?:∷ )?command_row \(codes "([a-z]+)"\)', read('crates/hm_words/specs/Words.antt'), re.M)
+    if not found:
+        fault('crates/hm_words/specs/Words.antt', 'no table of commands')
+    return found
+
+
+def program_statuses():
+    """The exit statuses of hm_minify."""
+    return sorted(re.findall(r'^code_of \w+ = (\d+)$', read('crates/hm_minify/specs/Codes.antt'), re.M), key=int)
+
+
+def usage_line():
+    """The line that is printed for words without a meaning."""
+    found = re.search(r'^usage_line = codes "([^"]*)"', read('crates/hm_minify/specs/Lines.antt'), re.M)
+    if found is None:
+        fault('crates/hm_minify/specs/Lines.antt', 'no usage line')
+    return found[1] if found else ''
 
 
 # ---- What the documents say
@@ -148,10 +169,14 @@ def try_documents(flags):
     for place, told in [('README.md', {k: v[0] for k, v in readme_commands().items()}), ('docs/hminify.1', manual_commands())]:
         if told != commands:
             fault(place, f'the commands are {told}, in docs/BEHAVIOUR.md {commands}')
-    wanted = statuses('docs/BEHAVIOUR.md', r'^\| (\d) \|')
-    for path, pattern in [('README.md', r'^\| ([\d, ]+) \|'), ('docs/hminify.1', r'^\.It (\d+)$')]:
+    try_names('docs/BEHAVIOUR.md', list(commands), program_commands())
+    for path in ['docs/BEHAVIOUR.md', 'tests/statuses.sh']:
+        if usage_line() not in ' '.join(read(path).split()):
+            fault(path, f'no usage line {usage_line()!r}')
+    wanted = program_statuses()
+    for path, pattern in [('docs/BEHAVIOUR.md', r'^\| (\d) \|'), ('README.md', r'^\| ([\d, ]+) \|'), ('docs/hminify.1', r'^\.It (\d+)$')]:
         if (told := statuses(path, pattern)) != wanted:
-            fault(path, f'the exit statuses are {told}, in docs/BEHAVIOUR.md {wanted}')
+            fault(path, f'the exit statuses are {told}, those of the program {wanted}')
 
 
 # ---- The completions
@@ -264,8 +289,9 @@ def try_offers(flags):
         for words, wanted in [([''], list(commands)), (['--'], flags), (['tree', flags[0], '--'], flags[1:])]:
             if (offered := offers(*words)) != wanted:
                 fault('completions/hminify.bash', f'after {words} it offers {offered}, wanted {wanted}')
-        if offers('minify', 'none', 'VER') != ['VERSION']:
-            fault('completions/hminify.bash', 'PAGE offers no file')
+        for command in ['minify', 'minifyjson']:
+            if offers(command, 'none', 'VER') != ['VERSION']:
+                fault('completions/hminify.bash', f'PAGE of {command} offers no file')
         if 'none' not in offers(flags[0], 'tree', 'no'):
             fault('completions/hminify.bash', 'TABLE offers no word')
     if shutil.which('zsh'):

@@ -48,7 +48,8 @@ fill() {
 
 right_out='<!doctype html><p>a<p>b|'
 right_cert=$(printf 'html-cert 2\nrules omit unquote\n23\n8\n8\n8\n8\n4\n0\n0\n0\n0\n|')
-usage='usage: hminify minify or check TABLE PAGE OUT CERT, tree TABLE PAGE, measure TABLE NUMBER SIZE'
+json='[["doctype","plain"],["start","html",[]],["start","head",[]],["end"],["start","body",[]],["start","p",[]],["text","a"],["end"],["start","p",[]],["text","b"],["end"],["end"],["end"]]'
+usage='usage: hminify minify, check or minifyjson TABLE PAGE OUT CERT, tree or json TABLE PAGE, measure TABLE NUMBER SIZE'
 
 printf '<!doctype html><p>a</p><p>b</p>' >page
 printf '<!doctype html><p>a</i>' >wrong
@@ -67,8 +68,19 @@ ends 'a page that is refused' 3 'page refused: StrayEnd at 19' minify none wrong
 ends 'a table that is refused' 4 'table refused: NotObject' minify table page out cert --omit --unquote
 ends 'no page' 5 'store fault' minify none absent out cert --omit --unquote
 ends 'OUT in no folder' 5 'store fault' minify none page absent/out cert --omit --unquote
+ends 'json' 0 "$json" json none page
+printf '%s\n' "$json" >tree
+printf '[["doctype","plain"],["start","html",[]],["end"]]' >unsettled
+ends 'JSON that is refused' 8 'json refused: NotSettled event 2 point 2' minifyjson none unsettled out cert --omit --unquote
+ends 'no JSON' 5 'store fault' minifyjson none absent out cert --omit --unquote
 same 'after all of these: OUT' "$(bytes out)" "$right_out"
 same 'after all of these: CERT' "$(bytes cert)" "$right_cert"
+
+head -c 5000 /dev/zero >out
+head -c 5000 /dev/zero >cert
+ends 'minifyjson' 0 'length 23' minifyjson none tree out cert --omit --unquote
+same 'minifyjson: OUT' "$(bytes out)" "$right_out"
+same 'minifyjson: CERT' "$(bytes cert)" "$right_cert"
 
 # A full device: OUT and CERT are whole all the same.
 if [ -c /dev/full ]; then
@@ -103,6 +115,16 @@ fill '<!doctype html>' 16777201 a >large
 ends 'a page of 16,777,216 bytes' 0 'length 16777255' minify none large out cert
 fill '<!doctype html>' 16777202 a >large
 ends 'a page of 16,777,217 bytes' 3 'page refused: TooLong at 16777216' minify none large out cert
+printf '[' >large
+fill '' 67108862 ' ' >>large
+printf ']' >>large
+ends 'JSON of 67,108,864 bytes' 8 'json refused: NotSettled event 0 point 1' minifyjson none large out cert
+printf ' ' >>large
+ends 'JSON of 67,108,865 bytes' 8 'json refused: TooLong' minifyjson none large out cert
+{ fill '' 127 '[' && fill '' 127 ']'; } >large
+ends 'JSON that nests 127 deep' 8 'json refused: BadEvent event 0' minifyjson none large out cert
+{ fill '' 128 '[' && fill '' 128 ']'; } >large
+ends 'JSON that nests 128 deep' 8 'json refused: NotJson' minifyjson none large out cert
 for time in once twice; do
     ends "the greatest page that is made, $time" 0 'page 631773 output 704307 layers 325137 yes' measure none 7 20000
 done

@@ -53,6 +53,9 @@ skip() {
     echo "skipped $1"
 }
 
+# The recipes that are scripts.
+names='minify-page in-place in-place-all minify-tree check-tree precompress check-page check-all configure-pages'
+
 # Writes each block of the page that has a name into the file of that name.
 recipes() {
     awk '
@@ -60,7 +63,8 @@ recipes() {
         /^```[a-z]+ / { name = $2; next }
         name != "" { print >name }
     ' "$here/docs/USE.md"
-    chmod +x minify-page in-place in-place-all precompress check-page check-all configure-pages
+    # shellcheck disable=SC2086 # the names are words
+    chmod +x $names
 }
 
 refused='<!DOCTYPE HTML PUBLIC "-//W3C//DTD HTML 4.01//EN"><p>an old page</p>'
@@ -150,6 +154,25 @@ of mine.html'
     wants 'in place: and keeps the pages' diff -r before public
 }
 
+try_tree() {
+    project
+    hminify json none site/sub/two.html >two.json
+    call ./minify-tree two.json public/two.html
+    wants 'a tree: is written' is "$status" 0
+    wants 'a tree: what is shipped' is "$(cat public/two.html)" '<!doctype html><ul><li>a<li>b</ul>'
+    call ./check-tree public/two.html.cert
+    wants 'a tree: its certificate holds' is "$status" 0
+    printf '<!doctype html><ul><li>a</li><li>b</ul>' >public/two.html
+    call ./check-tree public/two.html.cert
+    wants 'a tree: a longer text is found' is "$status" 1
+    wants 'a tree: and named' says 'public/two.html: no 7 output 39 bytes, first price 34 (status 1)'
+    printf '[["doctype","plain"],["end"]]' >two.json
+    call ./minify-tree two.json public/two.html
+    wants 'a tree: one that is none stops it' is "$status" 1
+    wants 'a tree: and that is said' says 'two.json: json refused: BadEvent event 1 (status 8)'
+    wants 'a tree: no certificate is left' is "$(find public -type f)" public/two.html
+}
+
 try_compressed() {
     project
     ./minify-page site/index.html public/index.html
@@ -177,11 +200,13 @@ if has make; then try_build make 'Nothing to be done' 2 make -j2; else skip 'mak
 if has ninja; then try_build ninja 'no work to do' 1 ninja; else skip 'ninja: not installed'; fi
 try_checks
 try_in_place
+try_tree
 try_compressed
 try_action
 project
 if has shellcheck; then
-    call shellcheck minify-page in-place in-place-all precompress check-page check-all configure-pages
+    # shellcheck disable=SC2086 # the names are words
+    call shellcheck $names
     wants 'the recipes for shellcheck' is "$status" 0
 else
     skip 'shellcheck: not installed'

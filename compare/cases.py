@@ -3,7 +3,8 @@
 
 `hm_cases` runs them in memory; here each is a call of PROGRAM (`crates/hminify/out/hminify` where none is named) in a folder of
 its own, and status, printed bytes and the files afterwards are compared. No other file may be there afterwards, and table and
-page must be as they were. Prints how many cases there are and how many differ, with their names, and ends with 1 where one
+page must be as they were. Each page that is minified is also told as JSON by `json`, and that is minified by `minifyjson`: OUT, CERT and
+what is printed have to be the same. Prints how many cases there are and how many differ, with their names, and ends with 1 where one
 does. Needs the standard library of Python 3.9 or later.
 """
 import os
@@ -52,6 +53,12 @@ def cases(lines):
             yield case
 
 
+def put(folder, files):
+    for name, content in files.items():
+        with open(os.path.join(folder, name), "wb") as file:
+            file.write(content)
+
+
 def files_in(folder):
     """The files of a folder, by name."""
     found = {}
@@ -64,9 +71,7 @@ def files_in(folder):
 def differs(program, case):
     """What differs, where something does."""
     with tempfile.TemporaryDirectory() as folder:
-        for name, content in case["before"].items():
-            with open(os.path.join(folder, name), "wb") as file:
-                file.write(content)
+        put(folder, case["before"])
         run = subprocess.run([program] + case["words"], cwd=folder, capture_output=True, check=False)
         wanted = {name: content for name, content in case["before"].items() if name in ("table", "page")}
         wanted.update(case["after"])
@@ -79,18 +84,32 @@ def differs(program, case):
         return None
 
 
+def by_json(program, case):
+    """The case by way of JSON, where it is that of a page that is minified: the page is the JSON of its tree."""
+    if "minify" not in case["words"] or case["status"] != 0:
+        return []
+    names = [word for word in case["words"] if not word.startswith("-")]
+    with tempfile.TemporaryDirectory() as folder:
+        put(folder, case["before"])
+        told = subprocess.run([program, "json", *names[1:3]], cwd=folder, stdout=subprocess.PIPE, check=False).stdout
+    words = ["minifyjson" if word == "minify" else word for word in case["words"]]
+    return [dict(case, name=case["name"] + ", by way of JSON", words=words, before=dict(case["before"], **{names[2]: told}))]
+
+
 def main():
     program = os.path.abspath(sys.argv[1] if len(sys.argv) > 1 else BUILT)
     with open(os.path.join(DATA, "cases.txt"), encoding="utf-8", newline="\n") as file:
         lines = file.read().split("\n")
-    count = bad = 0
+    count = told = bad = 0
     for case in cases(lines):
+        ways = by_json(program, case)
         count += 1
-        found = differs(program, case)
-        if found:
-            bad += 1
-            print(f"{case['name']}: {found}")
-    print(f"{count} cases, {bad} differ")
+        told += len(ways)
+        for way in [case, *ways]:
+            if found := differs(program, way):
+                bad += 1
+                print(f"{way['name']}: {found}")
+    print(f"{count} cases, {told} of them by way of JSON too, {bad} differ")
     return 1 if bad else 0
 
 

@@ -1,6 +1,7 @@
 #!/bin/sh
 # Takes the two programs that hand over a tree as JSON out of docs/FORMATS.md, runs them with the built program, and ends with 1
-# where what they leave isn't as it should be. What isn't installed is skipped, with a line.
+# where what they leave isn't as it should be, or where a case of a page that is minified comes out otherwise by way of JSON. What
+# isn't installed is skipped, with a line.
 # shellcheck disable=SC2317 # what `wants` is given is called
 set -u
 here=$(CDPATH='' cd -- "$(dirname -- "$0")/.." && pwd -P)
@@ -80,7 +81,19 @@ awk '
     /^```[a-z]+ / { name = $2; next }
     name != "" { print >name }
 ' "$here/docs/FORMATS.md"
-if command -v python3 >/dev/null; then try_python; else echo 'skipped teas.py: no Python'; fi
+# The cases on real files, and each page that is minified by way of JSON.
+try_cases() {
+    call python3 "$here/compare/cases.py" "$program"
+    wants 'the cases, and by way of JSON' is "$status" 0
+    tail -n 1 "$room/out"
+}
+
+if command -v python3 >/dev/null; then
+    try_python
+    try_cases
+else
+    echo 'skipped teas.py and the cases: no Python'
+fi
 if ! command -v node >/dev/null; then
     echo 'skipped mended.mjs: no node'
 elif ! node -e 'require("parse5")' 2>"$room/err"; then

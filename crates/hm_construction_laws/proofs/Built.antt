@@ -62,7 +62,7 @@ slice_leads : (st : Construction) (s : List ℕ) → Good st → IsText (mode_of
 slice_leads st s g a r = text_leads s st g r a.no_zero a.utf8
 
 -- every token but a raw text
-token_leads : (st : Construction) (token : Seen) → Good st → SoundToken (mode_of st.path) token → ((s : List ℕ) → token ≡ tokens.slice s → is_in_raw st.path ≡ false) → Leads st.insertion_mode st.path (step st token)
+pub token_leads : (st : Construction) (token : Seen) → Good st → SoundToken (mode_of st.path) token → ((s : List ℕ) → token ≡ tokens.slice s → is_in_raw st.path ≡ false) → Leads st.insertion_mode st.path (step st token)
 unfolding step
 token_leads st (tokens.doctype legacy) g a r = doctypes_lead st.insertion_mode legacy st st.path (g.inner_comments, g.last_comments) g.shape
 token_leads st (tokens.start_tag n attributes slash) g a r = starts_lead st.insertion_mode n attributes slash st st.path (g.inner_comments, g.last_comments) a.name_allowed a.attributes_allowed g.shape (markup_no_text st.path a.mode_reads)

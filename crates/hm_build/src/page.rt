@@ -44,7 +44,7 @@ fn turn<'a>(
     ensures more { (from : ℕ) → result ≡ Ok (Some from) → IsParsing lexer.new builder.new × IsFurther lexer.old lexer.new }
     ensures closes { (from : ℕ) → result ≡ Ok (Some from) → ClosesAt lexer.old builder.old from lexer.new builder.new }
     ensures done { result ≡ Ok None → IsRead lexer.old builder.new × (lexer.new ≡ lexer.old) }
-    ensures open { result ≡ Ok None → closed_left lexer.old builder.old ≡ None }
+    ensures stays_open { result ≡ Ok None → closed_left lexer.old builder.old ≡ None }
     ensures err { IfErr result (IsRefusedAs (tree_of lexer.old)) }
 {
     match lexer.next_into(alloc, mode(builder), tag) {

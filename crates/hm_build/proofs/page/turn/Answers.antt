@@ -35,8 +35,8 @@ returns-in-Ok-clause-closes c = λ from e.
     (token_closes c.args.lexer.now c.args.builder.now _ (spanned_of c.in-Ok-Some.placed c.next_into.new.tag) _ c.text.result.now c.take.new.builder c.requires.parsing c.mode.ensures (taken_here c.args.lexer.now _ _ c.in-Ok-Some.placed c.next_into.new.tag _ c.in-Ok-Some.ensures.ok c.in-Ok-Some.field-0-is)
     (same_text c.args.lexer.now c.args.text.now c.text.result.now c.requires.source c.text.ensures.bytes) c.in-Ok.ensures)
 
-pub returns-in-Ok-None-clause-open : goal.returns-in-Ok-None-clause-open
-returns-in-Ok-None-clause-open c = λ e. stays_open c.args.lexer.now c.args.builder.now _ c.mode.ensures (ended_here c.args.lexer.now _ _ c.next_into.new.tag _ c.in-Ok-None.ensures.ok c.in-Ok-None.field-0-is)
+pub returns-in-Ok-None-clause-stays_open : goal.returns-in-Ok-None-clause-stays_open
+returns-in-Ok-None-clause-stays_open c = λ e. stays_open c.args.lexer.now c.args.builder.now _ c.mode.ensures (ended_here c.args.lexer.now _ _ c.next_into.new.tag _ c.in-Ok-None.ensures.ok c.in-Ok-None.field-0-is)
 
 pub returns-in-Err-take-clause-err : goal.returns-in-Err-take-clause-err
 returns-in-Err-take-clause-err c =

@@ -3,15 +3,22 @@ use Rattle.std.proofs.Common.{◌≡◌, ℕ, zero, suc, pred, ◌+◌, ◌-◌,
 use Rattle.std.proofs.lemmas.List.{length-drop, drop-drop, length-map}
 use Rattle.hm_base.specs.Source.{Source, byte_of}
 use Rattle.hm_refs.specs.Names.{Entry}
+use Rattle.hm_tree.specs.Lexemes.{token_of}
 use Rattle.hm_tree.specs.Tokens.{Seen, seen, taken}
+use Rattle.hm_tree.specs.declared.tokens.Lexeme.{Lexeme}
+use Rattle.hm_tree.specs.declared.tokens.Lexeme.TheVariants as lexemes
+use Rattle.hm_tree.specs.declared.tokens.Tag.{Tag}
 use Rattle.hm_tree.specs.declared.tokens.Spanned.{Spanned}
 use Rattle.hm_token_laws.specs.First.{Mode, at_end, behind_bytes, first}
+use Rattle.hm_construction_laws.proofs.Closing as staying
+use Rattle.hm_construction_laws.proofs.Closing.{is_end_tag, only_end_tags_close}
 use Rattle.hm_construction_laws.specs.Closing.{is_behind_body, closed_step, closed_from, closed_of_source}
 use Rattle.hm_construction_laws.specs.Steps.{Construction, Stepped, went, stops, step}
 use Rattle.hm_construction_laws.specs.Trees.{mode_of}
 use Rattle.hm_lexer.specs.Reading.{Reading, text_of, next_of, IsTaken}
 use Rattle.hm_build.specs.Building.{Building, IsStepped, first_building}
-use Rattle.hm_build.specs.Parsing.{ClosesAt, IsParsing, closed_here, closed_left, first_of, place_of}
+use Rattle.hm_build.specs.Parsing.{ClosesAt, IsFurther, IsParsing, IsTurned, StaysOpen, closed_here, closed_left, first_of, place_of, taken_by}
+use Rattle.hm_build.specs.declared.page.Taken.TheVariants as turns
 
 -- the bytes to skip are skipped
 skipped : (t : List Entry) (place : ℕ → ℕ) (k at : ℕ) (st : Construction) (s : List ℕ) → k ≤ length s → closed_from t place k at st s ≡ closed_from t place 0 (at + k) st (drop k s)
@@ -114,23 +121,29 @@ token_closes r b m token new s after p e k t done = by (step b.state (seen (text
         in
         subst (λ n. ClosesAt r b token.from n after) (sym k.moved) (record { inside = there; is = is })
 
--- the token that was taken begins there
-pub closes_there : (r : Reading) (b : Building) (token : Spanned) (new : Reading) (after : Building) (from : ℕ) → token.from ≡ from → ClosesAt r b token.from new after → ClosesAt r b from new after
-closes_there r b token new after from at k = subst (λ i. ClosesAt r b i new after) at k
+-- only an end tag closes body
+pub stays_here : (r : Reading) (b : Building) (token : Spanned) (new : Reading) (s : List ℕ) (after : Building) → is_end_tag (seen s token.token) ≡ false → IsStepped (step b.state (seen s token.token)) b after → ClosesAt r b token.from new after → is_behind_body b.state.insertion_mode ≡ false → StaysOpen r b new after
+stays_here r b token new s after other done k before = by (step b.state (seen s token.token)) (only_end_tags_close b.state (seen s token.token) before other) done
+  where
+    by : (x : Stepped) → staying.StaysOpen x → IsStepped x b after → StaysOpen r b new after
+    by (stops rule n) h i = absurd i
+    by (went es st) h i =
+        let still : is_behind_body after.state.insertion_mode ≡ false = ap (λ (z : Construction). is_behind_body z.insertion_mode) i.0 ∙ h in
+        record { open_still = still; is = k.is ∙ ap (λ x. first_of (cond x (Some (place_of r.source token.from)) None) (closed_left new after)) still }
 
-first_of_three : (a b c : Option ℕ) → first_of a (first_of b c) ≡ first_of (first_of a b) c
-first_of_three None b c = refl
-first_of_three (Some at) b c = refl
+pub token_turned : (r : Reading) (b : Building) (lexeme : Lexeme) (tag : Tag) (token : Spanned) (new : Reading) (s : List ℕ) (after : Building) → token.token ≡ token_of lexeme tag → IsStepped (step b.state (seen s token.token)) b after → IsParsing new after × IsFurther r new → ClosesAt r b token.from new after → IsTurned (taken_by lexeme token.from) r b new after
+token_turned r b lexeme tag token new s after is done (p, f) k = by lexeme is
+  where
+    other : is_end_tag (seen s token.token) ≡ false → IsTurned turns.Other r b new after
+    other e = (p, f, stays_here r b token new s after e done k)
 
--- what was found so far and what is left, after a token
-pub closed_further : (start closed found : Option ℕ) (old new : Reading) (b after : Building) (page : Source) (from : ℕ) → old.source ≡ page → start ≡ first_of closed (closed_left old b) → ClosesAt old b from new after → found ≡ first_of closed (closed_here after page from) → start ≡ first_of found (closed_left new after)
-closed_further start closed found old new b after page from same so_far here is =
-    so_far ∙ ap (first_of closed) (here.is ∙ ap (λ p. first_of (closed_here after p from) (closed_left new after)) same) ∙ first_of_three closed (closed_here after page from) (closed_left new after)
-    ∙ ap (λ x. first_of x (closed_left new after)) (sym is)
-
--- a place in the text
-pub inside_text : (old : Reading) (b : Building) (new : Reading) (after : Building) (page : Source) (from : ℕ) → old.source ≡ page → ClosesAt old b from new after → from ≤ length page.placed
-inside_text old b new after page from same here = subst (λ (p : Source). from ≤ length p.placed) same here.inside
+    by : (x : Lexeme) → token.token ≡ token_of x tag → IsTurned (taken_by x token.from) r b new after
+    by lexemes.EndTag e = (p, f, k)
+    by (lexemes.Doctype legacy) e = other (ap (λ z. is_end_tag (seen s z)) e)
+    by (lexemes.StartTag slash) e = other (ap (λ z. is_end_tag (seen s z)) e)
+    by (lexemes.Slice from to) e = other (ap (λ z. is_end_tag (seen s z)) e)
+    by (lexemes.Points points) e = other (ap (λ z. is_end_tag (seen s z)) e)
+    by (lexemes.Comment from to) e = other (ap (λ z. is_end_tag (seen s z)) e)
 
 -- what is left before the first token is the whole text
 pub closed_in_whole : (t : List Entry) (page : Source) (r : Reading) (b : Building) (closed : Option ℕ) → r ≡ record { names = t; source = page; at = 0 } → b ≡ first_building → closed_left r b ≡ closed → closed_of_source t page ≡ closed

@@ -12,6 +12,10 @@ use Rattle.hm_construction_laws.specs.Closing.{is_behind_body, closed_from}
 use Rattle.hm_construction_laws.specs.Trees.{Outcome, refused_by, after_events, over, tree_from, tree_of_source}
 use Rattle.hm_lexer.specs.Reading.{Reading, text_of}
 use Rattle.hm_build.specs.Building.{Building}
+use Rattle.hm_build.specs.declared.page.Taken.{Taken}
+use Rattle.hm_build.specs.declared.page.Taken.TheVariants as turns
+use Rattle.hm_tree.specs.declared.tokens.Lexeme.{Lexeme}
+use Rattle.hm_tree.specs.declared.tokens.Lexeme.TheVariants as lexemes
 use Rattle.hm_build.specs.declared.fault.BuildFault.{BuildFault}
 use Rattle.hm_build.specs.declared.fault.BuildFault.TheVariants as faults
 use Rattle.hm_construction_laws.specs.Weights.{weight, load, load_size}
@@ -78,6 +82,22 @@ first_of None later = later
 pub record ClosesAt (old : Reading) (b : Building) (from : ℕ) (new : Reading) (after : Building) : Type 0 where
   pub inside : from ≤ length old.source.placed
   pub is : closed_left old b ≡ first_of (closed_here after old.source from) (closed_left new after)
+
+-- where body isn't closed yet, it isn't closed by the token either
+pub record StaysOpen (old : Reading) (b : Building) (new : Reading) (after : Building) : Type 0 where
+  pub open_still : is_behind_body after.state.insertion_mode ≡ false
+  pub is : closed_left old b ≡ closed_left new after
+
+-- what a turn takes with a token
+abbrev pub taken_by : Lexeme → ℕ → Taken
+taken_by lexemes.EndTag from = turns.EndTag from
+taken_by lexeme from = turns.Other
+
+-- what a turn has done
+abbrev pub IsTurned : Taken → Reading → Building → Reading → Building → Type 0
+IsTurned turns.Over old b new after = IsRead old after × (new ≡ old) × (closed_left old b ≡ None)
+IsTurned turns.Other old b new after = IsParsing new after × IsFurther old new × (is_behind_body b.state.insertion_mode ≡ false → StaysOpen old b new after)
+IsTurned (turns.EndTag from) old b new after = IsParsing new after × IsFurther old new × ClosesAt old b from new after
 
 -- the refusal that a fault gives, and how far after its token's first byte it is
 abbrev pub answer_of : BuildFault → ℕ → Refused

@@ -1,10 +1,10 @@
 //! The tree of a page.
-ghost use Rattle.std.specs.Prelude.{◌≡◌, ◌≤◌, ◌<◌, ◌+◌, ℕ, Ok, Some, None, length, IfOk, OnOk, IfErr, IfSome};
+ghost use Rattle.std.specs.Prelude.{◌≡◌, ◌≤◌, ◌<◌, ◌+◌, false, length, IfOk, OnOk, IfErr};
 ghost use Rattle.hm_elements.specs.Settled.{Settled};
 ghost use Rattle.hm_token_laws.specs.Laws.{SoundNames};
-ghost use Rattle.hm_construction_laws.specs.Closing.{closed_of_source};
+ghost use Rattle.hm_construction_laws.specs.Closing.{closed_of_source, is_behind_body};
 ghost use Rattle.hm_construction_laws.specs.Trees.{built, tree_of_source};
-ghost use Rattle.hm_build.specs.Parsing.{ClosesAt, IsFurther, IsParsing, IsRead, IsRefusedAs, answer_of, closed_here, closed_left, first_of, place_of, span_of, tree_of};
+ghost use Rattle.hm_build.specs.Parsing.{IsParsing, IsRead, IsRefusedAs, IsTurned, answer_of, closed_here, closed_left, first_of, place_of, span_of, tree_of, taken_by};
 
 use crate::tokens::{mode, take};
 use crate::{BuildFault, TreeBuilder};
@@ -12,7 +12,7 @@ use hm_base::{Memory, Refused, SourceText};
 use hm_lexer::Lexer;
 use hm_refs::Table;
 use hm_refs::laws::every_table;
-use hm_tree::{Tag, Tree};
+use hm_tree::{Lexeme, Tag, Tree};
 use std::alloc::Global;
 
 /// The refusal that a fault gives, for a token that begins at byte `at` of the text.
@@ -30,35 +30,52 @@ fn refusal(text: &SourceText, fault: BuildFault, at: u32) -> Refused
     }
 }
 
-/// Takes the next token, if there is one, and returns the byte of the text where it begins. Its tag is read into `tag`.
+/// What a turn of the reader took.
+enum Taken {
+    /// Nothing: no token is left.
+    Over,
+    /// A token other than an end tag. It doesn't close body.
+    Other,
+    /// An end tag that begins at byte `from` of the text.
+    EndTag { from: u32 },
+}
+
+/// What a turn took with a token that begins at byte `from` of the text.
+fn taken_of(lexeme: Lexeme, from: u32) -> Taken
+    ensures { result ≡ taken_by lexeme from }
+{
+    match lexeme {
+        Lexeme::EndTag => Taken::EndTag { from },
+        _ => Taken::Other,
+    }
+}
+
+/// Takes the next token, if there is one. Its tag is read into `tag`.
 fn turn<'a>(
     alloc: Global,
     text: &SourceText,
     lexer: &mut Lexer<'a>,
     builder: &mut TreeBuilder,
     tag: &mut Tag,
-) -> Result<Option<u32>, Refused>
+) -> Result<Taken, Refused>
     requires names { SoundNames lexer.old.names }
     requires source { lexer.old.source ≡ text.now }
     requires parsing { IsParsing lexer.old builder.old }
-    ensures more { (from : ℕ) → result ≡ Ok (Some from) → IsParsing lexer.new builder.new × IsFurther lexer.old lexer.new }
-    ensures closes { (from : ℕ) → result ≡ Ok (Some from) → ClosesAt lexer.old builder.old from lexer.new builder.new }
-    ensures done { result ≡ Ok None → IsRead lexer.old builder.new × (lexer.new ≡ lexer.old) }
-    ensures stays_open { result ≡ Ok None → closed_left lexer.old builder.old ≡ None }
+    ensures ok { IfOk result (λ turn. IsTurned turn lexer.old builder.old lexer.new builder.new) }
     ensures err { IfErr result (IsRefusedAs (tree_of lexer.old)) }
 {
     match lexer.next_into(alloc, mode(builder), tag) {
-        Ok(None) => Ok(None),
+        Ok(None) => Ok(Taken::Over),
         Ok(Some(placed)) => match take(alloc, builder, text.text(), placed.lexeme, tag) {
-            Ok(()) => Ok(Some(placed.from)),
+            Ok(()) => Ok(taken_of(placed.lexeme, placed.from)),
             Err(fault) => Err(refusal(text, fault, placed.from)),
         },
         Err(refused) => Err(refused),
     }
 }
 
-/// The byte of the page where the token stands that closes body, once the token at byte `from` of the text was taken: the
-/// place that was found before, or that of this token.
+/// The byte of the page where the tag stands that closes body, once the end tag at byte `from` of the text was taken: the
+/// place that was found before, or that of this tag.
 fn closed_by(
     text: &SourceText,
     builder: &TreeBuilder,
@@ -87,6 +104,7 @@ fn turns<'a>(
     requires names { SoundNames lexer.old.names }
     requires source { lexer.old.source ≡ text.now }
     requires parsing { IsParsing lexer.old builder.old }
+    requires open_still { is_behind_body builder.old.state.insertion_mode ≡ false }
     ensures ok { OnOk result (IsRead lexer.new builder.new) }
     ensures closed { IfOk result (λ closed. closed_left lexer.old builder.old ≡ closed) }
     ensures names { OnOk result (lexer.new.names ≡ lexer.old.names) }
@@ -96,8 +114,9 @@ fn turns<'a>(
     let mut closed = None;
     loop {
         match turn(alloc, text, lexer, builder, tag) {
-            Ok(Some(from)) => closed = closed_by(text, builder, closed, from),
-            Ok(None) => return Ok(closed),
+            Ok(Taken::Other) => {}
+            Ok(Taken::EndTag { from }) => closed = closed_by(text, builder, closed, from),
+            Ok(Taken::Over) => return Ok(closed),
             Err(refused) => return Err(refused),
         }
     }

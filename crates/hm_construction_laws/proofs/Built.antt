@@ -1,5 +1,5 @@
 -- What is built is settled: token by token, along the text.
-use Rattle.std.proofs.Common.{◌≡◌, ℕ, zero, suc, pred, ◌+◌, ◌-◌, ◌<◌, ◌≤◌, Bool, true, false, cond, List, [], ◌∷◌, length, drop, map, refl, sym, ap, subst, arith, encode_utf8_all, bytes_eq}
+use Rattle.std.proofs.Common.{◌≡◌, ℕ, zero, suc, pred, ◌+◌, ◌-◌, Bool, true, false, cond, List, [], ◌∷◌, length, drop, map, refl, sym, ap, subst, encode_utf8_all, bytes_eq}
 use Rattle.std.proofs.lemmas.Bool.{both_ways}
 use Rattle.hm_base.specs.Source.{Source, byte_of, place_in}
 use Rattle.hm_base.specs.Walks.{Event, Element, text_before, pushes, begins_text}
@@ -14,8 +14,8 @@ use Rattle.hm_elements.specs.Settled.{Settled}
 use Rattle.hm_elements.specs.Places.{CommentAllowed, SettledBehindBody, SettledBeforeBody}
 use Rattle.hm_elements.proofs.Gathered.{page_settles}
 use Rattle.hm_token_laws.specs.First.{Mode, Next, at_end, behind_bytes, first}
-use Rattle.hm_token_laws.specs.Laws.{IsPlain, SoundNames, IsText, SoundToken, least_size}
-use Rattle.hm_token_laws.proofs.Firsts.{tokens_are_sound, tokens_are_small}
+use Rattle.hm_token_laws.specs.Laws.{IsPlain, SoundNames, IsText, SoundToken}
+use Rattle.hm_token_laws.proofs.Firsts.{tokens_are_sound}
 use Rattle.hm_scan.specs.Reading.{read_tag}
 use Rattle.hm_construction_laws.specs.Steps.{InsertionMode, initial, before_html, before_head, in_head, after_head, in_body, after_body, after_html, Construction, Stepped, went, stops, no_drop, step_bytes, step, step_end, step_over, end_current, end_event, first_state}
 use Rattle.hm_construction_laws.specs.Trees.{Outcome, built, refused_by, after_events, mode_of, stepped, next_step, tree_from, tree_of_source}

@@ -1,14 +1,13 @@
 -- A text that closes its body takes no further end tag of body.
-use Rattle.std.proofs.Common.{◌≡◌, ℕ, zero, suc, pred, ◌+◌, ◌-◌, ◌≤◌, inl, inr, Bool, true, false, cond, ◌&&◌, ◌==◌, List, [], ◌∷◌, ◌++◌, length, drop, Some, None, refl, sym, ap, ◌∙◌, subst, arith, length-append}
+use Rattle.std.proofs.Common.{◌≡◌, ℕ, zero, suc, pred, ◌+◌, ◌-◌, ◌≤◌, inl, inr, Bool, true, false, cond, List, [], ◌∷◌, ◌++◌, length, drop, Some, None, refl, sym, ap, ◌∙◌, subst, arith, length-append}
 use Rattle.std.proofs.lemmas.Bool.{both_ways}
-use Rattle.hm_base.specs.Bytes.{is_null, is_letter, lower, is_space}
+use Rattle.hm_base.specs.Bytes.{is_null, is_letter, lower}
 use Rattle.hm_base.specs.Forms as forms
 use Rattle.hm_base.specs.Forms.{is_blank, is_tag_name}
-use Rattle.hm_base.specs.Walks.{Event, start, end}
-use Rattle.hm_base.specs.declared.rules.Rule.TheVariants.{TextHere}
+use Rattle.hm_base.specs.Walks.{Event}
 use Rattle.hm_base.specs.Walks.{Element}
-use Rattle.hm_elements.specs.Names.{html, head, body}
-use Rattle.hm_elements.specs.Paths.{is_in_raw, is_in_text, is_in_blank}
+use Rattle.hm_elements.specs.Names.{body}
+use Rattle.hm_elements.specs.Paths.{is_in_raw}
 use Rattle.hm_refs.specs.Names.{Entry}
 use Rattle.hm_refs.specs.Tables.{IsTable}
 use Rattle.hm_tree.specs.Tokens.{Seen, Scanned, taken, refused}
@@ -19,12 +18,13 @@ use Rattle.hm_token_laws.specs.Written.{IsNextMarkup}
 use Rattle.hm_token_laws.proofs.Firsts.{tokens_are_sound}
 use Rattle.hm_token_laws.proofs.TextPieces.{names_of_table}
 use Rattle.hm_token_laws.proofs.Written.{ends_are_next}
-use Rattle.hm_construction_laws.specs.Steps.{InsertionMode, initial, before_html, before_head, in_head, after_head, in_body, after_body, after_html, Construction, Stepped, went, stops, behind_events, behind_bytes as behind_refusal, then_step, no_drop, step_byte, step_bytes, step, keep_byte, space_byte, is_in_noscript, reach_body, body_byte, first_state, moved, under_html, under_head, under_body, make_head, close_head, make_body}
+use Rattle.hm_construction_laws.specs.Steps.{InsertionMode, initial, before_html, before_head, in_head, after_head, in_body, after_body, after_html, Construction, Stepped, went, stops, no_drop, step_bytes, step, first_state}
 use Rattle.hm_construction_laws.specs.Trees.{Outcome, built, refused_by, after_events, mode_of, stepped, next_step, tree_from}
 use Rattle.hm_construction_laws.proofs.Standing.{Good, Shape, Leads, AtEnd}
 use Rattle.hm_construction_laws.proofs.Bytes.{Ran, ran, halted, all_ran, keeps_in_text, good_still}
 use Rattle.hm_construction_laws.proofs.Modes.{is_mode, in_text}
 use Rattle.hm_construction_laws.proofs.Built.{token_leads}
+use Rattle.hm_construction_laws.proofs.Closing.{StaysOpen, bytes_open}
 use Rattle.hm_construction_laws.proofs.Rests.{rest_is}
 use Rattle.hm_construction_laws.specs.Closing.{is_behind_body, closed_step, closed_next, closed_from}
 use Rattle.hm_fragment.specs.Laws.{body_end, ClosedPagesTakeNoEndTag}
@@ -105,76 +105,6 @@ module _ (t : List Entry) (table : IsTable t) (place : ℕ → ℕ) where
   still_behind [] (suc skip) at st v w few b h k = omega (arith, few)
   still_behind (c ∷ s) (suc skip) at st v w few b h k = still_behind s skip (at + 1) st v w (omega (arith, few)) b h k
   still_behind (c ∷ s) zero at st v w few b h k = behind_token at st c s v w (still_behind s) b (first t ordinary (c ∷ s)) refl (rw (b.reads) at h) (rw (b.reads) at k)
-
--- ---- A text that isn't behind body yet
-
--- bytes of a text don't lead behind body
-abbrev StaysOpen : Stepped → Type 0
-StaysOpen (went es st) = is_behind_body st.insertion_mode ≡ false
-StaysOpen (stops rule n) = Unit {0}
-
-later_open : (es : List Event) (o : Stepped) → StaysOpen o → StaysOpen (behind_events es o)
-later_open es (went fs st) h = h
-later_open es (stops rule n) h = tt
-
-body_open : (c : ℕ) (st : Construction) → is_behind_body st.insertion_mode ≡ false → StaysOpen (body_byte c st)
-body_open c st h = by (is_in_blank st.path)
-  where
-    by : (b : Bool) → StaysOpen (cond b (stops TextHere 0) (keep_byte c st))
-    by true = tt
-    by false = h
-
-from_head : (c : ℕ) (st : Construction) → StaysOpen (make_body (body_byte c) st)
-from_head c st = later_open (start body false [] ∷ []) (body_byte c (moved st in_body under_body)) (body_open c (moved st in_body under_body) refl)
-
-in_head_open : (c : ℕ) (st : Construction) → StaysOpen (close_head (make_body (body_byte c)) st)
-in_head_open c st = later_open (end head false ∷ []) (make_body (body_byte c) (moved st after_head under_html)) (from_head c (moved st after_head under_html))
-
-before_head_open : (c : ℕ) (st : Construction) → StaysOpen (make_head (close_head (make_body (body_byte c))) st)
-before_head_open c st = later_open (start head false [] ∷ []) (close_head (make_body (body_byte c)) (moved st in_head under_head)) (in_head_open c (moved st in_head under_head))
-
-reach_open : (mode : InsertionMode) (c : ℕ) (st : Construction) → is_behind_body st.insertion_mode ≡ false → StaysOpen (reach_body mode (body_byte c) st)
-reach_open initial c st h = tt
-reach_open before_html c st h = later_open (start html false [] ∷ []) (make_head (close_head (make_body (body_byte c))) (moved st before_head under_html)) (before_head_open c (moved st before_head under_html))
-reach_open before_head c st h = before_head_open c st
-reach_open in_head c st h = in_head_open c st
-reach_open after_head c st h = from_head c st
-reach_open in_body c st h = body_open c st h
-reach_open after_body c st h = tt
-reach_open after_html c st h = tt
-
-space_open : (mode : InsertionMode) (c : ℕ) (st : Construction) → is_behind_body st.insertion_mode ≡ false → StaysOpen (space_byte mode c st)
-space_open initial c st h = h
-space_open before_html c st h = h
-space_open before_head c st h = h
-space_open in_head c st h = h
-space_open after_head c st h = h
-space_open in_body c st h = h
-space_open after_body c st h = h
-space_open after_html c st h = h
-
-byte_open : (c : ℕ) (st : Construction) → is_behind_body st.insertion_mode ≡ false → StaysOpen (step_byte c st)
-unfolding step_byte
-byte_open c st h = by (st.drops_line_feed && c == 10) (is_in_text st.path) (is_space c) (is_in_noscript st.insertion_mode st.path)
-  where
-    by : (a b d e : Bool) → StaysOpen (cond a (went [] (no_drop st)) (cond b (keep_byte c (no_drop st)) (cond d (space_byte st.insertion_mode c (no_drop st)) (cond e (stops TextHere 0) (reach_body st.insertion_mode (body_byte c) (no_drop st))))))
-    by true b d e = h
-    by false true d e = h
-    by false false true e = space_open st.insertion_mode c (no_drop st) h
-    by false false false true = tt
-    by false false false false = reach_open st.insertion_mode c (no_drop st) h
-
-bytes_open : (s : List ℕ) (st : Construction) → is_behind_body st.insertion_mode ≡ false → StaysOpen (step_bytes s st)
-bytes_open [] st h = h
-bytes_open (c ∷ s) st h = by (step_byte c st) (byte_open c st h) (λ next k. bytes_open s next k)
-  where
-    later : (o : Stepped) → StaysOpen o → StaysOpen (behind_refusal 1 o)
-    later (went es next) k = k
-    later (stops rule n) k = tt
-
-    by : (o : Stepped) → StaysOpen o → ((next : Construction) → is_behind_body next.insertion_mode ≡ false → StaysOpen (step_bytes s next)) → StaysOpen (then_step o (λ next. behind_refusal 1 (step_bytes s next)))
-    by (went es next) k more = later_open es (behind_refusal 1 (step_bytes s next)) (later (step_bytes s next) (more next k))
-    by (stops rule n) k more = tt
 
 -- so a token behind which body is closed is no text
 closes_no_text : (st next : Construction) (es : List Event) (k : Seen) → is_behind_body st.insertion_mode ≡ false → step st k ≡ went es next → is_behind_body next.insertion_mode ≡ true → (x : List ℕ) → k ≡ tokens.slice x → ⊥

@@ -48,7 +48,9 @@ fn fragments_have_trees(rt: HostRuntime) -> Result<(), Fail> {
     for (fragment, inside) in rows {
         let tree = read(rt.alloc(), fragment).map_err(|_| "a tree")?;
         let written = write_tree(rt.alloc(), &tree).map_err(|_| "memory")?;
-        let wanted = format!(in rt.alloc(); "[[\"doctype\",\"plain\"],[\"start\",\"html\",[]],[\"start\",\"head\",[]],[\"end\"],[\"start\",\"body\",[]],{inside}[\"end\"],[\"end\"]]")?;
+        let wanted = format!(in rt.alloc();
+            "[[\"doctype\",\"plain\"],[\"start\",\"html\",[]],[\"start\",\"head\",[]],[\"end\"],[\"start\",\"body\",[]],{inside}[\"end\"],[\"end\"]]"
+        )?;
         assert_eq!(rt; written.as_slice(), wanted.as_bytes());
     }
     Ok(())

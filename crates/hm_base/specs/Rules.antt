@@ -1,7 +1,7 @@
 -- The number and the printed name of each rule.
 use Rattle.std.specs.Prelude.{ℕ, List, codes}
 use Rattle.hm_base.specs.declared.rules.Rule.{Rule}
-use Rattle.hm_base.specs.declared.rules.Rule.TheVariants.{TooLong, NotUtf8, Nul, Cut, BadName, TooManyAttributes, BadDoctype, NoDoctype, SecondDoctype, RefusedName, SecondRoot, StrayEnd, NotCurrent, BlockInParagraph, Nested, WrongParent, TextHere, AfterHead, AfterBody, Unclosed, TooDeep, ForeignName}
+use Rattle.hm_base.specs.declared.rules.Rule.TheVariants.{TooLong, NotUtf8, Nul, Cut, BadName, TooManyAttributes, BadDoctype, NoDoctype, SecondDoctype, RefusedName, SecondRoot, StrayEnd, NotCurrent, BlockInParagraph, Nested, WrongParent, TextHere, AfterHead, AfterBody, Unclosed, TooDeep, ForeignName, FrameEnd}
 
 abbrev pub number_of : Rule → ℕ
 number_of TooLong = 1
@@ -26,6 +26,7 @@ number_of AfterBody = 19
 number_of Unclosed = 20
 number_of TooDeep = 21
 number_of ForeignName = 22
+number_of FrameEnd = 23
 
 abbrev pub name_of : Rule → List ℕ
 name_of TooLong = codes "TooLong"
@@ -50,3 +51,4 @@ name_of AfterBody = codes "AfterBody"
 name_of Unclosed = codes "Unclosed"
 name_of TooDeep = codes "TooDeep"
 name_of ForeignName = codes "ForeignName"
+name_of FrameEnd = codes "FrameEnd"

@@ -51,6 +51,8 @@ pub enum Rule {
     TooDeep,
     /// In SVG, a name outside the SVG list.
     ForeignName,
+    /// A fragment that closes the body around it. No page has this rule.
+    FrameEnd,
 }
 
 impl Rule {
@@ -81,6 +83,7 @@ impl Rule {
             Rule::Unclosed => 20,
             Rule::TooDeep => 21,
             Rule::ForeignName => 22,
+            Rule::FrameEnd => 23,
         }
     }
 
@@ -111,6 +114,7 @@ impl Rule {
             Rule::Unclosed => "Unclosed",
             Rule::TooDeep => "TooDeep",
             Rule::ForeignName => "ForeignName",
+            Rule::FrameEnd => "FrameEnd",
         }
     }
 }

@@ -19,4 +19,5 @@ mod Room
 mod Reading
 mod Turns
 mod Names
+mod Closings
 mod PageEnds

@@ -1,5 +1,5 @@
 -- A page that is being parsed: what was built of its text so far, and what is left.
-use Rattle.std.specs.Prelude.{◌≡◌, ℕ, ◌+◌, ◌*◌, ◌≤◌, ◌<◌, false, List, length, drop}
+use Rattle.std.specs.Prelude.{◌≡◌, ℕ, ◌+◌, ◌*◌, ◌≤◌, ◌<◌, false, List, length, drop, Option, Some, None, if◌then◌else◌}
 use Rattle.hm_base.specs.Source.{Source, place_in}
 use Rattle.hm_base.specs.Walks.{Event, Element, walk_size}
 use Rattle.hm_base.specs.declared.rules.Refused.{Refused}
@@ -8,9 +8,14 @@ use Rattle.hm_elements.specs.Paths.{is_in_text}
 use Rattle.hm_token_laws.specs.Laws.{IsPlain}
 use Rattle.hm_tree.specs.Tokens.{Seen, doctype, start_tag, end_tag, slice, points, comment}
 use Rattle.hm_construction_laws.specs.Steps.{Construction}
+use Rattle.hm_construction_laws.specs.Closing.{is_behind_body, closed_from}
 use Rattle.hm_construction_laws.specs.Trees.{Outcome, refused_by, after_events, over, tree_from, tree_of_source}
 use Rattle.hm_lexer.specs.Reading.{Reading, text_of}
 use Rattle.hm_build.specs.Building.{Building}
+use Rattle.hm_build.specs.declared.page.Taken.{Taken}
+use Rattle.hm_build.specs.declared.page.Taken.TheVariants as turns
+use Rattle.hm_tree.specs.declared.tokens.Lexeme.{Lexeme}
+use Rattle.hm_tree.specs.declared.tokens.Lexeme.TheVariants as lexemes
 use Rattle.hm_build.specs.declared.fault.BuildFault.{BuildFault}
 use Rattle.hm_build.specs.declared.fault.BuildFault.TheVariants as faults
 use Rattle.hm_construction_laws.specs.Weights.{weight, load, load_size}
@@ -59,6 +64,40 @@ pub record IsFurther (old new : Reading) : Type 0 where
   pub source : new.source ≡ old.source
   pub forward : old.at < new.at
   pub inside : new.at ≤ length (text_of new)
+
+-- the byte of the page where body is closed in what is left of the text
+abbrev pub closed_left : Reading → Building → Option ℕ
+closed_left r b = closed_from r.names (place_of r.source) 0 r.at b.state (drop r.at (text_of r))
+
+-- the place of a token behind which body is closed
+abbrev pub closed_here : Building → Source → ℕ → Option ℕ
+closed_here after page from = if is_behind_body after.state.insertion_mode then Some (place_of page from) else None
+
+-- the first of two places
+abbrev pub first_of : Option ℕ → Option ℕ → Option ℕ
+first_of (Some at) later = Some at
+first_of None later = later
+
+-- The token that begins at byte `from` of the text closes body, or body is closed in what is left behind it, if at all.
+pub record ClosesAt (old : Reading) (b : Building) (from : ℕ) (new : Reading) (after : Building) : Type 0 where
+  pub inside : from ≤ length old.source.placed
+  pub is : closed_left old b ≡ first_of (closed_here after old.source from) (closed_left new after)
+
+-- where body isn't closed yet, it isn't closed by the token either
+pub record StaysOpen (old : Reading) (b : Building) (new : Reading) (after : Building) : Type 0 where
+  pub open_still : is_behind_body after.state.insertion_mode ≡ false
+  pub is : closed_left old b ≡ closed_left new after
+
+-- what a turn takes with a token
+abbrev pub taken_by : Lexeme → ℕ → Taken
+taken_by lexemes.EndTag from = turns.EndTag from
+taken_by lexeme from = turns.Other
+
+-- what a turn has done
+abbrev pub IsTurned : Taken → Reading → Building → Reading → Building → Type 0
+IsTurned turns.Over old b new after = IsRead old after × (new ≡ old) × (closed_left old b ≡ None)
+IsTurned turns.Other old b new after = IsParsing new after × IsFurther old new × (is_behind_body b.state.insertion_mode ≡ false → StaysOpen old b new after)
+IsTurned (turns.EndTag from) old b new after = IsParsing new after × IsFurther old new × ClosesAt old b from new after
 
 -- the refusal that a fault gives, and how far after its token's first byte it is
 abbrev pub answer_of : BuildFault → ℕ → Refused

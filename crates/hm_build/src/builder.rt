@@ -1,5 +1,6 @@
 //! A tree that is being built.
 ghost use Rattle.std.specs.Prelude.{◌≡◌, ◌^◌, ◌<◌, false, length, IfOk};
+ghost use Rattle.hm_construction_laws.specs.Closing as closing;
 ghost use Rattle.hm_construction_laws.specs.Steps.{step, step_over};
 ghost use Rattle.hm_elements.specs.Paths as paths;
 ghost use Rattle.hm_tree.specs.Tokens as tokens;
@@ -75,6 +76,16 @@ impl TreeBuilder {
         ensures { result.now ≡ paths.current self.now.state.path }
     {
         current(self.parts.insertion_mode, &self.parts.path)
+    }
+
+    /// Whether body is closed, so that only whitespace, comments and `</html>` may come (#parsing-main-afterbody).
+    pub fn is_behind_body(&self) -> bool
+        ensures { result ≡ closing.is_behind_body self.now.state.insertion_mode }
+    {
+        matches!(
+            self.parts.insertion_mode,
+            BuilderMode::AfterBody | BuilderMode::AfterHtml
+        )
     }
 
     /// Takes a doctype (#the-initial-insertion-mode). After a fault no token is taken any more: each call returns that

@@ -18,4 +18,4 @@ mod tokens;
 
 pub use builder::TreeBuilder;
 pub use fault::BuildFault;
-pub use page::parse;
+pub use page::{parse, parse_closed};

@@ -1,9 +1,10 @@
 //! The tree of a page.
-ghost use Rattle.std.specs.Prelude.{◌≡◌, ◌≤◌, ◌<◌, ◌+◌, ℕ, Ok, true, false, length, IfOk, OnOk, IfErr};
+ghost use Rattle.std.specs.Prelude.{◌≡◌, ◌≤◌, ◌<◌, ◌+◌, false, length, IfOk, OnOk, IfErr};
 ghost use Rattle.hm_elements.specs.Settled.{Settled};
 ghost use Rattle.hm_token_laws.specs.Laws.{SoundNames};
+ghost use Rattle.hm_construction_laws.specs.Closing.{closed_of_source, is_behind_body};
 ghost use Rattle.hm_construction_laws.specs.Trees.{built, tree_of_source};
-ghost use Rattle.hm_build.specs.Parsing.{IsFurther, IsParsing, IsRead, IsRefusedAs, answer_of, place_of, span_of, tree_of};
+ghost use Rattle.hm_build.specs.Parsing.{IsParsing, IsRead, IsRefusedAs, IsTurned, answer_of, closed_here, closed_left, first_of, place_of, span_of, tree_of, taken_by};
 
 use crate::tokens::{mode, take};
 use crate::{BuildFault, TreeBuilder};
@@ -11,7 +12,7 @@ use hm_base::{Memory, Refused, SourceText};
 use hm_lexer::Lexer;
 use hm_refs::Table;
 use hm_refs::laws::every_table;
-use hm_tree::{Tag, Tree};
+use hm_tree::{Lexeme, Tag, Tree};
 use std::alloc::Global;
 
 /// The refusal that a fault gives, for a token that begins at byte `at` of the text.
@@ -29,6 +30,26 @@ fn refusal(text: &SourceText, fault: BuildFault, at: u32) -> Refused
     }
 }
 
+/// What a turn of the reader took.
+enum Taken {
+    /// Nothing: no token is left.
+    Over,
+    /// A token other than an end tag. It doesn't close body.
+    Other,
+    /// An end tag that begins at byte `from` of the text.
+    EndTag { from: u32 },
+}
+
+/// What a turn took with a token that begins at byte `from` of the text.
+fn taken_of(lexeme: Lexeme, from: u32) -> Taken
+    ensures { result ≡ taken_by lexeme from }
+{
+    match lexeme {
+        Lexeme::EndTag => Taken::EndTag { from },
+        _ => Taken::Other,
+    }
+}
+
 /// Takes the next token, if there is one. Its tag is read into `tag`.
 fn turn<'a>(
     alloc: Global,
@@ -36,44 +57,66 @@ fn turn<'a>(
     lexer: &mut Lexer<'a>,
     builder: &mut TreeBuilder,
     tag: &mut Tag,
-) -> Result<bool, Refused>
+) -> Result<Taken, Refused>
     requires names { SoundNames lexer.old.names }
     requires source { lexer.old.source ≡ text.now }
     requires parsing { IsParsing lexer.old builder.old }
-    ensures more { result ≡ Ok true → IsParsing lexer.new builder.new × IsFurther lexer.old lexer.new }
-    ensures done { result ≡ Ok false → IsRead lexer.old builder.new × (lexer.new ≡ lexer.old) }
+    ensures ok { IfOk result (λ turn. IsTurned turn lexer.old builder.old lexer.new builder.new) }
     ensures err { IfErr result (IsRefusedAs (tree_of lexer.old)) }
 {
     match lexer.next_into(alloc, mode(builder), tag) {
-        Ok(None) => Ok(false),
+        Ok(None) => Ok(Taken::Over),
         Ok(Some(placed)) => match take(alloc, builder, text.text(), placed.lexeme, tag) {
-            Ok(()) => Ok(true),
+            Ok(()) => Ok(taken_of(placed.lexeme, placed.from)),
             Err(fault) => Err(refusal(text, fault, placed.from)),
         },
         Err(refused) => Err(refused),
     }
 }
 
-/// Takes the tokens, up to the end of the text. One tag after another is read into `tag`.
+/// The byte of the page where the tag stands that closes body, once the end tag at byte `from` of the text was taken: the
+/// place that was found before, or that of this tag.
+fn closed_by(
+    text: &SourceText,
+    builder: &TreeBuilder,
+    closed: Option<u32>,
+    from: u32,
+) -> Option<u32>
+    requires { from ≤ length text.now.placed }
+    ensures { result ≡ first_of closed (closed_here builder.now text.now from) }
+{
+    if builder.is_behind_body() && closed.is_none() {
+        Some(text.place_of(from))
+    } else {
+        closed
+    }
+}
+
+/// Takes the tokens, up to the end of the text, and returns the byte of the page where the token stands that closes body. One
+/// tag after another is read into `tag`.
 fn turns<'a>(
     alloc: Global,
     text: &SourceText,
     lexer: &mut Lexer<'a>,
     builder: &mut TreeBuilder,
     tag: &mut Tag,
-) -> Result<(), Refused>
+) -> Result<Option<u32>, Refused>
     requires names { SoundNames lexer.old.names }
     requires source { lexer.old.source ≡ text.now }
     requires parsing { IsParsing lexer.old builder.old }
+    requires open_still { is_behind_body builder.old.state.insertion_mode ≡ false }
     ensures ok { OnOk result (IsRead lexer.new builder.new) }
+    ensures closed { IfOk result (λ closed. closed_left lexer.old builder.old ≡ closed) }
     ensures names { OnOk result (lexer.new.names ≡ lexer.old.names) }
     ensures same { OnOk result (lexer.new.source ≡ lexer.old.source) }
     ensures err { IfErr result (IsRefusedAs (tree_of lexer.old)) }
 {
+    let mut closed = None;
     loop {
         match turn(alloc, text, lexer, builder, tag) {
-            Ok(true) => {}
-            Ok(false) => return Ok(()),
+            Ok(Taken::Other) => {}
+            Ok(Taken::EndTag { from }) => closed = closed_by(text, builder, closed, from),
+            Ok(Taken::Over) => return Ok(closed),
             Err(refused) => return Err(refused),
         }
     }
@@ -98,13 +141,17 @@ fn finish<'a>(
     }
 }
 
-/// The tree of a page (#tree-construction), or its first refusal, with its rule and its byte of the page.
-///
-/// The time is linear in the page, and the tree is settled: it keeps the rules of
-/// nesting and text of a page without repairs.
-pub fn parse(alloc: Global, text: &SourceText, table: &Table) -> Result<Tree, Refused>
-    ensures built { IfOk result (λ tree. tree_of_source table.now.entries text.now ≡ built tree) }
-    ensures settled { IfOk result (λ tree. Settled tree) }
+/// The tree of a page as `parse` gives it, and where the page closes its body: the byte of the page where the first token
+/// stands behind which only whitespace, comments and `</html>` may come (#parsing-main-afterbody). None closes it in a page
+/// that leaves `</body>` and `</html>` out.
+pub fn parse_closed(
+    alloc: Global,
+    text: &SourceText,
+    table: &Table,
+) -> Result<(Tree, Option<u32>), Refused>
+    ensures built { IfOk result (λ parsed. tree_of_source table.now.entries text.now ≡ built parsed.0) }
+    ensures settled { IfOk result (λ parsed. Settled parsed.0) }
+    ensures closed { IfOk result (λ parsed. closed_of_source table.now.entries text.now ≡ parsed.1) }
     ensures refused { IfErr result (IsRefusedAs (tree_of_source table.now.entries text.now)) }
 {
     every_table(table);
@@ -116,7 +163,25 @@ pub fn parse(alloc: Global, text: &SourceText, table: &Table) -> Result<Tree, Re
     };
     let mut tag = Tag::new(alloc);
     match turns(alloc, text, &mut lexer, &mut builder, &mut tag) {
-        Ok(()) => finish(alloc, text, &lexer, builder),
+        Ok(closed) => match finish(alloc, text, &lexer, builder) {
+            Ok(tree) => Ok((tree, closed)),
+            Err(refused) => Err(refused),
+        },
+        Err(refused) => Err(refused),
+    }
+}
+
+/// The tree of a page (#tree-construction), or its first refusal, with its rule and its byte of the page.
+///
+/// The time is linear in the page, and the tree is settled: it keeps the rules of
+/// nesting and text of a page without repairs.
+pub fn parse(alloc: Global, text: &SourceText, table: &Table) -> Result<Tree, Refused>
+    ensures built { IfOk result (λ tree. tree_of_source table.now.entries text.now ≡ built tree) }
+    ensures settled { IfOk result (λ tree. Settled tree) }
+    ensures refused { IfErr result (IsRefusedAs (tree_of_source table.now.entries text.now)) }
+{
+    match parse_closed(alloc, text, table) {
+        Ok((tree, _closed)) => Ok(tree),
         Err(refused) => Err(refused),
     }
 }

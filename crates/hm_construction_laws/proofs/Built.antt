@@ -1,5 +1,5 @@
 -- What is built is settled: token by token, along the text.
-use Rattle.std.proofs.Common.{◌≡◌, ℕ, zero, suc, pred, ◌+◌, ◌-◌, ◌<◌, ◌≤◌, Bool, true, false, cond, List, [], ◌∷◌, length, drop, map, refl, sym, ap, subst, arith, encode_utf8_all, bytes_eq}
+use Rattle.std.proofs.Common.{◌≡◌, ℕ, zero, suc, pred, ◌+◌, ◌-◌, Bool, true, false, cond, List, [], ◌∷◌, length, drop, map, refl, sym, ap, subst, encode_utf8_all, bytes_eq}
 use Rattle.std.proofs.lemmas.Bool.{both_ways}
 use Rattle.hm_base.specs.Source.{Source, byte_of, place_in}
 use Rattle.hm_base.specs.Walks.{Event, Element, text_before, pushes, begins_text}
@@ -14,8 +14,8 @@ use Rattle.hm_elements.specs.Settled.{Settled}
 use Rattle.hm_elements.specs.Places.{CommentAllowed, SettledBehindBody, SettledBeforeBody}
 use Rattle.hm_elements.proofs.Gathered.{page_settles}
 use Rattle.hm_token_laws.specs.First.{Mode, Next, at_end, behind_bytes, first}
-use Rattle.hm_token_laws.specs.Laws.{IsPlain, SoundNames, IsText, SoundToken, least_size}
-use Rattle.hm_token_laws.proofs.Firsts.{tokens_are_sound, tokens_are_small}
+use Rattle.hm_token_laws.specs.Laws.{IsPlain, SoundNames, IsText, SoundToken}
+use Rattle.hm_token_laws.proofs.Firsts.{tokens_are_sound}
 use Rattle.hm_scan.specs.Reading.{read_tag}
 use Rattle.hm_construction_laws.specs.Steps.{InsertionMode, initial, before_html, before_head, in_head, after_head, in_body, after_body, after_html, Construction, Stepped, went, stops, no_drop, step_bytes, step, step_end, step_over, end_current, end_event, first_state}
 use Rattle.hm_construction_laws.specs.Trees.{Outcome, built, refused_by, after_events, mode_of, stepped, next_step, tree_from, tree_of_source}
@@ -62,7 +62,7 @@ slice_leads : (st : Construction) (s : List ℕ) → Good st → IsText (mode_of
 slice_leads st s g a r = text_leads s st g r a.no_zero a.utf8
 
 -- every token but a raw text
-token_leads : (st : Construction) (token : Seen) → Good st → SoundToken (mode_of st.path) token → ((s : List ℕ) → token ≡ tokens.slice s → is_in_raw st.path ≡ false) → Leads st.insertion_mode st.path (step st token)
+pub token_leads : (st : Construction) (token : Seen) → Good st → SoundToken (mode_of st.path) token → ((s : List ℕ) → token ≡ tokens.slice s → is_in_raw st.path ≡ false) → Leads st.insertion_mode st.path (step st token)
 unfolding step
 token_leads st (tokens.doctype legacy) g a r = doctypes_lead st.insertion_mode legacy st st.path (g.inner_comments, g.last_comments) g.shape
 token_leads st (tokens.start_tag n attributes slash) g a r = starts_lead st.insertion_mode n attributes slash st st.path (g.inner_comments, g.last_comments) a.name_allowed a.attributes_allowed g.shape (markup_no_text st.path a.mode_reads)

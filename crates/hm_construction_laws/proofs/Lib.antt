@@ -14,3 +14,4 @@ pub mod RawTexts
 pub mod Built
 pub mod Pages
 pub mod Weights
+pub mod Closing

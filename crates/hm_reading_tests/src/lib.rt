@@ -4,6 +4,8 @@
 #[cfg(test)]
 mod elements;
 #[cfg(test)]
+mod fragment;
+#[cfg(test)]
 mod json;
 #[cfg(test)]
 mod lexer;

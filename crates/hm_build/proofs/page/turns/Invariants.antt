@@ -1,10 +1,11 @@
-use Rattle.std.proofs.Common.{◌≡◌, ◌-◌, length}
+use Rattle.std.proofs.Common.{◌≡◌, ◌-◌, false, None, length}
 use Rattle.hm_lexer.specs.Reading.{text_of}
-use Rattle.hm_build.specs.Parsing.{IsParsing}
+use Rattle.hm_construction_laws.specs.Closing.{is_behind_body}
+use Rattle.hm_build.specs.Parsing.{IsParsing, closed_left, first_of}
 use Rattle.hm_build.proofs.page.turns.Given as goal
 
-abbrev pub invariant-loop-refused : goal.invariant-loop-refused
-invariant-loop-refused l = (l.lexer.names ≡ l.initial.lexer.names) × (l.lexer.source ≡ l.initial.lexer.source) × IsParsing l.lexer l.builder
+abbrev pub invariant-loop-from : goal.invariant-loop-from
+invariant-loop-from l = (l.lexer.names ≡ l.initial.lexer.names) × (l.lexer.source ≡ l.initial.lexer.source) × (IsParsing l.lexer l.builder × (closed_left l.initial.lexer l.initial.builder ≡ first_of l.closed (closed_left l.lexer l.builder)) × (l.closed ≡ None → is_behind_body l.builder.state.insertion_mode ≡ false))
 
-abbrev pub decreases-loop-refused : goal.decreases-loop-refused
-decreases-loop-refused l = length (text_of l.lexer) - l.lexer.at
+abbrev pub decreases-loop-from : goal.decreases-loop-from
+decreases-loop-from l = length (text_of l.lexer) - l.lexer.at

@@ -1,0 +1,12 @@
+pub mod Longer
+pub mod Behind
+pub mod Closed
+pub mod Ways
+pub mod Units
+pub mod FirstBytes
+pub mod Texts
+pub mod StayOpen
+pub mod Framed
+pub mod Rewritten
+pub mod Fragments
+pub mod Reading

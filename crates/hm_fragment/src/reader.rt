@@ -1,0 +1,71 @@
+//! Fragments that are read.
+ghost use Rattle.std.specs.Io.{StartsWith};
+ghost use Rattle.std.specs.Prelude.{◌≡◌, ◌≤◌, length, IfOk, IfErr};
+ghost use Rattle.hm_elements.specs.Settled.{Settled};
+ghost use Rattle.hm_construction_laws.specs.Trees.{built};
+ghost use Rattle.hm_build.specs.Parsing.{IsRefusedAs};
+ghost use Rattle.hm_fragment.specs.Fragments.{fragment_tree, refusal_of};
+ghost use Rattle.hm_fragment.specs.Frames as frames;
+ghost use Rattle.hm_fragment.specs.Frames.{IsFramed, unframed};
+
+use hm_base::{OUTPUT_LIMIT, Refused, Rule, SourceText};
+use hm_build::parse_closed;
+use hm_refs::Table;
+use hm_refs::laws::every_table;
+use hm_tree::Tree;
+use std::alloc::Global;
+
+/// What stands in front of a fragment, so that the two are a page.
+const FRONT: &str = "<!doctype html><body>";
+
+/// The bytes of `<!doctype html><body>`, which stand in front of a fragment where it is read.
+pub fn front() -> &'static [u8]
+    ensures { result.now ≡ frames.front }
+{
+    FRONT.as_bytes()
+}
+
+/// The refusal of a fragment whose page is refused so. Places of the page are behind the front.
+fn refusal(refused: Refused) -> Refused
+    ensures { result ≡ refusal_of refused }
+{
+    match refused {
+        Refused::Page { rule, at } => Refused::Page {
+            rule,
+            at: at.saturating_sub(FRONT.len() as u32),
+        },
+        Refused::Memory => Refused::Memory,
+    }
+}
+
+/// The tree of a fragment, the content of body alone, from a page that is `front` and then the fragment: or its first refusal,
+/// with its rule and its byte of the fragment.
+///
+/// It is refused where the page is (#tree-construction), and else, by `FrameEnd`, at the first token that closes body
+/// (#parsing-main-inbody, `</body>` and `</html>`). The page's memory is freed. The time is linear in the page.
+pub fn read_fragment(alloc: Global, page: Vec<u8>, table: &Table) -> Result<Tree, Refused>
+    requires front { StartsWith page.items frames.front }
+    requires short { length page.items ≤ OUTPUT_LIMIT }
+    ensures built { IfOk result (λ tree. fragment_tree table.now.entries (unframed page.items) ≡ built tree) }
+    ensures settled { IfOk result (λ tree. Settled tree) }
+    ensures framed { IfOk result (λ tree. IsFramed tree) }
+    ensures refused { IfErr result (IsRefusedAs (fragment_tree table.now.entries (unframed page.items))) }
+{
+    every_table(table);
+    let text = match SourceText::take(alloc, page, OUTPUT_LIMIT) {
+        Ok(text) => text,
+        Err(fault) => return Err(refusal(fault.refusal(OUTPUT_LIMIT))),
+    };
+    let parsed = parse_closed(alloc, &text, table);
+    text.release();
+    match parsed {
+        Ok((tree, closed)) => match closed {
+            None => Ok(tree),
+            Some(at) => Err(refusal(Refused::Page {
+                rule: Rule::FrameEnd,
+                at,
+            })),
+        },
+        Err(refused) => Err(refusal(refused)),
+    }
+}

@@ -1,10 +1,11 @@
 //! The table of names of character references (HTML Standard, #named-character-references).
-ghost use Rattle.std.specs.Prelude.{◌≡◌, ◌≢◌, ℕ, ◌<◌, ◌∷◌, [], List, length, is_some, option_map, Ok, Err, IfOk, IfErr, IfSome};
+ghost use Rattle.std.specs.Prelude.{◌≡◌, ◌≢◌, ℕ, ◌<◌, ◌≤◌, ◌∷◌, true, [], List, length, is_some, option_map, Ok, Err, IfOk, IfErr, IfSome};
 ghost use Rattle.hm_refs.specs.Names.{child_of, is_name, longest};
 ghost use Rattle.hm_refs.specs.Tables.{IsGathered, IsNode, IsTable, IsTrie, entry_at, found_at, front_at, places_for, points_list};
 ghost use Rattle.hm_refs.specs.Json.{checked};
 ghost use Rattle.hm_refs.specs.Nodes.{entries_of};
 ghost use Rattle.hm_refs.specs.Plain.{is_plain};
+ghost use Rattle.hm_refs.specs.Ready.{IsReady, are_cut, entries_from, nodes_from};
 
 use crate::fault::TableFault;
 use crate::firsts::{firsts_of, least_crowded};
@@ -12,6 +13,7 @@ use crate::ids::{NameId, Node};
 use crate::limits::NAMES_LIMIT;
 use crate::nodes::ReferenceName;
 use crate::plain::plain_flags;
+use crate::ready::{ReadyNames, ReadyNodes, names_of};
 use crate::trie::Trie;
 use hm_base::{Memory, Points, Word};
 use std::alloc::{AllocError, Global};
@@ -78,6 +80,29 @@ impl Table {
             let key = word_of(alloc, trie.text(id))?;
             return Err(TableFault::Lone { key });
         }
+        Ok(Table {
+            trie,
+            firsts,
+            plain,
+        })
+    }
+
+    /// The table of names that stand in the program, with their trie.
+    pub fn ready(alloc: Global, names: ReadyNames, nodes: ReadyNodes) -> Result<Table, Memory>
+        requires cut { are_cut names.text.now names.lengths.now ≡ true }
+        requires firsts { length names.lengths.now ≤ length names.firsts.now }
+        requires seconds { length names.lengths.now ≤ length names.seconds.now }
+        requires few { length nodes.names.now ≤ 65536 }
+        requires depths { length nodes.names.now ≤ length nodes.depths.now }
+        requires bytes { length nodes.names.now ≤ length nodes.bytes.now }
+        requires counts { length nodes.names.now ≤ length nodes.counts.now }
+        requires ready { IsReady (entries_from names.text.now names.lengths.now names.firsts.now names.seconds.now) (nodes_from 1 nodes.names.now nodes.depths.now nodes.bytes.now nodes.counts.now) nodes.places.now }
+        ensures { IfOk result (λ table. table.entries ≡ entries_from names.text.now names.lengths.now names.firsts.now names.seconds.now) }
+    {
+        let names = names_of(alloc, names)?;
+        let firsts = firsts_of(alloc, &names)?;
+        let plain = plain_flags(&names);
+        let trie = Trie::ready(alloc, names, nodes)?;
         Ok(Table {
             trie,
             firsts,

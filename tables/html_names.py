@@ -5,8 +5,9 @@ Run it at the top of the repository, after entities.json has changed:
 
     python3 tables/html_names.py tables/entities.json crates/hm_html_names/src
 
-It writes names.rt (the names, their lengths and code points) and nodes.rt and children.rt (the trie of the names). The
-check of hm_html_names proves that they are a table with its trie, and hm_html_cases compares it with entities.json.
+It writes names.rt (the names, their lengths and code points), nodes.rt and children.rt (the trie of the names), and
+index.rt (the names in the order of their code points). The check of hm_html_names proves that they are a table with its
+trie and its index, and the program hm_html_cases compares that table with entities.json.
 """
 import collections
 import json
@@ -112,6 +113,14 @@ def main(words):
         *numbers("DEPTHS", "u8", "How many bytes each prefix has after its `&`.", [str(n[1]) for n in trie]),
         *text("pub(crate) static BYTES: [u8; %d] = *b\"\\" % len(trie), "The last byte of each prefix.", "\";", [n[2] for n in trie]),
         *numbers("COUNTS", "u8", "How many prefixes have one byte more.", [str(n[3]) for n in trie]),
+    ])
+    order = sorted(range(len(names)), key=lambda number: points[number][0])
+    write(folder, "index.rt", [
+        "//! The names in the order of their first code points; those with the same one stand in byte order.",
+        made,
+        "",
+        *numbers("POINTS", "char", "The first code points.", [char(points[number][0]) for number in order]),
+        *numbers("NUMBERS", "u16", "The numbers of the names.", [str(number) for number in order]),
     ])
 
 

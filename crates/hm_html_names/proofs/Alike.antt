@@ -1,6 +1,7 @@
 -- What holds of constants holds of what is equal to them. It is said of variables, so that nothing is computed.
 use Rattle.std.proofs.Common.{◌≡◌, ℕ, List, true, refl}
 use Rattle.hm_refs.specs.Names.{Entry}
+use Rattle.hm_refs.specs.Firsts.{IsInOrder}
 use Rattle.hm_refs.specs.Ready.{IsReady, are_cut, entries_from, nodes_from}
 use Rattle.hm_html_names.specs.HtmlNames.{html_entries}
 use Rattle.hm_html_names.specs.declared.names.TheConstants.{FIRSTS, LENGTHS, SECONDS, TEXT}
@@ -13,6 +14,9 @@ entries_alike s ls ps qs t ms us vs e f g h = rw (e, f, g, h) refl
 
 pub ready_alike : (es fs : List Entry) (ns ds bs ks hs os cs ys js is : List ℕ) → es ≡ fs → ns ≡ os → ds ≡ cs → bs ≡ ys → ks ≡ js → hs ≡ is → IsReady fs (nodes_from 1 os cs ys js) is → IsReady es (nodes_from 1 ns ds bs ks) hs
 ready_alike es fs ns ds bs ks hs os cs ys js is d e f g h i r = rw (d, e, f, g, h, i) r
+
+pub order_alike : (es fs : List Entry) (ps is qs js : List ℕ) → es ≡ fs → ps ≡ qs → is ≡ js → IsInOrder fs qs js → IsInOrder es ps is
+order_alike es fs ps is qs js d e f r = rw (d, e, f) r
 
 pub html_is : entries_from TEXT.now LENGTHS FIRSTS SECONDS ≡ html_entries
 unfolding html_entries

@@ -5,14 +5,17 @@ use Rattle.hm_base.specs.Bytes.{is_alnum, is_digit_of, is_letter}
 use Rattle.hm_refs.specs.Names.{Entry, is_good_name}
 use Rattle.hm_refs.specs.Tables.{are_points, names_in}
 use Rattle.hm_refs.specs.Json.{first_lone}
+use Rattle.hm_refs.specs.Firsts.{IsInOrder}
 use Rattle.hm_refs.specs.Ready.{IsReady, are_cut, entries_from, nodes_from}
 use Rattle.hm_refs.specs.declared.nodes.TrieNode.{TrieNode}
 use Rattle.hm_refs.proofs.Picks.{blocks}
 use Rattle.hm_refs.proofs.ReadyTables.{Computed, are_placed, are_uncrowded, fronts_by, is_named, ready}
 use Rattle.hm_refs.proofs.ReadyTrie.{are_spread}
+use Rattle.hm_refs.proofs.Selecting.{by_bits, climbs_from, in_order, pairs_from, pairs_of}
 use Rattle.hm_refs.proofs.Sortings.{rises, with_length}
 use Rattle.hm_html_names.specs.declared.names.TheConstants.{FIRSTS, LENGTHS, SECONDS, TEXT}
 use Rattle.hm_html_names.specs.declared.nodes.TheConstants.{NAMES, PLACES}
+use Rattle.hm_html_names.specs.declared.index.TheConstants.{NUMBERS, POINTS}
 use Rattle.hm_html_names.specs.declared.children.TheConstants.{BYTES, COUNTS, DEPTHS}
 
 unfoldable entries : List Entry
@@ -78,6 +81,25 @@ spread = refl
 placed : are_placed 9854 95 (blocks 95 104 fronts) entries PLACES ≡ true
 unfolding fronts entries trie
 placed = refl
+
+-- ---- their index
+
+climbs : climbs_from 0 POINTS ≡ true
+climbs = refl
+
+index_long : length NUMBERS ≡ length POINTS
+index_long = refl
+
+-- the pairs are sorted by the 21 bits of a code point
+index_sorted : pairs_of POINTS NUMBERS ≡ by_bits 21 1 (pairs_from 0 entries)
+unfolding entries
+index_sorted = refl
+
+pub is_in_order : IsInOrder (entries_from TEXT.now LENGTHS FIRSTS SECONDS) POINTS NUMBERS
+unfolding entries
+is_in_order = in_order entries POINTS NUMBERS 21 climbs index_long index_sorted
+
+-- ---- all together
 
 computed : Computed 2231 47 9854 95 entries trie PLACES
 unfolding fronts

@@ -3,22 +3,24 @@
 ghost use Rattle.std.specs.Prelude.{◌≡◌, IfOk};
 ghost use Rattle.hm_html_names.specs.declared.names.TheConstants.{FIRSTS, LENGTHS, SECONDS, TEXT};
 ghost use Rattle.hm_html_names.specs.declared.nodes.TheConstants.{NAMES, PLACES};
+ghost use Rattle.hm_html_names.specs.declared.index.TheConstants.{NUMBERS, POINTS};
 ghost use Rattle.hm_html_names.specs.declared.children.TheConstants.{BYTES, COUNTS, DEPTHS};
 ghost use Rattle.hm_html_names.specs.HtmlNames.{html_entries};
 
 mod children;
+mod index;
 mod names;
 mod nodes;
 
 use hm_base::Memory;
-use hm_refs::{ReadyNames, ReadyNodes, Table};
+use hm_refs::{ReadyIndex, ReadyNames, ReadyNodes, Table};
 use std::alloc::Global;
 
 /// The table of the standard's 2,231 names (#named-character-references). No file is read.
 pub fn html_table(alloc: Global) -> Result<Table, Memory>
     ensures { IfOk result (λ table. table.entries ≡ html_entries) }
 {
-    Table::ready(alloc, ready_names(), ready_nodes())
+    Table::ready(alloc, ready_names(), ready_nodes(), ready_index())
 }
 
 /// The names as constants.
@@ -50,5 +52,16 @@ fn ready_nodes() -> ReadyNodes
         bytes: &children::BYTES,
         counts: &children::COUNTS,
         places: &nodes::PLACES,
+    }
+}
+
+/// Their index as constants.
+fn ready_index() -> ReadyIndex
+    ensures points { result.points.now ≡ POINTS }
+    ensures names { result.names.now ≡ NUMBERS }
+{
+    ReadyIndex {
+        points: &index::POINTS,
+        names: &index::NUMBERS,
     }
 }

@@ -19,6 +19,7 @@ pub mod Picks
 pub mod Sortings
 pub mod ReadyTrie
 pub mod ReadyTables
+pub mod Selecting
 pub mod Digits
 pub mod RunEnds
 pub mod ReferenceReads

@@ -1,7 +1,7 @@
 -- Elements of a long list, found in two short steps: by the block, and by the place in it.
-use Rattle.std.proofs.Common.{◌≡◌, ℕ, zero, suc, ◌+◌, ◌*◌, ◌/◌, ◌%◌, ◌<◌, List, [], ◌∷◌, get_or, drop, refl, sym, ap, ◌∙◌, arith, suc-mul, zero-mul}
+use Rattle.std.proofs.Common.{◌≡◌, ℕ, zero, suc, ◌+◌, ◌*◌, ◌/◌, ◌%◌, ◌<◌, List, [], ◌∷◌, get_or, drop, sym, ap, ◌∙◌, arith, suc-mul, zero-mul}
 use Rattle.std.proofs.lemmas.List.{get_or-drop, drop-drop}
-use Rattle.std.proofs.lemmas.Nat.{div-add-mod', div_below}
+use Rattle.std.proofs.lemmas.Nat.{div-add-mod'}
 
 -- what is left of a list before each of so many blocks
 abbrev pub blocks : {X : Type 0} → ℕ → ℕ → List X → List (List X)

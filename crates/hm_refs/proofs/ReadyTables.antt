@@ -1,5 +1,5 @@
 -- Tests, which the checker computes, that constants are a table with its trie.
-use Rattle.std.proofs.Common.{◌≡◌, ℕ, zero, suc, ◌+◌, ◌*◌, ◌/◌, ◌%◌, ◌<◌, ◌≤◌, ◌⊎◌, inl, inr, Bool, true, false, cond, not, ◌&&◌, ◌||◌, ◌==◌, nat_lt, List, [], ◌∷◌, filter, map, length, get_or, take, drop, Option, Some, None, refl, sym, ap, ◌∙◌, subst, arith, bytes_eq, is_some, count_by}
+use Rattle.std.proofs.Common.{◌≡◌, ℕ, zero, suc, ◌+◌, ◌/◌, ◌%◌, ◌<◌, ◌≤◌, ◌⊎◌, inl, inr, Bool, true, false, cond, not, ◌&&◌, ◌||◌, ◌==◌, nat_lt, List, [], ◌∷◌, filter, map, length, get_or, take, drop, Option, Some, None, refl, sym, ap, ◌∙◌, subst, arith, bytes_eq, is_some, count_by}
 use Rattle.std.proofs.lemmas.Bool.{cases_lt}
 use Rattle.std.proofs.lemmas.Nat.{mod_below}
 use Rattle.std.proofs.lemmas.Slice.Eq.{bytes_eq-Decides}
@@ -7,8 +7,8 @@ use Rattle.std.specs.List.{list_all}
 use Rattle.hm_base.specs.Bytes.{head_is}
 use Rattle.hm_refs.specs.declared.limits.TheConstants.{ALIKE_LIMIT, NAMES_LIMIT, OPEN_LIMIT}
 use Rattle.hm_refs.specs.Names.{Entry, is_good_name}
-use Rattle.hm_refs.specs.Tables.{are_points, is_for, is_open_for, names_in, no_entry, entry_at, IsTable, IsGathered}
-use Rattle.hm_refs.specs.Json.{first_lone, if_crowded, is_crowded, least_crowded, checked}
+use Rattle.hm_refs.specs.Tables.{are_points, is_for, is_open_for, names_in, no_entry, entry_at, IsGathered}
+use Rattle.hm_refs.specs.Json.{first_lone, if_crowded, is_crowded, least_crowded}
 use Rattle.hm_refs.specs.Nodes.{front_in, fronts_of, place, place_at, AreApart, ArePlaces, IsPut}
 use Rattle.hm_refs.specs.Ready.{IsReady}
 use Rattle.hm_refs.specs.declared.nodes.TrieNode.{TrieNode}
@@ -18,7 +18,7 @@ use Rattle.hm_refs.proofs.Gathered.{few_points, gathered_names, table_of}
 use Rattle.hm_refs.proofs.Picks.{blocks, pick, picked}
 use Rattle.hm_refs.proofs.ReadyTrie.{are_spread, web}
 use Rattle.hm_refs.proofs.Sortings.{rises, sorted, with_length, apart_by_length}
-use Rattle.hm_refs.proofs.Webs.{length_fronts, no_node, own_element}
+use Rattle.hm_refs.proofs.Webs.{length_fronts}
 
 -- ---- prefixes, with the names in blocks of 48
 

@@ -1,20 +1,16 @@
 -- A test, which the checker computes, that nodes are the trie of names. The children of all nodes are the nodes after the
 -- first, in the order of their parents; so the test goes over the nodes and beside them over their children.
-use Rattle.std.proofs.Common.{◌≡◌, ℕ, zero, suc, ◌+◌, ◌-◌, ◌*◌, ◌/◌, ◌<◌, ◌≤◌, ◌⊎◌, inl, inr, Bool, true, false, cond, not, ◌&&◌, ◌==◌, nat_lt, List, [], ◌∷◌, ◌++◌, map, length, get_or, take, drop, Option, Some, None, refl, sym, ap, ◌∙◌, subst, arith, bytes_eq, is_some}
+use Rattle.std.proofs.Common.{◌≡◌, ℕ, zero, suc, ◌+◌, ◌-◌, ◌<◌, ◌≤◌, ◌⊎◌, inl, inr, Bool, true, false, ◌&&◌, ◌==◌, List, [], ◌∷◌, ◌++◌, length, get_or, drop, Option, Some, None, refl, sym, ap, ◌∙◌, subst, arith, bytes_eq, is_some}
 use Rattle.std.proofs.lemmas.Bool.{cases_lt}
 use Rattle.std.proofs.lemmas.List.{get_or-drop, length-drop, length_push, same_from_push, get_or_read}
 use Rattle.std.proofs.lemmas.Slice.Eq.{bytes_eq-Decides}
-use Rattle.std.specs.List.{list_all}
 use Rattle.hm_base.specs.Bytes.{is_null}
-use Rattle.hm_refs.specs.Names.{Entry, is_front}
-use Rattle.hm_refs.specs.Tables.{no_entry, entry_at}
-use Rattle.hm_refs.specs.Nodes.{front_in, fronts_of, place, place_at, AreApart, AreNames, ArePlaces, HasEnds, IsAmong, IsKin, IsPut, IsWeb}
+use Rattle.hm_refs.specs.Names.{Entry}
+use Rattle.hm_refs.specs.Nodes.{front_in, fronts_of, place, AreApart, AreNames, IsAmong, IsWeb}
 use Rattle.hm_refs.specs.declared.nodes.TrieNode.{TrieNode}
 use Rattle.hm_refs.proofs.Bools.{and_left, and_right, eq_of}
 use Rattle.hm_refs.proofs.Growing.{begins_front, front_of_name}
-use Rattle.hm_refs.proofs.Picks.{blocks, pick, picked}
 use Rattle.hm_refs.proofs.Places.{place_stands, place_some, apart_same}
-use Rattle.hm_refs.proofs.Sortings.{rises, with_length, apart_by_length}
 use Rattle.hm_refs.proofs.Webs.{front_at_place, length_fronts, no_node, own_element}
 
 -- ---- the test

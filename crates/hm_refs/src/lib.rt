@@ -4,6 +4,7 @@
 mod fault;
 mod firsts;
 mod ids;
+mod index;
 pub mod laws;
 mod limits;
 mod nodes;
@@ -20,6 +21,6 @@ pub use fault::TableFault;
 pub use ids::{NameId, Node};
 pub use limits::{ALIKE_LIMIT, LENGTH_LIMIT, NAMES_LIMIT, OPEN_LIMIT};
 pub use numbers::{best_number, number_value};
-pub use ready::{ReadyNames, ReadyNodes};
+pub use ready::{ReadyIndex, ReadyNames, ReadyNodes};
 pub use scan::{Reference, read_reference};
 pub use table::Table;

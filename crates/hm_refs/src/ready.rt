@@ -3,7 +3,7 @@ ghost use Rattle.std.specs.Prelude.{◌≡◌, ◌≤◌, true, length, option_t
 ghost use Rattle.hm_refs.specs.Nodes.{entries_of};
 ghost use Rattle.hm_refs.specs.Ready.{IsReady, are_cut, entries_from, nodes_from, second_of};
 
-use crate::ids::Node;
+use crate::ids::{NameId, Node};
 use crate::nodes::{ReferenceName, TrieNode};
 use crate::text::NameText;
 use hm_base::{Memory, Points};
@@ -36,6 +36,15 @@ pub struct ReadyNodes {
     pub counts: &'static [u8],
     /// The node of each name.
     pub places: &'static [u16],
+}
+
+/// Such names in the order of their first code points. Names with the same one stand in byte order.
+#[derive(Clone, Copy)]
+pub struct ReadyIndex {
+    /// The first code points.
+    pub points: &'static [char],
+    /// The numbers of the names.
+    pub names: &'static [u16],
 }
 
 /// A second code point.
@@ -95,6 +104,17 @@ pub(crate) fn nodes_of(alloc: Global, ready: ReadyNodes) -> Result<Vec<TrieNode>
         first += count;
     }
     Ok(nodes)
+}
+
+/// Names by their numbers.
+pub(crate) fn ids_of(alloc: Global, numbers: &[u16]) -> Result<Vec<NameId>, Memory>
+    ensures { IfOk result (λ ids. ids.items ≡ numbers.now) }
+{
+    let mut ids = Vec::with_capacity(alloc, numbers.len())?;
+    for number in numbers {
+        ids.push(NameId::new(*number as u32))?;
+    }
+    Ok(ids)
 }
 
 /// The node of each name.

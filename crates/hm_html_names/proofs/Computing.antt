@@ -1,15 +1,15 @@
 -- What the checker computes of the constants.
-use Rattle.std.proofs.Common.{◌≡◌, ℕ, ◌<◌, ◌≤◌, true, List, []  , ◌∷◌, map, length, drop, get_or, None, refl, arith}
+use Rattle.std.proofs.Common.{◌≡◌, ℕ, true, List, [], ◌∷◌, map, length, drop, get_or, None, Ok, refl, arith}
 use Rattle.std.specs.List.{list_all}
 use Rattle.hm_base.specs.Bytes.{is_alnum, is_digit_of, is_letter}
 use Rattle.hm_refs.specs.Names.{Entry, is_good_name}
 use Rattle.hm_refs.specs.Tables.{are_points, names_in}
-use Rattle.hm_refs.specs.Json.{first_lone}
+use Rattle.hm_refs.specs.Json.{checked, first_lone}
 use Rattle.hm_refs.specs.Firsts.{IsInOrder}
 use Rattle.hm_refs.specs.Ready.{IsReady, are_cut, entries_from, nodes_from}
 use Rattle.hm_refs.specs.declared.nodes.TrieNode.{TrieNode}
 use Rattle.hm_refs.proofs.Picks.{blocks}
-use Rattle.hm_refs.proofs.ReadyTables.{Computed, are_placed, are_uncrowded, fronts_by, is_named, ready}
+use Rattle.hm_refs.proofs.ReadyTables.{Computed, are_placed, are_uncrowded, fronts_by, is_named, passes_checks, ready}
 use Rattle.hm_refs.proofs.ReadyTrie.{are_spread}
 use Rattle.hm_refs.proofs.Selecting.{by_bits, climbs_from, in_order, pairs_from, pairs_of}
 use Rattle.hm_refs.proofs.Sortings.{rises, with_length}
@@ -120,6 +120,10 @@ computed = record {
   spread = spread;
   placed = placed;
 }
+
+pub is_checked : checked (entries_from TEXT.now LENGTHS FIRSTS SECONDS) ≡ Ok (entries_from TEXT.now LENGTHS FIRSTS SECONDS)
+unfolding entries
+is_checked = passes_checks 2231 47 9854 95 entries trie PLACES computed
 
 pub is_ready : IsReady (entries_from TEXT.now LENGTHS FIRSTS SECONDS) (nodes_from 1 NAMES DEPTHS BYTES COUNTS) PLACES
 unfolding entries trie

@@ -1,5 +1,6 @@
 //! The table of the HTML Standard's named character references, which stands in the program with its trie.
 #![tactic(auto)]
+
 ghost use Rattle.std.specs.Prelude.{◌≡◌, IfOk};
 ghost use Rattle.hm_html_names.specs.declared.names.TheConstants.{FIRSTS, LENGTHS, SECONDS, TEXT};
 ghost use Rattle.hm_html_names.specs.declared.nodes.TheConstants.{NAMES, PLACES};
@@ -9,6 +10,7 @@ ghost use Rattle.hm_html_names.specs.HtmlNames.{html_entries};
 
 mod children;
 mod index;
+pub mod laws;
 mod names;
 mod nodes;
 

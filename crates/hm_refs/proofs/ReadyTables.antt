@@ -1,5 +1,5 @@
 -- Tests, which the checker computes, that constants are a table with its trie.
-use Rattle.std.proofs.Common.{◌≡◌, ℕ, zero, suc, ◌+◌, ◌/◌, ◌%◌, ◌<◌, ◌≤◌, ◌⊎◌, inl, inr, Bool, true, false, cond, not, ◌&&◌, ◌||◌, ◌==◌, nat_lt, List, [], ◌∷◌, filter, map, length, get_or, take, drop, Option, Some, None, refl, sym, ap, ◌∙◌, subst, arith, bytes_eq, is_some, count_by}
+use Rattle.std.proofs.Common.{◌≡◌, ℕ, zero, suc, ◌+◌, ◌/◌, ◌%◌, ◌<◌, ◌≤◌, ◌⊎◌, inl, inr, Bool, true, false, cond, not, ◌&&◌, ◌||◌, ◌==◌, nat_lt, List, [], ◌∷◌, filter, map, length, get_or, take, drop, Option, Some, None, Ok, refl, sym, ap, ◌∙◌, subst, arith, bytes_eq, is_some, count_by}
 use Rattle.std.proofs.lemmas.Bool.{cases_lt}
 use Rattle.std.proofs.lemmas.Nat.{mod_below}
 use Rattle.std.proofs.lemmas.Slice.Eq.{bytes_eq-Decides}
@@ -8,7 +8,7 @@ use Rattle.hm_base.specs.Bytes.{head_is}
 use Rattle.hm_refs.specs.declared.limits.TheConstants.{ALIKE_LIMIT, NAMES_LIMIT, OPEN_LIMIT}
 use Rattle.hm_refs.specs.Names.{Entry, is_good_name}
 use Rattle.hm_refs.specs.Tables.{are_points, is_for, is_open_for, names_in, no_entry, entry_at, IsGathered}
-use Rattle.hm_refs.specs.Json.{first_lone, if_crowded, is_crowded, least_crowded}
+use Rattle.hm_refs.specs.Json.{checked, first_lone, if_crowded, is_crowded, least_crowded}
 use Rattle.hm_refs.specs.Nodes.{front_in, fronts_of, place, place_at, AreApart, ArePlaces, IsPut}
 use Rattle.hm_refs.specs.Ready.{IsReady}
 use Rattle.hm_refs.specs.declared.nodes.TrieNode.{TrieNode}
@@ -34,6 +34,9 @@ is_named n k x = (nat_lt x.name n && nat_lt (x.name / 48) k) && not (is_some x.e
 
 lt_of : (m n : ℕ) → nat_lt m n ≡ true → m < n
 lt_of m n h = grind arith
+
+not_less : (m n : ℕ) → m ≤ n → nat_lt n m ≡ false
+not_less m n l = grind arith
 
 fronts_same : (n k : ℕ) (t : List Entry) (nodes : List TrieNode) → list_all (is_named n k) nodes ≡ true → fronts_by (blocks k 48 t) nodes ≡ fronts_of t nodes
 unfolding front_in
@@ -212,3 +215,7 @@ module _ (n j m k : ℕ) (t : List Entry) (nodes : List TrieNode) (places : List
 
   pub ready : IsReady t nodes places
   ready = record { table = table_of t gathered fit none_crowded c.paired; put = is_put }
+
+  -- the names pass the checks of a table that is read
+  pub passes_checks : checked t ≡ Ok t
+  passes_checks = rw (not_less (length t) NAMES_LIMIT fit, none_crowded, c.paired) refl

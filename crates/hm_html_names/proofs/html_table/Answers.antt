@@ -1,4 +1,4 @@
-use Rattle.std.proofs.Common.{◌≡◌, ◌∙◌}
+use Rattle.std.proofs.Common.{◌∙◌}
 use Rattle.std.proofs.lemmas.Result.{IfOk-weaker}
 use Rattle.hm_html_names.proofs.Alike.{cut_alike, entries_alike, order_alike, ready_alike, html_is}
 use Rattle.hm_html_names.proofs.Computing.{cut, is_in_order, is_ready}

@@ -1,10 +1,10 @@
 -- The part of a line that is shown.
 use Rattle.std.proofs.Common.{◌≡◌, ℕ, zero, suc, ◌+◌, ◌-◌, ◌<◌, ◌≤◌, Bool, true, false, cond, not, nat_le, List, [], ◌∷◌, ◌++◌, length, get_or, take, drop, refl, sym, ap, ◌∙◌, subst, arith, append-nil, append_assoc, take-add, take-append-drop}
 use Rattle.std.proofs.lemmas.List.{at_drop_all, at_drop_more, drop-drop, drop-take, drop_more, length-append, length-drop, take-take, take_all, take_more}
-use Rattle.std.specs.Fmt.{char_count, is_char_start}
+use Rattle.std.specs.Fmt.{is_char_start}
 use Rattle.hm_base.specs.Bytes.{head_is}
 use Rattle.hm_location.specs.declared.shown.TheConstants.{BEFORE, BEHIND}
-use Rattle.hm_location.specs.Lines.{line_front}
+use Rattle.hm_location.specs.Lines.{columns, line_front}
 use Rattle.hm_location.specs.Shown.{is_break, line_rest, from_char, shown_before, shown_behind, shown_place, front_shown, rest_shown, line_at, IsPart}
 
 -- ---- up to the end of the line
@@ -173,12 +173,12 @@ all_shown s at p begin cut kept len m e l f r n c d k h =
     }
 
 pub caret_shown : (s : List ℕ) (at p begin cut count : ℕ) → p ≡ shown_place s at → take (p - begin) (drop begin s) ≡ line_front s p → drop cut (take (p - begin) (drop begin s)) ≡ shown_before BEFORE (take (p - begin) (drop begin s))
-    → count ≡ char_count (take (length (take (p - begin) (drop begin s)) - cut) (drop cut (take (p - begin) (drop begin s)))) → count ≡ char_count (front_shown s at)
+    → count ≡ columns (take (length (take (p - begin) (drop begin s)) - cut) (drop cut (take (p - begin) (drop begin s)))) → count ≡ columns (front_shown s at)
 unfolding front_shown
 caret_shown s at p begin cut count e f d h =
     let q = take (p - begin) (drop begin s) in
     let all : take (length q - cut) (drop cut q) ≡ drop cut q = take_all (length q - cut) (drop cut q) (omega (arith, length-drop cut q)) in
-    h ∙ ap char_count (all ∙ d ∙ ap (shown_before BEFORE) f ∙ ap (λ a. shown_before BEFORE (line_front s a)) e)
+    h ∙ ap columns (all ∙ d ∙ ap (shown_before BEFORE) f ∙ ap (λ a. shown_before BEFORE (line_front s a)) e)
 
 pub rest_of_all : (s : List ℕ) (p len : ℕ) → take len (take (length s - p) (drop p s)) ≡ line_rest (take (length s - p) (drop p s)) → take len (drop p s) ≡ line_rest (drop p s)
 rest_of_all s p len h = subst (λ q. take len q ≡ line_rest q) (take_all (length s - p) (drop p s) (omega (arith, length-drop p s))) h

@@ -27,7 +27,18 @@ front_from q (suc n) (c ∷ s) = front_from (if ends_line c s then [] else q ++ 
 abbrev pub line_front : List ℕ → ℕ → List ℕ
 line_front s at = front_from [] at s
 
+-- without a byte order mark, EF BB BF, at its begin
+abbrev pub without_mark : List ℕ → List ℕ
+without_mark [] = []
+without_mark (a ∷ []) = a ∷ []
+without_mark (a ∷ b ∷ []) = a ∷ b ∷ []
+without_mark (a ∷ b ∷ c ∷ q) = if a == 0xEF && (b == 0xBB && c == 0xBF) then q else a ∷ b ∷ c ∷ q
+
+-- how many columns the begin of a line takes: its characters, but for a byte order mark, which isn't seen
+unfoldable pub columns : List ℕ → ℕ
+columns q = char_count (without_mark q)
+
 -- The column of the byte at a place, counted from 1: how many characters of its line begin before it. Where what stands
 -- before it is UTF-8, each of these is whole.
 unfoldable pub column_of : List ℕ → ℕ → ℕ
-column_of s at = 1 + char_count (line_front s at)
+column_of s at = 1 + columns (line_front s at)

@@ -1,13 +1,13 @@
 //! Lines and columns.
 ghost use Rattle.std.specs.Prelude.{◌≡◌, ◌+◌, ◌-◌, ◌<◌, ◌≤◌, take, drop, length, slice_index};
 ghost use Rattle.std.specs.Fmt.{char_count, is_char_start};
-ghost use Rattle.hm_location.specs.Lines.{column_of, ends_line, line_front, line_of};
+ghost use Rattle.hm_location.specs.Lines.{column_of, columns, ends_line, line_front, line_of, without_mark};
 
 /// A line and a column, both counted from 1.
 #[derive(Clone, Copy, Debug, PartialEq, Eq)]
 pub struct Location {
     pub line: usize,
-    /// How many characters of the line begin before the byte, plus 1.
+    /// How many characters of the line begin before the byte, plus 1; a byte order mark isn't counted.
     pub column: usize,
 }
 
@@ -20,7 +20,8 @@ pub(crate) struct LineStart {
 
 /// Where the byte `at` of a text is, or its end. Lines end with LF, CR or CR LF.
 ///
-/// Where the bytes before `at` are UTF-8, the column counts whole characters, whatever stands at `at`.
+/// Where the bytes before `at` are UTF-8, the column counts whole characters, whatever stands at `at`. A byte order mark
+/// isn't counted.
 pub fn location_of(text: &[u8], at: usize) -> Location
     requires { at ≤ length text.now }
     ensures line { result.line ≡ line_of text.now at }
@@ -29,7 +30,7 @@ pub fn location_of(text: &[u8], at: usize) -> Location
     let start = line_start(text, at);
     Location {
         line: start.number,
-        column: 1 + count_chars(&text[start.begin..at]),
+        column: 1 + count_columns(&text[start.begin..at]),
     }
 }
 
@@ -60,6 +61,26 @@ fn ends_line(text: &[u8], index: usize) -> bool
         [b'\r', b'\n', ..] => false,
         [first, ..] => *first == b'\n' || *first == b'\r',
         [] => false,
+    }
+}
+
+/// How many columns the begin of a line takes.
+#[tactic(auto, unfolding(crate::specs::Lines::columns))]
+pub(crate) fn count_columns(bytes: &[u8]) -> usize
+    ensures count { result ≡ columns bytes.now }
+    ensures few { result ≤ length bytes.now }
+{
+    count_chars(without_mark(bytes))
+}
+
+/// The begin of a line without a byte order mark.
+fn without_mark(bytes: &[u8]) -> &[u8]
+    ensures bytes { result.now ≡ without_mark bytes.now }
+    ensures few { length result.now ≤ length bytes.now }
+{
+    match bytes {
+        [0xEF, 0xBB, 0xBF, rest @ ..] => rest,
+        _ => bytes,
     }
 }
 

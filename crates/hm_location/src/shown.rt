@@ -1,10 +1,10 @@
 //! The line of a byte, as it is shown.
 ghost use Rattle.std.specs.Prelude.{◌≡◌, ◌++◌, ◌≤◌, drop, length, take};
-ghost use Rattle.std.specs.Fmt.{char_count};
+ghost use Rattle.hm_location.specs.Lines.{columns};
 ghost use Rattle.hm_location.specs.declared.shown.TheConstants.{BEFORE, BEHIND};
 ghost use Rattle.hm_location.specs.Shown.{IsPart, front_shown, line_at, line_rest, rest_shown, shown_before, shown_behind, shown_place};
 
-use crate::place::{count_chars, is_char_start, line_start};
+use crate::place::{count_columns, is_char_start, line_start};
 
 /// The most bytes that are shown before a place.
 pub const BEFORE: usize = 60;
@@ -17,7 +17,7 @@ pub const BEHIND: usize = 40;
 pub struct ShownLine<'a> {
     /// The bytes, without the end of the line.
     pub bytes: &'a [u8],
-    /// How many characters begin before the place: a caret below it stands after so many spaces.
+    /// How many characters begin before the place, but for a byte order mark: a caret below it stands after so many spaces.
     pub caret: usize,
 }
 
@@ -26,7 +26,7 @@ pub struct ShownLine<'a> {
 pub fn shown_line(text: &[u8], at: usize) -> ShownLine<'_>
     requires { at ≤ length text.now }
     ensures bytes { result.bytes.now ≡ front_shown text.now at ++ rest_shown text.now at }
-    ensures caret { result.caret ≡ char_count (front_shown text.now at) }
+    ensures caret { result.caret ≡ columns (front_shown text.now at) }
     ensures short { length result.bytes.now ≤ 100 }
     ensures part { IsPart result.bytes.now (line_at text.now (shown_place text.now at)) }
 {
@@ -38,7 +38,7 @@ pub fn shown_line(text: &[u8], at: usize) -> ShownLine<'_>
     let kept = cut_behind(rest);
     ShownLine {
         bytes: &text[begin + cut..place + kept],
-        caret: count_chars(&front[cut..]),
+        caret: count_columns(&front[cut..]),
     }
 }
 

@@ -23,7 +23,7 @@ pub struct ReadyNames {
 }
 
 /// The trie of such names: a node for each of their prefixes, in the order of their lengths, and the byte order for each
-/// length. The lists have an item for each node, but for the last.
+/// length. `places` has an item for each name, the other lists have one for each node.
 #[derive(Clone, Copy)]
 pub struct ReadyNodes {
     /// The number of the first name that begins so.

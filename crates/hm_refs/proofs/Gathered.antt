@@ -148,7 +148,7 @@ counted p (e ∷ t) l = by_test (p e) refl (counted p t) (omega (arith, count_co
     by_test true h more k = record { entry = e; among = first t; passes_so = h }
     by_test false h more k = counted_later p e t (more (omega arith))
 
-few_points : (t : List Entry) → least_crowded t t ≡ None → (c : ℕ) → (count_by (is_for c) t ≤ ALIKE_LIMIT) × (count_by (is_open_for c) t ≤ OPEN_LIMIT)
+pub few_points : (t : List Entry) → least_crowded t t ≡ None → (c : ℕ) → (count_by (is_for c) t ≤ ALIKE_LIMIT) × (count_by (is_open_for c) t ≤ OPEN_LIMIT)
 few_points t h c = by_test (is_crowded t c) refl
   where
     no_first : (e : Entry) → IsIn e t → is_for c e ≡ true → is_crowded t c ≡ true → ⊥

@@ -1,5 +1,5 @@
 -- A trie that grows by one byte of each name after another.
-use Rattle.std.proofs.Common.{◌≡◌, ℕ, zero, suc, ◌+◌, ◌<◌, ◌≤◌, ◌⊎◌, inl, inr, Bool, true, false, cond, ◌&&◌, ◌==◌, nat_eq, List, [], ◌∷◌, ◌++◌, length, get_or, set, take, drop, replicate, Some, None, refl, sym, ap, ◌∙◌, subst, arith, is_some, string_bytes, Ordering, Less, Equal, Greater}
+use Rattle.std.proofs.Common.{◌≡◌, ℕ, zero, suc, ◌+◌, ◌<◌, ◌≤◌, ◌⊎◌, inl, inr, Bool, true, false, cond, ◌&&◌, ◌==◌, nat_eq, List, [], ◌∷◌, ◌++◌, length, get_or, set, take, drop, replicate, Some, None, refl, sym, ap, ◌∙◌, subst, arith, is_some, Ordering, Less, Equal, Greater}
 use Rattle.std.proofs.lemmas.Bool.{cases_eq, cases_lt}
 use Rattle.std.proofs.lemmas.List.{map-set, set-get_or, get_or-map, get_or_read, get_or-set_same, get_or-set_other, get_or-replicate, take_more, take_all, take-append-le, map_more, take-map, length-map, length-set, length_push, length-take-le, length-drop, length-replicate}
 use Rattle.std.proofs.lemmas.Map.Keys.{Less-from_sorted}
@@ -26,7 +26,7 @@ begins_take (suc j) [] = refl
 begins_take (suc j) (c ∷ n) = grind (arith, begins_take j n)
 
 -- a prefix of a name is one of the names
-front_of_name : (t : List Entry) (k : ℕ) (q : List ℕ) → k < length t → begins q (entry_at t k).name ≡ true → is_front t q ≡ true
+pub front_of_name : (t : List Entry) (k : ℕ) (q : List ℕ) → k < length t → begins q (entry_at t k).name ≡ true → is_front t q ≡ true
 front_of_name [] k q l h = absurd (omega arith)
 front_of_name (e ∷ t) zero q l h = rw h refl
 front_of_name (e ∷ t) (suc k) q l h = by_test (begins q e.name) (front_of_name t k q (omega arith) h)
@@ -65,7 +65,7 @@ convex (x ∷ q) (y ∷ a) (z ∷ b) (w ∷ c) h k f g =
 named_at : (t : List Entry) (k : ℕ) → k < length t → get_or (names_in t) k [] ≡ (entry_at t k).name
 named_at t k l = get_or-map (λ (e : Entry). e.name) t k no_entry [] l
 
-begins_front : (t : List Entry) (i d : ℕ) → IsShort (entry_at t i).name → begins (front_to t i d) (entry_at t i).name ≡ true
+pub begins_front : (t : List Entry) (i d : ℕ) → IsShort (entry_at t i).name → begins (front_to t i d) (entry_at t i).name ≡ true
 begins_front t i d s = rw s.begins (begins_take d (drop 1 (entry_at t i).name))
 
 length_front : (t : List Entry) (i d : ℕ) → d ≤ length (tail_at t i) → length (front_to t i d) ≡ d + 1
@@ -513,7 +513,7 @@ module _ (t : List Entry) (k at : ℕ) (nodes : List TrieNode) (places : List �
 pub length_entries : (ns : List ReferenceName) → length (entries_of ns) ≡ length ns
 length_entries ns = length-map ns entry_of
 
-pub name_read : (ns : List ReferenceName) (i : ℕ) (x : ReferenceName) (b : List ℕ) → i < length ns → b ≡ string_bytes (get_or ns i x).text → b ≡ (entry_at (entries_of ns) i).name
+pub name_read : (ns : List ReferenceName) (i : ℕ) (x : ReferenceName) (b : List ℕ) → i < length ns → b ≡ (get_or ns i x).text → b ≡ (entry_at (entries_of ns) i).name
 name_read ns i x b l e = e ∙ sym (ap (λ (y : Entry). y.name) (get_or-map entry_of ns i x no_entry l))
 
 pub place_read : (places : List ℕ) (i index node : ℕ) → i < length places → index ≡ node → node ≡ get_or places i node → index ≡ place_at places i

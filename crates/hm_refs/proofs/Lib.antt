@@ -15,6 +15,11 @@ pub mod Shortest
 pub mod Splits
 pub mod Webs
 pub mod Whole
+pub mod Picks
+pub mod Sortings
+pub mod ReadyTrie
+pub mod ReadyTables
+pub mod Selecting
 pub mod Digits
 pub mod RunEnds
 pub mod ReferenceReads

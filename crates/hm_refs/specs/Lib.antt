@@ -7,8 +7,10 @@ pub mod Json
 pub mod Faults
 pub mod Examples
 pub mod JsonExamples
+pub mod NameTexts
 pub mod Nodes
 pub mod Firsts
 pub mod Flags
+pub mod Ready
 pub mod Laws
 pub mod Reads

@@ -1,5 +1,5 @@
 -- The nodes of a trie, as the code keeps them.
-use Rattle.std.specs.Prelude.{◌≡◌, ℕ, suc, ◌+◌, ◌*◌, ◌<◌, ◌≤◌, ◌⊎◌, ◌==◌, true, false, is_some, List, [], ◌∷◌, ◌++◌, map, take, drop, length, Option, Some, None, option_map, IfSome, MatchOption, if◌then◌else◌, slice_index_or, slice_set, bytes_eq, string_bytes}
+use Rattle.std.specs.Prelude.{◌≡◌, ℕ, suc, ◌+◌, ◌*◌, ◌<◌, ◌≤◌, ◌⊎◌, ◌==◌, true, false, is_some, List, [], ◌∷◌, ◌++◌, map, take, drop, length, Option, Some, None, option_map, IfSome, MatchOption, if◌then◌else◌, slice_index_or, slice_set, bytes_eq}
 use Rattle.std.specs.Ordering.{nat_cmp}
 use Rattle.std.specs.Cmp.Lexicographic.{slice_cmp}
 use Rattle.std.specs.List.Sorted.{IsStrictlySortedBy}
@@ -11,7 +11,7 @@ use Rattle.hm_refs.specs.declared.nodes.ReferenceName.{ReferenceName}
 use Rattle.hm_refs.specs.declared.nodes.TrieNode.{TrieNode}
 
 abbrev pub entry_of : ReferenceName → Entry
-entry_of n = record { name = string_bytes n.text; points = points_list n.points }
+entry_of n = record { name = n.text; points = points_list n.points }
 
 abbrev pub entries_of : List ReferenceName → List Entry
 entries_of names = map entry_of names

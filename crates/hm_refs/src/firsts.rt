@@ -87,7 +87,7 @@ fn open_names(names: &[ReferenceName], ids: &[NameId]) -> usize
 {
     let mut open = 0;
     for id in ids {
-        if !is_closed(names[id.index()].text.as_bytes()) {
+        if !is_closed(names[id.index()].text.as_str().as_bytes()) {
             open += 1;
         }
     }

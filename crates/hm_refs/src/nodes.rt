@@ -5,13 +5,14 @@ ghost use Rattle.hm_refs.specs.Nodes.{AreNames, AreWithin, IsFound, IsPut, IsSpr
 
 use crate::ids::{NameId, Node};
 use crate::limits::LENGTH_LIMIT;
+use crate::text::NameText;
 use hm_base::{Memory, Points};
 use std::alloc::Global;
 
 /// A name with the code points that it stands for.
 #[derive(Drop)]
 pub(crate) struct ReferenceName {
-    pub(crate) text: String,
+    pub(crate) text: NameText,
     pub(crate) points: Points,
 }
 
@@ -110,7 +111,7 @@ fn grow_deeper(
     ensures { OnOk result (IsSpread (entries_of names.now) (depth + 1) 0 nodes.new.items places.new) }
 {
     for number in 0..names.len() {
-        let tail = behind_first(names[number].text.as_bytes());
+        let tail = behind_first(names[number].text.as_str().as_bytes());
         if (depth as usize) < tail.len() {
             let byte = tail[depth as usize];
             places[number] = step(
@@ -126,7 +127,7 @@ fn grow_deeper(
 }
 
 /// Records in each node which name ends there.
-fn mark_ends(names: &[ReferenceName], nodes: &mut [TrieNode], places: &[Node])
+pub(crate) fn mark_ends(names: &[ReferenceName], nodes: &mut [TrieNode], places: &[Node])
     requires { IsPut (entries_of names.now) 0 nodes.old places.now }
     ensures { IsWhole (entries_of names.now) nodes.new places.now }
 {

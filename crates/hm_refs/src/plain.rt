@@ -40,5 +40,5 @@ fn without_names() -> [bool; 128]
 fn is_long(name: &ReferenceName) -> bool
     ensures { result ≡ is_long (entry_of name.now) }
 {
-    name.points.second.is_none() && name.text.len() >= 4
+    name.points.second.is_none() && name.text.as_str().len() >= 4
 }

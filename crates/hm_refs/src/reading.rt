@@ -16,6 +16,7 @@ use crate::fault::TableFault;
 use crate::limits::LENGTH_LIMIT;
 use crate::nodes::ReferenceName;
 use crate::table::{Table, word_of};
+use crate::text::NameText;
 use hm_base::{Points, TABLE_LIMIT};
 use serde_json::{Map, Value};
 use std::alloc::Global;
@@ -102,7 +103,7 @@ fn gather(alloc: Global, members: &Map<String, Value>) -> Result<Vec<ReferenceNa
             let key = word_of(alloc, key.as_str())?;
             return Err(TableFault::BadPoints { key });
         };
-        let text = String::from_str(alloc, key.as_str())?;
+        let text = NameText::read(String::from_str(alloc, key.as_str())?);
         names.push(ReferenceName { text, points })?;
     }
     Ok(names)

@@ -1,17 +1,21 @@
 //! The table of names of character references (HTML Standard, #named-character-references).
-ghost use Rattle.std.specs.Prelude.{◌≡◌, ◌≢◌, ℕ, ◌<◌, ◌∷◌, [], List, length, is_some, option_map, Ok, Err, IfOk, IfErr, IfSome};
+ghost use Rattle.std.specs.Prelude.{◌≡◌, ◌≢◌, ℕ, ◌<◌, ◌≤◌, ◌∷◌, true, [], List, length, is_some, option_map, Ok, Err, IfOk, IfErr, IfSome};
 ghost use Rattle.hm_refs.specs.Names.{child_of, is_name, longest};
 ghost use Rattle.hm_refs.specs.Tables.{IsGathered, IsNode, IsTable, IsTrie, entry_at, found_at, front_at, places_for, points_list};
 ghost use Rattle.hm_refs.specs.Json.{checked};
 ghost use Rattle.hm_refs.specs.Nodes.{entries_of};
 ghost use Rattle.hm_refs.specs.Plain.{is_plain};
+ghost use Rattle.hm_refs.specs.Firsts.{IsInOrder};
+ghost use Rattle.hm_refs.specs.Ready.{IsReady, are_cut, entries_from, nodes_from};
 
 use crate::fault::TableFault;
 use crate::firsts::{firsts_of, least_crowded};
 use crate::ids::{NameId, Node};
+use crate::index::{Index, SortedNames, select};
 use crate::limits::NAMES_LIMIT;
 use crate::nodes::ReferenceName;
 use crate::plain::plain_flags;
+use crate::ready::{ReadyIndex, ReadyNames, ReadyNodes, ids_of, names_of};
 use crate::trie::Trie;
 use hm_base::{Memory, Points, Word};
 use std::alloc::{AllocError, Global};
@@ -24,7 +28,7 @@ use std::marker::Model;
 #[derive(Drop)]
 pub struct Table {
     trie: Trie,
-    firsts: BTreeMap<char, Vec<NameId>>,
+    index: Index,
     /// For each ASCII character whether it is plain.
     plain: [bool; 128],
 }
@@ -35,12 +39,12 @@ impl Model for Table {
     ghost Value = { TableView };
 
     ghost use Rattle.hm_refs.specs.Tables.{IsTable};
-    ghost use Rattle.hm_refs.specs.Firsts.{IsIndex};
+    ghost use Rattle.hm_refs.specs.Firsts.{IsIndexed};
     ghost use Rattle.hm_refs.specs.Flags.{IsFlagged};
 
     ghost view = { λ t. t.trie };
 
-    ghost invariant = { λ t. IsTable t.trie.entries × IsIndex t.trie.entries t.firsts × IsFlagged t.trie.entries t.plain };
+    ghost invariant = { λ t. IsTable t.trie.entries × IsIndexed t.trie.entries t.index × IsFlagged t.trie.entries t.plain };
 }
 
 impl Table {
@@ -51,7 +55,7 @@ impl Table {
         let trie = Trie::new(alloc, Vec::new(alloc))?;
         Ok(Table {
             trie,
-            firsts: BTreeMap::new(alloc),
+            index: Index::Gathered(BTreeMap::new(alloc)),
             plain: plain_flags(&[]),
         })
     }
@@ -80,9 +84,37 @@ impl Table {
         }
         Ok(Table {
             trie,
-            firsts,
+            index: Index::Gathered(firsts),
             plain,
         })
+    }
+
+    /// The table of names that stand in the program, with their trie.
+    pub fn ready(
+        alloc: Global,
+        names: ReadyNames,
+        nodes: ReadyNodes,
+        index: ReadyIndex,
+    ) -> Result<Table, Memory>
+        requires cut { are_cut names.text.now names.lengths.now ≡ true }
+        requires firsts { length names.lengths.now ≤ length names.firsts.now }
+        requires seconds { length names.lengths.now ≤ length names.seconds.now }
+        requires few { length nodes.names.now ≤ 65536 }
+        requires depths { length nodes.names.now ≤ length nodes.depths.now }
+        requires bytes { length nodes.names.now ≤ length nodes.bytes.now }
+        requires counts { length nodes.names.now ≤ length nodes.counts.now }
+        requires ready { IsReady (entries_from names.text.now names.lengths.now names.firsts.now names.seconds.now) (nodes_from 1 nodes.names.now nodes.depths.now nodes.bytes.now nodes.counts.now) nodes.places.now }
+        requires index { IsInOrder (entries_from names.text.now names.lengths.now names.firsts.now names.seconds.now) index.points.now index.names.now }
+        ensures { IfOk result (λ table. table.entries ≡ entries_from names.text.now names.lengths.now names.firsts.now names.seconds.now) }
+    {
+        let names = names_of(alloc, names)?;
+        let index = Index::Sorted(SortedNames {
+            points: index.points,
+            names: ids_of(alloc, index.names)?,
+        });
+        let plain = plain_flags(&names);
+        let trie = Trie::ready(alloc, names, nodes)?;
+        Ok(Table { trie, index, plain })
     }
 
     /// The longest name that the text begins with; None where it begins with none.
@@ -114,9 +146,12 @@ impl Table {
     pub fn names_for(&self, first: char) -> &[NameId]
         ensures { result.now ≡ places_for first self.now.entries }
     {
-        match self.firsts.get(&first) {
-            Some(ids) => ids.as_slice(),
-            None => &[],
+        match &self.index {
+            Index::Gathered(firsts) => match firsts.get(&first) {
+                Some(ids) => ids.as_slice(),
+                None => &[],
+            },
+            Index::Sorted(sorted) => select(sorted.points, sorted.names.as_slice(), first),
         }
     }
 

@@ -1,13 +1,15 @@
 //! Names with their trie.
-ghost use Rattle.std.specs.Prelude.{◌≡◌, ℕ, ◌<◌, ◌∷◌, [], length, option_map, IfOk, IfSome};
+ghost use Rattle.std.specs.Prelude.{◌≡◌, ℕ, ◌<◌, ◌≤◌, ◌∷◌, [], length, option_map, IfOk, IfSome};
 ghost use Rattle.hm_refs.specs.Names.{child_of, longest};
 ghost use Rattle.hm_refs.specs.Json.{first_lone, is_lone};
 ghost use Rattle.hm_refs.specs.Tables.{IsNode, IsTrie, entry_at, found_at, front_at, names_in, points_list};
-ghost use Rattle.hm_refs.specs.Nodes.{AreNames, entries_of, place};
+ghost use Rattle.hm_refs.specs.Nodes.{AreNames, IsPut, entries_of, place};
+ghost use Rattle.hm_refs.specs.Ready.{nodes_from};
 
 use crate::firsts::is_closed;
 use crate::ids::{NameId, Node};
-use crate::nodes::{ReferenceName, TrieNode, behind_first, find_child, grow};
+use crate::nodes::{ReferenceName, TrieNode, behind_first, find_child, grow, mark_ends};
+use crate::ready::{ReadyNodes, nodes_of, places_of};
 use hm_base::{Memory, Points};
 use std::alloc::Global;
 use std::marker::Model;
@@ -39,6 +41,29 @@ impl Trie {
     {
         let mut nodes = Vec::new(alloc);
         let places = grow(alloc, &names, &mut nodes)?;
+        Ok(Trie {
+            names,
+            nodes,
+            places,
+        })
+    }
+
+    /// The trie of names whose nodes are there.
+    pub(crate) fn ready(
+        alloc: Global,
+        names: Vec<ReferenceName>,
+        ready: ReadyNodes,
+    ) -> Result<Trie, Memory>
+        requires few { length ready.names.now ≤ 65536 }
+        requires depths { length ready.names.now ≤ length ready.depths.now }
+        requires bytes { length ready.names.now ≤ length ready.bytes.now }
+        requires counts { length ready.names.now ≤ length ready.counts.now }
+        requires put { IsPut (entries_of names.items) 0 (nodes_from 1 ready.names.now ready.depths.now ready.bytes.now ready.counts.now) ready.places.now }
+        ensures { IfOk result (λ trie. trie.entries ≡ entries_of names.items) }
+    {
+        let mut nodes = nodes_of(alloc, ready)?;
+        let places = places_of(alloc, ready.places)?;
+        mark_ends(&names, &mut nodes, &places);
         Ok(Trie {
             names,
             nodes,

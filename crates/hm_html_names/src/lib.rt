@@ -1,0 +1,69 @@
+//! The table of the HTML Standard's named character references, which stands in the program with its trie.
+#![tactic(auto)]
+
+ghost use Rattle.std.specs.Prelude.{◌≡◌, IfOk};
+ghost use Rattle.hm_html_names.specs.declared.names.TheConstants.{FIRSTS, LENGTHS, SECONDS, TEXT};
+ghost use Rattle.hm_html_names.specs.declared.nodes.TheConstants.{NAMES, PLACES};
+ghost use Rattle.hm_html_names.specs.declared.index.TheConstants.{NUMBERS, POINTS};
+ghost use Rattle.hm_html_names.specs.declared.children.TheConstants.{BYTES, COUNTS, DEPTHS};
+ghost use Rattle.hm_html_names.specs.HtmlNames.{html_entries};
+
+mod children;
+mod index;
+pub mod laws;
+mod names;
+mod nodes;
+
+use hm_base::Memory;
+use hm_refs::{ReadyIndex, ReadyNames, ReadyNodes, Table};
+use std::alloc::Global;
+
+/// The table of the standard's 2,231 names (#named-character-references). No file is read.
+pub fn html_table(alloc: Global) -> Result<Table, Memory>
+    ensures { IfOk result (λ table. table.entries ≡ html_entries) }
+{
+    Table::ready(alloc, ready_names(), ready_nodes(), ready_index())
+}
+
+/// The names as constants.
+fn ready_names() -> ReadyNames
+    ensures text { result.text.now ≡ TEXT.now }
+    ensures lengths { result.lengths.now ≡ LENGTHS }
+    ensures firsts { result.firsts.now ≡ FIRSTS }
+    ensures seconds { result.seconds.now ≡ SECONDS }
+{
+    ReadyNames {
+        text: names::TEXT,
+        lengths: &names::LENGTHS,
+        firsts: &names::FIRSTS,
+        seconds: &names::SECONDS,
+    }
+}
+
+/// Their trie as constants.
+fn ready_nodes() -> ReadyNodes
+    ensures names { result.names.now ≡ NAMES }
+    ensures depths { result.depths.now ≡ DEPTHS }
+    ensures bytes { result.bytes.now ≡ BYTES }
+    ensures counts { result.counts.now ≡ COUNTS }
+    ensures places { result.places.now ≡ PLACES }
+{
+    ReadyNodes {
+        names: &nodes::NAMES,
+        depths: &children::DEPTHS,
+        bytes: &children::BYTES,
+        counts: &children::COUNTS,
+        places: &nodes::PLACES,
+    }
+}
+
+/// Their index as constants.
+fn ready_index() -> ReadyIndex
+    ensures points { result.points.now ≡ POINTS }
+    ensures names { result.names.now ≡ NUMBERS }
+{
+    ReadyIndex {
+        points: &index::POINTS,
+        names: &index::NUMBERS,
+    }
+}

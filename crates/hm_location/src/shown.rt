@@ -1,0 +1,98 @@
+//! The line of a byte, as it is shown.
+ghost use Rattle.std.specs.Prelude.{◌≡◌, ◌++◌, ◌≤◌, drop, length, take};
+ghost use Rattle.hm_location.specs.Lines.{columns};
+ghost use Rattle.hm_location.specs.declared.shown.TheConstants.{BEFORE, BEHIND};
+ghost use Rattle.hm_location.specs.Shown.{IsPart, front_shown, line_at, line_rest, rest_shown, shown_before, shown_behind, shown_place};
+
+use crate::place::{count_columns, is_char_start, line_start};
+
+/// The most bytes that are shown before a place.
+pub const BEFORE: usize = 60;
+
+/// The most bytes that are shown from a place on.
+pub const BEHIND: usize = 40;
+
+/// A part of a line, and how many characters of it stand before the place.
+#[derive(Clone, Copy)]
+pub struct ShownLine<'a> {
+    /// The bytes, without the end of the line.
+    pub bytes: &'a [u8],
+    /// How many characters begin before the place, but for a byte order mark: a caret below it stands after so many spaces.
+    pub caret: usize,
+}
+
+/// The part of the line of the byte `at` that is shown: at most 60 bytes before the place and 40 from it on, cut between
+/// characters. The LF of a CR LF is shown at its CR.
+pub fn shown_line(text: &[u8], at: usize) -> ShownLine<'_>
+    requires { at ≤ length text.now }
+    ensures bytes { result.bytes.now ≡ front_shown text.now at ++ rest_shown text.now at }
+    ensures caret { result.caret ≡ columns (front_shown text.now at) }
+    ensures short { length result.bytes.now ≤ 100 }
+    ensures part { IsPart result.bytes.now (line_at text.now (shown_place text.now at)) }
+{
+    let place = shown_place(text, at);
+    let begin = line_start(text, place).begin;
+    let front = &text[begin..place];
+    let rest = &text[place..place + rest_len(&text[place..])];
+    let cut = cut_before(front);
+    let kept = cut_behind(rest);
+    ShownLine {
+        bytes: &text[begin + cut..place + kept],
+        caret: count_columns(&front[cut..]),
+    }
+}
+
+/// The place, or that of the CR before it where it is the LF of a CR LF.
+fn shown_place(text: &[u8], at: usize) -> usize
+    requires { at ≤ length text.now }
+    ensures place { result ≡ shown_place text.now at }
+    ensures inside { result ≤ at }
+{
+    if at == 0 || at == text.len() {
+        return at;
+    }
+    if text[at - 1] == b'\r' && text[at] == b'\n' {
+        at - 1
+    } else {
+        at
+    }
+}
+
+/// How many bytes stand before the end of the line.
+fn rest_len(text: &[u8]) -> usize
+    ensures inside { result ≤ length text.now }
+    ensures rest { take result text.now ≡ line_rest text.now }
+{
+    let mut len = 0;
+    while len < text.len() && text[len] != b'\n' && text[len] != b'\r' {
+        len += 1;
+    }
+    len
+}
+
+/// How many bytes before the place aren't shown.
+fn cut_before(front: &[u8]) -> usize
+    ensures inside { result ≤ length front.now }
+    ensures shown { drop result front.now ≡ shown_before BEFORE front.now }
+{
+    if front.len() <= BEFORE {
+        return 0;
+    }
+    let mut from = front.len() - BEFORE;
+    while from < front.len() && !is_char_start(front[from]) {
+        from += 1;
+    }
+    from
+}
+
+/// How many bytes from the place on are shown.
+fn cut_behind(rest: &[u8]) -> usize
+    ensures inside { result ≤ length rest.now }
+    ensures shown { take result rest.now ≡ shown_behind BEHIND rest.now }
+{
+    let mut to = BEHIND;
+    while to > 0 && to < rest.len() && !is_char_start(rest[to]) {
+        to -= 1;
+    }
+    to.min(rest.len())
+}

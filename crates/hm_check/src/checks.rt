@@ -83,10 +83,10 @@ const BYTES_AN_EVENT: usize = 64;
 /// As `check`, of a settled tree. A text that follows the tree's graph isn't read: what it follows spells the tree. It is followed
 /// where that is cheaper than reading: along the graph of a sparse certificate, where most states have one edge, and where the
 /// tree has many events for the bytes of the text.
-pub fn check_settled(
+pub fn check_settled<'t>(
     alloc: Global,
-    table: &Table,
-    wanted: &Tree,
+    table: &'t Table,
+    wanted: &'t Tree,
     out: &[u8],
     certificate: &Certificate,
     rules: SpellRules,

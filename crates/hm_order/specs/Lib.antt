@@ -1,0 +1,6 @@
+pub mod Costs
+pub mod Orders
+pub mod Places
+pub mod Alone
+pub mod Laws
+pub mod Examples

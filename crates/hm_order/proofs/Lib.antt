@@ -9,3 +9,6 @@ pub mod Shortest
 pub mod Alone
 pub mod Places
 pub mod Copied
+pub mod Weighed
+pub mod Easy
+pub mod Scans

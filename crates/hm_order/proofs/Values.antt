@@ -24,6 +24,13 @@ kept_stays at (k ∷ ks) e (later y xs i) = kept_stays at ks e i
 no_sections : (ascii : Bool) (at : Where) (c : ℕ) (next : Option ℕ) (s : State) → is_foreign (value_spot at) ≡ false → opened_sections ascii (value_spot at) c next s ≡ []
 no_sections ascii at c next s h = rw h refl
 
+pub character_edges_are : (g : Spelling) (at : Where) (p : Pending) (c : ℕ) (next : Option ℕ) → is_in_section at ≡ false → is_foreign (value_spot at) ≡ false
+    → character_edges g.table (character_rules g) in_value c next (state at p) ≡ map (kept_at at) (choices g.table (character_rules g) (value_spot at) c next p)
+character_edges_are g at p c next out plain =
+    let ks : List Choice = choices g.table (character_rules g) (value_spot at) c next p in
+    ap (λ b. cond b (section_edges g.rules.ascii c next p) (outside_edges g.table (character_rules g) (value_spot at) c next (state at p))) out
+    ∙ ap (λ es. map (kept_at at) ks ++ es) (no_sections g.rules.ascii at c next (state at p) plain) ∙ append-nil (map (kept_at at) ks)
+
 character_stays : (g : Spelling) (at : Where) (p : Pending) (c : ℕ) (next : Option ℕ) (e : Edge) → is_in_section at ≡ false → is_foreign (value_spot at) ≡ false
     → IsIn e (character_edges g.table (character_rules g) in_value c next (state at p)) → e.to ≡ state at e.to.pending
 character_stays g at p c next e out plain i =

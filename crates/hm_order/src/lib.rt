@@ -5,6 +5,7 @@
 mod costs;
 pub mod laws;
 mod orders;
+mod scan;
 mod tags;
 
 pub use costs::{AttrCost, attr_cost, best_last};

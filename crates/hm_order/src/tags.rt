@@ -19,9 +19,6 @@ use hm_refs::laws::every_table;
 use hm_tree::{Attrs, Tree};
 use std::alloc::Global;
 
-// As many bytes of a name or of a value count as memory that is refused.
-const LONG: usize = 1 << 27;
-
 // Prices from here on count as memory that is refused.
 const HIGH: u64 = 1 << 62;
 
@@ -68,12 +65,11 @@ pub(crate) fn last_alone(
     value: &str,
     closes: bool,
 ) -> Result<u64, Memory>
+    requires name { length name.now < 2 ^ 27 }
+    requires value { length value.now < 2 ^ 27 }
     ensures cost { IfOk result (λ cost. costs.last_cost (sparing_plain table.now.entries rules) closes (record { name = name.now; value = value.now }) ≡ Some cost) }
     ensures low { IfOk result (λ cost. cost + 1 < 2 ^ 62) }
 {
-    if name.len() >= LONG || value.len() >= LONG {
-        return Err(Memory);
-    }
     every_table(table);
     let tree = tree_alone(alloc, name, value, closes)?;
     let price = least_price(alloc, &tree, table, rules)?;

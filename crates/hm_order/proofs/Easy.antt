@@ -1,0 +1,282 @@
+-- What an attribute costs whose value has easy characters alone.
+use Rattle.std.proofs.Common.{◌≡◌, ◌+◌, ◌<◌, ◌≤◌, ℕ, Bool, true, false, cond, ◌&&◌, ◌||◌, ◌==◌, not, List, [], ◌∷◌, ◌++◌, length, map, Option, Some, None, is_some, refl, sym, ap, ap₂, ◌∙◌, subst, arith, encode_utf8, chars, length-append, if◌then◌else◌}
+use Rattle.std.proofs.lemmas.Bool.Decides.{nat_tests}
+use Rattle.std.proofs.lemmas.Str.{encode_ascii, encodes-chars}
+use Rattle.std.specs.Prelude.{encode_utf8_all}
+use Rattle.std.specs.Str.{IsUtf8}
+use Rattle.hm_base.specs.Bytes.{is_space}
+use Rattle.hm_graph_laws.specs.AttributeEdges.{gap_at, is_behind_unquoted}
+use Rattle.hm_graph_laws.specs.CharacterEdges.{as_itself, by_references, Choice, choice, itself_to, kept_at}
+use Rattle.hm_graph_laws.specs.ExchangeLaws.{sparing_plain}
+use Rattle.hm_graph_laws.specs.States.{behind_quoted, behind_unquoted, in_double, in_single, in_unquoted, nothing, state, value_spot, Where}
+use Rattle.hm_graph_laws.specs.Steps.{run, step}
+use Rattle.hm_graph_laws.specs.UnitEdges.{edges_of}
+use Rattle.hm_graph_laws.specs.Units.{attribute_end, character_units, in_value, next_of, Unit}
+use Rattle.hm_graph_laws.specs.Ways.{best, least, lesser, over}
+use Rattle.hm_base.specs.declared.plain.SpellRules.{SpellRules}
+use Rattle.hm_refs.specs.Names.{Entry}
+use Rattle.hm_refs.specs.Plain.{is_plain}
+use Rattle.hm_refs.specs.Tables.{entry_at, IsTable, places_for}
+use Rattle.hm_spelling_spec.specs.Characters.{double, is_barred, is_value, may_stand, single, Spot, unquoted}
+use Rattle.hm_spelling_spec.specs.Tags.{character_rules, Spelling}
+use Rattle.hm_order.specs.Costs.{cost_of, inner_cost, last_cost, plus, value_cost}
+use Rattle.hm_order.specs.Weights.{AreEasy, AreHeavy, easy_cost, size, some_barred, total, weight}
+use Rattle.hm_order.proofs.Values.{character_edges_are, Closes, closes_double, closes_single, closes_unquoted}
+use Rattle.hm_order.proofs.Weighed.{AreWeighed, AtLeast, value_at_least}
+
+-- ---- Prices that are at most a number
+
+abbrev pub AtMost : ℕ → Option ℕ → Type 0
+AtMost n None = ⊥
+AtMost n (Some m) = m ≤ n
+
+lesser_at_most : (n : ℕ) (p q : Option ℕ) → AtMost n p → AtMost n (lesser p q)
+lesser_at_most n None q h = absurd h
+lesser_at_most n (Some a) None h = h
+lesser_at_most n (Some a) (Some b) h = omega (arith, h)
+
+over_at_most : (n m k : ℕ) (p : Option ℕ) → AtMost m p → k + m ≤ n → AtMost n (over k p)
+over_at_most n m k None h e = absurd h
+over_at_most n m k (Some a) h e = omega (arith, h, e)
+
+squeezed : (n : ℕ) (p : Option ℕ) → AtLeast n p → AtMost n p → p ≡ Some n
+squeezed n None h k = absurd k
+squeezed n (Some m) h k = ap Some (omega (arith, h, k))
+
+-- ---- Characters as themselves
+
+run_nothing : (t : List Entry) (spot : Spot) (s : List ℕ) → run t spot (Some nothing) s ≡ Some nothing
+run_nothing t spot [] = refl
+run_nothing t spot (c ∷ s) = run_nothing t spot s
+
+-- each stands as itself in such a value
+abbrev pub Stand : Bool → Spot → List ℕ → Type 0
+Stand ascii spot [] = Prim.Unit {0}
+Stand ascii spot (c ∷ cs) = ((may_stand ascii spot c ≡ true) × ((c == 38) ≡ false)) × Stand ascii spot cs
+
+module _ (g : Spelling) (at : Where) (b : List ℕ) (to : Where) (closes : Closes at b to) (value : is_value (value_spot at) ≡ true) where
+  abbrev units : List ℕ → List Unit
+  units cs = character_units in_value cs ++ attribute_end ∷ []
+
+  no_less : (x : Bool) → (x && not (is_value (value_spot at))) ≡ false
+  no_less true = ap not value
+  no_less false = refl
+
+  itself_stays : (c : ℕ) → (c == 38) ≡ false → itself_to (value_spot at) c nothing ≡ nothing
+  itself_stays c amp = rw (amp, no_less (c == 60)) refl
+
+  itself_is : (c : ℕ) → may_stand g.rules.ascii (value_spot at) c ≡ true → (c == 38) ≡ false → as_itself g.table (character_rules g) (value_spot at) c nothing ≡ choice (encode_utf8 c) nothing ∷ []
+  unfolding as_itself
+  itself_is c stands amp = rw (stands, run_nothing g.table (value_spot at) (encode_utf8 c), itself_stays c amp) refl
+
+  pub value_at_most : (cs : List ℕ) → Stand g.rules.ascii (value_spot at) cs → AtMost (total size cs + length b) (least (edges_of g) (units cs) (state at nothing))
+  value_at_most [] h = subst (λ es. AtMost (0 + length b) (best (λ s. Some 0) es)) (sym closes.closed) (omega arith)
+  value_at_most (c ∷ cs) h =
+      let n : ℕ = total size (c ∷ cs) + length b in
+      let more : List Choice = cond (is_some (step g.table (value_spot at) nothing 38) && g.refers c) (by_references g.table c (next_of cs)) [] in
+      subst (λ es. AtMost n (best (λ s. least (edges_of g) (units cs) s) es)) (sym (character_edges_are g at nothing c (next_of cs) closes.out closes.plain))
+      (subst (λ ks. AtMost n (best (λ s. least (edges_of g) (units cs) s) (map (kept_at at) (ks ++ more)))) (sym (itself_is c h.0.0 h.0.1))
+      (lesser_at_most n (over (size c) (least (edges_of g) (units cs) (state at nothing))) (best (λ s. least (edges_of g) (units cs) s) (map (kept_at at) more))
+      (over_at_most n (total size cs + length b) (size c) (least (edges_of g) (units cs) (state at nothing)) (value_at_most cs h.1) (omega arith))))
+
+-- ---- Weights of easy characters
+
+barred_ascii : (c : ℕ) → is_barred c ≡ true → c < 128
+unfolding is_barred is_space
+barred_ascii c h = grind (arith, nat_tests, h)
+
+barred_size : (c : ℕ) → is_barred c ≡ true → size c ≡ 1
+barred_size c h = ap length (encode_ascii c (barred_ascii c h))
+
+size_within : (c : ℕ) → size c ≤ weight c
+size_within c = by (is_barred c) refl
+  where
+    by : (x : Bool) → is_barred c ≡ x → size c ≤ cond x 3 (size c)
+    by true e = let one = barred_size c e in omega (arith, one)
+    by false e = omega arith
+
+total_within : (cs : List ℕ) → total size cs ≤ total weight cs
+total_within [] = omega arith
+total_within (c ∷ cs) = let h = size_within c in let k = total_within cs in omega (arith, h, k)
+
+-- what is barred weighs two bytes more
+barred_weighs : (cs : List ℕ) → some_barred cs ≡ true → total size cs + 2 ≤ total weight cs
+barred_weighs [] h = absurd (cc)
+barred_weighs (c ∷ cs) h = by (is_barred c) refl h (λ k. barred_weighs cs k)
+  where
+    by : (x : Bool) → is_barred c ≡ x → (x || some_barred cs) ≡ true → (some_barred cs ≡ true → total size cs + 2 ≤ total weight cs) → size c + total size cs + 2 ≤ cond x 3 (size c) + total weight cs
+    by true e k more = let one = barred_size c e in let w = total_within cs in omega (arith, one, w)
+    by false e k more = let w = more k in omega (arith, w)
+
+heavy_sizes : (t : List Entry) (is : List ℕ) → AreHeavy weight t is → AreHeavy size t is
+heavy_sizes t [] h = tt
+heavy_sizes t (i ∷ is) h = let w = total_within (entry_at t i).points in (omega (arith, h.0, w), heavy_sizes t is h.1)
+
+not_plain : (x : Bool) → not x ≡ true → x ≡ false
+not_plain true h = cc
+not_plain false h = refl
+
+module _ (t : List Entry) (r : SpellRules) where
+  abbrev g : Spelling
+  g = sparing_plain t r
+
+  weighed_unquoted : (cs : List ℕ) → AreEasy t r.ascii cs → AreWeighed g unquoted weight cs
+  weighed_unquoted [] h = tt
+  weighed_unquoted (c ∷ cs) h = (record { literal = λ stands. literal (is_barred c) refl stands; few = λ k. few (is_barred c) (h.0.heavy (not_plain (is_plain t c) k)).few; names = λ k. (h.0.heavy (not_plain (is_plain t c) k)).names }, weighed_unquoted cs h.1)
+    where
+      literal : (x : Bool) → is_barred c ≡ x → not (is_barred c) ≡ true → cond (is_barred c) 3 (size c) ≤ size c
+      literal true e k = absurd (let off = sym (ap not e) ∙ k in cc)
+      literal false e k = subst (λ x. cond x 3 (size c) ≤ size c) (sym e) (omega arith)
+
+      few : (x : Bool) → size c ≤ 3 → cond x 3 (size c) ≤ 3
+      few true k = omega arith
+      few false k = k
+
+  weighed_quoted : (spot : Spot) (cs : List ℕ) → AreEasy t r.ascii cs → AreWeighed g spot size cs
+  weighed_quoted spot [] h = tt
+  weighed_quoted spot (c ∷ cs) h = (record { literal = λ stands. omega arith; few = λ k. (h.0.heavy (not_plain (is_plain t c) k)).few; names = λ k. heavy_sizes t (places_for c t) (h.0.heavy (not_plain (is_plain t c) k)).names }, weighed_quoted spot cs h.1)
+
+  stand_double : (cs : List ℕ) → AreEasy t r.ascii cs → Stand r.ascii double cs
+  unfolding may_stand
+  stand_double [] h = tt
+  stand_double (c ∷ cs) h = ((ap₂ (λ x y. x && not y) h.0.writable h.0.no_quote, h.0.no_amp), stand_double cs h.1)
+
+  stand_unquoted : (cs : List ℕ) → AreEasy t r.ascii cs → some_barred cs ≡ false → Stand r.ascii unquoted cs
+  unfolding may_stand
+  stand_unquoted [] h e = tt
+  stand_unquoted (c ∷ cs) h e =
+      let two = or_parts (is_barred c) (some_barred cs) e in
+      ((ap₂ (λ x y. x && not y) h.0.writable two.0, h.0.no_amp), stand_unquoted cs h.1 two.1)
+    where
+      or_parts : (x y : Bool) → (x || y) ≡ false → (x ≡ false) × (y ≡ false)
+      or_parts true y h = absurd (cc)
+      or_parts false y h = (refl, h)
+
+  module _ (table : IsTable t) (v : List ℕ) (easy : AreEasy t r.ascii (chars v)) where
+    abbrev n : ℕ
+    n = total size (chars v)
+
+    pub double_costs : value_cost g in_double v ≡ Some (n + 1)
+    double_costs =
+        squeezed (n + 1) (value_cost g in_double v) (value_at_least g table in_double (34 ∷ []) _ closes_double size (chars v) (weighed_quoted double (chars v) easy) nothing tt)
+        (value_at_most g in_double (34 ∷ []) _ closes_double refl (chars v) (stand_double (chars v) easy))
+
+    pub single_costs : AtLeast (n + 1) (value_cost g in_single v)
+    single_costs = value_at_least g table in_single (39 ∷ []) _ closes_single size (chars v) (weighed_quoted single (chars v) easy) nothing tt
+
+    at_least_less : (a b : ℕ) (p : Option ℕ) → a ≤ b → AtLeast b p → AtLeast a p
+    at_least_less a b None le h = tt
+    at_least_less a b (Some m) le h = omega (arith, le, h)
+
+    unquoted_weighs : AtLeast (total weight (chars v) + 0) (value_cost g in_unquoted v)
+    unquoted_weighs = value_at_least g table in_unquoted [] _ closes_unquoted weight (chars v) (weighed_unquoted (chars v) easy) nothing tt
+
+    pub barred_costs : some_barred (chars v) ≡ true → AtLeast (n + 2) (value_cost g in_unquoted v)
+    barred_costs e = let more = barred_weighs (chars v) e in at_least_less (n + 2) (total weight (chars v) + 0) (value_cost g in_unquoted v) (omega (arith, more)) unquoted_weighs
+
+    pub unquoted_costs : some_barred (chars v) ≡ false → value_cost g in_unquoted v ≡ Some n
+    unquoted_costs e =
+        let within = total_within (chars v) in
+        squeezed n (value_cost g in_unquoted v) (at_least_less n (total weight (chars v) + 0) (value_cost g in_unquoted v) (omega (arith, within)) unquoted_weighs)
+        (at_most_zero n (value_cost g in_unquoted v) (value_at_most g in_unquoted [] _ closes_unquoted refl (chars v) (stand_unquoted (chars v) easy e)))
+      where
+        at_most_zero : (a : ℕ) (p : Option ℕ) → AtMost (a + 0) p → AtMost a p
+        at_most_zero a None h = h
+        at_most_zero a (Some m) h = omega (arith, h)
+
+-- ---- An attribute
+
+form_is : (k m : ℕ) (p : Option ℕ) (a : ℕ) → p ≡ Some a → over k (plus p (Some m)) ≡ Some (k + (a + m))
+form_is k m p a e = ap (λ q. over k (plus q (Some m))) e
+
+form_at_least : (k m a : ℕ) (p : Option ℕ) → AtLeast a p → AtLeast (k + (a + m)) (over k (plus p (Some m)))
+form_at_least k m a None h = tt
+form_at_least k m a (Some b) h = omega (arith, h)
+
+lesser_first : (a : ℕ) (p : Option ℕ) → AtLeast a p → lesser (Some a) p ≡ Some a
+lesser_first a None h = refl
+lesser_first a (Some b) h = ap Some (omega (arith, h))
+
+lesser_second : (p : Option ℕ) (a : ℕ) → AtLeast a p → lesser p (Some a) ≡ Some a
+lesser_second None a h = refl
+lesser_second (Some b) a h = ap Some (omega (arith, h))
+
+pub easy_costs : (t : List Entry) → IsTable t → (r : SpellRules) (behind : Where → ℕ) (name : List ℕ) (c : ℕ) (s : List ℕ) → AreEasy t r.ascii (chars (c ∷ s)) → behind behind_unquoted ≤ 1 → behind behind_quoted ≤ behind behind_unquoted
+    → cost_of (sparing_plain t r) behind name (c ∷ s) ≡ Some (easy_cost (r.unquote && not (some_barred (chars (c ∷ s)))) (length name) (total size (chars (c ∷ s))) (behind behind_unquoted) (behind behind_quoted))
+easy_costs t table r behind name c s easy few less = by r.unquote (some_barred (chars (c ∷ s))) refl
+  where
+    v : List ℕ
+    v = c ∷ s
+
+    n : ℕ
+    n = total size (chars v)
+
+    l : ℕ
+    l = length name
+
+    u : ℕ
+    u = behind behind_unquoted
+
+    q : ℕ
+    q = behind behind_quoted
+
+    quoted : lesser (over (l + 2) (plus (value_cost (sparing_plain t r) in_double v) (Some q))) (over (l + 2) (plus (value_cost (sparing_plain t r) in_single v) (Some q))) ≡ Some (l + 2 + (n + 1 + q))
+    quoted =
+        ap (λ p. lesser p (over (l + 2) (plus (value_cost (sparing_plain t r) in_single v) (Some q)))) (form_is (l + 2) q (value_cost (sparing_plain t r) in_double v) (n + 1) (double_costs t r table v easy))
+        ∙ lesser_first (l + 2 + (n + 1 + q)) (over (l + 2) (plus (value_cost (sparing_plain t r) in_single v) (Some q))) (form_at_least (l + 2) q (n + 1) (value_cost (sparing_plain t r) in_single v) (single_costs t r table v easy))
+
+    bare : Option ℕ
+    bare = over (l + 1) (plus (value_cost (sparing_plain t r) in_unquoted v) (Some u))
+
+    by : (unquote barred : Bool) → some_barred (chars v) ≡ barred
+        → lesser (if unquote then bare else None) (lesser (over (l + 2) (plus (value_cost (sparing_plain t r) in_double v) (Some q))) (over (l + 2) (plus (value_cost (sparing_plain t r) in_single v) (Some q))))
+        ≡ Some (easy_cost (unquote && not barred) l n u q)
+    by false barred e = quoted
+    by true true e = ap (lesser bare) quoted ∙ lesser_second bare (l + 2 + (n + 1 + q)) (more bare (form_at_least (l + 1) u (n + 2) (value_cost (sparing_plain t r) in_unquoted v) (barred_costs t r table v easy e)))
+      where
+        more : (p : Option ℕ) → AtLeast (l + 1 + (n + 2 + u)) p → AtLeast (l + 2 + (n + 1 + q)) p
+        more None h = tt
+        more (Some m) h = omega (arith, h, less)
+    by true false e = ap₂ lesser (form_is (l + 1) u (value_cost (sparing_plain t r) in_unquoted v) n (unquoted_costs t r table v easy e)) quoted ∙ lesser_first (l + 1 + (n + u)) (Some (l + 2 + (n + 1 + q))) (omega (arith, few))
+
+total_is : (cs : List ℕ) → total size cs ≡ length (encode_utf8_all cs)
+total_is [] = refl
+total_is (c ∷ cs) = ap (λ n. size c + n) (total_is cs) ∙ sym (length-append (encode_utf8 c) (encode_utf8_all cs))
+
+value_size : (v : List ℕ) → IsUtf8 v → total size (chars v) ≡ length v
+value_size v utf8 = total_is (chars v) ∙ ap length (encodes-chars v utf8)
+
+pub inner_easy : (t : List Entry) → IsTable t → (r : SpellRules) (name v : List ℕ) → IsUtf8 v → 0 < length v → AreEasy t r.ascii (chars v)
+    → inner_cost (sparing_plain t r) (record { name = name; value = v }) ≡ Some (easy_cost (r.unquote && not (some_barred (chars v))) (length name) (length v) 1 (if r.tight then 0 else 1))
+inner_easy t table r name [] utf8 some easy = absurd (omega (arith, some))
+inner_easy t table r name (c ∷ s) utf8 some easy =
+    ap (λ x. cost_of (sparing_plain t r) (λ at. length (gap_at x at)) name (c ∷ s)) refl
+    ∙ easy_costs t table r (λ at. length (gap_at r.tight at)) name c s easy (gap_few r.tight) (gap_less r.tight)
+    ∙ ap (λ n. Some (easy_cost (r.unquote && not (some_barred (chars (c ∷ s)))) (length name) n (length (gap_at r.tight behind_unquoted)) (length (gap_at r.tight behind_quoted)))) (value_size (c ∷ s) utf8)
+    ∙ ap₂ (λ x y. Some (easy_cost (r.unquote && not (some_barred (chars (c ∷ s)))) (length name) (length (c ∷ s)) x y)) (gap_one r.tight) (gap_quoted r.tight)
+  where
+    gap_one : (x : Bool) → length (gap_at x behind_unquoted) ≡ 1
+    gap_one true = refl
+    gap_one false = refl
+
+    gap_quoted : (x : Bool) → length (gap_at x behind_quoted) ≡ (if x then 0 else 1)
+    gap_quoted true = refl
+    gap_quoted false = refl
+
+    gap_few : (x : Bool) → length (gap_at x behind_unquoted) ≤ 1
+    gap_few true = omega arith
+    gap_few false = omega arith
+
+    gap_less : (x : Bool) → length (gap_at x behind_quoted) ≤ length (gap_at x behind_unquoted)
+    gap_less true = omega arith
+    gap_less false = omega arith
+
+pub last_easy : (t : List Entry) → IsTable t → (r : SpellRules) (closes : Bool) (name v : List ℕ) → IsUtf8 v → 0 < length v → AreEasy t r.ascii (chars v)
+    → last_cost (sparing_plain t r) closes (record { name = name; value = v }) ≡ Some (easy_cost (r.unquote && not (some_barred (chars v))) (length name) (length v) (if closes then 1 else 0) 0)
+last_easy t table r closes name [] utf8 some easy = absurd (omega (arith, some))
+last_easy t table r true name (c ∷ s) utf8 some easy =
+    easy_costs t table r (λ at. if true && is_behind_unquoted at then 1 else 0) name c s easy (omega arith) (omega arith)
+    ∙ ap (λ n. Some (easy_cost (r.unquote && not (some_barred (chars (c ∷ s)))) (length name) n 1 0)) (value_size (c ∷ s) utf8)
+last_easy t table r false name (c ∷ s) utf8 some easy =
+    easy_costs t table r (λ at. if false && is_behind_unquoted at then 1 else 0) name c s easy (omega arith) (omega arith)
+    ∙ ap (λ n. Some (easy_cost (r.unquote && not (some_barred (chars (c ∷ s)))) (length name) n 0 0)) (value_size (c ∷ s) utf8)

@@ -1,0 +1,64 @@
+-- Easy characters, one after the other.
+use Rattle.std.proofs.Common.{◌≡◌, ◌<◌, ◌+◌, ◌≤◌, ℕ, Bool, true, false, ◌||◌, ◌==◌, nat_lt, List, [], ◌∷◌, ◌++◌, length, slice_index_or, take, refl, sym, ap, ◌∙◌, subst, inl, inr, ◌⊎◌, append_assoc, append-nil, chars, encode_utf8, arith}
+use Rattle.std.proofs.lemmas.Bool.Decides.{nat_tests}
+use Rattle.std.proofs.lemmas.List.{nil_from_length, take_more}
+use Rattle.std.proofs.lemmas.Str.{chars_from_encodes, encodes-append}
+use Rattle.std.specs.Prelude.{encode_utf8_all}
+use Rattle.std.specs.Str.{IsUtf8}
+use Rattle.hm_refs.specs.Names.{Entry}
+use Rattle.hm_refs.specs.Plain.{is_plain}
+use Rattle.hm_refs.specs.Tables.{entry_at}
+use Rattle.hm_spelling_spec.specs.Characters.{is_barred, is_writable}
+use Rattle.hm_order.specs.Weights.{AreEasy, AreHeavy, IsEasy, IsHeavy, some_barred, total, weight}
+
+heavy_push : (t : List Entry) (is : List ℕ) (i : ℕ) → AreHeavy weight t is → total weight (entry_at t i).points ≤ length (entry_at t i).name → AreHeavy weight t (is ++ i ∷ [])
+heavy_push t [] i h k = (k, tt)
+heavy_push t (x ∷ is) i h k = (h.0, heavy_push t is i h.1 k)
+
+pub heavy_more : (t : List Entry) (is : List ℕ) (n i : ℕ) → n < length is → i ≡ slice_index_or is n i → AreHeavy weight t (take n is) → total weight (entry_at t i).points ≤ length (entry_at t i).name → AreHeavy weight t (take (n + 1) is)
+heavy_more t is n i inside at h k = subst (AreHeavy weight t) (sym (take_more is n i inside ∙ ap (λ y. take n is ++ y ∷ []) (sym at))) (heavy_push t (take n is) i h k)
+
+pub easy_push : (t : List Entry) (ascii : Bool) (cs : List ℕ) (c : ℕ) → AreEasy t ascii cs → IsEasy t ascii c → AreEasy t ascii (cs ++ c ∷ [])
+easy_push t ascii [] c h k = (k, tt)
+easy_push t ascii (x ∷ cs) c h k = (h.0, easy_push t ascii cs c h.1 k)
+
+or_false : (x : Bool) → (x || false) ≡ x
+or_false true = refl
+or_false false = refl
+
+or_assoc : (x y z : Bool) → ((x || y) || z) ≡ (x || (y || z))
+or_assoc true y z = refl
+or_assoc false y z = refl
+
+pub barred_push : (cs : List ℕ) (c : ℕ) → some_barred (cs ++ c ∷ []) ≡ (some_barred cs || is_barred c)
+barred_push [] c = or_false (is_barred c)
+barred_push (x ∷ cs) c = ap (λ b. is_barred x || b) (barred_push cs c) ∙ sym (or_assoc (is_barred x) (some_barred cs) (is_barred c))
+
+unequal : (c d : ℕ) → (c ≡ d → ⊥) → (c == d) ≡ false
+unequal c d h = grind (arith, nat_tests, h)
+
+below : (c : ℕ) → c < 128 → nat_lt c 128 ≡ true
+below c h = grind (arith, nat_tests, h)
+
+pub easy_from : (t : List Entry) (ascii : Bool) (c : ℕ) → (c ≡ 34 → ⊥) → (c ≡ 38 → ⊥) → (c ≡ 13 → ⊥) → ((ascii ≡ true) × (c < 128)) ⊎ (ascii ≡ false) → (is_plain t c ≡ false → IsHeavy t c) → IsEasy t ascii c
+unfolding is_writable
+easy_from t ascii c no_quote no_amp no_return low heavy = record { writable = writes low; no_quote = unequal c 34 no_quote; no_amp = unequal c 38 no_amp; heavy = heavy }
+  where
+    writes : ((ascii ≡ true) × (c < 128)) ⊎ (ascii ≡ false) → is_writable ascii c ≡ true
+    writes (inl (on, less)) = rw (unequal c 13 no_return, on, below c less) refl
+    writes (inr off) = rw (unequal c 13 no_return, off) refl
+
+-- a text of which all characters are given
+pub all_given : (cs rest value : List ℕ) → IsUtf8 value → encode_utf8_all cs ++ rest ≡ value → length rest ≡ 0 → cs ≡ chars value
+all_given cs rest value utf8 is none = chars_from_encodes cs value utf8 (sym (append-nil (encode_utf8_all cs)) ∙ ap (λ s. encode_utf8_all cs ++ s) (sym (nil_from_length rest none)) ∙ is)
+
+pub given_more : (cs rest new value : List ℕ) (c : ℕ) → encode_utf8_all cs ++ rest ≡ value → rest ≡ encode_utf8 c ++ new → encode_utf8_all (cs ++ c ∷ []) ++ new ≡ value
+given_more cs rest new value c is more =
+    ap (λ s. s ++ new) (encodes-append cs (c ∷ [])) ∙ append_assoc (encode_utf8_all cs) (encode_utf8 c ++ []) new ∙ ap (λ s. encode_utf8_all cs ++ (s ++ new)) (append-nil (encode_utf8 c))
+    ∙ ap (λ s. encode_utf8_all cs ++ s) (sym more) ∙ is
+
+pub barred_stays : (b : Bool) (cs : List ℕ) (c : ℕ) → b ≡ some_barred cs → b ≡ true → b ≡ some_barred (cs ++ c ∷ [])
+barred_stays b cs c h on = on ∙ sym (barred_push cs c ∙ ap (λ x. x || is_barred c) (sym h ∙ on))
+
+pub barred_by : (b : Bool) (cs : List ℕ) (c : ℕ) (x : Bool) → b ≡ some_barred cs → b ≡ false → x ≡ is_barred c → x ≡ some_barred (cs ++ c ∷ [])
+barred_by b cs c x h off is = is ∙ sym (barred_push cs c ∙ ap (λ y. y || is_barred c) (sym h ∙ off))

@@ -1,0 +1,49 @@
+-- Values whose fewest bytes a scan of their characters tells.
+use Rattle.std.specs.Prelude.{◌≡◌, ℕ, ◌+◌, ◌≤◌, Bool, true, false, ◌||◌, ◌==◌, List, [], ◌∷◌, length, if◌then◌else◌, encode_utf8}
+use Rattle.hm_refs.specs.Names.{Entry}
+use Rattle.hm_refs.specs.Plain.{is_plain}
+use Rattle.hm_refs.specs.Tables.{entry_at, places_for}
+use Rattle.hm_spelling_spec.specs.Characters.{is_barred, is_writable}
+
+-- the bytes of a character as itself
+abbrev pub size : ℕ → ℕ
+size c = length (encode_utf8 c)
+
+-- A character that a value without quotes can't hold is a reference there, of at least three bytes.
+abbrev pub weight : ℕ → ℕ
+weight c = if is_barred c then 3 else size c
+
+abbrev pub total : (ℕ → ℕ) → List ℕ → ℕ
+total f [] = 0
+total f (c ∷ cs) = f c + total f cs
+
+-- no reference by these names is shorter than what it stands for weighs
+abbrev pub AreHeavy : (ℕ → ℕ) → List Entry → List ℕ → Type 0
+AreHeavy f t [] = Prim.Unit {0}
+AreHeavy f t (i ∷ places) = (total f (entry_at t i).points ≤ length (entry_at t i).name) × AreHeavy f t places
+
+-- no reference to c is shorter than c weighs
+pub record IsHeavy (t : List Entry) (c : ℕ) : Type 0 where
+  pub few : size c ≤ 3
+  pub names : AreHeavy weight t (places_for c t)
+
+-- A reference to c is never shorter than c, and c stands as itself in double quotes whatever is written around it.
+pub record IsEasy (t : List Entry) (ascii : Bool) (c : ℕ) : Type 0 where
+  pub writable : is_writable ascii c ≡ true
+  pub no_quote : (c == 34) ≡ false
+  pub no_amp : (c == 38) ≡ false
+  pub heavy : is_plain t c ≡ false → IsHeavy t c
+
+abbrev pub AreEasy : List Entry → Bool → List ℕ → Type 0
+AreEasy t ascii [] = Prim.Unit {0}
+AreEasy t ascii (c ∷ cs) = IsEasy t ascii c × AreEasy t ascii cs
+
+-- one of them can't stand in a value without quotes
+abbrev pub some_barred : List ℕ → Bool
+some_barred [] = false
+some_barred (c ∷ cs) = is_barred c || some_barred cs
+
+-- The fewest bytes of an attribute with easy characters alone, by the bytes of its name and of its value, where so many are counted
+-- behind a value without quotes and so many behind one in quotes. `bare` says whether the value stands without quotes.
+abbrev pub easy_cost : Bool → ℕ → ℕ → ℕ → ℕ → ℕ
+easy_cost bare name value u q = if bare then name + 1 + (value + u) else name + 2 + (value + 1 + q)

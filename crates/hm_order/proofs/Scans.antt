@@ -1,5 +1,5 @@
 -- Easy characters, one after the other.
-use Rattle.std.proofs.Common.{◌≡◌, ◌<◌, ◌+◌, ◌≤◌, ℕ, Bool, true, false, ◌||◌, ◌==◌, nat_lt, List, [], ◌∷◌, ◌++◌, length, slice_index_or, take, refl, sym, ap, ◌∙◌, subst, inl, inr, ◌⊎◌, append_assoc, append-nil, chars, encode_utf8, arith}
+use Rattle.std.proofs.Common.{Option, Some, ◌&&◌, ◌≡◌, ◌<◌, ◌+◌, ◌≤◌, ℕ, Bool, true, false, ◌||◌, ◌==◌, nat_lt, List, [], ◌∷◌, ◌++◌, length, slice_index_or, take, refl, sym, ap, ◌∙◌, subst, inl, inr, ◌⊎◌, append_assoc, append-nil, chars, encode_utf8, arith}
 use Rattle.std.proofs.lemmas.Bool.Decides.{nat_tests}
 use Rattle.std.proofs.lemmas.List.{nil_from_length, take_more}
 use Rattle.std.proofs.lemmas.Str.{chars_from_encodes, encodes-append}
@@ -8,8 +8,10 @@ use Rattle.std.specs.Str.{IsUtf8}
 use Rattle.hm_refs.specs.Names.{Entry}
 use Rattle.hm_refs.specs.Plain.{is_plain}
 use Rattle.hm_refs.specs.Tables.{entry_at}
-use Rattle.hm_spelling_spec.specs.Characters.{is_barred, is_writable}
-use Rattle.hm_order.specs.Weights.{AreEasy, AreHeavy, IsEasy, IsHeavy, some_barred, total, weight}
+use Rattle.hm_graph_laws.specs.States.{nothing, Pending}
+use Rattle.hm_spelling_spec.specs.Characters.{double, is_barred, is_writable}
+use Rattle.hm_order.proofs.Easy.{run_nothing}
+use Rattle.hm_order.specs.Weights.{AreEasy, AreHeavy, IsEasy, IsHeavy, literal, literals, some_barred, total, weight}
 
 heavy_push : (t : List Entry) (is : List ℕ) (i : ℕ) → AreHeavy weight t is → total weight (entry_at t i).points ≤ length (entry_at t i).name → AreHeavy weight t (is ++ i ∷ [])
 heavy_push t [] i h k = (k, tt)
@@ -40,9 +42,9 @@ unequal c d h = grind (arith, nat_tests, h)
 below : (c : ℕ) → c < 128 → nat_lt c 128 ≡ true
 below c h = grind (arith, nat_tests, h)
 
-pub easy_from : (t : List Entry) (ascii : Bool) (c : ℕ) → (c ≡ 34 → ⊥) → (c ≡ 38 → ⊥) → (c ≡ 13 → ⊥) → ((ascii ≡ true) × (c < 128)) ⊎ (ascii ≡ false) → (is_plain t c ≡ false → IsHeavy t c) → IsEasy t ascii c
+pub easy_from : (t : List Entry) (ascii : Bool) (c : ℕ) → (c ≡ 34 → ⊥) → (c ≡ 13 → ⊥) → ((ascii ≡ true) × (c < 128)) ⊎ (ascii ≡ false) → (is_plain t c ≡ false → IsHeavy t c) → IsEasy t ascii c
 unfolding is_writable
-easy_from t ascii c no_quote no_amp no_return low heavy = record { writable = writes low; no_quote = unequal c 34 no_quote; no_amp = unequal c 38 no_amp; heavy = heavy }
+easy_from t ascii c no_quote no_return low heavy = record { writable = writes low; no_quote = unequal c 34 no_quote; heavy = heavy }
   where
     writes : ((ascii ≡ true) × (c < 128)) ⊎ (ascii ≡ false) → is_writable ascii c ≡ true
     writes (inl (on, less)) = rw (unequal c 13 no_return, on, below c less) refl
@@ -62,3 +64,14 @@ barred_stays b cs c h on = on ∙ sym (barred_push cs c ∙ ap (λ x. x || is_ba
 
 pub barred_by : (b : Bool) (cs : List ℕ) (c : ℕ) (x : Bool) → b ≡ some_barred cs → b ≡ false → x ≡ is_barred c → x ≡ some_barred (cs ++ c ∷ [])
 barred_by b cs c x h off is = is ∙ sym (barred_push cs c ∙ ap (λ y. y || is_barred c) (sym h ∙ off))
+
+pub literals_push : (t : List Entry) (p : Option Pending) (cs : List ℕ) (c : ℕ) → literals t double p (cs ++ c ∷ []) ≡ literal t double (literals t double p cs) c
+literals_push t p [] c = refl
+literals_push t p (x ∷ cs) c = literals_push t (literal t double p x) cs c
+
+and_false : (x : Bool) → (x && false) ≡ false
+and_false true = refl
+and_false false = refl
+
+pub nothing_stays : (t : List Entry) (c : ℕ) → (c ≡ 38 → ⊥) → literal t double (Some nothing) c ≡ Some nothing
+nothing_stays t c other = rw (run_nothing t double (encode_utf8 c), unequal c 38 other, and_false (c == 60)) refl

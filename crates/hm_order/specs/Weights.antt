@@ -1,9 +1,13 @@
 -- Values whose fewest bytes a scan of their characters tells.
-use Rattle.std.specs.Prelude.{◌≡◌, ℕ, ◌+◌, ◌≤◌, Bool, true, false, ◌||◌, ◌==◌, List, [], ◌∷◌, length, if◌then◌else◌, encode_utf8}
+use Rattle.std.specs.Prelude.{◌≡◌, ℕ, ◌+◌, ◌≤◌, Bool, true, false, ◌||◌, ◌==◌, List, [], ◌∷◌, length, if◌then◌else◌, Option, Some, None, encode_utf8}
+use Rattle.std.specs.Option.{option_map}
+use Rattle.hm_graph_laws.specs.CharacterEdges.{itself_to}
+use Rattle.hm_graph_laws.specs.States.{nothing, Pending}
+use Rattle.hm_graph_laws.specs.Steps.{may_end, run}
 use Rattle.hm_refs.specs.Names.{Entry}
 use Rattle.hm_refs.specs.Plain.{is_plain}
 use Rattle.hm_refs.specs.Tables.{entry_at, places_for}
-use Rattle.hm_spelling_spec.specs.Characters.{is_barred, is_writable}
+use Rattle.hm_spelling_spec.specs.Characters.{double, is_barred, is_writable, Spot}
 
 -- the bytes of a character as itself
 abbrev pub size : ℕ → ℕ
@@ -27,11 +31,10 @@ pub record IsHeavy (t : List Entry) (c : ℕ) : Type 0 where
   pub few : size c ≤ 3
   pub names : AreHeavy weight t (places_for c t)
 
--- A reference to c is never shorter than c, and c stands as itself in double quotes whatever is written around it.
+-- A reference to c is never shorter than c, and c may stand as itself in double quotes.
 pub record IsEasy (t : List Entry) (ascii : Bool) (c : ℕ) : Type 0 where
   pub writable : is_writable ascii c ≡ true
   pub no_quote : (c == 34) ≡ false
-  pub no_amp : (c == 38) ≡ false
   pub heavy : is_plain t c ≡ false → IsHeavy t c
 
 abbrev pub AreEasy : List Entry → Bool → List ℕ → Type 0
@@ -47,3 +50,21 @@ some_barred (c ∷ cs) = is_barred c || some_barred cs
 -- behind a value without quotes and so many behind one in quotes. `bare` says whether the value stands without quotes.
 abbrev pub easy_cost : Bool → ℕ → ℕ → ℕ → ℕ → ℕ
 easy_cost bare name value u q = if bare then name + 1 + (value + u) else name + 2 + (value + 1 + q)
+
+-- what is pending after a character as itself; None where its bytes make something else of what was written
+abbrev pub literal : List Entry → Spot → Option Pending → ℕ → Option Pending
+literal t spot None c = None
+literal t spot (Some p) c = option_map (itself_to spot c) (run t spot (Some p) (encode_utf8 c))
+
+-- what is pending after characters as themselves
+abbrev pub literals : List Entry → Spot → Option Pending → List ℕ → Option Pending
+literals t spot p [] = p
+literals t spot p (c ∷ cs) = literals t spot (literal t spot p c) cs
+
+abbrev pub ends : List Entry → Spot → Option Pending → Bool
+ends t spot None = false
+ends t spot (Some p) = may_end t spot p
+
+-- a value is read as these characters, where each stands as itself in double quotes
+abbrev pub are_literal : List Entry → List ℕ → Bool
+are_literal t cs = ends t double (literals t double (Some nothing) cs)

@@ -17,8 +17,8 @@ loop-c-preserved c = record {
   barred = barred_by c.loop-c.barred c.loop-c.yielded c.in-Some.c c.is_barred-barred.result c.loop-c.invariant.barred c.if-barred.false c.is_barred-barred.ensures;
 }
 
-pub returns-clause-easy : goal.returns-clause-easy
-returns-clause-easy c = subst (AreEasy c.args.table.now.entries c.args.ascii) (all_given c.loop-c.yielded c.loop-c.c-iterator.rest.now c.args.value.now c.utf8.value c.loop-c.invariant.given c.in-None.ensures.steps.0.0) c.loop-c.invariant.easy
+pub returns-then-is_literal-clause-easy : goal.returns-then-is_literal-clause-easy
+returns-then-is_literal-clause-easy c = subst (AreEasy c.args.table.now.entries c.args.ascii) (all_given c.loop-c.yielded c.loop-c.c-iterator.rest.now c.args.value.now c.utf8.value c.loop-c.invariant.given c.in-None.ensures.steps.0.0) c.loop-c.invariant.easy
 
-pub returns-clause-barred : goal.returns-clause-barred
-returns-clause-barred c = c.loop-c.invariant.barred ∙ ap some_barred (all_given c.loop-c.yielded c.loop-c.c-iterator.rest.now c.args.value.now c.utf8.value c.loop-c.invariant.given c.in-None.ensures.steps.0.0)
+pub returns-then-is_literal-clause-barred : goal.returns-then-is_literal-clause-barred
+returns-then-is_literal-clause-barred c = c.loop-c.invariant.barred ∙ ap some_barred (all_given c.loop-c.yielded c.loop-c.c-iterator.rest.now c.args.value.now c.utf8.value c.loop-c.invariant.given c.in-None.ensures.steps.0.0)

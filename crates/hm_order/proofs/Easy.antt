@@ -1,5 +1,5 @@
 -- What an attribute costs whose value has easy characters alone.
-use Rattle.std.proofs.Common.{◌≡◌, ◌+◌, ◌<◌, ◌≤◌, ℕ, Bool, true, false, cond, ◌&&◌, ◌||◌, not, List, [], ◌∷◌, ◌++◌, length, map, Option, Some, None, is_some, refl, sym, ap, ap₂, ◌∙◌, subst, arith, encode_utf8, chars, length-append, if◌then◌else◌}
+use Rattle.std.proofs.Common.{◌≡◌, ◌+◌, ◌<◌, ◌≤◌, ℕ, Bool, true, false, cond, ◌&&◌, ◌||◌, not, nat_le, List, [], ◌∷◌, ◌++◌, length, map, Option, Some, None, is_some, refl, sym, ap, ap₂, ◌∙◌, subst, arith, encode_utf8, chars, length-append, if◌then◌else◌}
 use Rattle.std.proofs.lemmas.Bool.Decides.{nat_tests}
 use Rattle.std.proofs.lemmas.Str.{encode_ascii, encodes-chars}
 use Rattle.std.specs.Prelude.{encode_utf8_all}
@@ -23,7 +23,7 @@ use Rattle.hm_refs.specs.Tables.{entry_at, IsTable, places_for}
 use Rattle.hm_spelling_spec.specs.Characters.{double, is_barred, may_stand, single, Spot, unquoted}
 use Rattle.hm_spelling_spec.specs.Tags.{character_rules, Spelling}
 use Rattle.hm_order.specs.Costs.{cost_of, inner_cost, last_cost, plus, value_cost}
-use Rattle.hm_order.specs.Weights.{are_literal, AreEasy, AreHeavy, easy_cost, ends, literal, literals, size, some_barred, total, weight}
+use Rattle.hm_order.specs.Weights.{are_literal, AreEasy, counted, IsEasy, AreHeavy, easy_cost, ends, literal, literals, size, some_barred, total, weight}
 use Rattle.hm_order.proofs.Values.{character_edges_are, Closes, closes_double, closes_single, closes_unquoted}
 use Rattle.hm_order.proofs.Weighed.{AreWeighed, AtLeast, value_at_least}
 
@@ -154,29 +154,66 @@ barred_ascii c h = grind (arith, nat_tests, h)
 barred_size : (c : ℕ) → is_barred c ≡ true → size c ≡ 1
 barred_size c h = ap length (encode_ascii c (barred_ascii c h))
 
-size_within : (c : ℕ) → size c ≤ weight c
-size_within c = by (is_barred c) refl
-  where
-    by : (x : Bool) → is_barred c ≡ x → size c ≤ cond x 3 (size c)
-    by true e = let one = barred_size c e in omega (arith, one)
-    by false e = omega arith
+not_high : (c : ℕ) → c < 128 → nat_le 128 c ≡ false
+not_high c h = grind (arith, nat_tests, h)
 
-total_within : (cs : List ℕ) → total size cs ≤ total weight cs
-total_within [] = omega arith
-total_within (c ∷ cs) = let h = size_within c in let k = total_within cs in omega (arith, h, k)
+and_false : (x : Bool) → (x && false) ≡ false
+and_false true = refl
+and_false false = refl
+
+-- a character of ASCII counts
+counts : (low : Bool) (c : ℕ) → c < 128 → (low && nat_le 128 c) ≡ false
+counts low c h = ap (λ b. low && b) (not_high c h) ∙ and_false low
+
+-- the size of a character, where it counts
+abbrev seen : Bool → ℕ → ℕ
+seen low c = counted low c (size c)
+
+seen_within : (low : Bool) (c : ℕ) → seen low c ≤ weight low c
+seen_within low c = by (low && nat_le 128 c) (is_barred c) refl
+  where
+    by : (h x : Bool) → is_barred c ≡ x → cond h 0 (size c) ≤ cond h 0 (cond x 3 (size c))
+    by true x e = omega arith
+    by false true e = let one = barred_size c e in omega (arith, one)
+    by false false e = omega arith
+
+seen_size : (low : Bool) (c : ℕ) → seen low c ≤ size c
+seen_size low c = by (low && nat_le 128 c)
+  where
+    by : (h : Bool) → cond h 0 (size c) ≤ size c
+    by true = omega arith
+    by false = omega arith
+
+total_within : (low : Bool) (cs : List ℕ) → total (seen low) cs ≤ total (weight low) cs
+total_within low [] = omega arith
+total_within low (c ∷ cs) = let h = seen_within low c in let k = total_within low cs in omega (arith, h, k)
+
+-- each easy character counts
+easy_counts : (t : List Entry) (ascii low : Bool) (c : ℕ) → IsEasy t ascii low c → (low && nat_le 128 c) ≡ false
+easy_counts t ascii true c h = not_high c (h.within refl)
+easy_counts t ascii false c h = refl
+
+total_seen : (t : List Entry) (ascii low : Bool) (cs : List ℕ) → AreEasy t ascii low cs → total (seen low) cs ≡ total size cs
+total_seen t ascii low [] h = refl
+total_seen t ascii low (c ∷ cs) h = ap₂ (λ b n. cond b 0 (size c) + n) (easy_counts t ascii low c h.0) (total_seen t ascii low cs h.1)
 
 -- what is barred weighs two bytes more
-barred_weighs : (cs : List ℕ) → some_barred cs ≡ true → total size cs + 2 ≤ total weight cs
-barred_weighs [] h = absurd (cc)
-barred_weighs (c ∷ cs) h = by (is_barred c) refl h (λ k. barred_weighs cs k)
+barred_weighs : (low : Bool) (cs : List ℕ) → some_barred cs ≡ true → total (seen low) cs + 2 ≤ total (weight low) cs
+barred_weighs low [] h = absurd (cc)
+barred_weighs low (c ∷ cs) h = by (is_barred c) refl h (λ k. barred_weighs low cs k)
   where
-    by : (x : Bool) → is_barred c ≡ x → (x || some_barred cs) ≡ true → (some_barred cs ≡ true → total size cs + 2 ≤ total weight cs) → size c + total size cs + 2 ≤ cond x 3 (size c) + total weight cs
-    by true e k more = let one = barred_size c e in let w = total_within cs in omega (arith, one, w)
+    here : (x : Bool) → (low && nat_le 128 c) ≡ x → x ≡ false → size c ≡ 1 → cond x 0 (size c) + total (seen low) cs + 2 ≤ cond x 0 3 + total (weight low) cs
+    here true e k one = absurd (cc)
+    here false e k one = let w = total_within low cs in omega (arith, one, w)
+
+    by : (x : Bool) → is_barred c ≡ x → (x || some_barred cs) ≡ true → (some_barred cs ≡ true → total (seen low) cs + 2 ≤ total (weight low) cs)
+        → cond (low && nat_le 128 c) 0 (size c) + total (seen low) cs + 2 ≤ cond (low && nat_le 128 c) 0 (cond x 3 (size c)) + total (weight low) cs
+    by true e k more = here (low && nat_le 128 c) refl (counts low c (barred_ascii c e)) (barred_size c e)
     by false e k more = let w = more k in omega (arith, w)
 
-heavy_sizes : (t : List Entry) (is : List ℕ) → AreHeavy weight t is → AreHeavy size t is
-heavy_sizes t [] h = tt
-heavy_sizes t (i ∷ is) h = let w = total_within (entry_at t i).points in (omega (arith, h.0, w), heavy_sizes t is h.1)
+heavy_sizes : (t : List Entry) (low : Bool) (is : List ℕ) → AreHeavy (weight low) t is → AreHeavy (seen low) t is
+heavy_sizes t low [] h = tt
+heavy_sizes t low (i ∷ is) h = let w = total_within low (entry_at t i).points in (omega (arith, h.0, w), heavy_sizes t low is h.1)
 
 not_plain : (x : Bool) → not x ≡ true → x ≡ false
 not_plain true h = cc
@@ -186,65 +223,74 @@ module _ (t : List Entry) (r : SpellRules) where
   abbrev g : Spelling
   g = sparing_plain t r
 
-  weighed_unquoted : (cs : List ℕ) → AreEasy t r.ascii cs → AreWeighed g unquoted weight cs
-  weighed_unquoted [] h = tt
-  weighed_unquoted (c ∷ cs) h = (record { literal = λ stands. literal (is_barred c) refl stands; few = λ k. few (is_barred c) (h.0.heavy (not_plain (is_plain t c) k)).few; names = λ k. (h.0.heavy (not_plain (is_plain t c) k)).names }, weighed_unquoted cs h.1)
+  weighed_unquoted : (low : Bool) (cs : List ℕ) → AreEasy t r.ascii low cs → AreWeighed g unquoted (weight low) cs
+  weighed_unquoted low [] h = tt
+  weighed_unquoted low (c ∷ cs) h =
+      (record { literal = λ stands. literal (low && nat_le 128 c) (is_barred c) refl stands; few = λ k. few (low && nat_le 128 c) (is_barred c) (h.0.heavy (not_plain (is_plain t c) k)).few; names = λ k. (h.0.heavy (not_plain (is_plain t c) k)).names }, weighed_unquoted low cs h.1)
     where
-      literal : (x : Bool) → is_barred c ≡ x → not (is_barred c) ≡ true → cond (is_barred c) 3 (size c) ≤ size c
-      literal true e k = absurd (let off = sym (ap not e) ∙ k in cc)
-      literal false e k = subst (λ x. cond x 3 (size c) ≤ size c) (sym e) (omega arith)
+      literal : (x y : Bool) → is_barred c ≡ y → not (is_barred c) ≡ true → cond x 0 (cond (is_barred c) 3 (size c)) ≤ size c
+      literal true y e k = omega arith
+      literal false true e k = absurd (let off = sym (ap not e) ∙ k in cc)
+      literal false false e k = subst (λ x. cond x 3 (size c) ≤ size c) (sym e) (omega arith)
 
-      few : (x : Bool) → size c ≤ 3 → cond x 3 (size c) ≤ 3
-      few true k = omega arith
-      few false k = k
+      few : (x y : Bool) → size c ≤ 3 → cond x 0 (cond y 3 (size c)) ≤ 3
+      few true y k = omega arith
+      few false true k = omega arith
+      few false false k = k
 
-  weighed_quoted : (spot : Spot) (cs : List ℕ) → AreEasy t r.ascii cs → AreWeighed g spot size cs
-  weighed_quoted spot [] h = tt
-  weighed_quoted spot (c ∷ cs) h = (record { literal = λ stands. omega arith; few = λ k. (h.0.heavy (not_plain (is_plain t c) k)).few; names = λ k. heavy_sizes t (places_for c t) (h.0.heavy (not_plain (is_plain t c) k)).names }, weighed_quoted spot cs h.1)
+  weighed_quoted : (low : Bool) (spot : Spot) (cs : List ℕ) → AreEasy t r.ascii low cs → AreWeighed g spot (seen low) cs
+  weighed_quoted low spot [] h = tt
+  weighed_quoted low spot (c ∷ cs) h =
+      let few = seen_size low c in
+      (record { literal = λ stands. few; few = λ k. let size = (h.0.heavy (not_plain (is_plain t c) k)).few in omega (arith, few, size); names = λ k. heavy_sizes t low (places_for c t) (h.0.heavy (not_plain (is_plain t c) k)).names }, weighed_quoted low spot cs h.1)
 
-  stand_double : (cs : List ℕ) → AreEasy t r.ascii cs → Stand r.ascii double cs
+  stand_double : (low : Bool) (cs : List ℕ) → AreEasy t r.ascii low cs → Stand r.ascii double cs
   unfolding may_stand
-  stand_double [] h = tt
-  stand_double (c ∷ cs) h = (ap₂ (λ x y. x && not y) h.0.writable h.0.no_quote, stand_double cs h.1)
+  stand_double low [] h = tt
+  stand_double low (c ∷ cs) h = (ap₂ (λ x y. x && not y) h.0.writable h.0.no_quote, stand_double low cs h.1)
 
-  stand_unquoted : (cs : List ℕ) → AreEasy t r.ascii cs → some_barred cs ≡ false → Stand r.ascii unquoted cs
+  stand_unquoted : (low : Bool) (cs : List ℕ) → AreEasy t r.ascii low cs → some_barred cs ≡ false → Stand r.ascii unquoted cs
   unfolding may_stand
-  stand_unquoted [] h e = tt
-  stand_unquoted (c ∷ cs) h e =
+  stand_unquoted low [] h e = tt
+  stand_unquoted low (c ∷ cs) h e =
       let two = or_parts (is_barred c) (some_barred cs) e in
-      (ap₂ (λ x y. x && not y) h.0.writable two.0, stand_unquoted cs h.1 two.1)
+      (ap₂ (λ x y. x && not y) h.0.writable two.0, stand_unquoted low cs h.1 two.1)
     where
       or_parts : (x y : Bool) → (x || y) ≡ false → (x ≡ false) × (y ≡ false)
       or_parts true y h = absurd (cc)
       or_parts false y h = (refl, h)
 
-  module _ (table : IsTable t) (v : List ℕ) (easy : AreEasy t r.ascii (chars v)) (read : are_literal t (chars v) ≡ true) where
+  module _ (table : IsTable t) (low : Bool) (v : List ℕ) (easy : AreEasy t r.ascii low (chars v)) (read : are_literal t (chars v) ≡ true) where
     abbrev n : ℕ
     n = total size (chars v)
 
+    of_seen : (p : Option ℕ) → AtLeast (total (seen low) (chars v) + 1) p → AtLeast (n + 1) p
+    of_seen p h = subst (λ m. AtLeast (m + 1) p) (total_seen t r.ascii low (chars v) easy) h
+
     pub double_costs : value_cost g in_double v ≡ Some (n + 1)
     double_costs =
-        squeezed (n + 1) (value_cost g in_double v) (value_at_least g table in_double (34 ∷ []) _ closes_double size (chars v) (weighed_quoted double (chars v) easy) nothing tt)
-        (value_at_most g table in_double (34 ∷ []) _ closes_double (chars v) nothing tt (stand_double (chars v) easy) read)
+        squeezed (n + 1) (value_cost g in_double v) (of_seen (value_cost g in_double v) (value_at_least g table in_double (34 ∷ []) _ closes_double (seen low) (chars v) (weighed_quoted low double (chars v) easy) nothing tt))
+        (value_at_most g table in_double (34 ∷ []) _ closes_double (chars v) nothing tt (stand_double low (chars v) easy) read)
 
     pub single_costs : AtLeast (n + 1) (value_cost g in_single v)
-    single_costs = value_at_least g table in_single (39 ∷ []) _ closes_single size (chars v) (weighed_quoted single (chars v) easy) nothing tt
+    single_costs = of_seen (value_cost g in_single v) (value_at_least g table in_single (39 ∷ []) _ closes_single (seen low) (chars v) (weighed_quoted low single (chars v) easy) nothing tt)
 
     at_least_less : (a b : ℕ) (p : Option ℕ) → a ≤ b → AtLeast b p → AtLeast a p
     at_least_less a b None le h = tt
     at_least_less a b (Some m) le h = omega (arith, le, h)
 
-    unquoted_weighs : AtLeast (total weight (chars v) + 0) (value_cost g in_unquoted v)
-    unquoted_weighs = value_at_least g table in_unquoted [] _ closes_unquoted weight (chars v) (weighed_unquoted (chars v) easy) nothing tt
+    unquoted_weighs : AtLeast (total (weight low) (chars v) + 0) (value_cost g in_unquoted v)
+    unquoted_weighs = value_at_least g table in_unquoted [] _ closes_unquoted (weight low) (chars v) (weighed_unquoted low (chars v) easy) nothing tt
 
     pub barred_costs : some_barred (chars v) ≡ true → AtLeast (n + 2) (value_cost g in_unquoted v)
-    barred_costs e = let more = barred_weighs (chars v) e in at_least_less (n + 2) (total weight (chars v) + 0) (value_cost g in_unquoted v) (omega (arith, more)) unquoted_weighs
+    barred_costs e = let more = barred_weighs low (chars v) e in let same = total_seen t r.ascii low (chars v) easy in at_least_less (n + 2) (total (weight low) (chars v) + 0) (value_cost g in_unquoted v) (omega (arith, more, same)) unquoted_weighs
 
     pub unquoted_costs : some_barred (chars v) ≡ false → value_cost g in_unquoted v ≡ Some n
     unquoted_costs e =
-        let within = total_within (chars v) in
-        squeezed n (value_cost g in_unquoted v) (at_least_less n (total weight (chars v) + 0) (value_cost g in_unquoted v) (omega (arith, within)) unquoted_weighs)
-        (at_most_zero n (value_cost g in_unquoted v) (value_at_most g table in_unquoted [] _ closes_unquoted (chars v) nothing tt (stand_unquoted (chars v) easy e) (unquoted_literal t (chars v) read)))
+        let within = total_within low (chars v) in
+        let same = total_seen t r.ascii low (chars v) easy in
+        squeezed n (value_cost g in_unquoted v) (at_least_less n (total (weight low) (chars v) + 0) (value_cost g in_unquoted v) (omega (arith, within, same)) unquoted_weighs)
+        (at_most_zero n (value_cost g in_unquoted v) (value_at_most g table in_unquoted [] _ closes_unquoted (chars v) nothing tt (stand_unquoted low (chars v) easy e) (unquoted_literal t (chars v) read)))
       where
         at_most_zero : (a : ℕ) (p : Option ℕ) → AtMost (a + 0) p → AtMost a p
         at_most_zero a None h = h
@@ -267,9 +313,9 @@ lesser_second : (p : Option ℕ) (a : ℕ) → AtLeast a p → lesser p (Some a)
 lesser_second None a h = refl
 lesser_second (Some b) a h = ap Some (omega (arith, h))
 
-pub easy_costs : (t : List Entry) → IsTable t → (r : SpellRules) (behind : Where → ℕ) (name : List ℕ) (c : ℕ) (s : List ℕ) → AreEasy t r.ascii (chars (c ∷ s)) → are_literal t (chars (c ∷ s)) ≡ true → behind behind_unquoted ≤ 1 → behind behind_quoted ≤ behind behind_unquoted
+pub easy_costs : (t : List Entry) → IsTable t → (r : SpellRules) (low : Bool) (behind : Where → ℕ) (name : List ℕ) (c : ℕ) (s : List ℕ) → AreEasy t r.ascii low (chars (c ∷ s)) → are_literal t (chars (c ∷ s)) ≡ true → behind behind_unquoted ≤ 1 → behind behind_quoted ≤ behind behind_unquoted
     → cost_of (sparing_plain t r) behind name (c ∷ s) ≡ Some (easy_cost (r.unquote && not (some_barred (chars (c ∷ s)))) (length name) (total size (chars (c ∷ s))) (behind behind_unquoted) (behind behind_quoted))
-easy_costs t table r behind name c s easy read few less = by r.unquote (some_barred (chars (c ∷ s))) refl
+easy_costs t table r low behind name c s easy read few less = by r.unquote (some_barred (chars (c ∷ s))) refl
   where
     v : List ℕ
     v = c ∷ s
@@ -288,8 +334,8 @@ easy_costs t table r behind name c s easy read few less = by r.unquote (some_bar
 
     quoted : lesser (over (l + 2) (plus (value_cost (sparing_plain t r) in_double v) (Some q))) (over (l + 2) (plus (value_cost (sparing_plain t r) in_single v) (Some q))) ≡ Some (l + 2 + (n + 1 + q))
     quoted =
-        ap (λ p. lesser p (over (l + 2) (plus (value_cost (sparing_plain t r) in_single v) (Some q)))) (form_is (l + 2) q (value_cost (sparing_plain t r) in_double v) (n + 1) (double_costs t r table v easy read))
-        ∙ lesser_first (l + 2 + (n + 1 + q)) (over (l + 2) (plus (value_cost (sparing_plain t r) in_single v) (Some q))) (form_at_least (l + 2) q (n + 1) (value_cost (sparing_plain t r) in_single v) (single_costs t r table v easy read))
+        ap (λ p. lesser p (over (l + 2) (plus (value_cost (sparing_plain t r) in_single v) (Some q)))) (form_is (l + 2) q (value_cost (sparing_plain t r) in_double v) (n + 1) (double_costs t r table low v easy read))
+        ∙ lesser_first (l + 2 + (n + 1 + q)) (over (l + 2) (plus (value_cost (sparing_plain t r) in_single v) (Some q))) (form_at_least (l + 2) q (n + 1) (value_cost (sparing_plain t r) in_single v) (single_costs t r table low v easy read))
 
     bare : Option ℕ
     bare = over (l + 1) (plus (value_cost (sparing_plain t r) in_unquoted v) (Some u))
@@ -298,12 +344,12 @@ easy_costs t table r behind name c s easy read few less = by r.unquote (some_bar
         → lesser (if unquote then bare else None) (lesser (over (l + 2) (plus (value_cost (sparing_plain t r) in_double v) (Some q))) (over (l + 2) (plus (value_cost (sparing_plain t r) in_single v) (Some q))))
         ≡ Some (easy_cost (unquote && not barred) l n u q)
     by false barred e = quoted
-    by true true e = ap (lesser bare) quoted ∙ lesser_second bare (l + 2 + (n + 1 + q)) (more bare (form_at_least (l + 1) u (n + 2) (value_cost (sparing_plain t r) in_unquoted v) (barred_costs t r table v easy read e)))
+    by true true e = ap (lesser bare) quoted ∙ lesser_second bare (l + 2 + (n + 1 + q)) (more bare (form_at_least (l + 1) u (n + 2) (value_cost (sparing_plain t r) in_unquoted v) (barred_costs t r table low v easy read e)))
       where
         more : (p : Option ℕ) → AtLeast (l + 1 + (n + 2 + u)) p → AtLeast (l + 2 + (n + 1 + q)) p
         more None h = tt
         more (Some m) h = omega (arith, h, less)
-    by true false e = ap₂ lesser (form_is (l + 1) u (value_cost (sparing_plain t r) in_unquoted v) n (unquoted_costs t r table v easy read e)) quoted ∙ lesser_first (l + 1 + (n + u)) (Some (l + 2 + (n + 1 + q))) (omega (arith, few))
+    by true false e = ap₂ lesser (form_is (l + 1) u (value_cost (sparing_plain t r) in_unquoted v) n (unquoted_costs t r table low v easy read e)) quoted ∙ lesser_first (l + 1 + (n + u)) (Some (l + 2 + (n + 1 + q))) (omega (arith, few))
 
 total_is : (cs : List ℕ) → total size cs ≡ length (encode_utf8_all cs)
 total_is [] = refl
@@ -312,12 +358,12 @@ total_is (c ∷ cs) = ap (λ n. size c + n) (total_is cs) ∙ sym (length-append
 value_size : (v : List ℕ) → IsUtf8 v → total size (chars v) ≡ length v
 value_size v utf8 = total_is (chars v) ∙ ap length (encodes-chars v utf8)
 
-pub inner_easy : (t : List Entry) → IsTable t → (r : SpellRules) (name v : List ℕ) → IsUtf8 v → 0 < length v → AreEasy t r.ascii (chars v) → are_literal t (chars v) ≡ true
+pub inner_easy : (t : List Entry) → IsTable t → (r : SpellRules) (low : Bool) (name v : List ℕ) → IsUtf8 v → 0 < length v → AreEasy t r.ascii low (chars v) → are_literal t (chars v) ≡ true
     → inner_cost (sparing_plain t r) (record { name = name; value = v }) ≡ Some (easy_cost (r.unquote && not (some_barred (chars v))) (length name) (length v) 1 (if r.tight then 0 else 1))
-inner_easy t table r name [] utf8 some easy read = absurd (omega (arith, some))
-inner_easy t table r name (c ∷ s) utf8 some easy read =
+inner_easy t table r low name [] utf8 some easy read = absurd (omega (arith, some))
+inner_easy t table r low name (c ∷ s) utf8 some easy read =
     ap (λ x. cost_of (sparing_plain t r) (λ at. length (gap_at x at)) name (c ∷ s)) refl
-    ∙ easy_costs t table r (λ at. length (gap_at r.tight at)) name c s easy read (gap_few r.tight) (gap_less r.tight)
+    ∙ easy_costs t table r low (λ at. length (gap_at r.tight at)) name c s easy read (gap_few r.tight) (gap_less r.tight)
     ∙ ap (λ n. Some (easy_cost (r.unquote && not (some_barred (chars (c ∷ s)))) (length name) n (length (gap_at r.tight behind_unquoted)) (length (gap_at r.tight behind_quoted)))) (value_size (c ∷ s) utf8)
     ∙ ap₂ (λ x y. Some (easy_cost (r.unquote && not (some_barred (chars (c ∷ s)))) (length name) (length (c ∷ s)) x y)) (gap_one r.tight) (gap_quoted r.tight)
   where
@@ -337,12 +383,12 @@ inner_easy t table r name (c ∷ s) utf8 some easy read =
     gap_less true = omega arith
     gap_less false = omega arith
 
-pub last_easy : (t : List Entry) → IsTable t → (r : SpellRules) (closes : Bool) (name v : List ℕ) → IsUtf8 v → 0 < length v → AreEasy t r.ascii (chars v) → are_literal t (chars v) ≡ true
+pub last_easy : (t : List Entry) → IsTable t → (r : SpellRules) (low closes : Bool) (name v : List ℕ) → IsUtf8 v → 0 < length v → AreEasy t r.ascii low (chars v) → are_literal t (chars v) ≡ true
     → last_cost (sparing_plain t r) closes (record { name = name; value = v }) ≡ Some (easy_cost (r.unquote && not (some_barred (chars v))) (length name) (length v) (if closes then 1 else 0) 0)
-last_easy t table r closes name [] utf8 some easy read = absurd (omega (arith, some))
-last_easy t table r true name (c ∷ s) utf8 some easy read =
-    easy_costs t table r (λ at. if true && is_behind_unquoted at then 1 else 0) name c s easy read (omega arith) (omega arith)
+last_easy t table r low closes name [] utf8 some easy read = absurd (omega (arith, some))
+last_easy t table r low true name (c ∷ s) utf8 some easy read =
+    easy_costs t table r low (λ at. if true && is_behind_unquoted at then 1 else 0) name c s easy read (omega arith) (omega arith)
     ∙ ap (λ n. Some (easy_cost (r.unquote && not (some_barred (chars (c ∷ s)))) (length name) n 1 0)) (value_size (c ∷ s) utf8)
-last_easy t table r false name (c ∷ s) utf8 some easy read =
-    easy_costs t table r (λ at. if false && is_behind_unquoted at then 1 else 0) name c s easy read (omega arith) (omega arith)
+last_easy t table r low false name (c ∷ s) utf8 some easy read =
+    easy_costs t table r low (λ at. if false && is_behind_unquoted at then 1 else 0) name c s easy read (omega arith) (omega arith)
     ∙ ap (λ n. Some (easy_cost (r.unquote && not (some_barred (chars (c ∷ s)))) (length name) n 0 0)) (value_size (c ∷ s) utf8)

@@ -13,16 +13,16 @@ use Rattle.hm_spelling_spec.specs.Characters.{double, is_barred, is_writable}
 use Rattle.hm_order.proofs.Easy.{run_nothing}
 use Rattle.hm_order.specs.Weights.{AreEasy, AreHeavy, IsEasy, IsHeavy, literal, literals, some_barred, total, weight}
 
-heavy_push : (t : List Entry) (is : List ℕ) (i : ℕ) → AreHeavy weight t is → total weight (entry_at t i).points ≤ length (entry_at t i).name → AreHeavy weight t (is ++ i ∷ [])
-heavy_push t [] i h k = (k, tt)
-heavy_push t (x ∷ is) i h k = (h.0, heavy_push t is i h.1 k)
+heavy_push : (t : List Entry) (low : Bool) (is : List ℕ) (i : ℕ) → AreHeavy (weight low) t is → total (weight low) (entry_at t i).points ≤ length (entry_at t i).name → AreHeavy (weight low) t (is ++ i ∷ [])
+heavy_push t low [] i h k = (k, tt)
+heavy_push t low (x ∷ is) i h k = (h.0, heavy_push t low is i h.1 k)
 
-pub heavy_more : (t : List Entry) (is : List ℕ) (n i : ℕ) → n < length is → i ≡ slice_index_or is n i → AreHeavy weight t (take n is) → total weight (entry_at t i).points ≤ length (entry_at t i).name → AreHeavy weight t (take (n + 1) is)
-heavy_more t is n i inside at h k = subst (AreHeavy weight t) (sym (take_more is n i inside ∙ ap (λ y. take n is ++ y ∷ []) (sym at))) (heavy_push t (take n is) i h k)
+pub heavy_more : (t : List Entry) (low : Bool) (is : List ℕ) (n i : ℕ) → n < length is → i ≡ slice_index_or is n i → AreHeavy (weight low) t (take n is) → total (weight low) (entry_at t i).points ≤ length (entry_at t i).name → AreHeavy (weight low) t (take (n + 1) is)
+heavy_more t low is n i inside at h k = subst (AreHeavy (weight low) t) (sym (take_more is n i inside ∙ ap (λ y. take n is ++ y ∷ []) (sym at))) (heavy_push t low (take n is) i h k)
 
-pub easy_push : (t : List Entry) (ascii : Bool) (cs : List ℕ) (c : ℕ) → AreEasy t ascii cs → IsEasy t ascii c → AreEasy t ascii (cs ++ c ∷ [])
-easy_push t ascii [] c h k = (k, tt)
-easy_push t ascii (x ∷ cs) c h k = (h.0, easy_push t ascii cs c h.1 k)
+pub easy_push : (t : List Entry) (ascii low : Bool) (cs : List ℕ) (c : ℕ) → AreEasy t ascii low cs → IsEasy t ascii low c → AreEasy t ascii low (cs ++ c ∷ [])
+easy_push t ascii low [] c h k = (k, tt)
+easy_push t ascii low (x ∷ cs) c h k = (h.0, easy_push t ascii low cs c h.1 k)
 
 or_false : (x : Bool) → (x || false) ≡ x
 or_false true = refl
@@ -42,13 +42,17 @@ unequal c d h = grind (arith, nat_tests, h)
 below : (c : ℕ) → c < 128 → nat_lt c 128 ≡ true
 below c h = grind (arith, nat_tests, h)
 
-pub easy_from : (t : List Entry) (ascii : Bool) (c : ℕ) → (c ≡ 34 → ⊥) → (c ≡ 13 → ⊥) → ((ascii ≡ true) × (c < 128)) ⊎ (ascii ≡ false) → (is_plain t c ≡ false → IsHeavy t c) → IsEasy t ascii c
+pub easy_from : (t : List Entry) (ascii low : Bool) (c : ℕ) → ((low ≡ true) × (c < 128)) ⊎ (low ≡ false) → (c ≡ 34 → ⊥) → (c ≡ 13 → ⊥) → ((ascii ≡ true) × (c < 128)) ⊎ (ascii ≡ false) → (is_plain t c ≡ false → IsHeavy t low c) → IsEasy t ascii low c
 unfolding is_writable
-easy_from t ascii c no_quote no_return low heavy = record { writable = writes low; no_quote = unequal c 34 no_quote; heavy = heavy }
+easy_from t ascii low c below_low no_quote no_return below_limit heavy = record { within = within_by below_low; writable = writes below_limit; no_quote = unequal c 34 no_quote; heavy = heavy }
   where
     writes : ((ascii ≡ true) × (c < 128)) ⊎ (ascii ≡ false) → is_writable ascii c ≡ true
     writes (inl (on, less)) = rw (unequal c 13 no_return, on, below c less) refl
     writes (inr off) = rw (unequal c 13 no_return, off) refl
+
+    within_by : ((low ≡ true) × (c < 128)) ⊎ (low ≡ false) → low ≡ true → c < 128
+    within_by (inl (on, less)) k = less
+    within_by (inr off) k = absurd (let both = sym off ∙ k in cc)
 
 -- a text of which all characters are given
 pub all_given : (cs rest value : List ℕ) → IsUtf8 value → encode_utf8_all cs ++ rest ≡ value → length rest ≡ 0 → cs ≡ chars value

@@ -1,5 +1,5 @@
 -- Values whose fewest bytes a scan of their characters tells.
-use Rattle.std.specs.Prelude.{◌≡◌, ℕ, ◌+◌, ◌≤◌, Bool, true, false, ◌||◌, ◌==◌, List, [], ◌∷◌, length, if◌then◌else◌, Option, Some, None, encode_utf8}
+use Rattle.std.specs.Prelude.{◌≡◌, ℕ, ◌+◌, ◌≤◌, ◌<◌, nat_le, Bool, true, false, ◌&&◌, ◌||◌, ◌==◌, List, [], ◌∷◌, length, if◌then◌else◌, Option, Some, None, encode_utf8}
 use Rattle.std.specs.Option.{option_map}
 use Rattle.hm_graph_laws.specs.CharacterEdges.{itself_to}
 use Rattle.hm_graph_laws.specs.States.{nothing, Pending}
@@ -13,9 +13,14 @@ use Rattle.hm_spelling_spec.specs.Characters.{double, is_barred, is_writable, Sp
 abbrev pub size : ℕ → ℕ
 size c = length (encode_utf8 c)
 
+-- Where all characters of a value are of ASCII, as `low` says, no other one counts. So a name for two characters counts only by those
+-- that can be in the value.
+abbrev pub counted : Bool → ℕ → ℕ → ℕ
+counted low c n = if low && nat_le 128 c then 0 else n
+
 -- A character that a value without quotes can't hold is a reference there, of at least three bytes.
-abbrev pub weight : ℕ → ℕ
-weight c = if is_barred c then 3 else size c
+abbrev pub weight : Bool → ℕ → ℕ
+weight low c = counted low c (if is_barred c then 3 else size c)
 
 abbrev pub total : (ℕ → ℕ) → List ℕ → ℕ
 total f [] = 0
@@ -27,19 +32,20 @@ AreHeavy f t [] = Prim.Unit {0}
 AreHeavy f t (i ∷ places) = (total f (entry_at t i).points ≤ length (entry_at t i).name) × AreHeavy f t places
 
 -- no reference to c is shorter than c weighs
-pub record IsHeavy (t : List Entry) (c : ℕ) : Type 0 where
+pub record IsHeavy (t : List Entry) (low : Bool) (c : ℕ) : Type 0 where
   pub few : size c ≤ 3
-  pub names : AreHeavy weight t (places_for c t)
+  pub names : AreHeavy (weight low) t (places_for c t)
 
 -- A reference to c is never shorter than c, and c may stand as itself in double quotes.
-pub record IsEasy (t : List Entry) (ascii : Bool) (c : ℕ) : Type 0 where
+pub record IsEasy (t : List Entry) (ascii low : Bool) (c : ℕ) : Type 0 where
+  pub within : low ≡ true → c < 128
   pub writable : is_writable ascii c ≡ true
   pub no_quote : (c == 34) ≡ false
-  pub heavy : is_plain t c ≡ false → IsHeavy t c
+  pub heavy : is_plain t c ≡ false → IsHeavy t low c
 
-abbrev pub AreEasy : List Entry → Bool → List ℕ → Type 0
-AreEasy t ascii [] = Prim.Unit {0}
-AreEasy t ascii (c ∷ cs) = IsEasy t ascii c × AreEasy t ascii cs
+abbrev pub AreEasy : List Entry → Bool → Bool → List ℕ → Type 0
+AreEasy t ascii low [] = Prim.Unit {0}
+AreEasy t ascii low (c ∷ cs) = IsEasy t ascii low c × AreEasy t ascii low cs
 
 -- one of them can't stand in a value without quotes
 abbrev pub some_barred : List ℕ → Bool

@@ -116,7 +116,8 @@ pub fn attr_cost(
         return Ok(bare_cost(name));
     }
     every_table(table);
-    let Some(barred) = scan(table, rules.ascii, value) else {
+    let low = value.is_ascii();
+    let Some(barred) = scan(table, rules.ascii, low, value) else {
         return graph_cost(alloc, table, rules, name, value, closes);
     };
     let bare = stands_bare(rules, barred);

@@ -22,36 +22,40 @@ fn is_barred(c: char) -> bool
     is_space(c) || c == '"' || c == '\'' || c == '=' || c == '<' || c == '>' || c == '`'
 }
 
-// The fewest bytes of a character in a value without quotes, where no reference to it is shorter.
-fn weight(c: char) -> usize
-    ensures weight { result ≡ weights.weight c }
+// The fewest bytes of a character in a value without quotes, where no reference to it is shorter. In a value of ASCII, as `low`
+// says, no other character counts.
+fn weight(low: bool, c: char) -> usize
+    ensures weight { result ≡ weights.weight low c }
     ensures few { result ≤ 4 }
 {
+    if low && c >= '\u{80}' {
+        return 0;
+    }
     if is_barred(c) { 3 } else { c.len_utf8() }
 }
 
 // Whether a name has as many bytes as what it stands for weighs.
-fn is_heavy_name(table: &Table, id: NameId) -> bool
+fn is_heavy_name(table: &Table, low: bool, id: NameId) -> bool
     requires { id < length table.now.entries }
-    ensures { result ≡ true → total weights.weight (entry_at table.now.entries id).points ≤ length (entry_at table.now.entries id).name }
+    ensures { result ≡ true → total (weights.weight low) (entry_at table.now.entries id).points ≤ length (entry_at table.now.entries id).name }
 {
     let points = table.points(id);
     let second = match points.second {
-        Some(c) => weight(c),
+        Some(c) => weight(low, c),
         None => 0,
     };
-    weight(points.first) + second <= table.name(id).len()
+    weight(low, points.first) + second <= table.name(id).len()
 }
 
 // Whether no reference to the character is shorter than it weighs.
-fn is_heavy(table: &Table, c: char) -> bool
-    ensures { result ≡ true → IsHeavy table.now.entries c }
+fn is_heavy(table: &Table, low: bool, c: char) -> bool
+    ensures { result ≡ true → IsHeavy table.now.entries low c }
 {
     if c.len_utf8() > 3 {
         return false;
     }
     for id in table.names_for(c) {
-        if !is_heavy_name(table, *id) {
+        if !is_heavy_name(table, low, *id) {
             return false;
         }
     }
@@ -59,13 +63,16 @@ fn is_heavy(table: &Table, c: char) -> bool
 }
 
 // Whether the character may stand as itself in double quotes, and no reference to it is shorter.
-fn is_easy(table: &Table, ascii: bool, c: char) -> bool
-    ensures { result ≡ true → IsEasy table.now.entries ascii c }
+fn is_easy(table: &Table, ascii: bool, low: bool, c: char) -> bool
+    ensures { result ≡ true → IsEasy table.now.entries ascii low c }
 {
     if c == '"' || c == '\r' || (ascii && c >= '\u{80}') {
         return false;
     }
-    table.is_plain(c) || is_heavy(table, c)
+    if low && c >= '\u{80}' {
+        return false;
+    }
+    table.is_plain(c) || is_heavy(table, low, c)
 }
 
 // What is pending after these bytes in a value, where they break nothing.
@@ -132,15 +139,15 @@ fn is_literal(table: &Table, value: &str) -> bool
 }
 
 /// Whether a value has a character that can't stand without quotes, where all its characters are easy and stand as themselves. None
-/// where one isn't or doesn't.
-pub(crate) fn scan(table: &Table, ascii: bool, value: &str) -> Option<bool>
-    ensures easy { IfSome result (λ barred. AreEasy table.now.entries ascii (chars value.now)) }
+/// where one isn't or doesn't. `low` says that they are to be of ASCII, which makes more of them easy.
+pub(crate) fn scan(table: &Table, ascii: bool, low: bool, value: &str) -> Option<bool>
+    ensures easy { IfSome result (λ barred. AreEasy table.now.entries ascii low (chars value.now)) }
     ensures literal { IfSome result (λ barred. are_literal table.now.entries (chars value.now) ≡ true) }
     ensures barred { IfSome result (λ barred. barred ≡ some_barred (chars value.now)) }
 {
     let mut barred = false;
     for c in value.chars() {
-        if !is_easy(table, ascii, c) {
+        if !is_easy(table, ascii, low, c) {
             return None;
         }
         barred = barred || is_barred(c);

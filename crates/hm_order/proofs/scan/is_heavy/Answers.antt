@@ -14,9 +14,9 @@ is_heavy_name-requires c =
     subst (λ i. i < length c.args.table.now.entries) (sym at) (place_inside c.args.c c.args.table.now.entries c.loop-id.id-index (subst (λ xs. c.loop-id.id-index < length xs) c.names_for-id-items.ensures c.loop-id-test.true))
 
 pub loop-id-preserved : goal.loop-id-preserved
-loop-id-preserved c = heavy_more c.args.table.now.entries c.names_for-id-items.result.now c.loop-id.id-index c.id-item.result c.loop-id-test.true c.id-item.is c.loop-id.invariant (c.is_heavy_name.ensures c.if-not-is_heavy_name.false)
+loop-id-preserved c = heavy_more c.args.table.now.entries c.args.low c.names_for-id-items.result.now c.loop-id.id-index c.id-item.result c.loop-id-test.true c.id-item.is c.loop-id.invariant (c.is_heavy_name.ensures c.if-not-is_heavy_name.false)
 
 pub returns : goal.returns
 returns c = λ there.
-    let all = subst (AreHeavy weight c.args.table.now.entries) (take_all c.loop-id.id-index c.names_for-id-items.result.now c.loop-id-test.false ∙ c.names_for-id-items.ensures) c.loop-id.invariant in
+    let all = subst (AreHeavy (weight c.args.low) c.args.table.now.entries) (take_all c.loop-id.id-index c.names_for-id-items.result.now c.loop-id-test.false ∙ c.names_for-id-items.ensures) c.loop-id.invariant in
     record { few = omega (arith, length-encode c.args.c, c.len_utf8.ensures.value, c.if-len_utf8-gt3.false); names = all }

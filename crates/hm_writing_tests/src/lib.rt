@@ -12,6 +12,8 @@ mod layers;
 #[cfg(test)]
 mod made;
 #[cfg(test)]
+mod order;
+#[cfg(test)]
 mod pages;
 #[cfg(test)]
 mod parts;

@@ -1,0 +1,14 @@
+pub mod Prices
+pub mod Values
+pub mod Split
+pub mod Best
+pub mod Numbers
+pub mod Walks
+pub mod Likes
+pub mod Shortest
+pub mod Alone
+pub mod Places
+pub mod Copied
+pub mod Weighed
+pub mod Easy
+pub mod Scans

@@ -1,0 +1,27 @@
+//! Laws over the definitions. The functions do nothing.
+ghost use Rattle.hm_order.specs.Laws.{LikeIsSettled, OrderedIsAsLarge, OrderedIsLike, OrderedIsShortest, TagsSplit};
+
+/// What a tag costs is the sum of what its attributes cost, each by whether it is the last one.
+pub fn tags_split()
+    ensures { TagsSplit }
+{}
+
+/// The order of attributes changes no rule of settled trees.
+pub fn like_is_settled()
+    ensures { LikeIsSettled }
+{}
+
+/// The tree that is written has the same attributes.
+pub fn ordered_is_like()
+    ensures { OrderedIsLike }
+{}
+
+/// The tree that is written has as many events, and as many bytes of names, values, texts and comments.
+pub fn ordered_is_as_large()
+    ensures { OrderedIsAsLarge }
+{}
+
+/// No order of any tag's attributes makes a shorter text.
+pub fn ordered_is_shortest()
+    ensures { OrderedIsShortest }
+{}

@@ -1,0 +1,12 @@
+//! The order of a tag's attributes in which the tag is shortest: what an attribute costs by its place, which one goes last, and the
+//! tree with the attributes of each tag in that order.
+#![tactic(auto)]
+
+mod costs;
+pub mod laws;
+mod orders;
+mod scan;
+mod tags;
+
+pub use costs::{AttrCost, attr_cost, best_last};
+pub use orders::reorder;

@@ -1,0 +1,160 @@
+//! Values whose fewest bytes a scan of their characters tells.
+ghost use Rattle.std.specs.Prelude.{◌≡◌, ◌≤◌, ◌<◌, true, length, Some, IfSome};
+ghost use Rattle.std.specs.Option.{option_map};
+ghost use Rattle.std.specs.Str.{chars};
+ghost use Rattle.hm_edges.specs.States.{HasNodes, pending_of};
+ghost use Rattle.hm_graph_laws.specs.Steps as steps;
+ghost use Rattle.hm_refs.specs.Tables.{entry_at};
+ghost use Rattle.hm_spelling_spec.specs.Characters as characters;
+ghost use Rattle.hm_spelling_spec.specs.Characters.{double};
+ghost use Rattle.hm_order.specs.Weights as weights;
+ghost use Rattle.hm_order.specs.Weights.{are_literal, AreEasy, IsEasy, IsHeavy, some_barred, total};
+
+use hm_base::is_space;
+use hm_edges::{Pending, Spot, may_end, step};
+use hm_refs::{NameId, Node, Table};
+
+// Whether a value without quotes can't hold the character (#attributes-2).
+#[tactic(auto, unfolding(hm_spelling_spec::specs::Characters::is_barred))]
+fn is_barred(c: char) -> bool
+    ensures { result ≡ characters.is_barred c }
+{
+    is_space(c) || c == '"' || c == '\'' || c == '=' || c == '<' || c == '>' || c == '`'
+}
+
+// The fewest bytes of a character in a value without quotes, where no reference to it is shorter. In a value of ASCII, as `low`
+// says, no other character counts.
+fn weight(low: bool, c: char) -> usize
+    ensures weight { result ≡ weights.weight low c }
+    ensures few { result ≤ 4 }
+{
+    if low && c >= '\u{80}' {
+        return 0;
+    }
+    if is_barred(c) { 3 } else { c.len_utf8() }
+}
+
+// Whether a name has as many bytes as what it stands for weighs.
+fn is_heavy_name(table: &Table, low: bool, id: NameId) -> bool
+    requires { id < length table.now.entries }
+    ensures { result ≡ true → total (weights.weight low) (entry_at table.now.entries id).points ≤ length (entry_at table.now.entries id).name }
+{
+    let points = table.points(id);
+    let second = match points.second {
+        Some(c) => weight(low, c),
+        None => 0,
+    };
+    weight(low, points.first) + second <= table.name(id).len()
+}
+
+// Whether no reference to the character is shorter than it weighs.
+fn is_heavy(table: &Table, low: bool, c: char) -> bool
+    ensures { result ≡ true → IsHeavy table.now.entries low c }
+{
+    if c.len_utf8() > 3 {
+        return false;
+    }
+    for id in table.names_for(c) {
+        if !is_heavy_name(table, low, *id) {
+            return false;
+        }
+    }
+    true
+}
+
+// Whether the character may stand as itself in double quotes, and no reference to it is shorter.
+fn is_easy(table: &Table, ascii: bool, low: bool, c: char) -> bool
+    ensures { result ≡ true → IsEasy table.now.entries ascii low c }
+{
+    if c == '"' || c == '\r' || (ascii && c >= '\u{80}') {
+        return false;
+    }
+    if low && c >= '\u{80}' {
+        return false;
+    }
+    table.is_plain(c) || is_heavy(table, low, c)
+}
+
+// What is pending after these bytes in a value, where they break nothing.
+fn run(table: &Table, pending: Pending, bytes: &[u8]) -> Option<Pending>
+    requires { HasNodes table.now pending }
+    ensures run { option_map (pending_of table.now) result ≡ steps.run table.now.entries double (Some (pending_of table.now pending)) bytes.now }
+    ensures nodes { IfSome result (HasNodes table.now) }
+{
+    let mut behind = pending;
+    for byte in bytes {
+        behind = step(behind, table, Spot::Double, *byte)?;
+    }
+    Some(behind)
+}
+
+// What is pending after a character as itself in a value. None where it makes something else of what is pending.
+fn literal(table: &Table, pending: Pending, c: char) -> Option<Pending>
+    requires { HasNodes table.now pending }
+    ensures literal { option_map (pending_of table.now) result ≡ weights.literal table.now.entries double (Some (pending_of table.now pending)) c }
+    ensures nodes { IfSome result (HasNodes table.now) }
+{
+    let mut buffer = [0; 4];
+    let behind = run(table, pending, c.encode_utf8(&mut buffer).as_bytes())?;
+    if c == '&' {
+        let node: Node = table.root();
+        return Some(Pending::Ampersand { node });
+    }
+    Some(behind)
+}
+
+// The same, at once where nothing is pending.
+fn literal_behind(table: &Table, pending: Pending, c: char) -> Option<Pending>
+    requires { HasNodes table.now pending }
+    ensures literal { option_map (pending_of table.now) result ≡ weights.literal table.now.entries double (Some (pending_of table.now pending)) c }
+    ensures nodes { IfSome result (HasNodes table.now) }
+{
+    match pending {
+        Pending::Nothing if c != '&' => Some(Pending::Nothing),
+        _ => literal(table, pending, c),
+    }
+}
+
+// What is pending after the characters of a text as themselves in a value.
+fn literals(table: &Table, pending: Pending, text: &str) -> Option<Pending>
+    requires { HasNodes table.now pending }
+    ensures literals { IfSome result (λ behind. weights.literals table.now.entries double (Some (pending_of table.now pending)) (chars text.now) ≡ Some (pending_of table.now behind)) }
+    ensures nodes { IfSome result (HasNodes table.now) }
+{
+    let mut behind = pending;
+    for c in text.chars() {
+        behind = literal_behind(table, behind, c)?;
+    }
+    Some(behind)
+}
+
+// Whether a value is read as its characters where each stands as itself. Where the answer is no, it may be too.
+fn is_literal(table: &Table, value: &str) -> bool
+    ensures { result ≡ true → are_literal table.now.entries (chars value.now) ≡ true }
+{
+    match literals(table, Pending::Nothing, value) {
+        Some(pending) => may_end(pending, table, Spot::Double),
+        None => false,
+    }
+}
+
+/// Whether a value has a character that can't stand without quotes, where all its characters are easy and stand as themselves. None
+/// where one isn't or doesn't. `low` says that they are to be of ASCII, which makes more of them easy.
+pub(crate) fn scan(table: &Table, ascii: bool, low: bool, value: &str) -> Option<bool>
+    ensures easy { IfSome result (λ barred. AreEasy table.now.entries ascii low (chars value.now)) }
+    ensures literal { IfSome result (λ barred. are_literal table.now.entries (chars value.now) ≡ true) }
+    ensures barred { IfSome result (λ barred. barred ≡ some_barred (chars value.now)) }
+{
+    let mut barred = false;
+    for c in value.chars() {
+        if !is_easy(table, ascii, low, c) {
+            return None;
+        }
+        barred = barred || is_barred(c);
+    }
+    if is_literal(table, value) {
+        Some(barred)
+    } else {
+        None
+    }
+}

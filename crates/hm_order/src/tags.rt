@@ -1,0 +1,80 @@
+//! The price of a tag with one attribute that stands alone.
+ghost use Rattle.std.specs.Prelude.{◌≡◌, ◌+◌, ◌<◌, ◌^◌, length, Some, IfOk};
+ghost use Rattle.hm_cert.specs.Layout.{told};
+ghost use Rattle.hm_graph_laws.specs.ExchangeLaws.{sparing_plain};
+ghost use Rattle.hm_graph_laws.specs.States.{first_state};
+ghost use Rattle.hm_graph_laws.specs.UnitEdges.{edges_of};
+ghost use Rattle.hm_graph_laws.specs.Units.{units_of};
+ghost use Rattle.hm_graph_laws.specs.Ways.{least};
+ghost use Rattle.hm_order.specs.Alone as alone;
+ghost use Rattle.hm_order.specs.Alone.{walk_alone};
+ghost use Rattle.hm_order.specs.Costs as costs;
+
+use hm_base::{Format, Memory, SpellRules};
+use hm_graph::Graph;
+use hm_graph::laws::every_graph;
+use hm_plan::backward;
+use hm_refs::Table;
+use hm_refs::laws::every_table;
+use hm_tree::{Attrs, Tree};
+use std::alloc::Global;
+
+// Prices from here on count as memory that is refused.
+const HIGH: u64 = 1 << 62;
+
+// What the shortest text of a tag that stands alone takes but for the attribute: `<br >`, or `<g />`.
+const AROUND: u64 = 5;
+
+// The element of a tag that stands alone.
+fn element_alone(closes: bool) -> &'static str
+    ensures { result.now ≡ alone.element_alone closes }
+{
+    if closes { "g" } else { "br" }
+}
+
+// The tree of an element with this attribute alone.
+fn tree_alone(alloc: Global, name: &str, value: &str, closes: bool) -> Result<Tree, Memory>
+    requires name { length name.now < 2 ^ 27 }
+    requires value { length value.now < 2 ^ 27 }
+    ensures { IfOk result (λ tree. tree ≡ walk_alone closes (record { name = name.now; value = value.now })) }
+{
+    let mut attrs = Attrs::new(alloc);
+    attrs.put(name, value)?;
+    let mut maker = Tree::maker(alloc);
+    maker.start_from(element_alone(closes), closes, &attrs)?;
+    maker.end()?;
+    Ok(maker.finish())
+}
+
+// The number of bytes of the shortest text of a tree.
+fn least_price(alloc: Global, tree: &Tree, table: &Table, rules: SpellRules) -> Result<u64, Memory>
+    ensures { IfOk result (λ price. told price ≡ least (edges_of (sparing_plain table.now.entries rules)) (units_of rules tree.now) first_state) }
+{
+    let graph = Graph::of(alloc, tree, table, rules, Format::Two)?;
+    every_graph(&graph);
+    let plan = backward(alloc, &graph)?;
+    Ok(plan.first)
+}
+
+/// What an attribute costs as the last one of its tag, in bytes. Its value isn't empty.
+pub(crate) fn last_alone(
+    alloc: Global,
+    table: &Table,
+    rules: SpellRules,
+    name: &str,
+    value: &str,
+    closes: bool,
+) -> Result<u64, Memory>
+    requires name { length name.now < 2 ^ 27 }
+    requires value { length value.now < 2 ^ 27 }
+    ensures cost { IfOk result (λ cost. costs.last_cost (sparing_plain table.now.entries rules) closes (record { name = name.now; value = value.now }) ≡ Some cost) }
+    ensures low { IfOk result (λ cost. cost + 1 < 2 ^ 62) }
+{
+    every_table(table);
+    let tree = tree_alone(alloc, name, value, closes)?;
+    let price = least_price(alloc, &tree, table, rules)?;
+    if price >= HIGH {
+        return Err(Memory);
+    }
+    Ok(price - AROUND)
+}

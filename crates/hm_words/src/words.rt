@@ -202,10 +202,7 @@ fn number_in_front<'m, 'w>(names: &'m [&'w str]) -> Option<(Origin<'w>, &'m [&'w
 }
 
 /// The origin with which these words begin, and the words after it.
-fn origin_in<'m, 'w>(
-    source: Source,
-    names: &'m [&'w str],
-) -> Option<(Origin<'w>, &'m [&'w str])>
+fn origin_in<'m, 'w>(source: Source, names: &'m [&'w str]) -> Option<(Origin<'w>, &'m [&'w str])>
     ensures { option_map (λ o. (origin_of o.0, texts o.1.now)) result ≡ spec.origin_in source (texts names.now) }
 {
     match source {

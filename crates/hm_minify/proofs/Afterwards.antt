@@ -18,9 +18,9 @@ use Rattle.hm_refs.proofs.Places.{same_bytes}
 use Rattle.hm_refs.specs.Names.{Entry}
 use Rattle.hm_refs.specs.Tables.{IsTable}
 use Rattle.hm_store.specs.Contents.{Contents}
-use Rattle.hm_words.specs.Words.{Asked, Command, Origin, Work, are_filled, are_files_apart, are_flags, asked, asks, checks, choices_of, command_in, fits, is_apart, minifies, names_in, with_flags}
+use Rattle.hm_words.specs.Words.{Asked, Command, Origin, Work, are_filled, are_files_apart, are_flags, asked, asks, checks, choices_of, command_in, fits, is_apart, minifies, names_in, with_flags, written_of}
 use Rattle.hm_words.specs.declared.writing.Writing.{Writing}
-use Rattle.hm_minify.specs.Endings.{certificate_ending, check_ending, checked_ending, format_of, says, tree_ending, verdict_ending, with_tree}
+use Rattle.hm_minify.specs.Endings.{asked_ending, certificate_ending, found_ending, check_ending, written_part, checked_ending, format_of, says, tree_ending, verdict_ending, with_tree}
 use Rattle.hm_minify.specs.Inputs.{Input, missing, bad_table, bad_page, bad_json, tree as tree_input, input_of, origin_input, wanted}
 use Rattle.hm_minify.specs.Laws.{MinifiedIsChecked, TreeIsChecked, judged, own_verdict, with_writes}
 use Rattle.hm_minify.specs.Lines.{yes_line}
@@ -28,6 +28,7 @@ use Rattle.hm_minify.specs.Writes.{write}
 use Rattle.hm_minify.specs.declared.status.Status.TheVariants as status
 use Rattle.hm_minify.proofs.Accepted.{own_is_accepted}
 use Rattle.hm_minify.proofs.Answered.{away, files_apart, is_either, work_apart}
+use Rattle.hm_minify.proofs.Framing.{ruled}
 use Rattle.hm_minify.proofs.Headline.{request_table}
 use Rattle.hm_minify.proofs.Seen.{mixed, origin_stays}
 
@@ -44,7 +45,7 @@ flagged_apart : (ws : List (List ℕ)) (x : Option Command) (q : Asked) → with
 flagged_apart ws None q e = cc
 flagged_apart ws (Some command) q e = by_test (is_apart command.0 command.1 && fits command ws) refl e
   where
-    by_test : (b : Bool) → (is_apart command.0 command.1 && fits command ws) ≡ b → cond b (Some (asks command.0 command.1 (choices_of ws).options (choices_of ws).writing)) None ≡ Some q → is_apart q.origin q.work ≡ true
+    by_test : (b : Bool) → (is_apart command.0 command.1 && fits command ws) ≡ b → cond b (Some (asks command.0 command.1 (choices_of ws).options (written_of command.0 (choices_of ws).writing))) None ≡ Some q → is_apart q.origin q.work ≡ true
     by_test true t h = ap (λ (z : Asked). is_apart z.origin z.work) (sym (some_is _ q h)) ∙ first (is_apart command.0 command.1) (fits command ws) t
     by_test false t h = cc
 
@@ -83,23 +84,24 @@ cert_there seen out cert o c = rw (same_bytes cert) refl
 within : (n m : ℕ) → m ≤ n → nat_lt n m ≡ false
 within n m h = grind (arith, nat_tests)
 
-judged_ending : (find : Certificate → Verdict) (g : Result Certificate ℕ) (n : ℕ) → judged find g ≡ Ok (Yes n) → certificate_ending find g ≡ says status.Done (yes_line n)
+judged_ending : (find : Certificate → Verdict) (g : Result Certificate ℕ) (n : ℕ) → judged find g ≡ Ok (Yes n) → certificate_ending (λ c. verdict_ending (find c)) g ≡ says status.Done (yes_line n)
 judged_ending find (Err line) n e = cc
 judged_ending find (Ok c) n e = let is : find c ≡ Yes n = cc in ap verdict_ending is
 
-own_ending : (t : List Entry) → IsTable t → (x : Writing) (w : List Event) → Settled w → AreRows (certified_rows t x.rules (format_of x.sparse) w) → length (shortest_text t x.rules w) ≤ OUTPUT_LIMIT → length (certificate_of t x.rules (format_of x.sparse) w) ≤ CERTIFICATE_LIMIT
+own_ending : (t : List Entry) → IsTable t → (x : Writing) (w : List Event) → x.rules.frame ≡ false → Settled w → AreRows (certified_rows t x.rules (format_of x.sparse) w) → length (shortest_text t x.rules w) ≤ OUTPUT_LIMIT → length (certificate_of t x.rules (format_of x.sparse) w) ≤ CERTIFICATE_LIMIT
     → checked_ending x.rules t w (shortest_text t x.rules w) (certificate_of t x.rules (format_of x.sparse) w) ≡ says status.Done (yes_line (length (shortest_text t x.rules w)))
-own_ending t k x w s rows short few =
+own_ending t k x w page s rows short few =
     let yes : own_verdict x t w ≡ Ok (Yes (length (shortest_text t x.rules w))) = own_is_accepted t k x w s short rows in
     rw (within CERTIFICATE_LIMIT (length (certificate_of t x.rules (format_of x.sparse) w)) few)
-    (judged_ending (verdict t x.rules w (shortest_text t x.rules w)) (given (certificate_of t x.rules (format_of x.sparse) w)) (length (shortest_text t x.rules w)) yes)
+    (ap (λ f. certificate_ending (found_ending f x.rules t w (shortest_text t x.rules w)) (given (certificate_of t x.rules (format_of x.sparse) w))) page
+    ∙ judged_ending (verdict t x.rules w (shortest_text t x.rules w)) (given (certificate_of t x.rules (format_of x.sparse) w)) (length (shortest_text t x.rules w)) yes)
 
 pub tree_is_checked : TreeIsChecked
-tree_is_checked q out cert work seen bytes t w reads settled sparse text lines rows short few =
+tree_is_checked q out cert work page seen bytes t w reads settled sparse text lines rows short few =
     let x : Writing = record q.writing { sparse = sparse } in
     ap (λ y. with_tree y (tree_ending q.work q.writing seen)) reads ∙ ap (λ k. tree_ending k q.writing seen bytes t w) work
     ∙ ap (λ o. check_ending q.writing.rules t w o (seen cert)) text ∙ ap (check_ending q.writing.rules t w (Some (shortest_text t q.writing.rules w))) lines
-    ∙ own_ending t (request_table q seen bytes t w reads) x w settled rows short few
+    ∙ own_ending t (request_table q seen bytes t w reads) x w page settled rows short few
 
 -- what is wanted doesn't depend on what is done with it
 same_wanted : (origin : Origin) (a b : Work) (options : TreeOptions) (x : Writing) (i : Input) → wanted (asks origin b options x) i ≡ wanted (asks origin a options x) i
@@ -110,7 +112,7 @@ same_wanted origin a b options x (bad_json fault) = refl
 same_wanted origin a b options x (tree_input n t w) = refl
 
 pub minified_is_checked : MinifiedIsChecked
-minified_is_checked words origin out cert options x e seen bytes t w reads settled rows short few =
+minified_is_checked words origin out cert options x page e seen bytes t w reads settled rows short few =
     let q : Asked = asks origin (minifies out cert) options x in
     let o : List ℕ = shortest_text t x.rules w in
     let c : List ℕ = certificate_of t x.rules (format_of x.sparse) w in
@@ -120,4 +122,6 @@ minified_is_checked words origin out cert options x e seen bytes t w reads settl
     ap (origin_input origin options) (writes_mix seen out cert o c) ∙ origin_stays (is_either out cert) origin options seen (written_to cert o c) (away origin out cert apart) in
     let input : input_of (asks origin (checks out cert) options x) now ≡ tree_input bytes t w =
     ap (wanted (asks origin (checks out cert) options x)) same ∙ same_wanted origin (minifies out cert) (checks out cert) options x (origin_input origin options seen) ∙ reads in
-    tree_is_checked (asks origin (checks out cert) options x) out cert refl now bytes t w input settled x.sparse (out_there seen out cert o c (files_apart origin out cert apart)) (cert_there seen out cert o c) rows short few
+    let frame : x.rules.frame ≡ false = (ruled words q e).frame ∙ page in
+    ap (λ f. asked_ending (asks origin (checks out cert) options x) (with_writes seen (write out (written_part f o) ∷ write cert c ∷ []))) frame
+    ∙ tree_is_checked (asks origin (checks out cert) options x) out cert refl frame now bytes t w input settled x.sparse (out_there seen out cert o c (files_apart origin out cert apart)) (cert_there seen out cert o c) rows short few

@@ -10,7 +10,7 @@ use Rattle.hm_refs.proofs.Places.{same_bytes}
 use Rattle.hm_refs.specs.Names.{Entry}
 use Rattle.hm_store.specs.Contents.{Contents, Sees}
 use Rattle.hm_store.specs.Files.{FileMap, file_of}
-use Rattle.hm_words.specs.Words.{Asked, Origin, Work, page_at, json_at, made, minifies, checks, shows, tells_json, measures, is_apart, is_away, is_origin_apart, is_work_apart, are_apart, are_files_apart}
+use Rattle.hm_words.specs.Words.{Asked, Origin, Work, page_at, fragment_at, json_at, made, minifies, checks, shows, tells_json, measures, is_apart, is_away, is_origin_apart, is_work_apart, are_apart, are_files_apart}
 use Rattle.hm_words.specs.declared.writing.Writing.{Writing}
 use Rattle.hm_minify.specs.Endings.{Ending, IsReadable, IsReadableTree, with_tree, tree_ending, asked_ending, check_ending}
 use Rattle.hm_minify.proofs.Seen.{IsApartFrom, mixed, sees_both, origin_stays}
@@ -60,6 +60,7 @@ both_apart table page out cert h k = (
 
 both_away : (origin : Origin) (out cert : List ℕ) → is_away origin out ≡ true → is_away origin cert ≡ true → IsApartFrom (is_either out cert) origin
 both_away (page_at table page) out cert h k = both_apart table page out cert h k
+both_away (fragment_at table page) out cert h k = both_apart table page out cert h k
 both_away (json_at table page) out cert h k = both_apart table page out cert h k
 both_away (made table number size) out cert h k = apart_of_both (is_none table) (bytes_eq table out) (bytes_eq table cert) h k
 

@@ -19,7 +19,7 @@ use Rattle.hm_refs.specs.Names.{Entry}
 use Rattle.hm_refs.specs.Tables.{IsTable}
 use Rattle.hm_refs.specs.declared.fault.TableFault.{TableFault}
 use Rattle.hm_store.specs.Contents.{Contents}
-use Rattle.hm_words.specs.Words.{Command, CommandRow, Origin, Work, page_at, json_at, made, minifies, checks, shows, tells_json, measures, Asked, asked, asks, are_filled, are_flags, choices_of, command_by, command_in, commands, fits, is_apart, is_number, made_of, names_in, number_in, origin_in, row_among, with_flags, with_origin, with_rest, with_work, work_in}
+use Rattle.hm_words.specs.Words.{Command, CommandRow, Origin, Work, page_at, fragment_at, json_at, made, minifies, checks, shows, tells_json, measures, Asked, asked, asks, are_filled, are_flags, choices_of, command_by, command_in, commands, fits, is_apart, is_number, made_of, names_in, number_in, origin_in, row_among, with_flags, with_origin, with_rest, with_work, work_in, written_of}
 use Rattle.hm_words.specs.declared.commands.Deed.{Deed}
 use Rattle.hm_words.specs.declared.commands.Deed.TheVariants as deeds
 use Rattle.hm_words.specs.declared.commands.Source.{Source}
@@ -51,6 +51,7 @@ pub record IsMeasured (number size : ℕ) : Type 0 where
 -- such a page can be asked for
 abbrev pub IsGenerated : Origin → Type 0
 IsGenerated (page_at table page) = ⊥
+IsGenerated (fragment_at table page) = ⊥
 IsGenerated (json_at table page) = ⊥
 IsGenerated (made table number size) = IsMeasured number size
 
@@ -128,6 +129,7 @@ IsLimited command = command.1 ≡ measures → IsGenerated command.0
 
 number_source : (source : Source) → is_number_source source ≡ true → source ≡ sources.Number
 number_source sources.Page e = cc
+number_source sources.Fragment e = cc
 number_source sources.Json e = cc
 number_source sources.Number e = refl
 
@@ -158,9 +160,9 @@ asked_limited : (ws : List (List ℕ)) (x : Option Command) (q : Asked) → ((co
 asked_limited ws None q limited e work = cc
 asked_limited ws (Some command) q limited e work = by_test (is_apart command.0 command.1 && fits command ws) e
   where
-    by_test : (b : Bool) → cond b (Some (asks command.0 command.1 (choices_of ws).options (choices_of ws).writing)) None ≡ Some q → IsGenerated q.origin
+    by_test : (b : Bool) → cond b (Some (asks command.0 command.1 (choices_of ws).options (written_of command.0 (choices_of ws).writing))) None ≡ Some q → IsGenerated q.origin
     by_test true h =
-        let is : asks command.0 command.1 (choices_of ws).options (choices_of ws).writing ≡ q = some_is _ q h in
+        let is : asks command.0 command.1 (choices_of ws).options (written_of command.0 (choices_of ws).writing) ≡ q = some_is _ q h in
         subst IsGenerated (ap (λ (z : Asked). z.origin) is) (limited command refl (ap (λ (z : Asked). z.work) is ∙ work))
     by_test false h = cc
 
@@ -200,6 +202,7 @@ made_never_refused o seen table number size m rule at e = by_names (table_names 
 
 origin_never_refused : (origin : Origin) (o : TreeOptions) (seen : Contents) → IsGenerated origin → (rule : Rule) (at : ℕ) → origin_input origin o seen ≡ bad_page rule at → ⊥
 origin_never_refused (page_at table page) o seen m rule at e = m
+origin_never_refused (fragment_at table page) o seen m rule at e = m
 origin_never_refused (json_at table page) o seen m rule at e = m
 origin_never_refused (made table number size) o seen m rule at e = made_never_refused o seen table number size m rule at e
 
@@ -225,6 +228,7 @@ names_never_json o page (Some (Ok t)) fault e = rewritten_never_json o t (length
 
 origin_never_json : (origin : Origin) (o : TreeOptions) (seen : Contents) → IsGenerated origin → (fault : JsonFault) → origin_input origin o seen ≡ bad_json fault → ⊥
 origin_never_json (page_at table page) o seen m fault e = m
+origin_never_json (fragment_at table page) o seen m fault e = m
 origin_never_json (json_at table page) o seen m fault e = m
 origin_never_json (made table number size) o seen m fault e = names_never_json o (made_page number size) (table_names (is_none table) (seen table)) fault e
 

@@ -7,7 +7,7 @@ use Rattle.hm_cert.specs.Certificate.{AreRows}
 use Rattle.hm_construction_laws.specs.Trees.{Outcome, built, refused_by}
 use Rattle.hm_elements.specs.Settled.{Settled}
 use Rattle.hm_gen.specs.Pages.{page as made_page}
-use Rattle.hm_minify.specs.Inputs.{Input, missing, bad_table, bad_page, bad_json, tree as tree_input, input_of, input_from, json_input, origin_input, wanted, is_none, page_input, page_outcome, rewritten_input, table_names, walk_input}
+use Rattle.hm_minify.specs.Inputs.{Input, missing, bad_table, bad_page, bad_json, tree as tree_input, input_of, input_from, fragment_input, fragment_outcome, json_input, origin_input, wanted, is_none, page_input, page_outcome, rewritten_input, table_names, walk_input}
 use Rattle.hm_json_tree.specs.Reading.{JsonWalk, walk, too_long, not_json, not_array, no_event, some_open, not_settled, json_walk}
 use Rattle.hm_refs.proofs.Gathered.{no_table}
 use Rattle.hm_refs.proofs.Members.{names_table}
@@ -19,7 +19,7 @@ use Rattle.hm_plan.proofs.Headline.{shortest_is_certified}
 use Rattle.hm_plan.specs.Shortest.{IsShortest, certificate_of, certified_rows, shortest_text}
 use Rattle.hm_store.specs.Contents.{Contents}
 use Rattle.hm_minify.specs.Endings.{format_of}
-use Rattle.hm_words.specs.Words.{Asked, Origin, page_at, json_at, made}
+use Rattle.hm_words.specs.Words.{Asked, Origin, page_at, fragment_at, json_at, made}
 
 -- ---- The table
 
@@ -53,6 +53,9 @@ KeepsNames reads = (t u : List Entry) (content : List ℕ) (m : ℕ) (w : List E
 pages_keep : (o : TreeOptions) → KeepsNames (page_input o)
 pages_keep o t u page m w e = rewritten_names t u o (length page) m w (page_outcome t page) e
 
+fragments_keep : (o : TreeOptions) → KeepsNames (fragment_input o)
+fragments_keep o t u fragment m w e = rewritten_names t u o (length fragment) m w (fragment_outcome t fragment) e
+
 json_keeps : (o : TreeOptions) → KeepsNames (json_input o)
 json_keeps o t u json m w e = walk_names t u o (length json) m w (json_walk json) e
 
@@ -67,6 +70,7 @@ input_table reads keeps m u w none content page (Some (Ok t)) is e = file_table 
 
 origin_table : (origin : Origin) (o : TreeOptions) (seen : Contents) (m : ℕ) (t : List Entry) (w : List Event) → origin_input origin o seen ≡ tree_input m t w → IsTable t
 origin_table (page_at table page) o seen m t w e = input_table (page_input o) (pages_keep o) m t w (is_none table) (seen table) (seen page) (table_names (is_none table) (seen table)) refl e
+origin_table (fragment_at table page) o seen m t w e = input_table (fragment_input o) (fragments_keep o) m t w (is_none table) (seen table) (seen page) (table_names (is_none table) (seen table)) refl e
 origin_table (json_at table page) o seen m t w e = input_table (json_input o) (json_keeps o) m t w (is_none table) (seen table) (seen page) (table_names (is_none table) (seen table)) refl e
 origin_table (made table number size) o seen m t w e = input_table (page_input o) (pages_keep o) m t w (is_none table) (seen table) (Some (made_page number size)) (table_names (is_none table) (seen table)) refl e
 

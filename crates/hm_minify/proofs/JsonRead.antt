@@ -3,7 +3,8 @@ use Rattle.std.proofs.Common.{◌≡◌, ◌∙◌, ℕ, List, Option, Some, Non
 use Rattle.hm_base.specs.Walks.{Event}
 use Rattle.hm_base.specs.declared.plain.TreeOptions.{TreeOptions}
 use Rattle.hm_json_tree.specs.Reading.{JsonWalk, walk, too_long, not_json, not_array, no_event, some_open, not_settled, json_walk}
-use Rattle.hm_minify.specs.Inputs.{Input, missing, bad_table, bad_page, bad_json, tree as tree_input, input_from, is_none, json_input, origin_input, table_names, walk_input, wanted, wanted_tree}
+use Rattle.hm_minify.specs.Inputs.{tree as tree_input, input_from, is_none, json_input, origin_input, table_names, walk_input, wanted_tree}
+use Rattle.hm_minify.proofs.Wanted.{of_wanted}
 use Rattle.hm_minify.specs.Outside.{Outside}
 use Rattle.hm_minify.specs.Runs.{HasMinified, HasMinifiedJson}
 use Rattle.hm_minify.specs.Endings.{format_of}
@@ -35,23 +36,6 @@ content_read o None content m t v e = cc
 content_read o (Some (Err fault)) content m t v e = cc
 content_read o (Some (Ok u)) None m t v e = cc
 content_read o (Some (Ok u)) (Some json) m t v e = walk_read o u t json _ m v (json_walk json) refl e
-
--- what is wanted of a tree
-record IsWanted (a : Asked) (x : Input) (t : List Entry) (v : List Event) : Type 0 where
-  bytes : ℕ
-  tree : List Event
-  input : x ≡ tree_input bytes t tree
-  is : v ≡ wanted_tree a t tree
-
-of_wanted : (a : Asked) (x : Input) (m : ℕ) (t : List Entry) (v : List Event) → wanted a x ≡ tree_input m t v → IsWanted a x t v
-of_wanted a missing m t v e = cc
-of_wanted a (bad_table fault) m t v e = cc
-of_wanted a (bad_page rule at) m t v e = cc
-of_wanted a (bad_json fault) m t v e = cc
-of_wanted a (tree_input n u w) m t v e =
-    let names : u ≡ t = cc in
-    let same : v ≡ wanted_tree a u w = cc in
-    record { bytes = n; tree = w; input = ap (λ y. tree_input n y w) names; is = same ∙ ap (λ y. wanted_tree a y w) names }
 
 pub json_minified : (q : Asked) (table json_name out cert : List ℕ) (b a : Outside) → q.origin ≡ json_at table json_name → HasMinified q out cert b a → HasMinifiedJson q json_name out cert b a
 json_minified q table json_name out cert b a origin h =

@@ -12,4 +12,6 @@ pub mod Steps
 pub mod Others
 pub mod Meanings
 pub mod Afterwards
+pub mod Wanted
 pub mod JsonRead
+pub mod Framing

@@ -1,9 +1,10 @@
 -- What the loaded prefix of a file says about the file.
-use Rattle.std.proofs.Common.{true≢false, ◌≡◌, ◌≢◌, ℕ, ◌+◌, ◌≤◌, ◌<◌, Bool, true, false, not, ◌||◌, cond, List, [], length, take, Some, None, IsSome, refl, sym, ap, ap₂, ◌∙◌, subst, arith}
+use Rattle.std.proofs.Common.{true≢false, ◌≡◌, ◌≢◌, ℕ, ◌+◌, ◌≤◌, ◌<◌, Bool, true, false, not, ◌||◌, cond, List, [], length, drop, take, ◌∷◌, zero, suc, Some, None, IsSome, refl, sym, ap, ap₂, ◌∙◌, subst, arith, length-append}
 use Rattle.std.proofs.lemmas.Bool.Decides.{nat_tests}
 use Rattle.std.proofs.lemmas.Grind.{common_steps}
 use Rattle.std.proofs.lemmas.List.{take_all}
 use Rattle.std.specs.Bool.{nat_lt}
+use Rattle.std.specs.Io.{StartsWith}
 use Rattle.std.specs.Str.{bytes_eq}
 use Rattle.std.specs.Prelude.{Result, Ok, Err}
 use Rattle.std.specs.Result.{IsErrAnd, IfErr}
@@ -24,15 +25,19 @@ use Rattle.hm_refs.specs.Names.{Entry}
 use Rattle.hm_refs.specs.declared.fault.TableFault.{TableFault}
 use Rattle.hm_refs.specs.declared.fault.TableFault.TheVariants.{TooLong}
 use Rattle.hm_construction_laws.specs.Trees.{Outcome, built, refused_by, page_tree, tree_of_source}
+use Rattle.hm_build.specs.Parsing.{IsRefusedAs}
+use Rattle.hm_fragment.proofs.Fragments.{with_front}
+use Rattle.hm_fragment.specs.Fragments.{fragment_tree}
+use Rattle.hm_fragment.specs.Frames.{front, unframed}
 use Rattle.hm_json_tree.specs.Progress.{fault_walk}
 use Rattle.hm_json_tree.specs.Reading.{json_walk, too_long, walk}
 use Rattle.hm_json_tree.specs.declared.fault.JsonFault.{JsonFault}
 use Rattle.hm_json_tree.specs.declared.fault.JsonFault.TheVariants as json_faults
 use Rattle.hm_json_tree.specs.declared.limits.TheConstants.{JSON_LIMIT}
 use Rattle.hm_options.specs.Rewrites.{rewrite}
-use Rattle.hm_words.specs.Words.{are_apart, json_at, page_at}
-use Rattle.hm_minify.specs.Inputs.{Input, IsInput, tree, bad_table, bad_page, bad_json, file_with_table, is_none, json_input, page_input, table_names, page_outcome, rewritten_input, input_from, walk_input}
-use Rattle.hm_minify.specs.Loads.{IsLoaded, IsPageText, IsTableOf, IsTextIn, IsTextOf, IsRefusedJson, IsTreeRead, IsWalkOf, NoTable, NoText, NoTextIn, NoTreeRead, NoInput, NoInputWhere, NoWalk}
+use Rattle.hm_words.specs.Words.{are_apart, fragment_at, json_at, page_at}
+use Rattle.hm_minify.specs.Inputs.{Input, IsInput, tree, bad_table, bad_page, bad_json, file_with_table, fragment_input, fragment_outcome, is_none, json_input, page_input, table_names, page_outcome, rewritten_input, input_from, walk_input}
+use Rattle.hm_minify.specs.Loads.{IsFragmentOf, IsLoaded, IsPageText, IsRefusedFragment, IsRefusedJson, IsTableOf, IsTextIn, IsTextOf, IsTreeRead, IsWalkOf, NoFragment, NoFragmentIn, NoInput, NoInputWhere, NoTable, NoText, NoTextIn, NoTreeRead, NoWalk}
 use Rattle.hm_minify.specs.Stops.{refused_as}
 use Rattle.hm_minify.specs.declared.unread.Unread.{Unread}
 use Rattle.hm_minify.specs.declared.unread.Unread.TheVariants as reasons
@@ -226,6 +231,96 @@ no_tree told table page o t text n (reasons.Json fault) apart a b h = absurd h
 no_tree told table page o t text n reasons.Store apart a b h = tt
 no_tree told table page o t text n reasons.Memory apart a b h = tt
 
+-- what is loaded of a file
+none_found : (told : Option (List ℕ)) (bytes : List ℕ) → IsSome {T = List ℕ} None → told ≡ Some bytes
+none_found told bytes e = absurd (true≢false (sym e))
+
+pub is_loaded : (told : Option FileMap) (name : List ℕ) (limit : ℕ) (bytes : List ℕ) → Takes (file_of told name) (limit + 1) bytes → length bytes ≤ limit + 1 → (IsSome told → IsSome (file_of told name)) → IsLoaded told name limit bytes
+is_loaded told name limit bytes taken within there = by_content (file_of told name) refl taken
+  where
+    by_content : (content : Option (List ℕ)) → file_of told name ≡ content → Takes content (limit + 1) bytes → IsLoaded told name limit bytes
+    by_content None is h = record { content = bytes; there = λ some. none_found (file_of told name) bytes (subst IsSome is (there some)); front = sym (take_all (limit + 1) bytes within) }
+    by_content (Some content) is h = record { content = content; there = λ some. is; front = h }
+
+-- ---- a fragment behind its front
+
+dropped_length : (n m : ℕ) (s : List ℕ) → length s ≤ n + m → length (drop n s) ≤ m
+dropped_length zero m s h = omega (arith, h)
+dropped_length (suc n) m [] h = omega arith
+dropped_length (suc n) m (c ∷ s) h = dropped_length n m s (omega (arith, h))
+
+pub page_length : (page : List ℕ) → StartsWith page front → length page ≡ 21 + length (unframed page)
+page_length page h = ap length (sym (with_front page h)) ∙ length-append front (unframed page)
+
+-- what is loaded behind the front is that of the file
+pub framed_loaded : (told : Option FileMap) (name : List ℕ) (limit : ℕ) (page : List ℕ) → Takes (file_of told name) (limit + 1) (unframed page) → length page ≤ length front + (limit + 1) → (IsSome told → IsSome (file_of told name)) → IsLoaded told name limit (unframed page)
+framed_loaded told name limit page taken within there = is_loaded told name limit (unframed page) taken (dropped_length (length front) (limit + 1) page within) there
+
+-- ---- a fragment with a table
+
+pub input_of_fragment : (told : Option FileMap) (table page : List ℕ) (o : TreeOptions) (t : List Entry) (w : List Event) (n : ℕ) (v : List Event) → are_apart table page ≡ true → IsTableOf told table (Ok t) → IsFragmentOf told page t w n → v ≡ rewrite o w → IsInput told (fragment_at table page) o (tree n t v)
+input_of_fragment told table page o t w n v apart a b is = seen_content told (fragment_input o) table page t b.fragment (tree n t v) apart a b.there
+    (ap (rewritten_input o t (length b.fragment)) b.reads ∙ ap₂ (λ m x. tree m t x) (sym b.all) (sym is))
+
+pub no_fragment_table : (told : Option FileMap) (table page : List ℕ) (o : TreeOptions) (unread : Unread) → are_apart table page ≡ true → NoTable told table unread → NoInput told (fragment_at table page) o unread
+no_fragment_table told table page o unread apart n = seen_no_table told (fragment_input o) table page unread apart n
+
+pub no_fragment : (told : Option FileMap) (table page : List ℕ) (o : TreeOptions) (t : List Entry) (unread : Unread) → are_apart table page ≡ true → IsTableOf told table (Ok t) → NoFragment told page t unread → NoInput told (fragment_at table page) o unread
+no_fragment told table page o t (reasons.Table fault) apart a n = absurd n
+no_fragment told table page o t (reasons.Page rule at) apart a n = seen_content told (fragment_input o) table page t n.fragment (bad_page rule at) apart a n.there (ap (rewritten_input o t (length n.fragment)) n.refused)
+no_fragment told table page o t (reasons.Json fault) apart a n = absurd n
+no_fragment told table page o t reasons.Store apart a n = tt
+no_fragment told table page o t reasons.Memory apart a n = tt
+
+long_fragment : (t : List Entry) (content : List ℕ) → PAGE_LIMIT < length content → fragment_outcome t content ≡ refused_by rules.TooLong PAGE_LIMIT
+unfolding fragment_outcome
+long_fragment t content h =
+    let long : nat_lt PAGE_LIMIT (length content) ≡ true = grind (arith, nat_tests) in
+    rw long refl
+
+taken_length : (n : ℕ) (s : List ℕ) → length (take n s) ≤ length s
+taken_length zero s = omega arith
+taken_length (suc n) [] = omega arith
+taken_length (suc n) (c ∷ s) = let h = taken_length n s in omega (arith, h)
+
+front_is_less : (content fragment : List ℕ) → fragment ≡ take (PAGE_LIMIT + 1) content → PAGE_LIMIT < length fragment → PAGE_LIMIT < length content
+front_is_less content fragment e h =
+    let cut : PAGE_LIMIT < length (take (PAGE_LIMIT + 1) content) = subst (λ x. PAGE_LIMIT < length x) e h in
+    let k : length (take (PAGE_LIMIT + 1) content) ≤ length content = taken_length (PAGE_LIMIT + 1) content in
+    omega (arith, cut, k)
+
+pub long_fragment_of : (told : Option FileMap) (name : List ℕ) (t : List Entry) (fragment : List ℕ) → IsLoaded told name PAGE_LIMIT fragment → PAGE_LIMIT < length fragment → IsRefusedFragment told name t rules.TooLong PAGE_LIMIT
+long_fragment_of told name t fragment l h = record { fragment = l.content; there = l.there; refused = long_fragment t l.content (front_is_less l.content fragment l.front h) }
+
+short_fragment : (t : List Entry) (fragment : List ℕ) → nat_lt PAGE_LIMIT (length fragment) ≡ false → fragment_outcome t fragment ≡ fragment_tree t fragment
+unfolding fragment_outcome
+short_fragment t fragment short = rw short refl
+
+pub fragment_of_bytes : (told : Option FileMap) (name : List ℕ) (t : List Entry) (fragment : List ℕ) (w : List Event) (n : ℕ) → IsLoaded told name PAGE_LIMIT fragment → length fragment ≤ PAGE_LIMIT → n ≡ length fragment → fragment_tree t fragment ≡ built w → IsFragmentOf told name t w n
+fragment_of_bytes told name t fragment w n l short all reads =
+    let k = whole_content told name fragment l short in
+    record { fragment = l.content; there = l.there; reads = short_fragment t l.content k.1 ∙ ap (fragment_tree t) (sym k.0) ∙ reads; all = all ∙ ap length k.0 }
+
+pub no_fragment_of_bytes : (told : Option FileMap) (name : List ℕ) (t : List Entry) (fragment : List ℕ) (unread : Unread) → IsLoaded told name PAGE_LIMIT fragment → length fragment ≤ PAGE_LIMIT → NoFragmentIn t fragment unread → NoFragment told name t unread
+no_fragment_of_bytes told name t fragment (reasons.Table fault) l short n = absurd n
+no_fragment_of_bytes told name t fragment (reasons.Page rule at) l short n =
+    let k = whole_content told name fragment l short in
+    record { fragment = l.content; there = l.there; refused = short_fragment t l.content k.1 ∙ ap (fragment_tree t) (sym k.0) ∙ n }
+no_fragment_of_bytes told name t fragment (reasons.Json fault) l short n = absurd n
+no_fragment_of_bytes told name t fragment reasons.Store l short n = absurd n
+no_fragment_of_bytes told name t fragment reasons.Memory l short n = tt
+
+-- a refusal of a fragment is given on
+pub no_fragment_in : (t : List Entry) (fragment : List ℕ) (r : Refused) → IsRefusedAs (fragment_tree t fragment) r → NoFragmentIn t fragment (refused_as r)
+no_fragment_in t fragment (refused.Page rule at) h = h
+no_fragment_in t fragment refused.Memory h = tt
+
+pub told_fragment : (old new : Option FileMap) (name : List ℕ) (t : List Entry) (w : List Event) (n : ℕ) → new ≡ old → IsFragmentOf new name t w n → IsFragmentOf old name t w n
+told_fragment old new name t w n e h = subst (λ told. IsFragmentOf told name t w n) e h
+
+pub told_no_fragment : (old new : Option FileMap) (name : List ℕ) (t : List Entry) (unread : Unread) → new ≡ old → NoFragment new name t unread → NoFragment old name t unread
+told_no_fragment old new name t unread e n = subst (λ told. NoFragment told name t unread) e n
+
 -- ---- JSON with a table
 
 pub input_of_walk : (told : Option FileMap) (table page : List ℕ) (o : TreeOptions) (t : List Entry) (w : List Event) (n : ℕ) (v : List Event) → are_apart table page ≡ true → IsTableOf told table (Ok t) → IsWalkOf told page w n → v ≡ rewrite o w → IsInput told (json_at table page) o (tree n t v)
@@ -289,21 +384,10 @@ json_of_bytes told name json fault l other e = record {
   refused = λ o t. ap (walk_input o t (length l.content)) (sym (json_front l.content) ∙ ap json_walk (sym l.front) ∙ e other) ∙ fault_is_said fault other o t (length l.content);
 }
 
--- what is loaded of a file
-none_found : (told : Option (List ℕ)) (bytes : List ℕ) → IsSome {T = List ℕ} None → told ≡ Some bytes
-none_found told bytes e = absurd (true≢false (sym e))
-
 -- an error that is given on as it is
 pub given_on : {T E : Type 0} (r : Result T E) (P : E → Type 0) (e : E) → IsErrAnd r (λ y. y ≡ e) → P e → IfErr r P
 given_on (Ok x) P e h p = tt
 given_on (Err y) P e h p = subst P (sym h) p
-
-pub is_loaded : (told : Option FileMap) (name : List ℕ) (limit : ℕ) (bytes : List ℕ) → Takes (file_of told name) (limit + 1) bytes → length bytes ≤ limit + 1 → (IsSome told → IsSome (file_of told name)) → IsLoaded told name limit bytes
-is_loaded told name limit bytes taken within there = by_content (file_of told name) refl taken
-  where
-    by_content : (content : Option (List ℕ)) → file_of told name ≡ content → Takes content (limit + 1) bytes → IsLoaded told name limit bytes
-    by_content None is h = record { content = bytes; there = λ some. none_found (file_of told name) bytes (subst IsSome is (there some)); front = sym (take_all (limit + 1) bytes within) }
-    by_content (Some content) is h = record { content = content; there = λ some. is; front = h }
 
 -- the slice of a vector has its bytes
 pub of_slice : (told : Option FileMap) (name : List ℕ) (limit : ℕ) (items bytes : List ℕ) → bytes ≡ items → IsLoaded told name limit items → IsLoaded told name limit bytes

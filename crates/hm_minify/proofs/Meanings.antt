@@ -1,5 +1,5 @@
 -- What the ending of a run says of its request.
-use Rattle.std.proofs.Common.{◌≡◌, ℕ, ◌⊎◌, inl, inr, Bool, true, false, ◌||◌, List, Some, None, refl, sym, ap, ◌∙◌, subst}
+use Rattle.std.proofs.Common.{◌≡◌, ℕ, ◌⊎◌, inl, inr, Bool, true, false, ◌||◌, List, [], ◌∷◌, length, Some, None, refl, sym, ap, ◌∙◌, subst}
 use Rattle.std.specs.declared.option.Option.{Option}
 use Rattle.std.specs.Io.KnownBytes.{append_known}
 use Rattle.hm_base.specs.Walks.{Event}
@@ -8,17 +8,20 @@ use Rattle.hm_refs.specs.Names.{Entry}
 use Rattle.hm_store.specs.Contents.{AreTold, Contents, Sees}
 use Rattle.hm_elements.specs.Settled.{Settled}
 use Rattle.hm_minify.specs.Inputs.{Input, missing, bad_table, bad_page, bad_json, tree as tree_input, input_of}
-use Rattle.hm_plan.specs.Shortest.{certificate_of, shortest_text}
-use Rattle.hm_words.specs.Words.{Asked, Work, minifies, checks as checks_files, shows as shows_tree, tells_json, measures as measures_tree, asked}
-use Rattle.hm_minify.specs.Endings.{IsReadableAsked, IsReadableBy, format_of, is_fault, with_tree, tree_ending, check_ending, asked_ending, request_ending, ending}
-use Rattle.hm_minify.specs.Lines.{usage_line}
+use Rattle.hm_plan.specs.Shortest.{IsShortest, certificate_of, shortest_text}
+use Rattle.hm_words.specs.Words.{Asked, Work, minifies, checks as checks_files, shows as shows_tree, tells_json, measures as measures_tree, asked, is_fragment}
+use Rattle.hm_minify.specs.Endings.{IsReadableAsked, IsReadableBy, written_part, format_of, is_fault, with_tree, tree_ending, check_ending, asked_ending, request_ending, ending}
+use Rattle.hm_fragment.specs.Frames.{framed, unframed}
+use Rattle.hm_fragment.specs.Laws.{IsReadBack}
+use Rattle.hm_minify.specs.Lines.{length_line, usage_line}
 use Rattle.hm_minify.specs.Outside.{Outside, Prints}
-use Rattle.hm_minify.specs.Runs.{Ends, EndsAs, Puts, HasMinified, HasChecked, HasDenied, HasShown, HasToldJson, HasMeasured, HasRefusedPage, HasRefusedJson, HasRefusedTable}
-use Rattle.hm_minify.specs.Writes.{after_writes}
+use Rattle.hm_minify.specs.Runs.{Ends, EndsAs, Puts, HasMinified, HasMinifiedFragment, HasChecked, HasCheckedFragment, HasDenied, HasShown, HasToldJson, HasMeasured, HasRefusedPage, HasRefusedJson, HasRefusedTable}
+use Rattle.hm_minify.specs.Writes.{after_writes, write}
 use Rattle.hm_minify.specs.declared.status.Status.{Status}
 use Rattle.hm_minify.specs.declared.status.Status.TheVariants as status
-use Rattle.hm_minify.proofs.Found.{check_other, check_writes, checked_yes, is_found}
+use Rattle.hm_minify.proofs.Found.{check_other, check_writes, checked_fragment_yes, checked_yes, is_found}
 use Rattle.hm_minify.proofs.Generated.{IsGenerated, asked_limits, json_never_refused, page_never_refused}
+use Rattle.hm_minify.proofs.Framing.{IsRuled, least_fragment, request_framed, ruled, text_read_back}
 use Rattle.hm_minify.proofs.Headline.{request_table, input_is_shortest}
 
 -- ---- statuses that no tree gives
@@ -81,12 +84,12 @@ of_work words q work r b a seen e is w = subst (λ x. EndsBy q x seen (input_of 
 
 -- ---- minify
 
-minified_of : (q : Asked) (out cert : List ℕ) (r : Status) (b a : Outside) (seen : Contents) (x : Input) → AreTold b.files seen → input_of q seen ≡ x → EndsBy q (minifies out cert) seen x r b a → IsReadableBy (minifies out cert) q.writing x → r ≡ status.Done → HasMinified q out cert b a
-minified_of q out cert r b a seen missing told reads w h is = let e : status.StoreFault ≡ status.Done = sym w.status ∙ is in cc
-minified_of q out cert r b a seen (bad_table fault) told reads w h is = let e : status.TableRefused ≡ status.Done = sym w.status ∙ is in cc
-minified_of q out cert r b a seen (bad_page rule at) told reads w h is = let e : status.PageRefused ≡ status.Done = sym w.status ∙ is in cc
-minified_of q out cert r b a seen (bad_json fault) told reads w h is = let e : status.JsonRefused ≡ status.Done = sym w.status ∙ is in cc
-minified_of q out cert r b a seen (tree_input n t v) told reads w h is = record {
+minified_of : (q : Asked) (out cert : List ℕ) (r : Status) (b a : Outside) (seen : Contents) (x : Input) → q.writing.rules.frame ≡ false → AreTold b.files seen → input_of q seen ≡ x → EndsBy q (minifies out cert) seen x r b a → IsReadableBy (minifies out cert) q.writing x → r ≡ status.Done → HasMinified q out cert b a
+minified_of q out cert r b a seen missing page told reads w h is = let e : status.StoreFault ≡ status.Done = sym w.status ∙ is in cc
+minified_of q out cert r b a seen (bad_table fault) page told reads w h is = let e : status.TableRefused ≡ status.Done = sym w.status ∙ is in cc
+minified_of q out cert r b a seen (bad_page rule at) page told reads w h is = let e : status.PageRefused ≡ status.Done = sym w.status ∙ is in cc
+minified_of q out cert r b a seen (bad_json fault) page told reads w h is = let e : status.JsonRefused ≡ status.Done = sym w.status ∙ is in cc
+minified_of q out cert r b a seen (tree_input n t v) page told reads w h is = record {
   seen = seen;
   are_told = told;
   bytes = n;
@@ -96,22 +99,56 @@ minified_of q out cert r b a seen (tree_input n t v) told reads w h is = record 
   out = shortest_text t q.writing.rules v;
   cert = certificate_of t q.writing.rules (format_of q.writing.sparse) v;
   shortest = input_is_shortest q seen n t v reads h.0 h.1;
-  files = w.files;
-  line = w.line;
+  files = w.files ∙ ap (λ f. after_writes b.files (write out (written_part f (shortest_text t q.writing.rules v)) ∷ write cert (certificate_of t q.writing.rules (format_of q.writing.sparse) v) ∷ [])) page;
+  line = w.line ∙ ap (λ f. append_known b.printed (length_line (length (written_part f (shortest_text t q.writing.rules v))))) page;
 }
 
-pub minified : (words : List (List ℕ)) (q : Asked) (out cert : List ℕ) (r : Status) (b a : Outside) → asked words ≡ Some q → q.work ≡ minifies out cert → Sees b.files (λ seen. EndsAs (ending words seen) r b a × IsReadableAsked (asked words) seen) → r ≡ status.Done → HasMinified q out cert b a
-minified words q out cert r b a e work w is = minified_of q out cert r b a w.seen (input_of q w.seen) w.are_told refl (of_work words q (minifies out cert) r b a w.seen e work w.holds.0)
+pub minified : (words : List (List ℕ)) (q : Asked) (out cert : List ℕ) (r : Status) (b a : Outside) → asked words ≡ Some q → is_fragment q.origin ≡ false → q.work ≡ minifies out cert → Sees b.files (λ seen. EndsAs (ending words seen) r b a × IsReadableAsked (asked words) seen) → r ≡ status.Done → HasMinified q out cert b a
+minified words q out cert r b a e page work w is = minified_of q out cert r b a w.seen (input_of q w.seen) ((ruled words q e).frame ∙ page) w.are_told refl (of_work words q (minifies out cert) r b a w.seen e work w.holds.0)
+    (subst (λ k. IsReadableBy k q.writing (input_of q w.seen)) work (subst (λ x. IsReadableAsked x w.seen) e w.holds.1)) is
+
+-- ---- fragment
+
+fragment_of : (q : Asked) (out cert : List ℕ) (r : Status) (b a : Outside) (seen : Contents) (x : Input) → IsRuled q → is_fragment q.origin ≡ true → AreTold b.files seen → input_of q seen ≡ x → EndsBy q (minifies out cert) seen x r b a → IsReadableBy (minifies out cert) q.writing x → r ≡ status.Done → HasMinifiedFragment q out cert b a
+fragment_of q out cert r b a seen missing rules fragment told reads w h is = let e : status.StoreFault ≡ status.Done = sym w.status ∙ is in cc
+fragment_of q out cert r b a seen (bad_table fault) rules fragment told reads w h is = let e : status.TableRefused ≡ status.Done = sym w.status ∙ is in cc
+fragment_of q out cert r b a seen (bad_page rule at) rules fragment told reads w h is = let e : status.PageRefused ≡ status.Done = sym w.status ∙ is in cc
+fragment_of q out cert r b a seen (bad_json fault) rules fragment told reads w h is = let e : status.JsonRefused ≡ status.Done = sym w.status ∙ is in cc
+fragment_of q out cert r b a seen (tree_input n t v) rules fragment told reads w h is =
+    let text : List ℕ = shortest_text t q.writing.rules v in
+    let certificate : List ℕ = certificate_of t q.writing.rules (format_of q.writing.sparse) v in
+    let frame : q.writing.rules.frame ≡ true = rules.frame ∙ fragment in
+    let back : IsReadBack t v text = text_read_back t (request_table q seen n t v reads) q.writing.rules (rules.omits fragment) frame v h.0 (request_framed q seen n t v fragment reads) in
+    let shortest : IsShortest t q.writing.rules (format_of q.writing.sparse) v (framed (unframed text)) certificate =
+    subst (λ o. IsShortest t q.writing.rules (format_of q.writing.sparse) v o certificate) (sym back.framed_is) (input_is_shortest q seen n t v reads h.0 h.1) in
+    record {
+      seen = seen;
+      are_told = told;
+      bytes = n;
+      table = t;
+      tree = v;
+      reads = reads;
+      out = unframed text;
+      cert = certificate;
+      shortest = shortest;
+      reads_back = back.reads;
+      least = least_fragment t q.writing.rules v (unframed text) shortest.shortest;
+      files = w.files ∙ ap (λ f. after_writes b.files (write out (written_part f text) ∷ write cert certificate ∷ [])) frame;
+      line = w.line ∙ ap (λ f. append_known b.printed (length_line (length (written_part f text)))) frame;
+    }
+
+pub minified_fragment : (words : List (List ℕ)) (q : Asked) (out cert : List ℕ) (r : Status) (b a : Outside) → asked words ≡ Some q → is_fragment q.origin ≡ true → q.work ≡ minifies out cert → Sees b.files (λ seen. EndsAs (ending words seen) r b a × IsReadableAsked (asked words) seen) → r ≡ status.Done → HasMinifiedFragment q out cert b a
+minified_fragment words q out cert r b a e fragment work w is = fragment_of q out cert r b a w.seen (input_of q w.seen) (ruled words q e) fragment w.are_told refl (of_work words q (minifies out cert) r b a w.seen e work w.holds.0)
     (subst (λ k. IsReadableBy k q.writing (input_of q w.seen)) work (subst (λ x. IsReadableAsked x w.seen) e w.holds.1)) is
 
 -- ---- check
 
-checked_of : (q : Asked) (name : List ℕ) (r : Status) (b a : Outside) (seen : Contents) (n : ℕ) (t : List Entry) (v : List Event) (out cert : Option (List ℕ)) → AreTold b.files seen → input_of q seen ≡ tree_input n t v → Settled v → seen name ≡ out
+checked_of : (q : Asked) (name : List ℕ) (r : Status) (b a : Outside) (seen : Contents) (n : ℕ) (t : List Entry) (v : List Event) (out cert : Option (List ℕ)) → q.writing.rules.frame ≡ false → AreTold b.files seen → input_of q seen ≡ tree_input n t v → Settled v → seen name ≡ out
     → EndsAs (check_ending q.writing.rules t v out cert) r b a → r ≡ status.Done → HasChecked q name b a
-checked_of q name r b a seen n t v None cert told reads settled there w is = let e : status.StoreFault ≡ status.Done = sym w.status ∙ is in cc
-checked_of q name r b a seen n t v (Some out) None told reads settled there w is = let e : status.StoreFault ≡ status.Done = sym w.status ∙ is in cc
-checked_of q name r b a seen n t v (Some out) (Some cert) told reads settled there w is =
-    let yes = checked_yes t (request_table q seen n t v reads) q.writing.rules v settled out cert (sym w.status ∙ is) in
+checked_of q name r b a seen n t v None cert page told reads settled there w is = let e : status.StoreFault ≡ status.Done = sym w.status ∙ is in cc
+checked_of q name r b a seen n t v (Some out) None page told reads settled there w is = let e : status.StoreFault ≡ status.Done = sym w.status ∙ is in cc
+checked_of q name r b a seen n t v (Some out) (Some cert) page told reads settled there w is =
+    let yes = checked_yes t (request_table q seen n t v reads) q.writing.rules v settled out cert page (sym w.status ∙ is) in
     record {
       seen = seen;
       are_told = told;
@@ -127,15 +164,47 @@ checked_of q name r b a seen n t v (Some out) (Some cert) told reads settled the
       line = w.line ∙ ap (append_known b.printed) yes.line;
     }
 
-checked_input : (q : Asked) (out cert : List ℕ) (r : Status) (b a : Outside) (seen : Contents) (x : Input) → AreTold b.files seen → input_of q seen ≡ x → EndsBy q (checks_files out cert) seen x r b a → IsReadableBy (checks_files out cert) q.writing x → r ≡ status.Done → HasChecked q out b a
-checked_input q out cert r b a seen missing told reads w h is = let e : status.StoreFault ≡ status.Done = sym w.status ∙ is in cc
-checked_input q out cert r b a seen (bad_table fault) told reads w h is = let e : status.TableRefused ≡ status.Done = sym w.status ∙ is in cc
-checked_input q out cert r b a seen (bad_page rule at) told reads w h is = let e : status.PageRefused ≡ status.Done = sym w.status ∙ is in cc
-checked_input q out cert r b a seen (bad_json fault) told reads w h is = let e : status.JsonRefused ≡ status.Done = sym w.status ∙ is in cc
-checked_input q out cert r b a seen (tree_input n t v) told reads w h is = checked_of q out r b a seen n t v (seen out) (seen cert) told reads h.0 refl w is
+checked_input : (q : Asked) (out cert : List ℕ) (r : Status) (b a : Outside) (seen : Contents) (x : Input) → q.writing.rules.frame ≡ false → AreTold b.files seen → input_of q seen ≡ x → EndsBy q (checks_files out cert) seen x r b a → IsReadableBy (checks_files out cert) q.writing x → r ≡ status.Done → HasChecked q out b a
+checked_input q out cert r b a seen missing page told reads w h is = let e : status.StoreFault ≡ status.Done = sym w.status ∙ is in cc
+checked_input q out cert r b a seen (bad_table fault) page told reads w h is = let e : status.TableRefused ≡ status.Done = sym w.status ∙ is in cc
+checked_input q out cert r b a seen (bad_page rule at) page told reads w h is = let e : status.PageRefused ≡ status.Done = sym w.status ∙ is in cc
+checked_input q out cert r b a seen (bad_json fault) page told reads w h is = let e : status.JsonRefused ≡ status.Done = sym w.status ∙ is in cc
+checked_input q out cert r b a seen (tree_input n t v) page told reads w h is = checked_of q out r b a seen n t v (seen out) (seen cert) page told reads h.0 refl w is
 
-pub checks : (words : List (List ℕ)) (q : Asked) (out cert : List ℕ) (r : Status) (b a : Outside) → asked words ≡ Some q → q.work ≡ checks_files out cert → Sees b.files (λ seen. EndsAs (ending words seen) r b a × IsReadableAsked (asked words) seen) → r ≡ status.Done → HasChecked q out b a
-checks words q out cert r b a e work w is = checked_input q out cert r b a w.seen (input_of q w.seen) w.are_told refl (of_work words q (checks_files out cert) r b a w.seen e work w.holds.0)
+pub checks : (words : List (List ℕ)) (q : Asked) (out cert : List ℕ) (r : Status) (b a : Outside) → asked words ≡ Some q → is_fragment q.origin ≡ false → q.work ≡ checks_files out cert → Sees b.files (λ seen. EndsAs (ending words seen) r b a × IsReadableAsked (asked words) seen) → r ≡ status.Done → HasChecked q out b a
+checks words q out cert r b a e page work w is = checked_input q out cert r b a w.seen (input_of q w.seen) ((ruled words q e).frame ∙ page) w.are_told refl (of_work words q (checks_files out cert) r b a w.seen e work w.holds.0)
+    (subst (λ k. IsReadableBy k q.writing (input_of q w.seen)) work (subst (λ x. IsReadableAsked x w.seen) e w.holds.1)) is
+
+fragment_checked_of : (q : Asked) (name : List ℕ) (r : Status) (b a : Outside) (seen : Contents) (n : ℕ) (t : List Entry) (v : List Event) (out cert : Option (List ℕ)) → q.writing.rules.frame ≡ true → AreTold b.files seen → input_of q seen ≡ tree_input n t v → Settled v → seen name ≡ out
+    → EndsAs (check_ending q.writing.rules t v out cert) r b a → r ≡ status.Done → HasCheckedFragment q name b a
+fragment_checked_of q name r b a seen n t v None cert frame told reads settled there w is = let e : status.StoreFault ≡ status.Done = sym w.status ∙ is in cc
+fragment_checked_of q name r b a seen n t v (Some out) None frame told reads settled there w is = let e : status.StoreFault ≡ status.Done = sym w.status ∙ is in cc
+fragment_checked_of q name r b a seen n t v (Some out) (Some cert) frame told reads settled there w is =
+    let yes = checked_fragment_yes t (request_table q seen n t v reads) q.writing.rules v settled out cert frame (sym w.status ∙ is) in
+    record {
+      seen = seen;
+      are_told = told;
+      bytes = n;
+      table = t;
+      tree = v;
+      reads = reads;
+      out = out;
+      there = there;
+      reads_back = yes.reads_back;
+      least = yes.least;
+      files = w.files ∙ ap (after_writes b.files) (check_writes q.writing.rules t v (Some out) (Some cert));
+      line = w.line ∙ ap (append_known b.printed) yes.line;
+    }
+
+fragment_checked_input : (q : Asked) (out cert : List ℕ) (r : Status) (b a : Outside) (seen : Contents) (x : Input) → q.writing.rules.frame ≡ true → AreTold b.files seen → input_of q seen ≡ x → EndsBy q (checks_files out cert) seen x r b a → IsReadableBy (checks_files out cert) q.writing x → r ≡ status.Done → HasCheckedFragment q out b a
+fragment_checked_input q out cert r b a seen missing frame told reads w h is = let e : status.StoreFault ≡ status.Done = sym w.status ∙ is in cc
+fragment_checked_input q out cert r b a seen (bad_table fault) frame told reads w h is = let e : status.TableRefused ≡ status.Done = sym w.status ∙ is in cc
+fragment_checked_input q out cert r b a seen (bad_page rule at) frame told reads w h is = let e : status.PageRefused ≡ status.Done = sym w.status ∙ is in cc
+fragment_checked_input q out cert r b a seen (bad_json fault) frame told reads w h is = let e : status.JsonRefused ≡ status.Done = sym w.status ∙ is in cc
+fragment_checked_input q out cert r b a seen (tree_input n t v) frame told reads w h is = fragment_checked_of q out r b a seen n t v (seen out) (seen cert) frame told reads h.0 refl w is
+
+pub checks_fragment : (words : List (List ℕ)) (q : Asked) (out cert : List ℕ) (r : Status) (b a : Outside) → asked words ≡ Some q → is_fragment q.origin ≡ true → q.work ≡ checks_files out cert → Sees b.files (λ seen. EndsAs (ending words seen) r b a × IsReadableAsked (asked words) seen) → r ≡ status.Done → HasCheckedFragment q out b a
+checks_fragment words q out cert r b a e fragment work w is = fragment_checked_input q out cert r b a w.seen (input_of q w.seen) ((ruled words q e).frame ∙ fragment) w.are_told refl (of_work words q (checks_files out cert) r b a w.seen e work w.holds.0)
     (subst (λ k. IsReadableBy k q.writing (input_of q w.seen)) work (subst (λ x. IsReadableAsked x w.seen) e w.holds.1)) is
 
 denied_of : (q : Asked) (name lines : List ℕ) (r : Status) (b a : Outside) (seen : Contents) (n : ℕ) (t : List Entry) (v : List Event) (out cert : Option (List ℕ)) → q.work ≡ checks_files name lines → AreTold b.files seen → input_of q seen ≡ tree_input n t v → seen name ≡ out → seen lines ≡ cert

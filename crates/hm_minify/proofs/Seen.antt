@@ -3,9 +3,9 @@ use Rattle.std.proofs.Common.{◌≡◌, ℕ, Bool, true, false, cond, ◌||◌,
 use Rattle.std.specs.declared.option.Option.{Option}
 use Rattle.std.specs.Str.{bytes_eq}
 use Rattle.hm_base.specs.declared.plain.TreeOptions.{TreeOptions}
-use Rattle.hm_minify.specs.Inputs.{Input, file_with_table, input_from, is_none, json_input, origin_input, page_input, table_names}
+use Rattle.hm_minify.specs.Inputs.{Input, file_with_table, fragment_input, input_from, is_none, json_input, origin_input, page_input, table_names}
 use Rattle.hm_gen.specs.Pages.{page as made_page}
-use Rattle.hm_words.specs.Words.{Origin, page_at, json_at, made}
+use Rattle.hm_words.specs.Words.{Origin, page_at, fragment_at, json_at, made}
 use Rattle.hm_refs.proofs.Places.{same_bytes}
 use Rattle.hm_refs.specs.Names.{Entry}
 use Rattle.hm_store.specs.Contents.{Contents, Sees}
@@ -51,6 +51,7 @@ names_stay false false content more apart = refl
 -- none of these names is one of the origin's files
 abbrev pub IsApartFrom : (List ℕ → Bool) → Origin → Type 0
 IsApartFrom theirs (page_at table page) = ((is_none table || not (theirs table)) ≡ true) × (theirs page ≡ false)
+IsApartFrom theirs (fragment_at table page) = ((is_none table || not (theirs table)) ≡ true) × (theirs page ≡ false)
 IsApartFrom theirs (json_at table page) = ((is_none table || not (theirs table)) ≡ true) × (theirs page ≡ false)
 IsApartFrom theirs (made table number size) = (is_none table || not (theirs table)) ≡ true
 
@@ -62,5 +63,6 @@ file_stays theirs reads table name seen more apart other =
 -- what an origin gives doesn't depend on files with other names
 pub origin_stays : (theirs : List ℕ → Bool) (origin : Origin) (o : TreeOptions) (seen more : Contents) → IsApartFrom theirs origin → origin_input origin o (mixed theirs seen more) ≡ origin_input origin o seen
 origin_stays theirs (page_at table page) o seen more apart = file_stays theirs (page_input o) table page seen more apart.0 apart.1
+origin_stays theirs (fragment_at table page) o seen more apart = file_stays theirs (fragment_input o) table page seen more apart.0 apart.1
 origin_stays theirs (json_at table page) o seen more apart = file_stays theirs (json_input o) table page seen more apart.0 apart.1
 origin_stays theirs (made table number size) o seen more apart = ap (λ t. input_from (page_input o) t (Some (made_page number size))) (names_stay (is_none table) (theirs table) (seen table) (more table) apart)

@@ -1,7 +1,8 @@
 -- How a run ends, by its words and by what the files hold.
-use Rattle.std.specs.Prelude.{ℕ, Bool, true, false, List, [], ◌∷◌, ◌++◌, length, nat_lt, Option, Some, None, Result, Ok, Err, if◌then◌else◌}
+use Rattle.std.specs.Prelude.{ℕ, ◌-◌, Bool, true, false, List, [], ◌∷◌, ◌++◌, length, nat_lt, Option, Some, None, Result, Ok, Err, if◌then◌else◌}
 use Rattle.hm_base.specs.declared.plain.SpellRules.{SpellRules}
-use Rattle.hm_base.specs.declared.limits.TheConstants.{CERTIFICATE_LIMIT}
+use Rattle.hm_base.specs.declared.limits.TheConstants.{CERTIFICATE_LIMIT, OUTPUT_LIMIT}
+use Rattle.hm_base.specs.declared.rules.Rule.TheVariants as rules
 use Rattle.hm_cert.specs.Certificate.{AreRows}
 use Rattle.hm_cert.specs.Reading.{given}
 use Rattle.hm_cert.specs.declared.certificate.Certificate.{Certificate}
@@ -10,6 +11,10 @@ use Rattle.hm_base.specs.declared.plain.Format.TheVariants.{Two, Three}
 use Rattle.hm_check.specs.Verdicts.{verdict}
 use Rattle.hm_check.specs.declared.verdicts.Verdict.{Verdict}
 use Rattle.hm_check.specs.declared.verdicts.Verdict.TheVariants.{Yes, No}
+use Rattle.hm_check.specs.declared.verdicts.Why.TheVariants.{OutRefused, RulesDiffer}
+use Rattle.hm_construction_laws.specs.Trees.{Outcome, built, refused_by}
+use Rattle.hm_fragment.specs.Fragments.{fragment_tree}
+use Rattle.hm_fragment.specs.Frames.{framed, front, unframed}
 use Rattle.hm_store.specs.Contents.{Contents}
 use Rattle.hm_base.specs.Walks.{Event}
 use Rattle.hm_refs.specs.Names.{Entry}
@@ -61,12 +66,17 @@ abbrev pub format_of : Bool → Format
 format_of false = Two
 format_of true = Three
 
+-- what of a text is written: all of it, or what stands behind the front of a fragment
+abbrev pub written_part : Bool → List ℕ → List ℕ
+written_part false text = text
+written_part true text = unframed text
+
 -- a tree is written shortest, with its certificate
 abbrev pub minified_ending : Writing → List ℕ → List ℕ → List Entry → List Event → Ending
 minified_ending x out cert t w = record {
   status = status.Done;
-  line = length_line (length (shortest_text t x.rules w));
-  writes = write out (shortest_text t x.rules w) ∷ write cert (certificate_of t x.rules (format_of x.sparse) w) ∷ [];
+  line = length_line (length (written_part x.rules.frame (shortest_text t x.rules w)));
+  writes = write out (written_part x.rules.frame (shortest_text t x.rules w)) ∷ write cert (certificate_of t x.rules (format_of x.sparse) w) ∷ [];
 }
 
 -- what a check finds is said
@@ -74,13 +84,41 @@ abbrev pub verdict_ending : Verdict → Ending
 verdict_ending (Yes n) = says status.Done (yes_line n)
 verdict_ending (No why) = says status.No (why_line why)
 
-abbrev pub certificate_ending : (Certificate → Verdict) → Result Certificate ℕ → Ending
+-- the rules of a certificate are others
+abbrev pub rules_differ : Verdict → Bool
+rules_differ (No RulesDiffer) = true
+rules_differ found = false
+
+-- the most bytes of a fragment that is checked
+abbrev pub fragment_limit : ℕ
+fragment_limit = OUTPUT_LIMIT - length front
+
+-- the tree of a fragment within that limit
+unfoldable pub out_fragment : List Entry → List ℕ → Outcome
+out_fragment t out = if nat_lt fragment_limit (length out) then refused_by rules.TooLong fragment_limit else fragment_tree t out
+
+-- what a check finds of a fragment behind its front is said in bytes of the fragment, where that is one
+abbrev pub fragment_ending : Verdict → Outcome → Ending
+fragment_ending found (refused_by rule at) = says status.No (why_line (OutRefused rule at))
+fragment_ending (Yes n) (built v) = says status.Done (yes_line (n - length front))
+fragment_ending (No why) (built v) = says status.No (why_line why)
+
+-- where the rules differ, this is said first
+abbrev pub framed_ending : Verdict → Outcome → Ending
+framed_ending found outcome = if rules_differ found then verdict_ending found else fragment_ending found outcome
+
+-- what a check finds of a text with a certificate, which is that of a page or of a fragment
+abbrev pub found_ending : Bool → SpellRules → List Entry → List Event → List ℕ → Certificate → Ending
+found_ending false r t w out c = verdict_ending (verdict t r w out c)
+found_ending true r t w out c = framed_ending (verdict t r w (framed out) c) (out_fragment t out)
+
+abbrev pub certificate_ending : (Certificate → Ending) → Result Certificate ℕ → Ending
 certificate_ending find (Err line) = says status.No (bad_line_line line)
-certificate_ending find (Ok c) = verdict_ending (find c)
+certificate_ending find (Ok c) = find c
 
 -- a text and the bytes of a certificate are checked
 abbrev pub checked_ending : SpellRules → List Entry → List Event → List ℕ → List ℕ → Ending
-checked_ending r t w out cert = if nat_lt CERTIFICATE_LIMIT (length cert) then says status.No too_long_line else certificate_ending (verdict t r w out) (given cert)
+checked_ending r t w out cert = if nat_lt CERTIFICATE_LIMIT (length cert) then says status.No too_long_line else certificate_ending (found_ending r.frame r t w out) (given cert)
 
 -- both are there, or one isn't
 abbrev pub check_ending : SpellRules → List Entry → List Event → Option (List ℕ) → Option (List ℕ) → Ending

@@ -11,12 +11,13 @@ use Rattle.hm_refs.specs.Json.{names}
 use Rattle.hm_refs.specs.Names.{Entry}
 use Rattle.hm_refs.specs.declared.fault.TableFault.{TableFault}
 use Rattle.hm_construction_laws.specs.Trees.{Outcome, built, refused_by, page_tree}
+use Rattle.hm_fragment.specs.Fragments.{fragment_tree}
 use Rattle.hm_gen.specs.Pages.{page as made_page}
 use Rattle.hm_json_tree.specs.Reading.{JsonWalk, walk, too_long, not_json, not_array, no_event, some_open, not_settled, json_walk}
 use Rattle.hm_json_tree.specs.declared.fault.JsonFault.{JsonFault}
 use Rattle.hm_json_tree.specs.declared.fault.JsonFault.TheVariants as json_faults
 use Rattle.hm_options.specs.Rewrites.{rewrite}
-use Rattle.hm_words.specs.Words.{Origin, page_at, json_at, made, Asked}
+use Rattle.hm_words.specs.Words.{Origin, page_at, fragment_at, json_at, made, Asked}
 
 pub data Input : Type 0 where
   missing : Input  -- a file isn't there
@@ -50,6 +51,16 @@ rewritten_input o t bytes (refused_by rule at) = bad_page rule at
 -- what a page gives with the names of a table
 abbrev pub page_input : TreeOptions → List Entry → List ℕ → Input
 page_input o t page = rewritten_input o t (length page) (page_outcome t page)
+
+-- ---- a fragment
+
+-- the tree of a fragment within the limit
+unfoldable pub fragment_outcome : List Entry → List ℕ → Outcome
+fragment_outcome t fragment = if nat_lt PAGE_LIMIT (length fragment) then refused_by TooLong PAGE_LIMIT else fragment_tree t fragment
+
+-- what a fragment gives with the names of a table
+abbrev pub fragment_input : TreeOptions → List Entry → List ℕ → Input
+fragment_input o t fragment = rewritten_input o t (length fragment) (fragment_outcome t fragment)
 
 -- ---- a tree as JSON
 
@@ -87,6 +98,7 @@ given_with_table o table page seen = input_from (page_input o) (table_names (is_
 -- what the files of an origin give
 abbrev pub origin_input : Origin → TreeOptions → Contents → Input
 origin_input (page_at table page) o seen = file_with_table (page_input o) table page seen
+origin_input (fragment_at table page) o seen = file_with_table (fragment_input o) table page seen
 origin_input (json_at table page) o seen = file_with_table (json_input o) table page seen
 origin_input (made table number size) o seen = given_with_table o table (made_page number size) seen
 

@@ -1,5 +1,5 @@
 -- What the check finds of what is written.
-use Rattle.std.specs.Prelude.{◌≡◌, ◌≤◌, ℕ, Bool, List, [], ◌∷◌, length, Some, Result, Ok, Err, bytes_eq, if◌then◌else◌}
+use Rattle.std.specs.Prelude.{◌≡◌, ◌≤◌, ℕ, Bool, false, List, [], ◌∷◌, length, Some, Result, Ok, Err, bytes_eq, if◌then◌else◌}
 use Rattle.hm_base.specs.Walks.{Event}
 use Rattle.hm_base.specs.declared.limits.TheConstants.{CERTIFICATE_LIMIT, OUTPUT_LIMIT}
 use Rattle.hm_cert.specs.Certificate.{AreRows}
@@ -19,7 +19,7 @@ use Rattle.hm_minify.specs.Writes.{Write}
 use Rattle.hm_minify.specs.declared.status.Status.TheVariants as status
 use Rattle.hm_store.specs.Contents.{Contents}
 use Rattle.hm_base.specs.declared.plain.TreeOptions.{TreeOptions}
-use Rattle.hm_words.specs.Words.{Asked, Origin, asked, asks, checks, minifies}
+use Rattle.hm_words.specs.Words.{Asked, Origin, asked, asks, checks, is_fragment, minifies}
 use Rattle.hm_words.specs.declared.writing.Writing.{Writing}
 
 -- what is found of a certificate, or its first bad line
@@ -41,7 +41,7 @@ OwnIsAccepted = (t : List Entry) → IsTable t → (x : Writing) (w : List Event
 -- Whatever gives a settled tree, a check of its shortest text and a certificate of that, of any format that is written, ends with a
 -- yes and the length of the text, where both are within the limits of a check and the prices can be written.
 abbrev pub TreeIsChecked : Type 0
-TreeIsChecked = (q : Asked) (out cert : List ℕ) → q.work ≡ checks out cert
+TreeIsChecked = (q : Asked) (out cert : List ℕ) → q.work ≡ checks out cert → q.writing.rules.frame ≡ false
     → (seen : Contents) (bytes : ℕ) (t : List Entry) (w : List Event) → input_of q seen ≡ tree_input bytes t w → Settled w
     → (sparse : Bool) → seen out ≡ Some (shortest_text t q.writing.rules w) → seen cert ≡ Some (certificate_of t q.writing.rules (format_of sparse) w)
     → AreRows (certified_rows t q.writing.rules (format_of sparse) w) → length (shortest_text t q.writing.rules w) ≤ OUTPUT_LIMIT → length (certificate_of t q.writing.rules (format_of sparse) w) ≤ CERTIFICATE_LIMIT
@@ -55,7 +55,7 @@ with_writes seen (w ∷ ws) = with_writes (λ name. if bytes_eq name w.name then
 -- Where words ask to minify, and that is done for a settled tree with a text and a certificate that can be read and are within the
 -- limits of a check, the same request with the check on the contents afterwards ends with a yes, and the length of the text.
 abbrev pub MinifiedIsChecked : Type 0
-MinifiedIsChecked = (words : List (List ℕ)) (origin : Origin) (out cert : List ℕ) (options : TreeOptions) (x : Writing) → asked words ≡ Some (asks origin (minifies out cert) options x)
+MinifiedIsChecked = (words : List (List ℕ)) (origin : Origin) (out cert : List ℕ) (options : TreeOptions) (x : Writing) → is_fragment origin ≡ false → asked words ≡ Some (asks origin (minifies out cert) options x)
     → (seen : Contents) (bytes : ℕ) (t : List Entry) (w : List Event) → input_of (asks origin (minifies out cert) options x) seen ≡ tree_input bytes t w
     → Settled w → IsReadableTree (minifies out cert) x t w → length (shortest_text t x.rules w) ≤ OUTPUT_LIMIT → length (certificate_of t x.rules (format_of x.sparse) w) ≤ CERTIFICATE_LIMIT
     → asked_ending (asks origin (checks out cert) options x) (with_writes seen (minified_ending x out cert t w).writes) ≡ says status.Done (yes_line (length (shortest_text t x.rules w)))

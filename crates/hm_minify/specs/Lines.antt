@@ -78,7 +78,7 @@ abbrev pub table_line : TableFault → List ℕ
 table_line fault = codes "table refused: " ++ fault_name fault ++ fault_about fault ++ 10 ∷ []
 
 abbrev pub usage_line : List ℕ
-usage_line = codes "usage: hminify minify, check or minifyjson TABLE PAGE OUT CERT, tree or json TABLE PAGE, measure TABLE NUMBER SIZE" ++ 10 ∷ []
+usage_line = codes "usage: hminify minify, check, fragment, checkfragment or minifyjson TABLE PAGE OUT CERT, tree or json TABLE PAGE, measure TABLE NUMBER SIZE" ++ 10 ∷ []
 
 abbrev pub store_line : List ℕ
 store_line = codes "store fault" ++ 10 ∷ []

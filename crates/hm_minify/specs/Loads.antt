@@ -9,10 +9,11 @@ use Rattle.hm_store.specs.Files.{FileMap, file_of, IsMissing}
 use Rattle.hm_refs.specs.Names.{Entry}
 use Rattle.hm_refs.specs.declared.fault.TableFault.{TableFault}
 use Rattle.hm_construction_laws.specs.Trees.{built, refused_by, tree_of_source}
+use Rattle.hm_fragment.specs.Fragments.{fragment_tree}
 use Rattle.hm_json_tree.specs.Reading.{json_walk, walk}
 use Rattle.hm_json_tree.specs.declared.fault.JsonFault.{JsonFault}
 use Rattle.hm_options.specs.Rewrites.{rewrite}
-use Rattle.hm_minify.specs.Inputs.{Input, IsInput, bad_table, bad_page, bad_json, is_none, json_input, table_names, page_outcome}
+use Rattle.hm_minify.specs.Inputs.{Input, IsInput, bad_table, bad_page, bad_json, is_none, json_input, table_names, fragment_outcome, page_outcome}
 use Rattle.hm_words.specs.Words.{Origin}
 use Rattle.hm_minify.specs.declared.unread.Unread.{Unread}
 use Rattle.hm_minify.specs.declared.unread.Unread.TheVariants as reasons
@@ -57,6 +58,19 @@ pub record IsTreeRead (t : List Entry) (text : Source) (o : TreeOptions) (tree :
   pub walk : List Event
   pub reads : tree_of_source t text ≡ built walk
   pub is : tree ≡ rewrite o walk
+
+-- the rewritten tree of the fragment in a file, with how many bytes that has
+pub record IsFragmentOf (told : Option FileMap) (name : List ℕ) (t : List Entry) (tree : List Event) (bytes : ℕ) : Type 0 where
+  pub fragment : List ℕ
+  pub there : IsSome told → file_of told name ≡ Some fragment
+  pub reads : fragment_outcome t fragment ≡ built tree
+  pub all : bytes ≡ length fragment
+
+-- the fragment in a file is refused
+pub record IsRefusedFragment (told : Option FileMap) (name : List ℕ) (t : List Entry) (rule : Rule) (at : ℕ) : Type 0 where
+  pub fragment : List ℕ
+  pub there : IsSome told → file_of told name ≡ Some fragment
+  pub refused : fragment_outcome t fragment ≡ refused_by rule at
 
 -- the tree for which the JSON in a file stands, with how many bytes that has
 pub record IsWalkOf (told : Option FileMap) (name : List ℕ) (tree : List Event) (bytes : ℕ) : Type 0 where
@@ -115,6 +129,22 @@ NoText told name (reasons.Page rule at) = IsRefusedPage told name rule at
 NoText told name (reasons.Json fault) = ⊥
 NoText told name reasons.Store = Unit {0}
 NoText told name reasons.Memory = Unit {0}
+
+-- why a fragment has no tree
+abbrev pub NoFragmentIn : List Entry → List ℕ → Unread → Type 0
+NoFragmentIn t fragment (reasons.Table fault) = ⊥
+NoFragmentIn t fragment (reasons.Page rule at) = fragment_tree t fragment ≡ refused_by rule at
+NoFragmentIn t fragment (reasons.Json fault) = ⊥
+NoFragmentIn t fragment reasons.Store = ⊥
+NoFragmentIn t fragment reasons.Memory = Unit {0}
+
+-- why there is no tree of the fragment in a file
+abbrev pub NoFragment : Option FileMap → List ℕ → List Entry → Unread → Type 0
+NoFragment told name t (reasons.Table fault) = ⊥
+NoFragment told name t (reasons.Page rule at) = IsRefusedFragment told name t rule at
+NoFragment told name t (reasons.Json fault) = ⊥
+NoFragment told name t reasons.Store = Unit {0}
+NoFragment told name t reasons.Memory = Unit {0}
 
 -- why there is no tree in the JSON of a file
 abbrev pub NoWalk : Option FileMap → List ℕ → Unread → Type 0

@@ -1,5 +1,5 @@
 -- What a run has done: what stands after it, and why.
-use Rattle.std.specs.Prelude.{ℕ, ◌≡◌, ◌⊎◌, false, List, length, [], ◌∷◌, ◌++◌, Option, Some}
+use Rattle.std.specs.Prelude.{ℕ, ◌≡◌, ◌≤◌, ◌⊎◌, false, List, length, [], ◌∷◌, ◌++◌, Option, Some}
 use Rattle.std.specs.Io.KnownBytes.{append_known}
 use Rattle.hm_base.specs.Walks.{Event}
 use Rattle.hm_base.specs.declared.rules.Rule.{Rule}
@@ -11,7 +11,9 @@ use Rattle.hm_refs.specs.declared.fault.TableFault.{TableFault}
 use Rattle.hm_construction_laws.specs.Trees.{built, page_tree}
 use Rattle.hm_options.specs.Rewrites.{rewrite}
 use Rattle.hm_plan.specs.Shortest.{IsShortest, layer_count}
-use Rattle.hm_spelling_spec.specs.Spellings.{Shortest}
+use Rattle.hm_fragment.specs.Fragments.{fragment_tree}
+use Rattle.hm_fragment.specs.Frames.{framed}
+use Rattle.hm_spelling_spec.specs.Spellings.{Shortest, Spells}
 use Rattle.hm_dump.specs.Dump.{dump_of}
 use Rattle.hm_json_tree.specs.Reading.{json_walk, walk}
 use Rattle.hm_json_tree.specs.Texts.{json_text}
@@ -76,6 +78,39 @@ pub record HasMinified (request : Asked) (out_name cert_name : List ℕ) (before
   pub shortest : IsShortest table request.writing.rules (format_of request.writing.sparse) tree out cert
   pub files : after.files ≡ after_writes before.files (write out_name out ∷ write cert_name cert ∷ [])
   pub line : Prints (length_line (length out)) before after
+
+-- The files give a table and the tree of a fragment. OUT behind the front of fragments is that tree shortest, which CERT certifies; OUT
+-- itself is a fragment with that tree, and the line says its length.
+pub record HasMinifiedFragment (request : Asked) (out_name cert_name : List ℕ) (before after : Outside) : Type 0 where
+  pub seen : Contents
+  pub are_told : AreTold before.files seen
+  pub bytes : ℕ
+  pub table : List Entry
+  pub tree : List Event
+  pub reads : input_of request seen ≡ tree_input bytes table tree
+  pub out : List ℕ
+  pub cert : List ℕ
+  pub shortest : IsShortest table request.writing.rules (format_of request.writing.sparse) tree (framed out) cert
+  pub reads_back : fragment_tree table out ≡ built tree
+  pub least : (fragment : List ℕ) → Spells table request.writing.rules tree (framed fragment) → length out ≤ length fragment
+  pub files : after.files ≡ after_writes before.files (write out_name out ∷ write cert_name cert ∷ [])
+  pub line : Prints (length_line (length out)) before after
+
+-- The files give a table, the tree of a fragment, and a fragment with that tree; no fragment that spells it is shorter, and the line
+-- says the length.
+pub record HasCheckedFragment (request : Asked) (out_name : List ℕ) (before after : Outside) : Type 0 where
+  pub seen : Contents
+  pub are_told : AreTold before.files seen
+  pub bytes : ℕ
+  pub table : List Entry
+  pub tree : List Event
+  pub reads : input_of request seen ≡ tree_input bytes table tree
+  pub out : List ℕ
+  pub there : seen out_name ≡ Some out
+  pub reads_back : fragment_tree table out ≡ built tree
+  pub least : (fragment : List ℕ) → Spells table request.writing.rules tree (framed fragment) → length out ≤ length fragment
+  pub files : after.files ≡ before.files
+  pub line : Prints (yes_line (length out)) before after
 
 -- The JSON in a file stands for a walk. OUT and CERT hold the tree that is wanted of the rewritten walk shortest and certified, and
 -- the line says the length.

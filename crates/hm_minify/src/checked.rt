@@ -1,20 +1,39 @@
 //! A text and a certificate, loaded and checked.
-ghost use Rattle.std.specs.Prelude.{◌≡◌, ◌≢◌, ◌⊎◌, ◌≤◌, IfOk, Err, false, bytes_eq, string_bytes};
+ghost use Rattle.std.specs.Io.{StartsWith};
+ghost use Rattle.std.specs.Prelude as prelude;
+ghost use Rattle.std.specs.Prelude.{◌≡◌, ◌≢◌, ◌⊎◌, ◌≤◌, ◌-◌, IfOk, Err, false, true, bytes_eq, string_bytes};
+ghost use Rattle.hm_build.specs.Parsing.{IsRefusedAs};
 ghost use Rattle.hm_cert.specs.Certificate.{AreRows};
-ghost use Rattle.hm_check.specs.Verdicts.{verdict};
+ghost use Rattle.hm_construction_laws.specs.Trees.{Outcome};
 ghost use Rattle.hm_elements.specs.Settled.{Settled};
 ghost use Rattle.hm_store.specs.Causes.{Rose};
 ghost use Rattle.hm_store.specs.Contents.{Sees, Tells};
+ghost use Rattle.hm_fragment.specs.Frames as frames;
+ghost use Rattle.hm_fragment.specs.Frames.{unframed};
 ghost use Rattle.hm_minify.specs.Endings as spec;
+ghost use Rattle.hm_minify.specs.Lines as lines;
 
 use crate::ended::{Ended, Stop, says};
 use crate::lines::{bad_line_line, too_long_line, why_line, yes_line};
 use crate::{Input, Status};
-use hm_base::{CERTIFICATE_LIMIT, OUTPUT_LIMIT, SpellRules};
+use hm_base::{CERTIFICATE_LIMIT, OUTPUT_LIMIT, Refused, Rule, SpellRules};
 use hm_cert::{Certificate, CertificateFault};
-use hm_check::{Verdict, check_settled};
-use hm_store::{Store, load};
+use hm_check::{Verdict, Why, check_settled};
+use hm_fragment::{front, read_fragment};
+use hm_refs::Table;
+use hm_store::{Store, load, load_behind};
 use std::alloc::Global;
+
+/// What was found is said.
+fn say<'w>(alloc: Global, found: Verdict) -> Result<Ended<'w>, Stop>
+    ensures ended { IfOk result (λ ended. ended ≡ spec.verdict_ending found) }
+    ensures memory { result ≢ Err Stop.Store }
+{
+    match found {
+        Verdict::Yes { length } => Ok(says(alloc, Status::Done, yes_line(alloc, length)?)),
+        Verdict::No { why } => Ok(says(alloc, Status::No, why_line(alloc, why)?)),
+    }
+}
 
 /// What is found of a text and a certificate is said.
 fn find<'w>(
@@ -26,13 +45,13 @@ fn find<'w>(
 ) -> Result<Ended<'w>, Stop>
     requires rows { AreRows certificate.now.prices }
     requires settled { Settled input.now.tree }
-    ensures ended { IfOk result (λ ended. ended ≡ spec.verdict_ending (verdict input.now.table.entries rules input.now.tree out.now certificate.now)) }
+    ensures ended { IfOk result (λ ended. ended ≡ spec.found_ending false rules input.now.table.entries input.now.tree out.now certificate.now) }
     ensures memory { result ≢ Err Stop.Store }
 {
-    match check_settled(alloc, &input.table, &input.tree, out, certificate, rules)? {
-        Verdict::Yes { length } => Ok(says(alloc, Status::Done, yes_line(alloc, length)?)),
-        Verdict::No { why } => Ok(says(alloc, Status::No, why_line(alloc, why)?)),
-    }
+    say(
+        alloc,
+        check_settled(alloc, &input.table, &input.tree, out, certificate, rules)?,
+    )
 }
 
 /// A text and the bytes of a certificate are checked.
@@ -43,6 +62,7 @@ fn check_bytes<'w>(
     out: &[u8],
     cert: &[u8],
 ) -> Result<Ended<'w>, Stop>
+    requires page { rules.frame ≡ false }
     requires settled { Settled input.now.tree }
     ensures ended { IfOk result (λ ended. ended ≡ spec.checked_ending rules input.now.table.entries input.now.tree out.now cert.now) }
     ensures memory { result ≢ Err Stop.Store }
@@ -58,6 +78,187 @@ fn check_bytes<'w>(
 }
 
 /// Loads a text and then a certificate, and checks them. Of a longer file no more than one byte above the limit is loaded.
+fn check_page<'w, S: Store>(
+    alloc: Global,
+    store: &mut S,
+    input: &Input,
+    rules: SpellRules,
+    out: &str,
+    cert: &str,
+) -> Result<Ended<'w>, Stop>
+    requires page { rules.frame ≡ false }
+    requires apart { bytes_eq out.now cert.now ≡ false }
+    requires settled { Settled input.now.tree }
+    ensures ended { IfOk result (λ ended. Sees (S.files store.old) (λ seen. ended ≡ spec.check_ending rules input.now.table.entries input.now.tree (seen out.now) (seen cert.now))) }
+    ensures answers { IfOk result (λ ended. spec.is_fault ended.status ≡ false) }
+    ensures same { S.files store.new ≡ S.files store.old }
+    ensures writing { S.is_writing store.new ≡ S.is_writing store.old }
+    ensures later { S.faults store.old ≤ S.faults store.new }
+    ensures store { result ≡ Err Stop.Store → Rose (S.faults store.old) (S.faults store.new)
+        ⊎ Tells (S.files store.old) (λ seen. spec.check_ending rules input.now.table.entries input.now.tree (seen out.now) (seen cert.now) ≡ spec.store_fault) }
+{
+    let text = load(alloc, store, out, OUTPUT_LIMIT)?;
+    let lines = load(alloc, store, cert, CERTIFICATE_LIMIT)?;
+    check_bytes(alloc, input, rules, text.as_slice(), lines.as_slice())
+}
+
+/// The most bytes of a fragment that is checked: with its front it has no more than a text may have.
+fn fragment_limit() -> u32
+    ensures { result ≡ spec.fragment_limit }
+{
+    OUTPUT_LIMIT - front().len() as u32
+}
+
+/// The bytes of a text, less those of its front.
+fn without_front(length: u64) -> u64
+    ensures { result ≡ length - prelude.length frames.front }
+{
+    length.saturating_sub(front().len() as u64)
+}
+
+/// Whether it is found that the rules differ.
+fn rules_differ(found: &Verdict) -> bool
+    ensures { result ≡ spec.rules_differ found.now }
+{
+    match *found {
+        Verdict::No {
+            why: Why::RulesDiffer,
+        } => true,
+        _ => false,
+    }
+}
+
+/// A fragment that is refused is told.
+fn say_refused<'w>(alloc: Global, rule: Rule, at: u32) -> Result<Ended<'w>, Stop>
+    ensures ended { IfOk result (λ ended. ended ≡ spec.says Status.No (lines.why_line (Why.OutRefused rule at))) }
+    ensures memory { result ≢ Err Stop.Store }
+{
+    say(
+        alloc,
+        Verdict::No {
+            why: Why::OutRefused { rule, at },
+        },
+    )
+}
+
+/// That a fragment is refused is said, whatever was found of it.
+fn say_no_fragment<'w>(alloc: Global, refused: Refused) -> Result<Ended<'w>, Stop>
+    ensures ended { IfOk result (λ ended. (found : Verdict) (o : Outcome) → IsRefusedAs o refused → ended ≡ spec.fragment_ending found o) }
+    ensures memory { result ≢ Err Stop.Store }
+{
+    match refused {
+        Refused::Page { rule, at } => say_refused(alloc, rule, at),
+        Refused::Memory => Err(Stop::Memory),
+    }
+}
+
+/// What was found of a fragment behind its front is said in bytes of the fragment, where it is one.
+fn say_fragment<'w>(
+    alloc: Global,
+    found: Verdict,
+    page: Vec<u8>,
+    table: &Table,
+) -> Result<Ended<'w>, Stop>
+    requires front { StartsWith page.items frames.front }
+    ensures ended { IfOk result (λ ended. ended ≡ spec.fragment_ending found (spec.out_fragment table.now.entries (unframed page.items))) }
+    ensures memory { result ≢ Err Stop.Store }
+{
+    if page.len() > OUTPUT_LIMIT as usize {
+        return say_refused(alloc, Rule::TooLong, fragment_limit());
+    }
+    match read_fragment(alloc, page, table) {
+        Ok(_tree) => match found {
+            Verdict::Yes { length } => say(
+                alloc,
+                Verdict::Yes {
+                    length: without_front(length),
+                },
+            ),
+            Verdict::No { why } => say(alloc, Verdict::No { why }),
+        },
+        Err(refused) => say_no_fragment(alloc, refused),
+    }
+}
+
+/// What is found of a fragment behind its front and of a certificate is said. That the rules differ is said first.
+fn find_fragment<'w>(
+    alloc: Global,
+    input: &Input,
+    rules: SpellRules,
+    page: Vec<u8>,
+    certificate: &Certificate,
+) -> Result<Ended<'w>, Stop>
+    requires rows { AreRows certificate.now.prices }
+    requires settled { Settled input.now.tree }
+    requires front { StartsWith page.items frames.front }
+    ensures ended { IfOk result (λ ended. ended ≡ spec.found_ending true rules input.now.table.entries input.now.tree (unframed page.items) certificate.now) }
+    ensures memory { result ≢ Err Stop.Store }
+{
+    let found = check_settled(
+        alloc,
+        &input.table,
+        &input.tree,
+        page.as_slice(),
+        certificate,
+        rules,
+    )?;
+    if rules_differ(&found) {
+        say(alloc, found)
+    } else {
+        say_fragment(alloc, found, page, &input.table)
+    }
+}
+
+/// A fragment behind its front and the bytes of a certificate are checked.
+fn check_fragment_bytes<'w>(
+    alloc: Global,
+    input: &Input,
+    rules: SpellRules,
+    page: Vec<u8>,
+    cert: &[u8],
+) -> Result<Ended<'w>, Stop>
+    requires fragment { rules.frame ≡ true }
+    requires settled { Settled input.now.tree }
+    requires front { StartsWith page.items frames.front }
+    ensures ended { IfOk result (λ ended. ended ≡ spec.checked_ending rules input.now.table.entries input.now.tree (unframed page.items) cert.now) }
+    ensures memory { result ≢ Err Stop.Store }
+{
+    match Certificate::read(alloc, cert) {
+        Ok(certificate) => find_fragment(alloc, input, rules, page, &certificate),
+        Err(CertificateFault::TooLong) => Ok(says(alloc, Status::No, too_long_line(alloc)?)),
+        Err(CertificateFault::BadLine { line }) => {
+            Ok(says(alloc, Status::No, bad_line_line(alloc, line)?))
+        }
+        Err(CertificateFault::Memory) => Err(Stop::Memory),
+    }
+}
+
+/// Loads a fragment behind its front and then a certificate, and checks them.
+fn check_fragment<'w, S: Store>(
+    alloc: Global,
+    store: &mut S,
+    input: &Input,
+    rules: SpellRules,
+    out: &str,
+    cert: &str,
+) -> Result<Ended<'w>, Stop>
+    requires fragment { rules.frame ≡ true }
+    requires apart { bytes_eq out.now cert.now ≡ false }
+    requires settled { Settled input.now.tree }
+    ensures ended { IfOk result (λ ended. Sees (S.files store.old) (λ seen. ended ≡ spec.check_ending rules input.now.table.entries input.now.tree (seen out.now) (seen cert.now))) }
+    ensures answers { IfOk result (λ ended. spec.is_fault ended.status ≡ false) }
+    ensures same { S.files store.new ≡ S.files store.old }
+    ensures writing { S.is_writing store.new ≡ S.is_writing store.old }
+    ensures later { S.faults store.old ≤ S.faults store.new }
+    ensures store { result ≡ Err Stop.Store → Rose (S.faults store.old) (S.faults store.new)
+        ⊎ Tells (S.files store.old) (λ seen. spec.check_ending rules input.now.table.entries input.now.tree (seen out.now) (seen cert.now) ≡ spec.store_fault) }
+{
+    let page = load_behind(alloc, store, out, front(), fragment_limit())?;
+    let lines = load(alloc, store, cert, CERTIFICATE_LIMIT)?;
+    check_fragment_bytes(alloc, input, rules, page, lines.as_slice())
+}
+
+/// Loads a text, or a fragment where the rules say so, and then a certificate, and checks them.
 pub fn check_files<'w, S: Store>(
     alloc: Global,
     store: &mut S,
@@ -76,7 +277,9 @@ pub fn check_files<'w, S: Store>(
     ensures store { result ≡ Err Stop.Store → Rose (S.faults store.old) (S.faults store.new)
         ⊎ Tells (S.files store.old) (λ seen. spec.check_ending rules input.now.table.entries input.now.tree (seen out.now) (seen cert.now) ≡ spec.store_fault) }
 {
-    let text = load(alloc, store, out, OUTPUT_LIMIT)?;
-    let lines = load(alloc, store, cert, CERTIFICATE_LIMIT)?;
-    check_bytes(alloc, input, rules, text.as_slice(), lines.as_slice())
+    if rules.frame {
+        check_fragment(alloc, store, input, rules, out, cert)
+    } else {
+        check_page(alloc, store, input, rules, out, cert)
+    }
 }

@@ -4,13 +4,13 @@ ghost use Rattle.hm_elements.specs.Settled.{Settled};
 ghost use Rattle.hm_store.specs.Causes.{Rose};
 ghost use Rattle.hm_store.specs.Contents.{Tells};
 ghost use Rattle.hm_words.specs.Answers.{origin_of, request_of};
-ghost use Rattle.hm_words.specs.Words.{page_at, json_at, made, is_origin_apart};
+ghost use Rattle.hm_words.specs.Words.{page_at, fragment_at, json_at, made, is_origin_apart};
 ghost use Rattle.hm_minify.specs.Inputs as inputs;
 ghost use Rattle.hm_minify.specs.Inputs.{IsInput, origin_input, missing};
 ghost use Rattle.hm_minify.specs.Loads.{IsTreeRead, NoInput, NoTreeRead};
 
 use crate::Unread;
-use crate::loads::{load_json, load_table, load_text, make_text};
+use crate::loads::{load_fragment, load_json, load_table, load_text, make_text};
 use hm_base::{SourceText, TreeOptions};
 use hm_build::parse;
 use hm_options::rewrite;
@@ -68,6 +68,31 @@ fn load_tree<S: Store>(
     let table = load_table(alloc, store, table)?;
     let (text, bytes) = load_text(alloc, store, page)?;
     let tree = read_tree(alloc, text, &table, options)?;
+    Ok(Input { bytes, table, tree })
+}
+
+/// Loads a table and then a fragment, and gives the table with the fragment's tree after the rewrites that are asked for. The
+/// table `none` has no names and is no file.
+fn load_fragment_tree<S: Store>(
+    alloc: Global,
+    store: &mut S,
+    table: &str,
+    page: &str,
+    options: &TreeOptions,
+) -> Result<Input, Unread>
+    requires apart { is_origin_apart (fragment_at table.now page.now) ≡ true }
+    ensures ok { IfOk result (λ input. IsInput (S.files store.old) (fragment_at table.now page.now) options.now (inputs.tree input.bytes input.table.entries input.tree)) }
+    ensures settled { IfOk result (λ input. Settled input.tree) }
+    ensures err { IfErr result (NoInput (S.files store.old) (fragment_at table.now page.now) options.now) }
+    ensures same { S.files store.new ≡ S.files store.old }
+    ensures writing { S.is_writing store.new ≡ S.is_writing store.old }
+    ensures later { S.faults store.old ≤ S.faults store.new }
+    ensures store { result ≡ Err Unread.Store → Rose (S.faults store.old) (S.faults store.new)
+        ⊎ Tells (S.files store.old) (λ seen. origin_input (fragment_at table.now page.now) options.now seen ≡ missing) }
+{
+    let table = load_table(alloc, store, table)?;
+    let (read, bytes) = load_fragment(alloc, store, page, &table)?;
+    let tree = rewrite(alloc, read, options)?;
     Ok(Input { bytes, table, tree })
 }
 
@@ -140,6 +165,9 @@ pub fn load_input<S: Store>(
 {
     match *origin {
         Origin::PageAt { table, page } => load_tree(alloc, store, table, page, options),
+        Origin::FragmentAt { table, page } => {
+            load_fragment_tree(alloc, store, table, page, options)
+        }
         Origin::JsonAt { table, page } => load_json_tree(alloc, store, table, page, options),
         Origin::Made {
             table,

@@ -1,20 +1,26 @@
 //! The table and the text of a page, loaded from a store.
-ghost use Rattle.std.specs.Prelude.{◌≡◌, ◌≢◌, ◌⊎◌, ◌≤◌, ℕ, List, Option, IfOk, IfErr, OnOk, Ok, Err, false};
+ghost use Rattle.std.specs.Io.{StartsWith};
+ghost use Rattle.std.specs.Prelude.{length, ◌≡◌, ◌≢◌, ◌⊎◌, ◌≤◌, ℕ, List, Option, IfOk, IfErr, OnOk, Ok, Err, false};
 ghost use Rattle.hm_base.specs.Faults.{HasText, IsRefusedBy};
 ghost use Rattle.hm_base.specs.Source.{source_of};
 ghost use Rattle.hm_elements.specs.Settled.{Settled};
+ghost use Rattle.hm_construction_laws.specs.Trees.{built};
+ghost use Rattle.hm_fragment.specs.Fragments.{fragment_tree};
+ghost use Rattle.hm_fragment.specs.Frames as frames;
+ghost use Rattle.hm_fragment.specs.Frames.{unframed};
 ghost use Rattle.hm_gen.specs.Pages.{page as made_page};
 ghost use Rattle.hm_store.specs.Causes.{Rose};
 ghost use Rattle.hm_store.specs.Files.{FileMap, IsMissing};
 ghost use Rattle.hm_minify.specs.Inputs.{is_none};
-ghost use Rattle.hm_minify.specs.Loads.{IsPageText, IsTableOf, IsRefusedJson, IsTextOf, IsWalkOf, NoTable, NoText, NoTextIn, NoWalk};
+ghost use Rattle.hm_minify.specs.Loads.{IsFragmentOf, IsPageText, IsTableOf, IsRefusedJson, IsTextOf, IsWalkOf, NoFragment, NoFragmentIn, NoTable, NoText, NoTextIn, NoWalk};
 
 use crate::Unread;
-use hm_base::{PAGE_LIMIT, SourceText, TABLE_LIMIT, TextFault};
+use hm_base::{OUTPUT_LIMIT, PAGE_LIMIT, Rule, SourceText, TABLE_LIMIT, TextFault};
+use hm_fragment::{front, read_fragment};
 use hm_gen::page_of;
 use hm_json_tree::{JSON_LIMIT, JsonFault, read_tree};
 use hm_refs::{Table, TableFault};
-use hm_store::{Store, load};
+use hm_store::{Store, load, load_behind};
 use hm_tree::Tree;
 use std::alloc::Global;
 
@@ -94,6 +100,45 @@ pub fn make_text(alloc: Global, number: u32, size: u32) -> Result<(SourceText, u
 {
     let page = page_of(alloc, number, size)?;
     text_of(alloc, page.into_bytes())
+}
+
+/// The tree of a fragment behind its front, or why it is refused.
+fn fragment_tree_of(alloc: Global, page: Vec<u8>, table: &Table) -> Result<Tree, Unread>
+    requires front { StartsWith page.items frames.front }
+    requires short { length page.items ≤ OUTPUT_LIMIT }
+    ensures ok { IfOk result (λ tree. fragment_tree table.now.entries (unframed page.items) ≡ built tree) }
+    ensures settled { IfOk result (λ tree. Settled tree) }
+    ensures err { IfErr result (NoFragmentIn table.now.entries (unframed page.items)) }
+{
+    let tree = read_fragment(alloc, page, table)?;
+    Ok(tree)
+}
+
+/// The tree of the fragment of that name, and how many bytes the fragment has.
+pub fn load_fragment<S: Store>(
+    alloc: Global,
+    store: &mut S,
+    name: &str,
+    table: &Table,
+) -> Result<(Tree, usize), Unread>
+    ensures same { S.files store.new ≡ S.files store.old }
+    ensures writing { S.is_writing store.new ≡ S.is_writing store.old }
+    ensures ok { IfOk result (λ read. IsFragmentOf (S.files store.old) name.now table.now.entries read.0 read.1) }
+    ensures settled { IfOk result (λ read. Settled read.0) }
+    ensures err { IfErr result (NoFragment (S.files store.old) name.now table.now.entries) }
+    ensures later { S.faults store.old ≤ S.faults store.new }
+    ensures store { result ≡ Err Unread.Store → Rose (S.faults store.old) (S.faults store.new) ⊎ IsMissing (S.files store.old) name.now }
+{
+    let page = load_behind(alloc, store, name, front(), PAGE_LIMIT)?;
+    let bytes = page.len() - front().len();
+    if bytes > PAGE_LIMIT as usize {
+        return Err(Unread::Page {
+            rule: Rule::TooLong,
+            at: PAGE_LIMIT,
+        });
+    }
+    let tree = fragment_tree_of(alloc, page, table)?;
+    Ok((tree, bytes))
 }
 
 /// Why there is no tree with this fault of its JSON.

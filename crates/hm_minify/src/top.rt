@@ -1,5 +1,5 @@
 //! The top call.
-ghost use Rattle.std.specs.Prelude.{◌≡◌, ◌≢◌, ◌⊎◌, Some, None, false, ℕ, List};
+ghost use Rattle.std.specs.Prelude.{◌≡◌, ◌≢◌, ◌⊎◌, Some, None, false, true, ℕ, List};
 ghost use Rattle.hm_store.specs.Contents.{Sees, Tells};
 ghost use Rattle.hm_store.specs.Files.{file_of};
 ghost use Rattle.hm_words.specs.Words as request;
@@ -109,8 +109,12 @@ pub fn run<S: Store, O: Sink>(alloc: Global, words: &[Word], store: &mut S, out:
         (after.files ≡ before.files) × (after.printed ≡ before.printed) × (S.is_writing store.new ≡ S.is_writing store.old)) }
 
     // The headline: the tree that is wanted is written shortest and certified.
-    ensures minified { (asked : Request) (output cert : List ℕ) → asked_by words.now ≡ Some asked → asked.work ≡ request.minifies output cert
+    ensures minified { (asked : Request) (output cert : List ℕ) → asked_by words.now ≡ Some asked → request.is_fragment asked.origin ≡ false → asked.work ≡ request.minifies output cert
         → result ≡ Status.Done → Between S.Store O.Sink store.old out.old store.new out.new (spec.HasMinified asked output cert) }
+
+    // The same of a fragment: what is written is a fragment with the tree that is wanted, and no fragment that spells it is shorter.
+    ensures fragment_minified { (asked : Request) (output cert : List ℕ) → asked_by words.now ≡ Some asked → request.is_fragment asked.origin ≡ true → asked.work ≡ request.minifies output cert
+        → result ≡ Status.Done → Between S.Store O.Sink store.old out.old store.new out.new (spec.HasMinifiedFragment asked output cert) }
 
     // The same of the walk that JSON stands for.
     ensures json_minified { (asked : Request) (table json output cert : List ℕ) → asked_by words.now ≡ Some asked → asked.origin ≡ request.json_at table json → asked.work ≡ request.minifies output cert
@@ -122,8 +126,10 @@ pub fn run<S: Store, O: Sink>(alloc: Global, words: &[Word], store: &mut S, out:
 
     // The checker's yes implies the bound, for text and prices from any source; a no comes with the first condition
     // that fails.
-    ensures checked { (asked : Request) (output cert : List ℕ) → asked_by words.now ≡ Some asked → asked.work ≡ request.checks output cert
+    ensures checked { (asked : Request) (output cert : List ℕ) → asked_by words.now ≡ Some asked → request.is_fragment asked.origin ≡ false → asked.work ≡ request.checks output cert
         → result ≡ Status.Done → Between S.Store O.Sink store.old out.old store.new out.new (spec.HasChecked asked output) }
+    ensures fragment_checked { (asked : Request) (output cert : List ℕ) → asked_by words.now ≡ Some asked → request.is_fragment asked.origin ≡ true → asked.work ≡ request.checks output cert
+        → result ≡ Status.Done → Between S.Store O.Sink store.old out.old store.new out.new (spec.HasCheckedFragment asked output) }
     ensures denied { (asked : Request) → asked_by words.now ≡ Some asked → result ≡ Status.No
         → Between S.Store O.Sink store.old out.old store.new out.new (spec.HasDenied asked) }
 

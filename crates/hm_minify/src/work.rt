@@ -1,5 +1,5 @@
 //! What a request ends with, made in memory.
-ghost use Rattle.std.specs.Prelude.{◌≡◌, ◌≢◌, ◌⊎◌, ◌≤◌, ◌++◌, ◌∷◌, [], IfOk, Err, true, false};
+ghost use Rattle.std.specs.Prelude.{◌≡◌, ◌≢◌, ◌⊎◌, ◌≤◌, ◌++◌, ◌∷◌, [], drop, length, IfOk, Err, true, false};
 ghost use Rattle.hm_cert.specs.Certificate.{AreRows};
 ghost use Rattle.hm_elements.specs.Settled.{Settled};
 ghost use Rattle.hm_plan.specs.Shortest.{certified_rows};
@@ -20,6 +20,7 @@ use crate::measured::measure;
 use crate::{Input, Status, Unread};
 use hm_base::Format;
 use hm_dump::Shown;
+use hm_fragment::front;
 use hm_json_tree::JsonShown;
 use hm_plan::minify_tree;
 use hm_store::Store;
@@ -32,6 +33,18 @@ pub fn format_of(sparse: bool) -> Format
     ensures { result ≡ spec.format_of sparse }
 {
     if sparse { Format::Three } else { Format::Two }
+}
+
+/// Where what is written of a text begins, in bytes: behind the front of a fragment, or at its first byte.
+fn begin_of(frame: bool, text: &[u8]) -> usize
+    ensures inside { result ≤ length text.now }
+    ensures part { drop result text.now ≡ spec.written_part frame text.now }
+{
+    if frame {
+        front().len().min(text.len())
+    } else {
+        0
+    }
 }
 
 /// The tree of an input, written shortest and certified.
@@ -54,12 +67,13 @@ fn minify<'w>(
         writing.rules,
         format_of(writing.sparse),
     )?;
-    let line = length_line(alloc, minified.out.len())?;
+    let from = begin_of(writing.rules.frame, minified.out.as_slice());
+    let line = length_line(alloc, minified.out.len() - from)?;
     let mut outputs = Vec::new(alloc);
     outputs.push(Output {
         name: out,
         bytes: minified.out,
-        from: 0,
+        from,
     })?;
     outputs.push(Output {
         name: cert,

@@ -43,6 +43,13 @@ fn is_command(asked: &Asked<'_>, wanted: &[&str]) -> bool {
             Work::TellJson => wanted == ["json", table, page].as_slice(),
             Work::Measure => false,
         },
+        Origin::FragmentAt { table, page } => match asked.work {
+            Work::Minify { out, cert } => wanted == ["fragment", table, page, out, cert].as_slice(),
+            Work::Check { out, cert } => {
+                wanted == ["checkfragment", table, page, out, cert].as_slice()
+            }
+            _ => false,
+        },
         Origin::JsonAt { table, page } => match asked.work {
             Work::Minify { out, cert } => wanted
                 == ["minifyjson", table, page, out, cert].as_slice(),

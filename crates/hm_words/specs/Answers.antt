@@ -12,6 +12,7 @@ use Rattle.hm_words.specs.Words as words
 
 abbrev pub origin_of : Origin → words.Origin
 origin_of (origins.PageAt table page) = words.page_at table.now page.now
+origin_of (origins.FragmentAt table page) = words.fragment_at table.now page.now
 origin_of (origins.JsonAt table page) = words.json_at table.now page.now
 origin_of (origins.Made table number size) = words.made table.now number size
 

@@ -3,7 +3,7 @@ use Rattle.std.specs.Prelude.{◌≡◌, true, false, [], ◌∷◌, Some, None,
 use Rattle.hm_base.specs.declared.plain.SpellRules.{SpellRules}
 use Rattle.hm_base.specs.declared.plain.TreeOptions.{TreeOptions}
 use Rattle.hm_elements.specs.Names.{words}
-use Rattle.hm_words.specs.Words.{asked, asks, page_at, json_at, made, minifies, checks, shows, tells_json, measures, flags, choices_of}
+use Rattle.hm_words.specs.Words.{asked, asks, page_at, fragment_at, json_at, made, minifies, checks, shows, tells_json, measures, flags, choices_of}
 
 abbrev pub no_rewrites : TreeOptions
 no_rewrites = record { doctype = false; comments = false; booleans = false; empty = false; redundant = false; space = false; conservative = false }
@@ -25,6 +25,10 @@ requests : (asked (words "minify none page out cert --omit --unquote") ≡ Some 
     × (asked (words "minify none page --sparse out cert") ≡ Some (asks (page_at (codes "none") (codes "page")) (minifies (codes "out") (codes "cert")) no_rewrites (record { rules = no_rules; sparse = true })))
     × (asked (words "json none page --space") ≡ Some (asks (page_at (codes "none") (codes "page")) tells_json (record no_rewrites { space = true }) (record { rules = no_rules; sparse = false })))
     × (asked (words "minifyjson none page out cert --omit") ≡ Some (asks (json_at (codes "none") (codes "page")) (minifies (codes "out") (codes "cert")) no_rewrites (record { rules = record no_rules { omit = true }; sparse = false })))
+    × (asked (words "fragment none page out cert --omit") ≡ Some (asks (fragment_at (codes "none") (codes "page")) (minifies (codes "out") (codes "cert")) no_rewrites (record { rules = record no_rules { omit = true; frame = true }; sparse = false })))
+    × (asked (words "checkfragment none page out cert --omit --sparse") ≡ Some (asks (fragment_at (codes "none") (codes "page")) (checks (codes "out") (codes "cert")) no_rewrites (record { rules = record no_rules { omit = true; frame = true }; sparse = true })))
+    × (asked (words "fragment none page out cert --unquote") ≡ None)
+    × (asked (words "checkfragment none page out page --omit") ≡ None)
     × (asked (words "tree none page --sparse --sparse") ≡ None)
     × (asked (words "json page page") ≡ None)
     × (asked (words "json none page out cert") ≡ None)
@@ -57,4 +61,4 @@ requests : (asked (words "minify none page out cert --omit --unquote") ≡ Some 
     × (asked (codes "measure" ∷ [] ∷ codes "0" ∷ codes "1" ∷ []) ≡ None)
     × (asked [] ≡ None)
 unfolding asked flags choices_of
-requests = (refl, refl, refl, refl, refl, refl, refl, refl, refl, refl, refl, refl, refl, refl, refl, refl, refl, refl, refl, refl, refl, refl, refl, refl, refl, refl, refl, refl, refl, refl, refl, refl, refl, refl, refl, refl, refl, refl, refl, refl, refl, refl)
+requests = (refl, refl, refl, refl, refl, refl, refl, refl, refl, refl, refl, refl, refl, refl, refl, refl, refl, refl, refl, refl, refl, refl, refl, refl, refl, refl, refl, refl, refl, refl, refl, refl, refl, refl, refl, refl, refl, refl, refl, refl, refl, refl, refl, refl, refl, refl)

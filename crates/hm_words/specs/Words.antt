@@ -17,6 +17,7 @@ use Rattle.hm_words.specs.declared.writing.Writing.{Writing}
 -- where the tree of a request comes from, with the names of its files
 pub data Origin : Type 0 where
   page_at : List ℕ → List ℕ → Origin  -- TABLE, PAGE
+  fragment_at : List ℕ → List ℕ → Origin  -- TABLE, PAGE, which holds a fragment
   json_at : List ℕ → List ℕ → Origin  -- TABLE, PAGE, which holds a tree as JSON
   made : List ℕ → ℕ → ℕ → Origin  -- TABLE, NUMBER, SIZE: the page of so many blocks that is made of a number
 
@@ -128,7 +129,7 @@ set Tight given c = record c { writing = record c.writing { rules = record c.wri
 set Ascii given c = record c { writing = record c.writing { rules = record c.writing.rules { ascii = given } } }
 set Sparse given c = record c { writing = record c.writing { sparse = given } }
 
--- nothing is chosen; the start tag of body may always be left out
+-- nothing is chosen
 abbrev pub no_choices : Choices
 no_choices = record {
   options = record { doctype = false; comments = false; booleans = false; empty = false; redundant = false; space = false; conservative = false };
@@ -148,12 +149,14 @@ choices_of ws = fold (set_by ws) no_choices rows
 -- the names of the origin's files differ, where the table `none` is no name
 abbrev pub is_origin_apart : Origin → Bool
 is_origin_apart (page_at table page) = are_apart table page
+is_origin_apart (fragment_at table page) = are_apart table page
 is_origin_apart (json_at table page) = are_apart table page
 is_origin_apart (made table number size) = true
 
 -- no file of the origin has this name
 abbrev pub is_away : Origin → List ℕ → Bool
 is_away (page_at table page) name = are_apart table name && not (bytes_eq page name)
+is_away (fragment_at table page) name = are_apart table name && not (bytes_eq page name)
 is_away (json_at table page) name = are_apart table name && not (bytes_eq page name)
 is_away (made table number size) name = are_apart table name
 
@@ -203,6 +206,8 @@ abbrev pub commands : List CommandRow
 commands =
     command_row (codes "minify") sources.Page deeds.Minify
     ∷ command_row (codes "check") sources.Page deeds.Check
+    ∷ command_row (codes "fragment") sources.Fragment deeds.Minify
+    ∷ command_row (codes "checkfragment") sources.Fragment deeds.Check
     ∷ command_row (codes "tree") sources.Page deeds.Show
     ∷ command_row (codes "json") sources.Page deeds.TellJson
     ∷ command_row (codes "minifyjson") sources.Json deeds.Minify
@@ -229,6 +234,7 @@ made_of table number size = None
 -- The words of an origin come first: TABLE PAGE, or TABLE NUMBER SIZE, a number of 32 bits and from 1 to 20,000 blocks.
 abbrev pub origin_in : Source → List (List ℕ) → Option (Origin × List (List ℕ))
 origin_in sources.Page (table ∷ page ∷ rest) = Some (page_at table page, rest)
+origin_in sources.Fragment (table ∷ page ∷ rest) = Some (fragment_at table page, rest)
 origin_in sources.Json (table ∷ page ∷ rest) = Some (json_at table page, rest)
 origin_in sources.Number (table ∷ number ∷ size ∷ rest) = with_rest rest (made_of table (number_in 0 4294967295 number) (number_in 1 20000 size))
 origin_in source names = None
@@ -260,14 +266,25 @@ abbrev pub command_in : List (List ℕ) → Option Command
 command_in [] = None
 command_in (name ∷ names) = command_by (row_of name) names
 
--- the flags may stand with the command: today any with each
+-- the tree is that of a fragment
+abbrev pub is_fragment : Origin → Bool
+is_fragment (page_at table page) = false
+is_fragment (fragment_at table page) = true
+is_fragment (json_at table page) = false
+is_fragment (made table number size) = false
+
+-- The flags may stand with the command: any with each, but a fragment wants that tags may be left out.
 abbrev pub fits : Command → List (List ℕ) → Bool
-fits command ws = true
+fits command ws = not (is_fragment command.0) || has ws (codes "--omit")
+
+-- how the tree of an origin is written: the start tag of body isn't left out where it is that of a fragment
+abbrev pub written_of : Origin → Writing → Writing
+written_of origin x = record x { rules = record x.rules { frame = is_fragment origin } }
 
 -- a command is asked for, where the names of its files differ, and its flags may stand with it
 abbrev pub with_flags : List (List ℕ) → Option Command → Option Asked
 with_flags ws None = None
-with_flags ws (Some command) = if is_apart command.0 command.1 && fits command ws then Some (asks command.0 command.1 (choices_of ws).options (choices_of ws).writing) else None
+with_flags ws (Some command) = if is_apart command.0 command.1 && fits command ws then Some (asks command.0 command.1 (choices_of ws).options (written_of command.0 (choices_of ws).writing)) else None
 
 -- what the words ask for, where they have a meaning
 unfoldable pub asked : List (List ℕ) → Option Asked

@@ -7,6 +7,8 @@ ghost use Rattle.hm_words.specs.Words as spec;
 pub enum Source {
     /// A page in a file.
     Page,
+    /// A fragment in a file.
+    Fragment,
     /// The JSON of a tree in a file.
     Json,
     /// The page that is made of a number.
@@ -36,6 +38,10 @@ pub fn row_of(name: &str) -> Option<(Source, Deed)>
         Some((Source::Page, Deed::Minify))
     } else if name == "check" {
         Some((Source::Page, Deed::Check))
+    } else if name == "fragment" {
+        Some((Source::Fragment, Deed::Minify))
+    } else if name == "checkfragment" {
+        Some((Source::Fragment, Deed::Check))
     } else if name == "tree" {
         Some((Source::Page, Deed::Show))
     } else if name == "json" {

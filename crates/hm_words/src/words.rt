@@ -28,6 +28,11 @@ pub enum Origin<'w> {
         table: &'w str,
         page: &'w str,
     },
+    /// The fragment in a file, read with a table of names.
+    FragmentAt {
+        table: &'w str,
+        page: &'w str,
+    },
     /// The tree whose JSON is in a file, with a table of names.
     JsonAt {
         table: &'w str,
@@ -87,6 +92,7 @@ fn is_origin_apart(origin: &Origin<'_>) -> bool
 {
     match *origin {
         Origin::PageAt { table, page } => are_apart(table, page),
+        Origin::FragmentAt { table, page } => are_apart(table, page),
         Origin::JsonAt { table, page } => are_apart(table, page),
         Origin::Made {
             table: _,
@@ -102,6 +108,7 @@ fn is_away(origin: &Origin<'_>, name: &str) -> bool
 {
     match *origin {
         Origin::PageAt { table, page } => are_apart(table, name) && page != name,
+        Origin::FragmentAt { table, page } => are_apart(table, name) && page != name,
         Origin::JsonAt { table, page } => are_apart(table, name) && page != name,
         Origin::Made {
             table,
@@ -132,7 +139,7 @@ fn is_apart(origin: &Origin<'_>, work: &Work<'_>) -> bool
         }
 }
 
-/// Nothing is chosen. The start tag of body may always be left out.
+/// Nothing is chosen.
 const NO_CHOICES: Choices = Choices {
     options: TreeOptions {
         doctype: false,
@@ -210,6 +217,10 @@ fn origin_in<'m, 'w>(source: Source, names: &'m [&'w str]) -> Option<(Origin<'w>
             [table, page, rest @ ..] => Some((Origin::PageAt { table, page }, rest)),
             _ => None,
         },
+        Source::Fragment => match names {
+            [table, page, rest @ ..] => Some((Origin::FragmentAt { table, page }, rest)),
+            _ => None,
+        },
         Source::Json => match names {
             [table, page, rest @ ..] => Some((Origin::JsonAt { table, page }, rest)),
             _ => None,
@@ -276,11 +287,28 @@ fn is_guarded(matches: &ArgMatches<'_>) -> bool
     !is_given(matches, "conservative") || is_given(matches, "space")
 }
 
-/// Whether the flags may stand with the command: today any with each.
-fn fits(_command: &(Origin<'_>, Work<'_>), _matches: &ArgMatches<'_>) -> bool
-    ensures { (words : List (List ℕ)) → IsMatched words _matches.now → result ≡ spec.fits (command_of _command.now) words }
+/// Whether the tree is that of a fragment.
+fn is_fragment(origin: &Origin<'_>) -> bool
+    ensures { result ≡ spec.is_fragment (origin_of origin.now) }
 {
-    true
+    matches!(*origin, Origin::FragmentAt { table: _, page: _ })
+}
+
+/// Whether the flags may stand with the command: any with each, but a fragment wants that tags may be left out.
+#[tactic(auto, unfolding(crate::specs::Words::flags))]
+fn fits(command: &(Origin<'_>, Work<'_>), matches: &ArgMatches<'_>) -> bool
+    ensures { (words : List (List ℕ)) → IsMatched words matches.now → result ≡ spec.fits (command_of command.now) words }
+{
+    !is_fragment(&command.0) || is_given(matches, "omit")
+}
+
+/// How the tree of an origin is written: the start tag of body isn't left out where it is that of a fragment.
+fn written_of(origin: &Origin<'_>, writing: Writing) -> Writing
+    ensures { result ≡ spec.written_of (origin_of origin.now) writing }
+{
+    let mut writing = writing;
+    writing.rules.frame = is_fragment(origin);
+    writing
 }
 
 /// What the words of these matches ask for, if they have a meaning.
@@ -302,7 +330,7 @@ fn asked_in<'w>(matches: &ArgMatches<'w>) -> Option<Asked<'w>>
         origin,
         work,
         options: choices.options,
-        writing: choices.writing,
+        writing: written_of(&origin, choices.writing),
     })
 }
 

@@ -1,11 +1,11 @@
 use Rattle.std.proofs.Common.{ap, subst}
-use Rattle.hm_words.specs.Words.{asked}
+use Rattle.hm_words.specs.Words.{asked, is_fragment}
 use Rattle.hm_minify.specs.Endings.{IsReadableAsked, ending, is_fault}
 use Rattle.hm_minify.specs.Lines.{usage_line}
 use Rattle.hm_minify.specs.Outside.{outside}
 use Rattle.hm_minify.proofs.Courses.{answer, answered, complete, whole, left, store_cause, store_said, sink_cause, sink_front, memory}
 use Rattle.hm_minify.proofs.JsonRead.{json_minified}
-use Rattle.hm_minify.proofs.Meanings.{usage_answers, usage_unasked, usage_or_fault, minified, checks, denies, shows, measures, always_measures, refuses_json, refuses_page, refuses_table, tells}
+use Rattle.hm_minify.proofs.Meanings.{usage_answers, usage_unasked, usage_or_fault, minified, minified_fragment, checks, checks_fragment, denies, shows, measures, always_measures, refuses_json, refuses_page, refuses_table, tells}
 use Rattle.hm_minify.proofs.Others.{others}
 use Rattle.hm_minify.proofs.top.run.Goals as goal
 
@@ -52,13 +52,19 @@ returns-clause-memory g c = λ is.
     (m.0, m.1, c.perform.ensures.writing is)
 
 pub returns-clause-minified : goal.returns-clause-minified
-returns-clause-minified g c = λ request output cert e work is. minified c.args.words.now request output cert c.perform.result _ _ e work (answered (ending c.args.words.now) (IsReadableAsked (asked c.args.words.now)) c.perform.result _ _ c.perform.ensures.course (ap is_fault is)) is
+returns-clause-minified g c = λ request output cert e page work is. minified c.args.words.now request output cert c.perform.result _ _ e page work (answered (ending c.args.words.now) (IsReadableAsked (asked c.args.words.now)) c.perform.result _ _ c.perform.ensures.course (ap is_fault is)) is
+
+pub returns-clause-fragment_minified : goal.returns-clause-fragment_minified
+returns-clause-fragment_minified g c = λ request output cert e fragment work is. minified_fragment c.args.words.now request output cert c.perform.result _ _ e fragment work (answered (ending c.args.words.now) (IsReadableAsked (asked c.args.words.now)) c.perform.result _ _ c.perform.ensures.course (ap is_fault is)) is
+
+pub returns-clause-fragment_checked : goal.returns-clause-fragment_checked
+returns-clause-fragment_checked g c = λ request output cert e fragment work is. checks_fragment c.args.words.now request output cert c.perform.result _ _ e fragment work (answered (ending c.args.words.now) (IsReadableAsked (asked c.args.words.now)) c.perform.result _ _ c.perform.ensures.course (ap is_fault is)) is
 
 pub returns-clause-json_minified : goal.returns-clause-json_minified
-returns-clause-json_minified g c = λ request table json output cert e origin work is. json_minified request table json output cert _ _ origin (minified c.args.words.now request output cert c.perform.result _ _ e work (answered (ending c.args.words.now) (IsReadableAsked (asked c.args.words.now)) c.perform.result _ _ c.perform.ensures.course (ap is_fault is)) is)
+returns-clause-json_minified g c = λ request table json output cert e origin work is. json_minified request table json output cert _ _ origin (minified c.args.words.now request output cert c.perform.result _ _ e (ap is_fragment origin) work (answered (ending c.args.words.now) (IsReadableAsked (asked c.args.words.now)) c.perform.result _ _ c.perform.ensures.course (ap is_fault is)) is)
 
 pub returns-clause-checked : goal.returns-clause-checked
-returns-clause-checked g c = λ request output cert e work is. checks c.args.words.now request output cert c.perform.result _ _ e work (answered (ending c.args.words.now) (IsReadableAsked (asked c.args.words.now)) c.perform.result _ _ c.perform.ensures.course (ap is_fault is)) is
+returns-clause-checked g c = λ request output cert e page work is. checks c.args.words.now request output cert c.perform.result _ _ e page work (answered (ending c.args.words.now) (IsReadableAsked (asked c.args.words.now)) c.perform.result _ _ c.perform.ensures.course (ap is_fault is)) is
 
 pub returns-clause-denied : goal.returns-clause-denied
 returns-clause-denied g c = λ request e is. denies c.args.words.now request c.perform.result _ _ e (answer (ending c.args.words.now) (IsReadableAsked (asked c.args.words.now)) c.perform.result _ _ c.perform.ensures.course (ap is_fault is)) is

@@ -2,16 +2,17 @@ use Rattle.std.proofs.Common.{refl, sym, subst}
 use Rattle.std.proofs.lemmas.Result.{IfOk-weaker}
 use Rattle.hm_base.specs.declared.limits.TheConstants.{CERTIFICATE_LIMIT, OUTPUT_LIMIT}
 use Rattle.hm_minify.specs.Loads.{IsLoaded}
-use Rattle.hm_minify.proofs.Found.{checked_answers, checked_seen}
+use Rattle.hm_minify.proofs.Found.{checked_answers, checked_seen, limit_of}
 use Rattle.hm_minify.proofs.Loaded.{is_loaded}
-use Rattle.hm_minify.proofs.checked.check_files.Goals as goal
+use Rattle.hm_minify.proofs.checked.check_page.Goals as goal
 
 pub returns-clause-ended : goal.returns-clause-ended
 returns-clause-ended g c =
     let told = g.S.Store.files c.args.store.now in
-    let text : IsLoaded told c.args.out.now OUTPUT_LIMIT c.as_slice.result.now = subst (IsLoaded told c.args.out.now OUTPUT_LIMIT) (sym c.as_slice.ensures.value) (is_loaded told c.args.out.now OUTPUT_LIMIT c.in_ok-text.text.items c.in_ok-text.ensures.loaded c.in_ok-text.ensures.within (c.in_ok-text.ensures.there refl)) in
+    let page : IsLoaded told c.args.out.now OUTPUT_LIMIT c.as_slice.result.now = subst (IsLoaded told c.args.out.now OUTPUT_LIMIT) (sym c.as_slice.ensures.value) (is_loaded told c.args.out.now OUTPUT_LIMIT c.in_ok-text.text.items c.in_ok-text.ensures.loaded c.in_ok-text.ensures.within (c.in_ok-text.ensures.there refl)) in
     let lines : IsLoaded told c.args.cert.now CERTIFICATE_LIMIT c.as_slice-2.result.now =
     subst (IsLoaded told c.args.cert.now CERTIFICATE_LIMIT) (sym c.as_slice-2.ensures.value) (subst (λ files. IsLoaded files c.args.cert.now CERTIFICATE_LIMIT c.in_ok-lines.lines.items) c.in_ok-text.ensures.same (is_loaded _ c.args.cert.now CERTIFICATE_LIMIT c.in_ok-lines.lines.items c.in_ok-lines.ensures.loaded c.in_ok-lines.ensures.within (c.in_ok-lines.ensures.there refl))) in
+    let text : IsLoaded told c.args.out.now (limit_of c.args.rules.frame) c.as_slice.result.now = subst (λ f. IsLoaded told c.args.out.now (limit_of f) c.as_slice.result.now) (sym c.requires.page) page in
     IfOk-weaker c.check_bytes.result _ _
     (λ ended e. checked_seen told c.args.out.now c.args.cert.now c.as_slice.result.now c.as_slice-2.result.now c.args.rules c.args.input.now.table.entries c.args.input.now.tree ended c.requires.apart text lines e) c.check_bytes.ensures.ended
 

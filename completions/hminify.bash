@@ -20,7 +20,7 @@ _hminify() {
         return
     fi
     case $command,$names in
-        ,0) mapfile -t COMPREPLY < <(compgen -W 'minify check tree json minifyjson measure' -- "$word") ;;
+        ,0) mapfile -t COMPREPLY < <(compgen -W 'minify check fragment checkfragment tree json minifyjson measure' -- "$word") ;;
         minify,1) mapfile -t COMPREPLY < <(compgen -W 'none' -- "$word"; compgen -f -- "$word") ;;
         minify,2) mapfile -t COMPREPLY < <(compgen -f -- "$word") ;;
         minify,3) mapfile -t COMPREPLY < <(compgen -f -- "$word") ;;
@@ -29,6 +29,14 @@ _hminify() {
         check,2) mapfile -t COMPREPLY < <(compgen -f -- "$word") ;;
         check,3) mapfile -t COMPREPLY < <(compgen -f -- "$word") ;;
         check,4) mapfile -t COMPREPLY < <(compgen -f -- "$word") ;;
+        fragment,1) mapfile -t COMPREPLY < <(compgen -W 'none' -- "$word"; compgen -f -- "$word") ;;
+        fragment,2) mapfile -t COMPREPLY < <(compgen -f -- "$word") ;;
+        fragment,3) mapfile -t COMPREPLY < <(compgen -f -- "$word") ;;
+        fragment,4) mapfile -t COMPREPLY < <(compgen -f -- "$word") ;;
+        checkfragment,1) mapfile -t COMPREPLY < <(compgen -W 'none' -- "$word"; compgen -f -- "$word") ;;
+        checkfragment,2) mapfile -t COMPREPLY < <(compgen -f -- "$word") ;;
+        checkfragment,3) mapfile -t COMPREPLY < <(compgen -f -- "$word") ;;
+        checkfragment,4) mapfile -t COMPREPLY < <(compgen -f -- "$word") ;;
         tree,1) mapfile -t COMPREPLY < <(compgen -W 'none' -- "$word"; compgen -f -- "$word") ;;
         tree,2) mapfile -t COMPREPLY < <(compgen -f -- "$word") ;;
         json,1) mapfile -t COMPREPLY < <(compgen -W 'none' -- "$word"; compgen -f -- "$word") ;;

@@ -49,7 +49,7 @@ fill() {
 right_out='<!doctype html><p>a<p>b|'
 right_cert=$(printf 'html-cert 2\nrules omit unquote\n23\n8\n8\n8\n8\n4\n0\n0\n0\n0\n|')
 json='[["doctype","plain"],["start","html",[]],["start","head",[]],["end"],["start","body",[]],["start","p",[]],["text","a"],["end"],["start","p",[]],["text","b"],["end"],["end"],["end"]]'
-usage='usage: hminify minify, check or minifyjson TABLE PAGE OUT CERT, tree or json TABLE PAGE, measure TABLE NUMBER SIZE'
+usage='usage: hminify minify, check, fragment, checkfragment or minifyjson TABLE PAGE OUT CERT, tree or json TABLE PAGE, measure TABLE NUMBER SIZE'
 
 printf '<!doctype html><p>a</p><p>b</p>' >page
 printf '<!doctype html><p>a</i>' >wrong
@@ -81,6 +81,19 @@ head -c 5000 /dev/zero >cert
 ends 'minifyjson' 0 'length 23' minifyjson none tree out cert --omit --unquote
 same 'minifyjson: OUT' "$(bytes out)" "$right_out"
 same 'minifyjson: CERT' "$(bytes cert)" "$right_cert"
+
+# A fragment: its places and lengths count its own bytes, and its certificate those of its front too.
+head -c 5000 /dev/zero >part_out
+head -c 5000 /dev/zero >part_cert
+printf '<p>a</p><p>b</p>' >part
+printf 'a</body>' >closing
+ends 'fragment' 0 'length 8' fragment none part part_out part_cert --omit --unquote
+same 'fragment: OUT' "$(bytes part_out)" '<p>a<p>b|'
+same 'fragment: CERT' "$(bytes part_cert)" "$(printf 'html-cert 2\nrules omit unquote frame\n29\n14\n14\n14\n4\n0\n0\n0\n0\n|')"
+ends 'checkfragment' 0 'yes 8' checkfragment none part part_out part_cert --omit --unquote
+ends 'a fragment without --omit' 2 "$usage" fragment none part part_out part_cert --unquote
+ends 'a fragment that closes its body' 3 'page refused: FrameEnd at 1' fragment none closing part_out part_cert --omit --unquote
+ends 'OUT closes its body' 1 'no 2 output refused: FrameEnd at 1' checkfragment none part closing part_cert --omit --unquote
 
 # A full device: OUT and CERT are whole all the same.
 if [ -c /dev/full ]; then
@@ -115,6 +128,14 @@ fill '<!doctype html>' 16777201 a >large
 ends 'a page of 16,777,216 bytes' 0 'length 16777255' minify none large out cert
 fill '<!doctype html>' 16777202 a >large
 ends 'a page of 16,777,217 bytes' 3 'page refused: TooLong at 16777216' minify none large out cert
+fill '' 16777216 a >large
+ends 'a fragment of 16,777,216 bytes' 0 'length 16777216' fragment none large out cert --omit
+fill '' 16777217 a >large
+ends 'a fragment of 16,777,217 bytes' 3 'page refused: TooLong at 16777216' fragment none large out cert --omit
+fill '' 67108843 a >large
+ends 'OUT of a fragment of 67,108,843 bytes' 1 'no 3 trees differ at event 5' checkfragment none part large part_cert --omit --unquote
+fill '' 67108844 a >large
+ends 'OUT of a fragment of 67,108,844 bytes' 1 'no 2 output refused: TooLong at 67108843' checkfragment none part large part_cert --omit --unquote
 printf '[' >large
 fill '' 67108862 ' ' >>large
 printf ']' >>large

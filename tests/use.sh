@@ -54,7 +54,7 @@ skip() {
 }
 
 # The recipes that are scripts.
-names='minify-page in-place in-place-all minify-tree check-tree precompress check-page check-all configure-pages'
+names='minify-page in-place in-place-all minify-tree check-tree minify-part check-part precompress check-page check-all configure-pages'
 
 # Writes each block of the page that has a name into the file of that name.
 recipes() {
@@ -173,6 +173,30 @@ try_tree() {
     wants 'a tree: no certificate is left' is "$(find public -type f)" public/two.html
 }
 
+try_part() {
+    project
+    mkdir parts
+    printf '<p class="a">Fish &amp; Chips</p>\n<p>Tea</p>\n' >parts/list.html
+    call ./minify-part parts/list.html shipped/list.html
+    wants 'a part: is written' is "$status" 0
+    wants 'a part: what is shipped' is "$(cat shipped/list.html)" '<p class=a>Fish & Chips<p>Tea'
+    call ./check-part parts/list.html shipped/list.html
+    wants 'a part: its certificate holds' is "$status" 0
+    printf '<p class=a>Fish & Chips</p><p>Tea' >shipped/list.html
+    call ./check-part parts/list.html shipped/list.html
+    wants 'a part: a longer text is found' is "$status" 1
+    wants 'a part: and named' says 'shipped/list.html: no 7 output 54 bytes, first price 50 (status 1)'
+    printf '<p>Tea</p></body>' >parts/list.html
+    call ./minify-part parts/list.html shipped/list.html
+    wants 'a part: one that is refused stops nothing' is "$status" 0
+    wants 'a part: and is shipped as it is' cmp -s parts/list.html shipped/list.html
+    wants 'a part: and is named' says 'parts/list.html: page refused: FrameEnd at 10; shipped as it is'
+    wants 'a part: no certificate is left' is "$(find shipped -type f)" shipped/list.html
+    echo '--unquote' >hminify.flags
+    call ./minify-part parts/list.html shipped/list.html
+    wants 'a part: without --omit it stops' is "$status" 1
+}
+
 try_compressed() {
     project
     ./minify-page site/index.html public/index.html
@@ -201,6 +225,7 @@ if has ninja; then try_build ninja 'no work to do' 1 ninja; else skip 'ninja: no
 try_checks
 try_in_place
 try_tree
+try_part
 try_compressed
 try_action
 project

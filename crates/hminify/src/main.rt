@@ -1,5 +1,5 @@
-//! The program: `main` calls `run` of `hm_minify` over real files. Its words are `minify TABLE PAGE OUT CERT`, `check` or `minifyjson` with
-//! the same names, `tree TABLE PAGE` or `json` with the same, or `measure TABLE NUMBER SIZE`, and flags.
+//! The program: `main` calls `run` of `hm_minify` over real files. Its words are `minify TABLE PAGE OUT CERT`, or `check`, `fragment`,
+//! `checkfragment` or `minifyjson` with the same names, `tree TABLE PAGE` or `json` with the same, or `measure TABLE NUMBER SIZE`, and flags.
 #![tactic(auto)]
 
 use hm_base::Word;

@@ -49,7 +49,8 @@ pub enum CaseVerdict {
     OtherOutput,
     /// The file `out` or `cert` is another one, or isn't there.
     OtherFile,
-    /// `check` doesn't say yes to what `minify` has written, in one of the formats that it writes.
+    /// `check` doesn't say yes to what `minify` has written, or `checkfragment` to what `fragment` has, in one of the formats that they
+    /// write.
     NotShown,
     /// Where a call on the files or on the output fails, or a put is torn, the run doesn't end as it should.
     NotEnded,
@@ -267,8 +268,8 @@ impl Case {
             .any(|word| word.text.as_str() == "minifyjson")
     }
 
-    /// The words of the case, with `check` in place of `minify`. Where the tree is given as JSON the page is `copy`, and nothing is
-    /// rewritten.
+    /// The words of the case, with `check` in place of `minify`, or `checkfragment` in place of `fragment`. Where the tree is given as
+    /// JSON the page is `copy`, and nothing is rewritten.
     fn checking(&self, alloc: Global) -> io::Result<Vec<Word>> {
         let of_json = self.is_of_json();
         let mut words = Vec::new(alloc);
@@ -279,6 +280,7 @@ impl Case {
             }
             let text = match text {
                 "minify" | "minifyjson" => "check",
+                "fragment" => "checkfragment",
                 "page" if of_json => "copy",
                 _ => text,
             };

@@ -6,44 +6,17 @@
 // size alone. With --peer, COMMAND (tdewolff's minify) writes the same pages with its defaults, and their trees are compared
 // too: all of them, attributes, comments, scripts and whitespace included, and once more only the names of the elements and
 // the texts, whatever their whitespace. A table is printed, a line for each folder or kind, and the pages whose tree hminify
-// changed for parse5. It ends with 1 where one of these has none of the reasons below.
+// changed for parse5. It ends with 1 where one of these has none of the reasons that trees.mjs lists.
 import { execFileSync, spawnSync } from "node:child_process";
-import { mkdtempSync, readdirSync, readFileSync, rmSync, statSync } from "node:fs";
+import { mkdtempSync, readFileSync, rmSync, statSync } from "node:fs";
 import { tmpdir } from "node:os";
 import { basename, dirname, join, resolve } from "node:path";
 import { fileURLToPath } from "node:url";
-import { library, linesOf } from "./trees.mjs";
+import { REASONS, firstOther, library, linesOf, pagesBelow } from "./trees.mjs";
 
 const TABLE = join(dirname(fileURLToPath(import.meta.url)), "../tables/entities.json");
 const RULES = ["--omit", "--unquote", "--tight"];
 const REWRITES = ["--doctype", "--comments", "--booleans", "--empty", "--redundant", "--space"];
-
-// Why parse5's tree of an output may be another than that of its page although the standard's trees are the same; each is
-// told by a line of one of the two trees.
-const REASONS = [
-  {
-    text: "the start tag of search closes an open p in the standard; parse5 7.1.2 is older than the element",
-    line: /^ *element search\b/m,
-  },
-  {
-    text: "a CDATA section in title or desc of SVG is text in the standard, and a comment for parse5",
-    line: /^ *comment "\[CDATA\[/m,
-  },
-  {
-    text: "a carriage return that a reference gives is whitespace in the standard, and other text for parse5",
-    line: /^ *text ".*\\r/m,
-  },
-];
-
-/** The files of a folder and of all below it. */
-function* pagesBelow(folder) {
-  const entries = readdirSync(folder, { withFileTypes: true }).sort((a, b) => (a.name < b.name ? -1 : 1));
-  for (const entry of entries) {
-    const path = join(folder, entry.name);
-    if (entry.isDirectory()) yield* pagesBelow(path);
-    else if (entry.isFile() && /\.html?$/.test(entry.name)) yield path;
-  }
-}
 
 /** Pairs of a kind and a page. */
 function* pagesOf(words) {
@@ -99,13 +72,6 @@ class Sums {
   add(other) {
     for (const key of Object.keys(this)) this[key] += other[key];
   }
-}
-
-function firstOther(a, b) {
-  const [x, y] = [a.split("\n"), b.split("\n")];
-  const at = x.findIndex((line, i) => line !== y[i]);
-  const place = at < 0 ? x.length : at;
-  return `line ${place + 1}: page ${x[place]}, output ${y[place]}`;
 }
 
 /** One page: what is added to the sums of its kind, and what is said of it. */

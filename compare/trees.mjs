@@ -1,5 +1,7 @@
-// trees.mjs: the tree that parse5 gives of a page, with scripting off, in the form of hminify's dump.
+// trees.mjs: the tree that parse5 gives of a page or of a fragment, with scripting off, in the form of hminify's dump.
+import { readdirSync } from "node:fs";
 import { createRequire } from "node:module";
+import { join } from "node:path";
 
 const require = createRequire(import.meta.url);
 
@@ -56,4 +58,46 @@ export function linesOf(parse, page) {
   const text = new TextDecoder("utf-8", { fatal: true }).decode(page);
   const document = parse(text, { scriptingEnabled: false });
   return document.childNodes.flatMap((node) => dump(node, 0, []));
+}
+
+/** The same of what `innerHTML` of an element is set to; a byte order mark is text there. */
+export function fragmentLinesOf({ parseFragment, defaultTreeAdapter, html }, element, fragment) {
+  const text = new TextDecoder("utf-8", { fatal: true, ignoreBOM: true }).decode(fragment);
+  const context = defaultTreeAdapter.createElement(element, html.NS.HTML, []);
+  return parseFragment(context, text, { scriptingEnabled: false }).childNodes.flatMap((node) => dump(node, 0, []));
+}
+
+/** Where two trees differ first. */
+export function firstOther(a, b) {
+  const [x, y] = [a.split("\n"), b.split("\n")];
+  const at = x.findIndex((line, i) => line !== y[i]);
+  const place = at < 0 ? x.length : at;
+  return `line ${place + 1}: page ${x[place]}, output ${y[place]}`;
+}
+
+// Why parse5's tree of an output may be another than that of its page although the standard's trees are the same; each is
+// told by a line of one of the two trees.
+export const REASONS = [
+  {
+    text: "the start tag of search closes an open p in the standard; parse5 7.1.2 is older than the element",
+    line: /^ *element search\b/m,
+  },
+  {
+    text: "a CDATA section in title or desc of SVG is text in the standard, and a comment for parse5",
+    line: /^ *comment "\[CDATA\[/m,
+  },
+  {
+    text: "a carriage return that a reference gives is whitespace in the standard, and other text for parse5",
+    line: /^ *text ".*\\r/m,
+  },
+];
+
+/** The files of a folder and of all below it. */
+export function* pagesBelow(folder) {
+  const entries = readdirSync(folder, { withFileTypes: true }).sort((a, b) => (a.name < b.name ? -1 : 1));
+  for (const entry of entries) {
+    const path = join(folder, entry.name);
+    if (entry.isDirectory()) yield* pagesBelow(path);
+    else if (entry.isFile() && /\.html?$/.test(entry.name)) yield path;
+  }
 }

@@ -230,6 +230,8 @@ call "$top/hminify" --try measure table 7 20
 wants '--try: numbers are no files' is "$(cat out)" "<measure><$room/table><7><20>"
 call "$top/hminify" --try minifyjson none --omit tree.json out /tmp/cert
 wants '--try: a tree is a file too' is "$(cat out)" "<minifyjson><none><--omit><$room/tree.json><$room/out></tmp/cert>"
+call "$top/hminify" --try checkfragment none part.html out cert --omit
+wants '--try: and a fragment' is "$(cat out)" "<checkfragment><none><$room/part.html><$room/out><$room/cert><--omit>"
 call "$top/hminify" --try json table 7
 wants '--try: a page may be named as a number is' is "$(cat out)" "<json><$room/table><$room/7>"
 call "$top/hminify" --try tree html none

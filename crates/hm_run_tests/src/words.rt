@@ -107,6 +107,31 @@ fn requests(rt: HostRuntime) -> Result<(), Fail> {
             false,
         )?
     );
+    let framed = SpellRules {
+        omit: true,
+        frame: true,
+        ..NO_RULES
+    };
+    assert!(rt;
+        asks(
+            alloc,
+            "checkfragment none page --omit out cert",
+            &["checkfragment", "none", "page", "out", "cert"],
+            NO_OPTIONS,
+            framed,
+            false,
+        )?
+    );
+    assert!(rt;
+        !asks(
+            alloc,
+            "checkfragment none page out cert",
+            &["checkfragment", "none", "page", "out", "cert"],
+            NO_OPTIONS,
+            framed,
+            false,
+        )?
+    );
     let commented = TreeOptions {
         comments: true,
         ..NO_OPTIONS

@@ -1,5 +1,5 @@
 -- A check of what was minified says yes.
-use Rattle.std.proofs.Common.{◌≡◌, ◌∙◌, ℕ, ◌≤◌, ◌||◌, ◌&&◌, Bool, true, false, cond, List, [], ◌∷◌, length, Option, Some, None, Result, Ok, Err, refl, sym, ap, arith}
+use Rattle.std.proofs.Common.{◌≡◌, ◌∙◌, ◌-◌, ap₂, length-append, ℕ, ◌≤◌, ◌||◌, ◌&&◌, Bool, true, false, cond, List, [], ◌∷◌, length, Option, Some, None, Result, Ok, Err, refl, sym, ap, arith}
 use Rattle.std.proofs.lemmas.Bool.Decides.{nat_tests}
 use Rattle.std.specs.Bool.{nat_lt}
 use Rattle.std.specs.Str.{bytes_eq}
@@ -13,6 +13,10 @@ use Rattle.hm_check.specs.Verdicts.{verdict}
 use Rattle.hm_check.specs.declared.verdicts.Verdict.{Verdict}
 use Rattle.hm_check.specs.declared.verdicts.Verdict.TheVariants.{Yes}
 use Rattle.hm_elements.specs.Settled.{Settled}
+use Rattle.hm_construction_laws.specs.Trees.{built}
+use Rattle.hm_fragment.specs.Frames.{framed, front, unframed}
+use Rattle.hm_fragment.specs.Laws.{IsReadBack}
+use Rattle.hm_base.specs.declared.plain.SpellRules.{SpellRules}
 use Rattle.hm_plan.specs.Shortest.{certificate_of, certified_rows, shortest_text}
 use Rattle.hm_refs.proofs.Places.{same_bytes}
 use Rattle.hm_refs.specs.Names.{Entry}
@@ -20,15 +24,16 @@ use Rattle.hm_refs.specs.Tables.{IsTable}
 use Rattle.hm_store.specs.Contents.{Contents}
 use Rattle.hm_words.specs.Words.{Asked, Command, Origin, Work, are_filled, are_files_apart, are_flags, asked, asks, checks, choices_of, command_in, fits, is_apart, minifies, names_in, with_flags, written_of}
 use Rattle.hm_words.specs.declared.writing.Writing.{Writing}
-use Rattle.hm_minify.specs.Endings.{asked_ending, certificate_ending, found_ending, check_ending, written_part, checked_ending, format_of, says, tree_ending, verdict_ending, with_tree}
+use Rattle.hm_minify.specs.Endings.{asked_ending, certificate_ending, check_ending, checked_ending, format_of, found_ending, framed_ending, out_fragment, says, tree_ending, verdict_ending, with_tree, written_part}
 use Rattle.hm_minify.specs.Inputs.{Input, missing, bad_table, bad_page, bad_json, tree as tree_input, input_of, origin_input, wanted}
-use Rattle.hm_minify.specs.Laws.{MinifiedIsChecked, TreeIsChecked, judged, own_verdict, with_writes}
+use Rattle.hm_minify.specs.Laws.{FragmentIsChecked, MinifiedIsChecked, TreeIsChecked, judged, own_verdict, with_writes}
 use Rattle.hm_minify.specs.Lines.{yes_line}
 use Rattle.hm_minify.specs.Writes.{write}
 use Rattle.hm_minify.specs.declared.status.Status.TheVariants as status
 use Rattle.hm_minify.proofs.Accepted.{own_is_accepted}
 use Rattle.hm_minify.proofs.Answered.{away, files_apart, is_either, work_apart}
-use Rattle.hm_minify.proofs.Framing.{ruled}
+use Rattle.hm_minify.proofs.Found.{bytes_less, short_own}
+use Rattle.hm_minify.proofs.Framing.{request_framed, ruled, text_read_back}
 use Rattle.hm_minify.proofs.Headline.{request_table}
 use Rattle.hm_minify.proofs.Seen.{mixed, origin_stays}
 
@@ -111,6 +116,15 @@ same_wanted origin a b options x (bad_page rule at) = refl
 same_wanted origin a b options x (bad_json fault) = refl
 same_wanted origin a b options x (tree_input n t w) = refl
 
+-- the tree is the same after what was minified was written
+input_after : (words : List (List ℕ)) (origin : Origin) (out cert o c : List ℕ) (options : TreeOptions) (x : Writing) (seen : Contents) (bytes : ℕ) (t : List Entry) (w : List Event) → are_files_apart origin out cert ≡ true
+    → input_of (asks origin (minifies out cert) options x) seen ≡ tree_input bytes t w → input_of (asks origin (checks out cert) options x) (with_writes seen (write out o ∷ write cert c ∷ [])) ≡ tree_input bytes t w
+input_after words origin out cert o c options x seen bytes t w apart reads =
+    let now : Contents = with_writes seen (write out o ∷ write cert c ∷ []) in
+    let same : origin_input origin options now ≡ origin_input origin options seen =
+    ap (origin_input origin options) (writes_mix seen out cert o c) ∙ origin_stays (is_either out cert) origin options seen (written_to cert o c) (away origin out cert apart) in
+    ap (wanted (asks origin (checks out cert) options x)) same ∙ same_wanted origin (minifies out cert) (checks out cert) options x (origin_input origin options seen) ∙ reads
+
 pub minified_is_checked : MinifiedIsChecked
 minified_is_checked words origin out cert options x page e seen bytes t w reads settled rows short few =
     let q : Asked = asks origin (minifies out cert) options x in
@@ -118,10 +132,46 @@ minified_is_checked words origin out cert options x page e seen bytes t w reads 
     let c : List ℕ = certificate_of t x.rules (format_of x.sparse) w in
     let now : Contents = with_writes seen (write out o ∷ write cert c ∷ []) in
     let apart : are_files_apart origin out cert ≡ true = work_apart origin (minifies out cert) (asked_apart words q e) in
-    let same : origin_input origin options now ≡ origin_input origin options seen =
-    ap (origin_input origin options) (writes_mix seen out cert o c) ∙ origin_stays (is_either out cert) origin options seen (written_to cert o c) (away origin out cert apart) in
-    let input : input_of (asks origin (checks out cert) options x) now ≡ tree_input bytes t w =
-    ap (wanted (asks origin (checks out cert) options x)) same ∙ same_wanted origin (minifies out cert) (checks out cert) options x (origin_input origin options seen) ∙ reads in
+    let input : input_of (asks origin (checks out cert) options x) now ≡ tree_input bytes t w = input_after words origin out cert o c options x seen bytes t w apart reads in
     let frame : x.rules.frame ≡ false = (ruled words q e).frame ∙ page in
     ap (λ f. asked_ending (asks origin (checks out cert) options x) (with_writes seen (write out (written_part f o) ∷ write cert c ∷ []))) frame
     ∙ tree_is_checked (asks origin (checks out cert) options x) out cert refl frame now bytes t w input settled x.sparse (out_there seen out cert o c (files_apart origin out cert apart)) (cert_there seen out cert o c) rows short few
+
+-- ---- A fragment
+
+judged_fragment : (t : List Entry) (r : SpellRules) (w : List Event) (o text : List ℕ) (g : Result Certificate ℕ) → framed o ≡ text → out_fragment t o ≡ built w → judged (verdict t r w text) g ≡ Ok (Yes (length text))
+    → certificate_ending (found_ending true r t w o) g ≡ says status.Done (yes_line (length o))
+judged_fragment t r w o text (Err line) is reads e = cc
+judged_fragment t r w o text (Ok c) is reads e =
+    let found : verdict t r w text c ≡ Yes (length text) = cc in
+    let less : length text - length front ≡ length o = bytes_less (length text) (length o) (ap length (sym is) ∙ length-append front o) in
+    ap₂ framed_ending (ap (λ y. verdict t r w y c) is ∙ found) reads ∙ ap (λ n. says status.Done (yes_line n)) less
+
+own_fragment : (t : List Entry) → IsTable t → (x : Writing) (w : List Event) → x.rules.frame ≡ true → Settled w → IsReadBack t w (shortest_text t x.rules w) → AreRows (certified_rows t x.rules (format_of x.sparse) w) → length (shortest_text t x.rules w) ≤ OUTPUT_LIMIT
+    → length (certificate_of t x.rules (format_of x.sparse) w) ≤ CERTIFICATE_LIMIT
+    → checked_ending x.rules t w (unframed (shortest_text t x.rules w)) (certificate_of t x.rules (format_of x.sparse) w) ≡ says status.Done (yes_line (length (unframed (shortest_text t x.rules w))))
+own_fragment t k x w frame s back rows short few =
+    let text : List ℕ = shortest_text t x.rules w in
+    let o : List ℕ = unframed text in
+    let c : List ℕ = certificate_of t x.rules (format_of x.sparse) w in
+    let outcome : out_fragment t o ≡ built w = short_own t o text w back.framed_is short back.reads in
+    rw (within CERTIFICATE_LIMIT (length c) few)
+    (ap (λ f. certificate_ending (found_ending f x.rules t w o) (given c)) frame ∙ judged_fragment t x.rules w o text (given c) back.framed_is outcome (own_is_accepted t k x w s short rows))
+
+pub fragment_is_checked : FragmentIsChecked
+fragment_is_checked words origin out cert options x fragment e seen bytes t w reads settled rows short few =
+    let q : Asked = asks origin (minifies out cert) options x in
+    let text : List ℕ = shortest_text t x.rules w in
+    let o : List ℕ = unframed text in
+    let c : List ℕ = certificate_of t x.rules (format_of x.sparse) w in
+    let now : Contents = with_writes seen (write out o ∷ write cert c ∷ []) in
+    let apart : are_files_apart origin out cert ≡ true = work_apart origin (minifies out cert) (asked_apart words q e) in
+    let ruled_so = ruled words q e in
+    let frame : x.rules.frame ≡ true = ruled_so.frame ∙ fragment in
+    let k : IsTable t = request_table q seen bytes t w reads in
+    let back : IsReadBack t w text = text_read_back t k x.rules (ruled_so.omits fragment) frame w settled (request_framed q seen bytes t w fragment reads) in
+    ap (λ f. asked_ending (asks origin (checks out cert) options x) (with_writes seen (write out (written_part f text) ∷ write cert c ∷ []))) frame
+    ∙ ap (λ y. with_tree y (tree_ending (checks out cert) x now)) (input_after words origin out cert o c options x seen bytes t w apart reads)
+    ∙ ap (λ y. check_ending x.rules t w y (now cert)) (out_there seen out cert o c (files_apart origin out cert apart))
+    ∙ ap (check_ending x.rules t w (Some o)) (cert_there seen out cert o c)
+    ∙ own_fragment t k x w frame settled back rows short few

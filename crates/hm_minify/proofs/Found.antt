@@ -273,7 +273,7 @@ same_tree t out v w fragment page =
     let h : built v ≡ built w = sym (of_fragment t out v fragment).reads ∙ page in
     fragment ∙ h
 
-bytes_less : (n m : ℕ) → n ≡ 21 + m → n - length front ≡ m
+pub bytes_less : (n m : ℕ) → n ≡ 21 + m → n - length front ≡ m
 bytes_less n m e = omega (arith, e)
 
 framed_yes : (t : List Entry) → IsTable t → (r : SpellRules) (w : List Event) → Settled w → (out : List ℕ) (c : Certificate) (v : Verdict) (o : Outcome) → verdict t r w (framed out) c ≡ v → out_fragment t out ≡ o
@@ -338,3 +338,11 @@ differ_said found v o ended is differ e = e ∙ ap (λ b. cond b (verdict_ending
 
 pub same_said : (found v : Verdict) (o : Outcome) (ended : Ending) → found ≡ v → rules_differ found ≡ false → ended ≡ fragment_ending found o → ended ≡ framed_ending v o
 same_said found v o ended is same e = e ∙ ap (λ b. cond b (verdict_ending found) (fragment_ending found o)) (sym same) ∙ ap (λ x. framed_ending x o) is
+
+-- so is the tree of a fragment that was written
+pub short_own : (t : List Entry) (o text : List ℕ) (w : List Event) → framed o ≡ text → length text ≤ OUTPUT_LIMIT → fragment_tree t o ≡ built w → out_fragment t o ≡ built w
+unfolding out_fragment
+short_own t o text w is short e =
+    let l : length text ≡ 21 + length o = ap length (sym is) ∙ framed_length o in
+    let less : nat_lt fragment_limit (length o) ≡ false = short_test fragment_limit (length o) (omega (arith, l, short)) in
+    rw less e

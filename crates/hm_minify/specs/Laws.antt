@@ -1,5 +1,5 @@
 -- What the check finds of what is written.
-use Rattle.std.specs.Prelude.{◌≡◌, ◌≤◌, ℕ, Bool, false, List, [], ◌∷◌, length, Some, Result, Ok, Err, bytes_eq, if◌then◌else◌}
+use Rattle.std.specs.Prelude.{◌≡◌, ◌≤◌, ℕ, Bool, false, true, List, [], ◌∷◌, length, Some, Result, Ok, Err, bytes_eq, if◌then◌else◌}
 use Rattle.hm_base.specs.Walks.{Event}
 use Rattle.hm_base.specs.declared.limits.TheConstants.{CERTIFICATE_LIMIT, OUTPUT_LIMIT}
 use Rattle.hm_cert.specs.Certificate.{AreRows}
@@ -11,6 +11,7 @@ use Rattle.hm_check.specs.declared.verdicts.Verdict.TheVariants.{Yes}
 use Rattle.hm_elements.specs.Settled.{Settled}
 use Rattle.hm_refs.specs.Names.{Entry}
 use Rattle.hm_refs.specs.Tables.{IsTable}
+use Rattle.hm_fragment.specs.Frames.{unframed}
 use Rattle.hm_plan.specs.Shortest.{certificate_of, certified_rows, shortest_text}
 use Rattle.hm_minify.specs.Endings.{IsReadableTree, asked_ending, format_of, minified_ending, says}
 use Rattle.hm_minify.specs.Inputs.{input_of, tree as tree_input}
@@ -59,3 +60,10 @@ MinifiedIsChecked = (words : List (List ℕ)) (origin : Origin) (out cert : List
     → (seen : Contents) (bytes : ℕ) (t : List Entry) (w : List Event) → input_of (asks origin (minifies out cert) options x) seen ≡ tree_input bytes t w
     → Settled w → IsReadableTree (minifies out cert) x t w → length (shortest_text t x.rules w) ≤ OUTPUT_LIMIT → length (certificate_of t x.rules (format_of x.sparse) w) ≤ CERTIFICATE_LIMIT
     → asked_ending (asks origin (checks out cert) options x) (with_writes seen (minified_ending x out cert t w).writes) ≡ says status.Done (yes_line (length (shortest_text t x.rules w)))
+
+-- So does the same of a fragment, with the length of what stands behind the front of the text.
+abbrev pub FragmentIsChecked : Type 0
+FragmentIsChecked = (words : List (List ℕ)) (origin : Origin) (out cert : List ℕ) (options : TreeOptions) (x : Writing) → is_fragment origin ≡ true → asked words ≡ Some (asks origin (minifies out cert) options x)
+    → (seen : Contents) (bytes : ℕ) (t : List Entry) (w : List Event) → input_of (asks origin (minifies out cert) options x) seen ≡ tree_input bytes t w → Settled w
+    → IsReadableTree (minifies out cert) x t w → length (shortest_text t x.rules w) ≤ OUTPUT_LIMIT → length (certificate_of t x.rules (format_of x.sparse) w) ≤ CERTIFICATE_LIMIT
+    → asked_ending (asks origin (checks out cert) options x) (with_writes seen (minified_ending x out cert t w).writes) ≡ says status.Done (yes_line (length (unframed (shortest_text t x.rules w))))

@@ -1,5 +1,5 @@
 //! Laws over the definitions. The functions do nothing.
-ghost use Rattle.hm_minify.specs.Laws.{MinifiedIsChecked, OwnIsAccepted, TreeIsChecked};
+ghost use Rattle.hm_minify.specs.Laws.{FragmentIsChecked, MinifiedIsChecked, OwnIsAccepted, TreeIsChecked};
 
 /// What is written of a settled tree is found shortest by the check, with the number of its bytes.
 pub fn own_is_accepted()
@@ -9,6 +9,11 @@ pub fn own_is_accepted()
 /// A check of what was minified says yes, with the number of bytes of the text.
 pub fn minified_is_checked()
     ensures { MinifiedIsChecked }
+{}
+
+/// A check of the fragment that was minified says yes, with the number of its bytes.
+pub fn fragment_is_checked()
+    ensures { FragmentIsChecked }
 {}
 
 /// A check says yes to the shortest text of a tree and its certificate, whatever page or JSON gives the tree. So what was minified of

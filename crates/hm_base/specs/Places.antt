@@ -1,6 +1,6 @@
 -- How a text that was read knows the places of its bytes: where it starts in the page, and which of its line feeds were
 -- pairs of CR and LF.
-use Rattle.std.specs.Prelude.{ℕ, ◌≡◌, ◌+◌, ◌<◌, ◌≤◌, Bool, true, not, ◌==◌, List, [], ◌∷◌, ◌++◌, length, nat_lt, All, AllPairs, count_by, if◌then◌else◌}
+use Rattle.std.specs.Prelude.{ℕ, ◌≡◌, ◌+◌, ◌-◌, ◌<◌, ◌≤◌, Bool, true, not, ◌==◌, List, [], ◌∷◌, ◌++◌, length, nat_lt, All, AllPairs, count_by, if◌then◌else◌}
 use Rattle.hm_base.specs.Bytes.{all_pass}
 use Rattle.hm_base.specs.Source.{PlacedByte, Source, numbered, pairs_joined, returns_replaced, is_text_byte}
 use Rattle.hm_base.specs.declared.limits.TheConstants.{OUTPUT_LIMIT}
@@ -20,6 +20,11 @@ place_at start pairs i = start + i + count_by (is_below i) pairs
 abbrev pub placed_from : ℕ → List ℕ → ℕ → List ℕ → List PlacedByte
 placed_from start pairs i [] = []
 placed_from start pairs i (c ∷ s) = record { byte = c; place = place_at start pairs i } ∷ placed_from start pairs (i + 1) s
+
+-- the pairs after the first n bytes, counted from there
+abbrev pub pairs_behind : ℕ → List ℕ → List ℕ
+pairs_behind n [] = []
+pairs_behind n (j ∷ pairs) = if nat_lt j n then pairs_behind n pairs else (j - n) ∷ pairs_behind n pairs
 
 unfoldable pub source_from : ℕ → List ℕ → List ℕ → Source
 source_from start pairs text = record { placed = placed_from start pairs 0 text; end = start + length text + length pairs }

@@ -1,8 +1,8 @@
 //! The text of a page, with the place of each byte.
-ghost use Rattle.std.specs.Prelude.{◌≡◌, ◌+◌, ◌≤◌, ◌++◌, ℕ, List, None, length, map, true, IfOk, OnOk, IfErr};
+ghost use Rattle.std.specs.Prelude.{◌≡◌, ◌+◌, ◌≤◌, ◌++◌, ℕ, List, [], None, length, map, drop, true, IfOk, OnOk, IfErr, IsCharBoundary};
 ghost use Rattle.hm_base.specs.Bytes.{all_pass};
 ghost use Rattle.hm_base.specs.Faults.{HasText, IsRefusalOf, IsRefusedBy};
-ghost use Rattle.hm_base.specs.Places.{is_nonzero, mark_of, start_of, with_bytes, with_lines, with_pair};
+ghost use Rattle.hm_base.specs.Places.{is_nonzero, mark_of, pairs_behind, source_from, start_of, with_bytes, with_lines, with_pair};
 ghost use Rattle.hm_base.specs.Source.{byte_of, is_text_byte, numbered, place_in, source_of, text_fault, without_mark};
 
 use crate::limits::OUTPUT_LIMIT;
@@ -70,21 +70,22 @@ impl TextFault {
 #[derive(Debug, Drop)]
 pub struct SourceText {
     text: String,
-    has_mark: bool,
+    // The byte of the page where the text starts.
+    start: u32,
     // The indices in `text` of the LFs that were CR LF, in order.
     pairs: Vec<u32>,
 }
 
 impl Model for SourceText {
     ghost use Rattle.std.specs.Prelude.{string_bytes};
-    ghost use Rattle.hm_base.specs.Places.{IsSourceText, source_from, start_of};
+    ghost use Rattle.hm_base.specs.Places.{IsSourceText, source_from};
     ghost use Rattle.hm_base.specs.Source.{Source};
 
     ghost Value = { Source };
 
-    ghost view = { λ s. source_from (start_of s.has_mark) s.pairs.items (string_bytes s.text) };
+    ghost view = { λ s. source_from s.start s.pairs.items (string_bytes s.text) };
 
-    ghost invariant = { λ s. IsSourceText (start_of s.has_mark) s.pairs.items (string_bytes s.text) };
+    ghost invariant = { λ s. IsSourceText s.start s.pairs.items (string_bytes s.text) };
 }
 
 impl SourceText {
@@ -118,7 +119,7 @@ impl SourceText {
         match String::from_utf8(bytes) {
             Ok(text) => Ok(SourceText {
                 text,
-                has_mark: false,
+                start: 0,
                 pairs: Vec::new(alloc),
             }),
             Err(error) => SourceText::read(alloc, error.into_bytes().as_slice(), limit),
@@ -143,7 +144,7 @@ impl SourceText {
         ensures { result ≡ place_in self.now.placed self.now.end index }
     {
         let before = self.pairs.partition_point(|pair| *pair < index);
-        start_of(self.has_mark) + index + before as u32
+        self.start + index + before as u32
     }
 
     /// Frees the memory.
@@ -156,6 +157,51 @@ impl SourceText {
         text.shrink_to(1);
     }
 
+    /// A text without bytes, which starts at the byte `start` of the page.
+    pub fn empty(alloc: Global, start: u32) -> SourceText
+        requires { start ≤ OUTPUT_LIMIT }
+        ensures { result ≡ source_from start [] [] }
+    {
+        SourceText {
+            text: String::new(alloc),
+            start,
+            pairs: Vec::new(alloc),
+        }
+    }
+
+    /// Adds what comes next in the page after the text, each of its line ends as LF.
+    pub fn append(&mut self, page: &str) -> Result<(), Memory>
+        requires room { self.old.end + length page.now ≤ OUTPUT_LIMIT }
+        requires no_zero { all_pass is_nonzero page.now ≡ true }
+        ensures { OnOk result (self.new ≡ with_lines self.old page.now) }
+    {
+        self.push_lines(page)
+    }
+
+    /// The byte of the page that comes next after the text.
+    pub fn end(&self) -> u32
+        ensures { result ≡ self.now.end }
+    {
+        let _text = self.text();
+        self.start + self.text.len() as u32 + self.pairs.len() as u32
+    }
+
+    /// Drops the first `n` bytes of the text. The others keep their places in the page. No memory is asked for.
+    pub fn drop_front(&mut self, n: u32)
+        requires inside { n ≤ length self.old.placed }
+        requires boundary { IsCharBoundary (map byte_of self.old.placed) n }
+        ensures placed { self.new.placed ≡ drop n self.old.placed }
+        ensures end { self.new.end ≡ self.old.end }
+    {
+        let pairs = self.pairs.len();
+        drop_pairs(&mut self.pairs, n);
+        self.start = self.start + n + (pairs - self.pairs.len()) as u32;
+        match self.text.replace_range(..n as usize, "") {
+            Ok(()) => {}
+            Err(_) => {}
+        }
+    }
+
     // The text of a page that is UTF-8.
     fn of_page(alloc: Global, page: &str) -> Result<SourceText, Memory>
         requires short { length page.now ≤ OUTPUT_LIMIT }
@@ -165,7 +211,7 @@ impl SourceText {
         let (has_mark, lines) = without_mark(page);
         let mut text = SourceText {
             text: String::with_capacity(alloc, lines.len())?,
-            has_mark,
+            start: start_of(has_mark),
             pairs: Vec::new(alloc),
         };
         text.push_lines(lines)?;
@@ -215,6 +261,21 @@ impl SourceText {
         self.pairs.push(at)?;
         Ok(())
     }
+}
+
+// Drops the pairs in the first `n` bytes of a text; the others count from there.
+fn drop_pairs(pairs: &mut Vec<u32>, n: u32)
+    ensures { pairs.new.items ≡ pairs_behind n pairs.old.items }
+{
+    let mut kept = 0;
+    for i in 0..pairs.len() {
+        let pair = pairs[i];
+        if n <= pair {
+            pairs[kept] = pair - n;
+            kept += 1;
+        }
+    }
+    pairs.truncate(kept);
 }
 
 // The byte of the page where the text starts.

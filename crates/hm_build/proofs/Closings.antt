@@ -17,7 +17,7 @@ use Rattle.hm_construction_laws.specs.Steps.{Construction, Stepped, went, stops,
 use Rattle.hm_construction_laws.specs.Trees.{mode_of}
 use Rattle.hm_lexer.specs.Reading.{Reading, text_of, next_of, IsTaken}
 use Rattle.hm_build.specs.Building.{Building, IsStepped, first_building}
-use Rattle.hm_build.specs.Parsing.{ClosesAt, IsFurther, IsParsing, IsTurned, StaysOpen, closed_here, closed_left, first_of, place_of, taken_by}
+use Rattle.hm_build.specs.Parsing.{ClosesAt, GoesOn, IsParsing, IsTurned, StaysOpen, closed_here, closed_left, first_of, place_of, reads, taken_by}
 use Rattle.hm_build.specs.declared.page.Taken.TheVariants as turns
 
 -- the bytes to skip are skipped
@@ -131,14 +131,14 @@ stays_here r b token new s after other done k before = by (step b.state (seen s 
         let still : is_behind_body after.state.insertion_mode ≡ false = ap (λ (z : Construction). is_behind_body z.insertion_mode) i.0 ∙ h in
         record { open_still = still; is = k.is ∙ ap (λ x. first_of (cond x (Some (place_of r.source token.from)) None) (closed_left new after)) still }
 
-pub token_turned : (r : Reading) (b : Building) (lexeme : Lexeme) (tag : Tag) (token : Spanned) (new : Reading) (s : List ℕ) (after : Building) → token.token ≡ token_of lexeme tag → IsStepped (step b.state (seen s token.token)) b after → IsParsing new after × IsFurther r new → ClosesAt r b token.from new after → IsTurned (taken_by lexeme token.from) r b new after
-token_turned r b lexeme tag token new s after is done (p, f) k = by lexeme is
+pub token_turned : (r : Reading) (b : Building) (lexeme : Lexeme) (tag : Tag) (token : Spanned) (new : Reading) (s : List ℕ) (after : Building) → token.token ≡ token_of lexeme tag → IsStepped (step b.state (seen s token.token)) b after → GoesOn r b new after → ClosesAt r b token.from new after → IsTurned (taken_by lexeme token.from) r b new after
+token_turned r b lexeme tag token new s after is done on k = by lexeme is
   where
     other : is_end_tag (seen s token.token) ≡ false → IsTurned turns.Other r b new after
-    other e = (p, f, stays_here r b token new s after e done k)
+    other e = (on, stays_here r b token new s after e done k)
 
     by : (x : Lexeme) → token.token ≡ token_of x tag → IsTurned (taken_by x token.from) r b new after
-    by lexemes.EndTag e = (p, f, k)
+    by lexemes.EndTag e = (on, k)
     by (lexemes.Doctype legacy) e = other (ap (λ z. is_end_tag (seen s z)) e)
     by (lexemes.StartTag slash) e = other (ap (λ z. is_end_tag (seen s z)) e)
     by (lexemes.Slice from to) e = other (ap (λ z. is_end_tag (seen s z)) e)
@@ -146,6 +146,6 @@ token_turned r b lexeme tag token new s after is done (p, f) k = by lexeme is
     by (lexemes.Comment from to) e = other (ap (λ z. is_end_tag (seen s z)) e)
 
 -- what is left before the first token is the whole text
-pub closed_in_whole : (t : List Entry) (page : Source) (r : Reading) (b : Building) (closed : Option ℕ) → r ≡ record { names = t; source = page; at = 0 } → b ≡ first_building → closed_left r b ≡ closed → closed_of_source t page ≡ closed
+pub closed_in_whole : (t : List Entry) (page : Source) (b : Building) (closed : Option ℕ) → b ≡ first_building → closed_left (reads t page) b ≡ closed → closed_of_source t page ≡ closed
 unfolding closed_of_source
-closed_in_whole t page r b closed e f h = ap (λ x. closed_left x first_building) (sym e) ∙ ap (closed_left r) (sym f) ∙ h
+closed_in_whole t page b closed e h = ap (closed_left (reads t page)) (sym e) ∙ h

@@ -21,3 +21,8 @@ mod Turns
 mod Names
 mod Closings
 mod PageEnds
+pub mod Coming
+pub mod Growth
+pub mod PartTurns
+pub mod Builders
+pub mod Whole

@@ -1,15 +1,16 @@
 -- A page that is being parsed: what was built of its text so far, and what is left.
-use Rattle.std.specs.Prelude.{◌≡◌, ℕ, ◌+◌, ◌*◌, ◌≤◌, ◌<◌, false, List, length, drop, Option, Some, None, if◌then◌else◌}
+use Rattle.std.specs.Prelude.{◌≡◌, ℕ, ◌+◌, ◌-◌, ◌*◌, ◌≤◌, ◌<◌, false, List, length, drop, Option, Some, None, if◌then◌else◌}
 use Rattle.hm_base.specs.Source.{Source, place_in}
 use Rattle.hm_base.specs.Walks.{Event, Element, walk_size}
 use Rattle.hm_base.specs.declared.rules.Refused.{Refused}
 use Rattle.hm_base.specs.declared.rules.Refused.TheVariants as answers
 use Rattle.hm_elements.specs.Paths.{is_in_text}
+use Rattle.hm_refs.specs.Names.{Entry}
 use Rattle.hm_token_laws.specs.Laws.{IsPlain}
 use Rattle.hm_tree.specs.Tokens.{Seen, doctype, start_tag, end_tag, slice, points, comment}
 use Rattle.hm_construction_laws.specs.Steps.{Construction}
 use Rattle.hm_construction_laws.specs.Closing.{is_behind_body, closed_from}
-use Rattle.hm_construction_laws.specs.Trees.{Outcome, refused_by, after_events, over, tree_from, tree_of_source}
+use Rattle.hm_construction_laws.specs.Trees.{Outcome, refused_by, after_events, over, tree_from}
 use Rattle.hm_lexer.specs.Reading.{Reading, text_of}
 use Rattle.hm_build.specs.Building.{Building}
 use Rattle.hm_build.specs.declared.page.Taken.{Taken}
@@ -33,15 +34,22 @@ pub record IsWithin (read : ℕ) (w : List Event) (st : Construction) : Type 0 w
 abbrev pub place_of : Source → ℕ → ℕ
 place_of page i = place_in page.placed page.end i
 
--- the tree of the text that is read
-abbrev pub tree_of : Reading → Outcome
-tree_of r = tree_of_source r.names r.source
+-- a text that is read from its first byte on
+abbrev pub reads : List Entry → Source → Reading
+reads t text = record { names = t; source = text; at = 0 }
 
--- The tree begins with what was built so far, and goes on with what is left of the text.
+-- what was built so far, and the tree of what is left of the text
+abbrev pub left_tree : Reading → Building → Outcome
+left_tree r b = after_events b.walk (tree_from r.names (place_of r.source) 0 r.at b.state (drop r.at (text_of r)))
+
+-- how many bytes of the page were read, where the text begins after others
+abbrev pub read_of : Reading → ℕ
+read_of r = r.source.end - length r.source.placed + r.at
+
+-- a text that is being read into a tree
 pub record IsParsing (r : Reading) (b : Building) : Type 0 where
   pub inside : r.at ≤ length (text_of r)
-  pub goes_on : tree_of r ≡ after_events b.walk (tree_from r.names (place_of r.source) 0 r.at b.state (drop r.at (text_of r)))
-  pub within : IsWithin r.at b.walk b.state
+  pub within : IsWithin (read_of r) b.walk b.state
   pub plain : IsPlain (drop r.at (text_of r))
 
 -- no start tag is read inside title, textarea, style, iframe and script
@@ -55,8 +63,8 @@ IsReadUnder path (comment s) = Unit {0}
 
 -- nothing is left of the text
 pub record IsRead (r : Reading) (b : Building) : Type 0 where
-  pub ends : tree_of r ≡ after_events b.walk (over (place_of r.source) (length (text_of r)) b.state)
-  pub within : IsWithin (length (text_of r)) b.walk b.state
+  pub ends : left_tree r b ≡ after_events b.walk (over (place_of r.source) (length (text_of r)) b.state)
+  pub within : IsWithin (read_of (record r { at = length (text_of r) })) b.walk b.state
 
 -- further on in the same text
 pub record IsFurther (old new : Reading) : Type 0 where
@@ -93,11 +101,17 @@ abbrev pub taken_by : Lexeme → ℕ → Taken
 taken_by lexemes.EndTag from = turns.EndTag from
 taken_by lexeme from = turns.Other
 
+-- A token was taken, and the tree goes on after it.
+pub record GoesOn (old : Reading) (b : Building) (new : Reading) (after : Building) : Type 0 where
+  pub parsing : IsParsing new after
+  pub ahead : IsFurther old new
+  pub tree : left_tree old b ≡ left_tree new after
+
 -- what a turn has done
 abbrev pub IsTurned : Taken → Reading → Building → Reading → Building → Type 0
-IsTurned turns.Over old b new after = IsRead old after × (new ≡ old) × (closed_left old b ≡ None)
-IsTurned turns.Other old b new after = IsParsing new after × IsFurther old new × (is_behind_body b.state.insertion_mode ≡ false → StaysOpen old b new after)
-IsTurned (turns.EndTag from) old b new after = IsParsing new after × IsFurther old new × ClosesAt old b from new after
+IsTurned turns.Over old b new after = IsRead old b × (new ≡ old) × (after ≡ b) × (closed_left old b ≡ None)
+IsTurned turns.Other old b new after = GoesOn old b new after × (is_behind_body b.state.insertion_mode ≡ false → StaysOpen old b new after)
+IsTurned (turns.EndTag from) old b new after = GoesOn old b new after × ClosesAt old b from new after
 
 -- the refusal that a fault gives, and how far after its token's first byte it is
 abbrev pub answer_of : BuildFault → ℕ → Refused

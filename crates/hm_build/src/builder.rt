@@ -9,7 +9,7 @@ ghost use Rattle.hm_build.specs.Building.{Builds, Answers, Fits, first_building}
 
 use crate::BuildFault;
 use crate::insertion::BuilderMode;
-use crate::parts::{Parts, current, is_in_svg, is_in_text};
+use crate::parts::{Parts, current, depth, is_in_svg, is_in_text};
 use hm_base::{Memory, Points};
 use hm_settle::Path;
 use hm_tree::{Attrs, Tree};
@@ -69,6 +69,13 @@ impl TreeBuilder {
         ensures { result ≡ paths.is_in_text self.now.state.path }
     {
         is_in_text(self.parts.insertion_mode, &self.parts.path)
+    }
+
+    /// How many elements are open.
+    pub fn depth(&self) -> u32
+        ensures { result ≡ length self.now.state.path }
+    {
+        depth(self.parts.insertion_mode, &self.parts.path)
     }
 
     /// The name of the innermost open element, and no bytes where none is open.

@@ -5,6 +5,7 @@ mod before_body;
 mod builder;
 mod end_tag;
 mod fault;
+mod fed;
 mod finish;
 mod insertion;
 mod make;
@@ -18,4 +19,5 @@ mod tokens;
 
 pub use builder::TreeBuilder;
 pub use fault::BuildFault;
+pub use fed::Builder;
 pub use page::{parse, parse_closed};

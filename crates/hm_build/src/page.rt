@@ -4,7 +4,8 @@ ghost use Rattle.hm_elements.specs.Settled.{Settled};
 ghost use Rattle.hm_token_laws.specs.Laws.{SoundNames};
 ghost use Rattle.hm_construction_laws.specs.Closing.{closed_of_source, is_behind_body};
 ghost use Rattle.hm_construction_laws.specs.Trees.{built, tree_of_source};
-ghost use Rattle.hm_build.specs.Parsing.{IsParsing, IsRead, IsRefusedAs, IsTurned, answer_of, closed_here, closed_left, first_of, place_of, span_of, tree_of, taken_by};
+ghost use Rattle.hm_pieces.specs.Pieces.{before_text};
+ghost use Rattle.hm_build.specs.Parsing.{IsParsing, IsRead, IsRefusedAs, IsTurned, IsWithin, answer_of, closed_here, closed_left, first_of, left_tree, place_of, reads, span_of, taken_by};
 
 use crate::tokens::{mode, take};
 use crate::{BuildFault, TreeBuilder};
@@ -16,7 +17,7 @@ use hm_tree::{Lexeme, Tag, Tree};
 use std::alloc::Global;
 
 /// The refusal that a fault gives, for a token that begins at byte `at` of the text.
-fn refusal(text: &SourceText, fault: BuildFault, at: u32) -> Refused
+pub(crate) fn refusal(text: &SourceText, fault: BuildFault, at: u32) -> Refused
     requires { at + span_of fault ≤ length text.now.placed }
     ensures { result ≡ answer_of fault (place_of text.now (at + span_of fault)) }
 {
@@ -62,7 +63,7 @@ fn turn<'a>(
     requires source { lexer.old.source ≡ text.now }
     requires parsing { IsParsing lexer.old builder.old }
     ensures ok { IfOk result (λ turn. IsTurned turn lexer.old builder.old lexer.new builder.new) }
-    ensures err { IfErr result (IsRefusedAs (tree_of lexer.old)) }
+    ensures err { IfErr result (IsRefusedAs (left_tree lexer.old builder.old)) }
 {
     match lexer.next_into(alloc, mode(builder), tag) {
         Ok(None) => Ok(Taken::Over),
@@ -104,12 +105,12 @@ fn turns<'a>(
     requires names { SoundNames lexer.old.names }
     requires source { lexer.old.source ≡ text.now }
     requires parsing { IsParsing lexer.old builder.old }
-    requires open_still { is_behind_body builder.old.state.insertion_mode ≡ false }
     ensures ok { OnOk result (IsRead lexer.new builder.new) }
-    ensures closed { IfOk result (λ closed. closed_left lexer.old builder.old ≡ closed) }
+    ensures tree { OnOk result (left_tree lexer.old builder.old ≡ left_tree lexer.new builder.new) }
+    ensures closed { is_behind_body builder.old.state.insertion_mode ≡ false → IfOk result (λ closed. closed_left lexer.old builder.old ≡ closed) }
     ensures names { OnOk result (lexer.new.names ≡ lexer.old.names) }
     ensures same { OnOk result (lexer.new.source ≡ lexer.old.source) }
-    ensures err { IfErr result (IsRefusedAs (tree_of lexer.old)) }
+    ensures err { IfErr result (IsRefusedAs (left_tree lexer.old builder.old)) }
 {
     let mut closed = None;
     loop {
@@ -131,13 +132,40 @@ fn finish<'a>(
 ) -> Result<Tree, Refused>
     requires source { lexer.now.source ≡ text.now }
     requires read { IsRead lexer.now builder }
-    ensures built { IfOk result (λ tree. tree_of lexer.now ≡ built tree) }
-    ensures refused { IfErr result (IsRefusedAs (tree_of lexer.now)) }
+    ensures built { IfOk result (λ tree. left_tree lexer.now builder ≡ built tree) }
+    ensures refused { IfErr result (IsRefusedAs (left_tree lexer.now builder)) }
 {
     let end = text.text().len() as u32;
     match builder.finish(alloc) {
         Ok(tree) => Ok(tree),
         Err(fault) => Err(refusal(text, fault, end)),
+    }
+}
+
+/// The tree of what was built so far and of the text that is left, and where that text closes body.
+pub(crate) fn parse_rest(
+    alloc: Global,
+    text: &SourceText,
+    table: &Table,
+    builder: TreeBuilder,
+    tag: Tag,
+) -> Result<(Tree, Option<u32>), Refused>
+    requires { IsWithin (before_text text.now) builder.walk builder.state }
+    ensures built { IfOk result (λ parsed. left_tree (reads table.now.entries text.now) builder ≡ built parsed.0) }
+    ensures closed { is_behind_body builder.state.insertion_mode ≡ false → IfOk result (λ parsed. closed_left (reads table.now.entries text.now) builder ≡ parsed.1) }
+    ensures refused { IfErr result (IsRefusedAs (left_tree (reads table.now.entries text.now) builder)) }
+{
+    every_table(table);
+    let _bytes = text.text();
+    let mut lexer = Lexer::new(text, table);
+    let mut builder = builder;
+    let mut tag = tag;
+    match turns(alloc, text, &mut lexer, &mut builder, &mut tag) {
+        Ok(closed) => match finish(alloc, text, &lexer, builder) {
+            Ok(tree) => Ok((tree, closed)),
+            Err(refused) => Err(refused),
+        },
+        Err(refused) => Err(refused),
     }
 }
 
@@ -156,18 +184,9 @@ pub fn parse_closed(
 {
     every_table(table);
     let _plain = text.text();
-    let mut lexer = Lexer::new(text, table);
-    let mut builder = match TreeBuilder::new(alloc) {
-        Ok(builder) => builder,
-        Err(Memory) => return Err(Refused::Memory),
-    };
-    let mut tag = Tag::new(alloc);
-    match turns(alloc, text, &mut lexer, &mut builder, &mut tag) {
-        Ok(closed) => match finish(alloc, text, &lexer, builder) {
-            Ok(tree) => Ok((tree, closed)),
-            Err(refused) => Err(refused),
-        },
-        Err(refused) => Err(refused),
+    match TreeBuilder::new(alloc) {
+        Ok(builder) => parse_rest(alloc, text, table, builder, Tag::new(alloc)),
+        Err(Memory) => Err(Refused::Memory),
     }
 }
 

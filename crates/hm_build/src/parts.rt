@@ -1,5 +1,5 @@
 //! The parts of a builder, and which elements are open.
-ghost use Rattle.std.specs.Prelude.{◌≡◌};
+ghost use Rattle.std.specs.Prelude.{◌≡◌, length};
 ghost use Rattle.hm_elements.specs.Paths as paths;
 ghost use Rattle.hm_build.specs.Inside as inside;
 ghost use Rattle.hm_build.specs.Inside.{inside_head, open_path, text_name};
@@ -55,6 +55,28 @@ pub(crate) fn current_in_head(noscript: bool, text: Option<HeadText>) -> &'stati
     match text {
         Some(inner) => inner.name(),
         None => { if noscript { "noscript" } else { "head" } }
+    }
+}
+
+/// How many elements are open.
+pub(crate) fn depth(insertion_mode: BuilderMode, path: &Path) -> u32
+    ensures { result ≡ length (open_path insertion_mode path.now) }
+{
+    match insertion_mode {
+        BuilderMode::Initial | BuilderMode::BeforeHtml => 0,
+        BuilderMode::BeforeHead | BuilderMode::AfterHead => 1,
+        BuilderMode::InHead { noscript, text } => depth_in_head(noscript, text),
+        BuilderMode::InBody | BuilderMode::AfterBody | BuilderMode::AfterHtml => path.len(),
+    }
+}
+
+fn depth_in_head(noscript: bool, text: Option<HeadText>) -> u32
+    ensures { result ≡ length (inside_head noscript text) }
+{
+    let outer = if noscript { 3 } else { 2 };
+    match text {
+        Some(_) => outer + 1,
+        None => outer,
     }
 }
 

@@ -1,6 +1,12 @@
+pub mod References
+pub mod Trees
+pub mod Building
+pub mod Standing
 pub mod Markup
 pub mod EmptyTags
 pub mod TextEnds
 pub mod Fronts
 pub mod Nexts
 pub mod TagsFirst
+pub mod PieceEnds
+pub mod PartSteps

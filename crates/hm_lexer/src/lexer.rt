@@ -1,21 +1,24 @@
 //! The lexer: a place in a text, from which it is read token by token.
-ghost use Rattle.std.specs.Prelude.{◌≡◌, ◌≢◌, ℕ, ◌+◌, ◌^◌, ◌<◌, ◌≤◌, true, List, drop, length, IfOk, IfErr, OnErr, IsCharBoundary};
+ghost use Rattle.std.specs.Prelude.{◌≡◌, ◌≢◌, ℕ, ◌+◌, ◌^◌, ◌<◌, ◌≤◌, true, false, List, drop, length, IfOk, IfErr, OnErr, IsCharBoundary};
 ghost use Rattle.hm_base.specs.RawText.{raw_end};
 ghost use Rattle.hm_base.specs.Source.{place_in};
 ghost use Rattle.hm_tree.specs.Lexemes.{next_of, token_of};
 ghost use Rattle.hm_tree.specs.Tokens.{BeginsAt, Reads, refused};
 ghost use Rattle.hm_scan.specs.Reading as tags;
+ghost use Rattle.hm_scan.specs.Texts as texts;
 ghost use Rattle.hm_token_laws.specs.First as tokens;
 ghost use Rattle.hm_lexer.specs.Modes.{mode_of, rcdata_name};
+ghost use Rattle.hm_lexer.specs.Parts.{GivesPart, IsWhole, RefusesPart, left_of};
 ghost use Rattle.hm_lexer.specs.Reading.{Gives, Refuses, text_front, text_of};
 ghost use Rattle.hm_lexer.specs.Steps.{Ends, IsBehind, IsLexer, has_markup, read_in, refusal_of};
 
 use crate::inside::{raw_text_end, scan_raw_text, scan_script_text, scan_up_to};
 use crate::modes::{Mode, RcdataName};
 use crate::ordinary::{behind_empty_tags, scan_here};
+use crate::parts::scan_part;
 use hm_base::{Refused, Rule, SourceText};
 use hm_refs::Table;
-use hm_scan::{begins_tag, scan_tag_into};
+use hm_scan::{begins_markup, begins_tag, scan_tag_into};
 use hm_tree::{Lexeme, Placed, ScanFault, Spanned, Tag};
 use std::alloc::Global;
 use std::marker::Model;
@@ -156,6 +159,84 @@ impl<'a> Lexer<'a> {
                 Ok(Some(Placed { lexeme, from, to }))
             }
             Err(fault) => Err(refusal(self.source, fault, from)),
+        }
+    }
+
+    /// How many bytes of the text were read.
+    pub fn at(&self) -> u32
+        ensures { result ≡ self.now.at }
+    {
+        self.at
+    }
+
+    /// Reads the next token of a text that may go on after its end, or a piece of it where it is ordinary text. None where
+    /// the bytes that are there don't tell it yet; a token that isn't whole is no fault.
+    pub fn part_into(
+        &mut self,
+        alloc: Global,
+        mode: Mode,
+        tag: &mut Tag,
+    ) -> Result<Option<Placed>, Refused>
+        ensures ok { IfOk result (λ placed. GivesPart self.old (mode_of mode) (next_of placed tag.new) self.new) }
+        ensures err { IfErr result (λ refusal. RefusesPart self.old (mode_of mode) refusal) }
+        ensures unchanged { OnErr result (self.new ≡ self.old) }
+    {
+        if !mode.has_markup() {
+            return self.whole_part(alloc, mode, tag);
+        }
+        let text = self.source.text();
+        let begin = token_start(text, self.at, mode);
+        if begin as usize == text.len() {
+            return Ok(None);
+        }
+        if begins_markup(text, begin) {
+            return self.whole_part(alloc, mode, tag);
+        }
+        Ok(self.part_of_text(mode, begin, tag))
+    }
+
+    // Reads the next token, where no piece of it is taken.
+    fn whole_part(
+        &mut self,
+        alloc: Global,
+        mode: Mode,
+        tag: &mut Tag,
+    ) -> Result<Option<Placed>, Refused>
+        requires { IsWhole self.old.names (mode_of mode) (left_of self.old) }
+        ensures ok { IfOk result (λ placed. GivesPart self.old (mode_of mode) (next_of placed tag.new) self.new) }
+        ensures err { IfErr result (λ refusal. RefusesPart self.old (mode_of mode) refusal) }
+        ensures unchanged { OnErr result (self.new ≡ self.old) }
+    {
+        match self.next_into(alloc, mode, tag) {
+            Ok(placed) => {
+                let _at = self.at;
+                return Ok(placed);
+            }
+            Err(Refused::Page { rule, at }) => {
+                if rule == Rule::Cut {
+                    return Ok(None);
+                }
+                Err(Refused::Page { rule, at })
+            }
+            Err(Refused::Memory) => return Err(Refused::Memory),
+        }
+    }
+
+    // Reads the piece of ordinary text that begins at `from`.
+    fn part_of_text(&mut self, mode: Mode, from: u32, tag: &mut Tag) -> Option<Placed>
+        requires markup { has_markup (mode_of mode) ≡ true }
+        requires start { IsBehind (mode_of mode) (text_of self.old) self.old.at from }
+        requires inside { from < length (text_of self.old) }
+        requires begins { texts.begins_markup (drop from (text_of self.old)) ≡ false }
+        ensures { GivesPart self.old (mode_of mode) (next_of result tag.new) self.new }
+    {
+        match scan_part(self.source.text(), from, self.table) {
+            Some((token, to)) => {
+                let lexeme = Lexeme::of(token, tag);
+                self.advance(to);
+                Some(Placed { lexeme, from, to })
+            }
+            None => None,
         }
     }
 

@@ -2,9 +2,11 @@
 #![tactic(auto)]
 
 mod inside;
+pub mod laws;
 mod lexer;
 mod modes;
 mod ordinary;
+mod parts;
 
 pub use lexer::Lexer;
 pub use modes::{Mode, RawName, RcdataName};

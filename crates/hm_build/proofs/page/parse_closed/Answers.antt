@@ -1,18 +1,32 @@
-use Rattle.std.proofs.Common.{◌∙◌, sym, ap, subst}
-use Rattle.hm_lexer.specs.Reading.{Reading}
-use Rattle.hm_build.specs.Building.{first_building}
-use Rattle.hm_build.specs.Parsing.{IsParsing}
+use Rattle.std.proofs.Common.{◌≡◌, false, sym, ap, subst, ◌∙◌}
+use Rattle.std.specs.Prelude.{IfErr}
+use Rattle.std.proofs.lemmas.Result.{IfOk-weaker}
+use Rattle.hm_elements.specs.Settled.{Settled}
+use Rattle.hm_construction_laws.specs.Closing.{closed_of_source, is_behind_body}
+use Rattle.hm_construction_laws.specs.Trees.{built, tree_of_source}
+use Rattle.hm_build.specs.Building.{Building}
+use Rattle.hm_build.specs.Parsing.{IsRefusedAs, closed_left, left_tree, reads}
 use Rattle.hm_build.proofs.Closings.{closed_in_whole}
-use Rattle.hm_build.proofs.PageEnds.{begins, plain_text, settled_here}
+use Rattle.hm_build.proofs.PageEnds.{from_first, settled_here}
 use Rattle.hm_build.proofs.page.parse_closed.Goals as goal
 
-pub turns-requires-clause-parsing : goal.turns-requires-clause-parsing
-turns-requires-clause-parsing c = subst (λ b. IsParsing c.new-lexer.result b) (sym c.in-Ok.ensures) (subst (λ r. IsParsing r first_building) (sym c.new-lexer.ensures) (begins c.args.table.now.entries c.args.text.now (plain_text c.args.text.now c.text-plain.result.now c.text-plain.ensures.bytes c.text-plain.ensures.plain c.text-plain.utf8)))
+pub returns-in-Ok-clause-built : goal.returns-in-Ok-clause-built
+returns-in-Ok-clause-built c =
+    let whole = from_first c.args.table.now.entries c.args.text.now c.in-Ok.builder c.in-Ok.ensures in
+    IfOk-weaker c.parse_rest.result (λ parsed. left_tree (reads c.args.table.now.entries c.args.text.now) c.in-Ok.builder ≡ built parsed.0) (λ parsed. tree_of_source c.args.table.now.entries c.args.text.now ≡ built parsed.0) (λ parsed e. whole ∙ e) c.parse_rest.ensures.built
 
-pub returns-in-Ok-finish-clause-settled : goal.returns-in-Ok-finish-clause-settled
-returns-in-Ok-finish-clause-settled c =
-    settled_here c.args.table.now.entries c.args.text.now c.text-plain.result.now c.turns.new.lexer c.in-Ok-finish.tree c.every_table.ensures.names c.text-plain.ensures.bytes c.text-plain.ensures.plain c.text-plain.utf8
-    (c.in-Ok-turns.ensures.names ∙ ap (λ (r : Reading). r.names) c.new-lexer.ensures) (c.in-Ok-turns.ensures.same ∙ ap (λ (r : Reading). r.source) c.new-lexer.ensures) c.in-Ok-finish.ensures.built
+pub returns-in-Ok-clause-settled : goal.returns-in-Ok-clause-settled
+returns-in-Ok-clause-settled c =
+    let whole = from_first c.args.table.now.entries c.args.text.now c.in-Ok.builder c.in-Ok.ensures in
+    IfOk-weaker c.parse_rest.result (λ parsed. left_tree (reads c.args.table.now.entries c.args.text.now) c.in-Ok.builder ≡ built parsed.0) (λ parsed. Settled parsed.0)
+    (λ parsed e. settled_here c.args.table.now.entries c.args.text.now c.text-plain.result.now parsed.0 c.every_table.ensures.names c.text-plain.ensures.bytes c.text-plain.ensures.plain c.text-plain.utf8 (whole ∙ e)) c.parse_rest.ensures.built
 
-pub returns-in-Ok-finish-clause-closed : goal.returns-in-Ok-finish-clause-closed
-returns-in-Ok-finish-clause-closed c = closed_in_whole c.args.table.now.entries c.args.text.now c.new-lexer.result c.in-Ok.builder c.in-Ok-turns.closed c.new-lexer.ensures c.in-Ok.ensures c.in-Ok-turns.ensures.closed
+pub returns-in-Ok-clause-closed : goal.returns-in-Ok-clause-closed
+returns-in-Ok-clause-closed c =
+    let open_still : is_behind_body c.in-Ok.builder.state.insertion_mode ≡ false = ap (λ (b : Building). is_behind_body b.state.insertion_mode) c.in-Ok.ensures in
+    IfOk-weaker c.parse_rest.result (λ parsed. closed_left (reads c.args.table.now.entries c.args.text.now) c.in-Ok.builder ≡ parsed.1) (λ parsed. closed_of_source c.args.table.now.entries c.args.text.now ≡ parsed.1)
+    (λ parsed e. closed_in_whole c.args.table.now.entries c.args.text.now c.in-Ok.builder parsed.1 c.in-Ok.ensures e) (c.parse_rest.ensures.closed open_still)
+
+pub returns-in-Ok-clause-refused : goal.returns-in-Ok-clause-refused
+returns-in-Ok-clause-refused c =
+    subst (λ o. IfErr c.parse_rest.result (IsRefusedAs o)) (sym (from_first c.args.table.now.entries c.args.text.now c.in-Ok.builder c.in-Ok.ensures)) c.parse_rest.ensures.refused

@@ -1,0 +1,267 @@
+//! The tree of a page that comes in pieces.
+ghost use Rattle.std.specs.Prelude.{◌≡◌, ◌≤◌, ◌<◌, ◌+◌, ◌++◌, ℕ, List, [], Ok, Err, true, false, length, drop, map, Option, Some, None, IfOk, IfErr, OnOk, OnErr, IsCharBoundary};
+ghost use Rattle.hm_base.specs.Source.{byte_of};
+ghost use Rattle.hm_elements.specs.Settled.{Settled};
+ghost use Rattle.hm_refs.specs.Tables.{IsTable};
+ghost use Rattle.hm_construction_laws.specs.Trees.{built, mode_of};
+ghost use Rattle.hm_pieces.specs.Pieces.{HasFed, before_text};
+ghost use Rattle.hm_lexer.specs.Ready.{ready};
+ghost use Rattle.hm_base.specs.Source.{PlacedByte};
+ghost use Rattle.hm_build.specs.Feeding as feeding;
+ghost use Rattle.hm_build.specs.Feeding.{Comes, HasRead, IsPartway, IsWaiting, StopsAs, left, page_outcome_within};
+ghost use Rattle.hm_build.specs.Parsing.{IsFurther, IsRefusedAs, IsWithin};
+
+use crate::TreeBuilder;
+use crate::page::{parse_rest, refusal};
+use crate::tokens::{mode, take};
+use hm_base::{Memory, OUTPUT_LIMIT, Refused, Rule, SourceText};
+use hm_lexer::Lexer;
+use hm_pieces::TextPieces;
+use hm_refs::Table;
+use hm_refs::laws::every_table;
+use hm_tree::{Tag, Tree};
+use std::alloc::Global;
+use std::marker::Model;
+
+/// Takes the next token or piece of text, where one is ready. A tag is read into `tag`.
+fn part_turn<'a>(
+    alloc: Global,
+    text: &SourceText,
+    lexer: &mut Lexer<'a>,
+    builder: &mut TreeBuilder,
+    tag: &mut Tag,
+) -> Result<bool, Refused>
+    requires names { IsTable lexer.old.names }
+    requires source { lexer.old.source ≡ text.now }
+    requires partway { IsPartway lexer.old builder.old }
+    ensures partway { result ≡ Ok true → IsPartway lexer.new builder.new × IsFurther lexer.old lexer.new }
+    ensures more { result ≡ Ok true → Comes lexer.old.names builder.old (left lexer.old) builder.new (left lexer.new) }
+    ensures done { result ≡ Ok false → IsWaiting lexer.old builder.old × (lexer.new ≡ lexer.old) × (builder.new ≡ builder.old) }
+    ensures err { IfErr result (StopsAs lexer.old.names builder.old (left lexer.old)) }
+{
+    match lexer.part_into(alloc, mode(builder), tag) {
+        Ok(None) => Ok(false),
+        Ok(Some(placed)) => match take(alloc, builder, text.text(), placed.lexeme, tag) {
+            Ok(()) => Ok(true),
+            Err(fault) => Err(refusal(text, fault, placed.from)),
+        },
+        Err(refused) => Err(refused),
+    }
+}
+
+/// Takes all that is ready.
+fn part_turns<'a>(
+    alloc: Global,
+    text: &SourceText,
+    lexer: &mut Lexer<'a>,
+    builder: &mut TreeBuilder,
+    tag: &mut Tag,
+) -> Result<(), Refused>
+    requires names { IsTable lexer.old.names }
+    requires source { lexer.old.source ≡ text.now }
+    requires partway { IsPartway lexer.old builder.old }
+    ensures partway { OnOk result (IsPartway lexer.new builder.new) }
+    ensures names { OnOk result (lexer.new.names ≡ lexer.old.names) }
+    ensures same { OnOk result (lexer.new.source ≡ lexer.old.source) }
+    ensures more { OnOk result (Comes lexer.old.names builder.old (left lexer.old) builder.new (left lexer.new)) }
+    ensures waits { OnOk result (IsWaiting lexer.new builder.new) }
+    ensures err { IfErr result (StopsAs lexer.old.names builder.old (left lexer.old)) }
+{
+    loop {
+        match part_turn(alloc, text, lexer, builder, tag) {
+            Ok(true) => {}
+            Ok(false) => return Ok(()),
+            Err(refused) => return Err(refused),
+        }
+    }
+}
+
+/// Takes all that is ready of a text: how many bytes that is.
+fn take_ready(
+    alloc: Global,
+    text: &SourceText,
+    table: &Table,
+    tree: &mut TreeBuilder,
+    tag: &mut Tag,
+) -> Result<u32, Refused>
+    requires { IsWithin (before_text text.now) tree.old.walk tree.old.state }
+    ensures inside { IfOk result (λ n. n ≤ length text.now.placed) }
+    ensures boundary { IfOk result (λ n. IsCharBoundary (map byte_of text.now.placed) n) }
+    ensures comes { IfOk result (λ n. Comes table.now.entries tree.old text.now.placed tree.new (drop n text.now.placed)) }
+    ensures waits { IfOk result (λ n. ready table.now.entries (mode_of tree.new.state.path) (map byte_of (drop n text.now.placed)) ≡ false) }
+    ensures within { IfOk result (λ n. IsWithin (before_text text.now + n) tree.new.walk tree.new.state) }
+    ensures err { IfErr result (StopsAs table.now.entries tree.old text.now.placed) }
+    ensures short { length text.now.placed ≤ text.now.end }
+{
+    every_table(table);
+    let _text = text.text();
+    let mut lexer = Lexer::new(text, table);
+    match part_turns(alloc, text, &mut lexer, tree, tag) {
+        Ok(()) => Ok(lexer.at()),
+        Err(refused) => Err(refused),
+    }
+}
+
+/// Lets all of the text go.
+fn drop_all(text: &mut TextPieces)
+    ensures fed { (gone : List PlacedByte) (fed : List ℕ) → HasFed text.old gone fed → HasFed text.new (gone ++ text.old.source.placed) fed }
+    ensures fault { text.new.fault ≡ text.old.fault }
+    ensures limit { text.new.limit ≡ text.old.limit }
+    ensures broken { text.new.is_broken ≡ text.old.is_broken }
+    ensures empty { text.new.source.placed ≡ [] }
+    ensures before { before_text text.old.source ≤ before_text text.new.source }
+{
+    let len = text.source().text().len() as u32;
+    text.drop_front(len);
+}
+
+/// A tree that is built of a page as it comes, piece by piece.
+///
+/// Contracts see the names of references, what is known of the page, what is built, and the first refusal of a token. What
+/// is ready of the page is taken before `feed` returns, and its text is let go.
+#[derive(Drop)]
+pub struct Builder<'t> {
+    text: TextPieces,
+    table: &'t Table,
+    tree: TreeBuilder,
+    tag: Tag,
+    /// The first refusal of a token.
+    refused: Option<(Rule, u32)>,
+    /// Memory was refused.
+    is_broken: bool,
+    alloc: Global,
+}
+
+impl<'t> Model for Builder<'t> {
+    ghost use Rattle.hm_build.specs.Feeding.{Feeding, IsFeeding};
+
+    ghost Value = { Feeding };
+
+    ghost view = { λ b. record { names = b.table.now.entries; pieces = b.text; building = b.tree; refused = b.refused; is_broken = b.is_broken } };
+
+    ghost invariant = { λ b. IsFeeding (record { names = b.table.now.entries; pieces = b.text; building = b.tree; refused = b.refused; is_broken = b.is_broken }) };
+}
+
+impl<'t> Builder<'t> {
+    /// Nothing has come yet.
+    pub fn new(alloc: Global, table: &'t Table, limit: u32) -> Result<Builder<'t>, Memory>
+        requires { limit ≤ OUTPUT_LIMIT }
+        ensures read { IfOk result (λ builder. HasRead builder []) }
+        ensures names { IfOk result (λ builder. builder.names ≡ table.now.entries) }
+        ensures limit { IfOk result (λ builder. builder.pieces.limit ≡ limit) }
+        ensures sound { IfOk result (λ builder. builder.is_broken ≡ false) }
+    {
+        let text = TextPieces::new(alloc, limit);
+        let tree = match TreeBuilder::new(alloc) {
+            Ok(tree) => tree,
+            Err(Memory) => return Err(Memory),
+        };
+        Ok(Builder {
+            text,
+            table,
+            tree,
+            tag: Tag::new(alloc),
+            refused: None,
+            is_broken: false,
+            alloc,
+        })
+    }
+
+    /// Takes the next bytes of the page, and all that is ready of them.
+    ///
+    /// Where memory is refused, each later call is refused too.
+    pub fn feed(&mut self, piece: &[u8]) -> Result<(), Memory>
+        ensures read { OnOk result ((fed : List ℕ) → HasRead self.old fed → HasRead self.new (fed ++ piece.now)) }
+        ensures names { self.new.names ≡ self.old.names }
+        ensures limit { self.new.pieces.limit ≡ self.old.pieces.limit }
+        ensures sound { OnOk result ((self.old.is_broken ≡ false) × (self.new.is_broken ≡ false)) }
+        ensures err { OnErr result (self.new.is_broken ≡ true) }
+    {
+        if self.is_broken {
+            return Err(Memory);
+        }
+        self.is_broken = true;
+        self.text.feed(piece)?;
+        if self.refused.is_some() || self.text.fault().is_some() {
+            drop_all(&mut self.text);
+            self.is_broken = false;
+            return Ok(());
+        }
+        match take_ready(
+            self.alloc,
+            self.text.source(),
+            self.table,
+            &mut self.tree,
+            &mut self.tag,
+        ) {
+            Ok(len) => {
+                self.text.drop_front(len);
+                self.is_broken = false;
+                return Ok(());
+            }
+            Err(Refused::Page { rule, at }) => {
+                self.refused = Some((rule, at));
+                drop_all(&mut self.text);
+                self.is_broken = false;
+                return Ok(());
+            }
+            Err(Refused::Memory) => return Err(Memory),
+        }
+    }
+
+    /// The tree of the page, of which all bytes have come, or its first refusal, with its rule and its byte of the page.
+    ///
+    /// A page that is too long, isn't UTF-8 or has a zero byte is refused for that, whatever its tokens are.
+    pub fn end(self) -> Result<Tree, Refused>
+        ensures built { IfOk result (λ tree. (page : List ℕ) → HasRead self.entry page → page_outcome_within self.entry.pieces.limit self.entry.names page ≡ built tree) }
+        ensures settled { IfOk result (λ tree. (page : List ℕ) → HasRead self.entry page → Settled tree) }
+        ensures refused { IfErr result (λ refused. (page : List ℕ) → HasRead self.entry page → IsRefusedAs (page_outcome_within self.entry.pieces.limit self.entry.names page) refused) }
+        ensures broken { self.entry.is_broken ≡ true → result ≡ Err Refused.Memory }
+    {
+        every_table(self.table);
+        let Builder {
+            text,
+            table,
+            tree,
+            tag,
+            refused,
+            is_broken,
+            alloc,
+        } = self;
+        if is_broken {
+            return Err(Refused::Memory);
+        }
+        let mut text = text;
+        match text.finish() {
+            Ok(()) => {}
+            Err(Memory) => return Err(Refused::Memory),
+        }
+        if let Some((rule, at)) = text.fault() {
+            return Err(Refused::Page { rule, at });
+        }
+        if let Some((rule, at)) = refused {
+            return Err(Refused::Page { rule, at });
+        }
+        match parse_rest(alloc, text.source(), table, tree, tag) {
+            Ok((tree, _closed)) => Ok(tree),
+            Err(refused) => Err(refused),
+        }
+    }
+
+    /// How many elements are open after all tokens that are ready, of those that came; 0 where the page is refused already.
+    pub fn depth(&self) -> u32
+        ensures { (fed : List ℕ) → HasRead self.now fed → result ≡ feeding.depth self.now.names self.now.pieces.limit fed }
+    {
+        if self.refused.is_some() || self.text.fault().is_some() {
+            return 0;
+        }
+        self.tree.depth()
+    }
+
+    /// How many bytes of the text are kept: those that aren't ready; 0 where the page is refused already.
+    pub fn kept(&self) -> u32
+        ensures { (fed : List ℕ) → HasRead self.now fed → result ≡ feeding.kept self.now.names self.now.pieces.limit fed }
+    {
+        self.text.source().text().len() as u32
+    }
+}

@@ -1,0 +1,4 @@
+pub mod Fed
+pub mod Laws
+pub mod Pieces
+pub mod Examples

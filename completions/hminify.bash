@@ -2,7 +2,7 @@
 
 _hminify() {
     local word=${COMP_WORDS[COMP_CWORD]} command='' names=0 at it
-    local flags=(--comments --booleans --empty --redundant --doctype --space --conservative --omit --unquote --tight --ascii --sparse)
+    local flags=(--comments --booleans --empty --redundant --doctype --space --conservative --omit --unquote --tight --ascii --sparse --order)
     COMPREPLY=()
     for ((at = 1; at < COMP_CWORD; at++)); do
         case ${COMP_WORDS[at]} in

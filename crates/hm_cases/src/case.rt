@@ -81,7 +81,7 @@ fn is_front(before: &MemStore, store: &MemStore, name: &str, wanted: &Option<Vec
     }
 }
 
-/// Whether a word is the flag of a rewrite.
+/// Whether a word is a flag that changes the tree: that of a rewrite, or of the order of attributes.
 fn rewrites(word: &str) -> bool {
     [
         "--doctype",
@@ -91,6 +91,7 @@ fn rewrites(word: &str) -> bool {
         "--redundant",
         "--space",
         "--conservative",
+        "--order",
     ]
     .contains(&word)
 }
@@ -269,7 +270,7 @@ impl Case {
     }
 
     /// The words of the case, with `check` in place of `minify`, or `checkfragment` in place of `fragment`. Where the tree is given as
-    /// JSON the page is `copy`, and nothing is rewritten.
+    /// JSON the page is `copy`, and nothing is rewritten or put into order.
     fn checking(&self, alloc: Global) -> io::Result<Vec<Word>> {
         let of_json = self.is_of_json();
         let mut words = Vec::new(alloc);

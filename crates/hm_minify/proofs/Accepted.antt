@@ -22,7 +22,7 @@ use Rattle.hm_refs.specs.Tables.{IsTable}
 use Rattle.hm_minify.specs.Endings.{format_of}
 use Rattle.hm_minify.specs.Laws.{OwnIsAccepted, judged, own_verdict}
 use Rattle.hm_words.specs.declared.writing.Writing.{Writing}
-use Rattle.hm_plan.specs.Shortest.{certificate_of, certified_rows, shortest_text}
+use Rattle.hm_order.specs.Shortest.{certificate_of, certified_rows, shortest_text}
 
 -- the certificate is read
 pub certificate_read : (t : List Entry) (r : SpellRules) (format : Format) (w : List Event) (cert : List ℕ) → cert ≡ certificate_of t r format w → AreRows (certified_rows t r format w) → given cert ≡ Ok (least_certificate t r format w)

@@ -17,7 +17,7 @@ use Rattle.hm_construction_laws.specs.Trees.{built}
 use Rattle.hm_fragment.specs.Frames.{framed, front, unframed}
 use Rattle.hm_fragment.specs.Laws.{IsReadBack}
 use Rattle.hm_base.specs.declared.plain.SpellRules.{SpellRules}
-use Rattle.hm_plan.specs.Shortest.{certificate_of, certified_rows, shortest_text}
+use Rattle.hm_order.specs.Shortest.{certificate_of, certified_rows, shortest_text}
 use Rattle.hm_refs.proofs.Places.{same_bytes}
 use Rattle.hm_refs.specs.Names.{Entry}
 use Rattle.hm_refs.specs.Tables.{IsTable}

@@ -255,6 +255,7 @@ checked_yes t k r w s out cert page e =
 
 pub record IsFragmentYes (t : List Entry) (r : SpellRules) (w : List Event) (out : List ℕ) (e : Ending) : Type 0 where
   pub reads_back : fragment_tree t out ≡ built w
+  pub shortest : Shortest t r w (length (framed out))
   pub least : (fragment : List ℕ) → Spells t r w (framed fragment) → length out ≤ length fragment
   pub line : e.line ≡ yes_line (length out)
 
@@ -283,6 +284,7 @@ framed_yes t k r w s out c (Yes n) (built u) is reads e =
     let shown : IsShown t r w (framed out) n = yes_shows t k r w s (framed out) c n is in
     record {
       reads_back = same_tree t out u w (in_limit t out u reads) shown.parses;
+      shortest = shown.shortest;
       least = λ fragment spells. bounds_are_of_fragments t r w (length out) (subst (Shortest t r w) (framed_length out) shown.shortest) fragment spells;
       line = ap yes_line (bytes_less n (length out) (shown.len ∙ framed_length out));
     }

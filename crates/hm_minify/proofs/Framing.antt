@@ -1,7 +1,7 @@
 -- What the words of a command on fragments say of its rules, and that its tree stands in body.
 use Rattle.std.proofs.Common.{◌≡◌, ◌∙◌, ◌≤◌, ℕ, Bool, true, false, not, ◌&&◌, ◌||◌, cond, List, length, Option, Some, None, Result, Ok, Err, codes, refl, sym, subst, length-append}
 use Rattle.std.specs.Bool.{nat_lt}
-use Rattle.hm_base.proofs.Bytes.{second_true}
+use Rattle.hm_base.proofs.Bytes.{first_true, second_true}
 use Rattle.hm_base.specs.Walks.{Event}
 use Rattle.hm_base.specs.declared.limits.TheConstants.{PAGE_LIMIT}
 use Rattle.hm_base.specs.declared.plain.SpellRules.{SpellRules}
@@ -15,10 +15,11 @@ use Rattle.hm_fragment.specs.Fragments.{fragment_tree}
 use Rattle.hm_fragment.specs.Frames.{IsFramed, framed, front}
 use Rattle.hm_fragment.specs.Laws.{IsReadBack}
 use Rattle.hm_minify.proofs.Headline.{table_is}
+use Rattle.hm_minify.proofs.Ordered.{wanted_framed}
 use Rattle.hm_minify.proofs.Wanted.{of_wanted}
 use Rattle.hm_minify.specs.Inputs.{tree as tree_input, fragment_input, fragment_outcome, input_from, input_of, is_none, origin_input, rewritten_input, table_names}
 use Rattle.hm_options.specs.Rewrites.{rewrite}
-use Rattle.hm_plan.specs.Shortest.{shortest_text}
+use Rattle.hm_order.specs.Shortest.{shortest_text}
 use Rattle.hm_refs.specs.Names.{Entry}
 use Rattle.hm_refs.specs.Tables.{IsTable}
 use Rattle.hm_refs.specs.declared.fault.TableFault.{TableFault}
@@ -51,7 +52,7 @@ with_ruled ws (Some command) q e = by_test (is_apart command.0 command.1 && fits
     by_test : (b : Bool) → (is_apart command.0 command.1 && fits command ws) ≡ b → cond b (Some (asks command.0 command.1 (choices_of ws).options (written_of command.0 (choices_of ws).writing))) None ≡ Some q → IsRuled q
     by_test true t h = subst IsRuled (some_is _ q h) (record {
       frame = refl;
-      omits = λ fragment. omit_is ws ∙ given_where (is_fragment command.0) (has ws (codes "--omit")) (second_true (is_apart command.0 command.1) (fits command ws) t) fragment;
+      omits = λ fragment. omit_is ws ∙ given_where (is_fragment command.0) (has ws (codes "--omit")) (first_true _ _ (second_true (is_apart command.0 command.1) (fits command ws) t)) fragment;
     })
     by_test false t h = cc
 
@@ -94,7 +95,7 @@ origin_framed (made table number size) o seen m t v is e = cc
 pub request_framed : (q : Asked) (seen : Contents) (m : ℕ) (t : List Entry) (w : List Event) → is_fragment q.origin ≡ true → input_of q seen ≡ tree_input m t w → IsFramed w
 request_framed q seen m t w is e =
     let x = of_wanted q (origin_input q.origin q.options seen) m t w e in
-    subst IsFramed (sym x.is) (origin_framed q.origin q.options seen x.bytes t x.tree is x.input)
+    subst IsFramed (sym x.is) (wanted_framed q t x.tree (origin_framed q.origin q.options seen m t x.tree is x.input))
 
 -- ---- The text
 

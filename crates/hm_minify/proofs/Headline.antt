@@ -15,8 +15,8 @@ use Rattle.hm_refs.specs.Json.{names}
 use Rattle.hm_refs.specs.Names.{Entry}
 use Rattle.hm_refs.specs.Tables.{IsTable}
 use Rattle.hm_refs.specs.declared.fault.TableFault.{TableFault}
-use Rattle.hm_plan.proofs.Headline.{shortest_is_certified}
-use Rattle.hm_plan.specs.Shortest.{IsShortest, certificate_of, certified_rows, shortest_text}
+use Rattle.hm_order.proofs.Headline.{shortest_is_certified}
+use Rattle.hm_order.specs.Shortest.{IsShortest, certificate_of, certified_rows, shortest_text}
 use Rattle.hm_store.specs.Contents.{Contents}
 use Rattle.hm_minify.specs.Endings.{format_of}
 use Rattle.hm_words.specs.Words.{Asked, Origin, page_at, fragment_at, json_at, made}

@@ -1,5 +1,5 @@
 -- The walk of the JSON of which a tree is wanted.
-use Rattle.std.proofs.Common.{◌≡◌, ◌∙◌, ℕ, List, Option, Some, None, Result, Ok, Err, refl, sym, ap, subst}
+use Rattle.std.proofs.Common.{◌≡◌, ◌∙◌, ℕ, List, length, Option, Some, None, Result, Ok, Err, refl, sym, ap, subst}
 use Rattle.hm_base.specs.Walks.{Event}
 use Rattle.hm_base.specs.declared.plain.TreeOptions.{TreeOptions}
 use Rattle.hm_json_tree.specs.Reading.{JsonWalk, walk, too_long, not_json, not_array, no_event, some_open, not_settled, json_walk}
@@ -9,7 +9,8 @@ use Rattle.hm_minify.specs.Outside.{Outside}
 use Rattle.hm_minify.specs.Runs.{HasMinified, HasMinifiedJson}
 use Rattle.hm_minify.specs.Endings.{format_of}
 use Rattle.hm_options.specs.Rewrites.{rewrite}
-use Rattle.hm_plan.specs.Shortest.{IsShortest}
+use Rattle.hm_order.specs.Laws.{ShortestAny}
+use Rattle.hm_order.specs.Shortest.{IsShortest}
 use Rattle.hm_refs.specs.Names.{Entry}
 use Rattle.hm_refs.specs.declared.fault.TableFault.{TableFault}
 use Rattle.hm_words.specs.Words.{Asked, json_at}
@@ -40,7 +41,7 @@ content_read o (Some (Ok u)) (Some json) m t v e = walk_read o u t json _ m v (j
 pub json_minified : (q : Asked) (table json_name out cert : List ℕ) (b a : Outside) → q.origin ≡ json_at table json_name → HasMinified q out cert b a → HasMinifiedJson q json_name out cert b a
 json_minified q table json_name out cert b a origin h =
     let w = of_wanted q (origin_input q.origin q.options h.seen) h.bytes h.table h.tree h.reads in
-    let r = content_read q.options (table_names (is_none table) (h.seen table)) (h.seen json_name) w.bytes h.table w.tree (ap (λ x. origin_input x q.options h.seen) (sym origin) ∙ w.input) in
+    let r = content_read q.options (table_names (is_none table) (h.seen table)) (h.seen json_name) h.bytes h.table w.tree (ap (λ x. origin_input x q.options h.seen) (sym origin) ∙ w.input) in
     record {
       seen = h.seen;
       are_told = h.are_told;
@@ -52,6 +53,7 @@ json_minified q table json_name out cert b a origin h =
       out = h.out;
       cert = h.cert;
       shortest = subst (λ tree. IsShortest h.table q.writing.rules (format_of q.writing.sparse) tree h.out h.cert) (w.is ∙ ap (wanted_tree q h.table) r.is) h.shortest;
+      any_order = λ order. subst (λ tree. ShortestAny h.table q.writing.rules tree (length h.out)) r.is (h.any_order order w.tree w.input);
       files = h.files;
       line = h.line;
     }

@@ -14,4 +14,5 @@ pub mod Meanings
 pub mod Afterwards
 pub mod Wanted
 pub mod JsonRead
+pub mod Ordered
 pub mod Framing

@@ -8,7 +8,7 @@ use Rattle.hm_refs.specs.Names.{Entry}
 use Rattle.hm_store.specs.Contents.{AreTold, Contents, Sees}
 use Rattle.hm_elements.specs.Settled.{Settled}
 use Rattle.hm_minify.specs.Inputs.{Input, missing, bad_table, bad_page, bad_json, tree as tree_input, input_of}
-use Rattle.hm_plan.specs.Shortest.{IsShortest, certificate_of, shortest_text}
+use Rattle.hm_order.specs.Shortest.{IsShortest, certificate_of, shortest_text}
 use Rattle.hm_words.specs.Words.{Asked, Work, minifies, checks as checks_files, shows as shows_tree, tells_json, measures as measures_tree, asked, is_fragment}
 use Rattle.hm_minify.specs.Endings.{IsReadableAsked, IsReadableBy, written_part, format_of, is_fault, with_tree, tree_ending, check_ending, asked_ending, request_ending, ending}
 use Rattle.hm_fragment.specs.Frames.{framed, unframed}
@@ -23,6 +23,7 @@ use Rattle.hm_minify.proofs.Found.{check_other, check_writes, checked_fragment_y
 use Rattle.hm_minify.proofs.Generated.{IsGenerated, asked_limits, json_never_refused, page_never_refused}
 use Rattle.hm_minify.proofs.Framing.{IsRuled, least_fragment, request_framed, ruled, text_read_back}
 use Rattle.hm_minify.proofs.Headline.{request_table, input_is_shortest}
+use Rattle.hm_minify.proofs.Ordered.{bounds_all}
 
 -- ---- statuses that no tree gives
 
@@ -99,6 +100,7 @@ minified_of q out cert r b a seen (tree_input n t v) page told reads w h is = re
   out = shortest_text t q.writing.rules v;
   cert = certificate_of t q.writing.rules (format_of q.writing.sparse) v;
   shortest = input_is_shortest q seen n t v reads h.0 h.1;
+  any_order = bounds_all q seen n t v reads h.0 (length (shortest_text t q.writing.rules v)) (input_is_shortest q seen n t v reads h.0 h.1).shortest;
   files = w.files ∙ ap (λ f. after_writes b.files (write out (written_part f (shortest_text t q.writing.rules v)) ∷ write cert (certificate_of t q.writing.rules (format_of q.writing.sparse) v) ∷ [])) page;
   line = w.line ∙ ap (λ f. append_known b.printed (length_line (length (written_part f (shortest_text t q.writing.rules v))))) page;
 }
@@ -133,6 +135,7 @@ fragment_of q out cert r b a seen (tree_input n t v) rules fragment told reads w
       shortest = shortest;
       reads_back = back.reads;
       least = least_fragment t q.writing.rules v (unframed text) shortest.shortest;
+      any_order = bounds_all q seen n t v reads h.0 (length (framed (unframed text))) shortest.shortest;
       files = w.files ∙ ap (λ f. after_writes b.files (write out (written_part f text) ∷ write cert certificate ∷ [])) frame;
       line = w.line ∙ ap (λ f. append_known b.printed (length_line (length (written_part f text)))) frame;
     }
@@ -160,6 +163,7 @@ checked_of q name r b a seen n t v (Some out) (Some cert) page told reads settle
       there = there;
       parses = yes.parses;
       shortest = yes.shortest;
+      any_order = bounds_all q seen n t v reads settled (length out) yes.shortest;
       files = w.files ∙ ap (after_writes b.files) (check_writes q.writing.rules t v (Some out) (Some cert));
       line = w.line ∙ ap (append_known b.printed) yes.line;
     }
@@ -192,6 +196,7 @@ fragment_checked_of q name r b a seen n t v (Some out) (Some cert) frame told re
       there = there;
       reads_back = yes.reads_back;
       least = yes.least;
+      any_order = bounds_all q seen n t v reads settled (length (framed out)) yes.shortest;
       files = w.files ∙ ap (after_writes b.files) (check_writes q.writing.rules t v (Some out) (Some cert));
       line = w.line ∙ ap (append_known b.printed) yes.line;
     }

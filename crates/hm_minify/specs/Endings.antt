@@ -18,7 +18,7 @@ use Rattle.hm_fragment.specs.Frames.{framed, front, unframed}
 use Rattle.hm_store.specs.Contents.{Contents}
 use Rattle.hm_base.specs.Walks.{Event}
 use Rattle.hm_refs.specs.Names.{Entry}
-use Rattle.hm_plan.specs.Shortest.{certificate_of, certified_rows, layer_count, shortest_text}
+use Rattle.hm_order.specs.Shortest.{certificate_of, certified_rows, layer_count, shortest_text}
 use Rattle.hm_dump.specs.Dump.{dump_of}
 use Rattle.hm_elements.specs.Settled.{Settled}
 use Rattle.hm_json_tree.specs.Texts.{json_text}

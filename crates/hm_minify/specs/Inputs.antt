@@ -13,10 +13,12 @@ use Rattle.hm_refs.specs.declared.fault.TableFault.{TableFault}
 use Rattle.hm_construction_laws.specs.Trees.{Outcome, built, refused_by, page_tree}
 use Rattle.hm_fragment.specs.Fragments.{fragment_tree}
 use Rattle.hm_gen.specs.Pages.{page as made_page}
+use Rattle.hm_graph_laws.specs.ExchangeLaws.{sparing_plain}
 use Rattle.hm_json_tree.specs.Reading.{JsonWalk, walk, too_long, not_json, not_array, no_event, some_open, not_settled, json_walk}
 use Rattle.hm_json_tree.specs.declared.fault.JsonFault.{JsonFault}
 use Rattle.hm_json_tree.specs.declared.fault.JsonFault.TheVariants as json_faults
 use Rattle.hm_options.specs.Rewrites.{rewrite}
+use Rattle.hm_order.specs.Orders.{reordered}
 use Rattle.hm_words.specs.Words.{Origin, page_at, fragment_at, json_at, made, Asked}
 
 pub data Input : Type 0 where
@@ -108,9 +110,10 @@ IsInput told origin o input = Sees told (λ seen. origin_input origin o seen ≡
 
 -- ---- what is wanted
 
--- the tree that a request wants, of the tree that is read: today the same
+-- the tree that a request wants, of the rewritten tree: with the flag for it, the attributes of each tag are in the order in which
+-- its text is shortest
 abbrev pub wanted_tree : Asked → List Entry → List Event → List Event
-wanted_tree request t w = w
+wanted_tree request t w = if request.writing.order then reordered (sparing_plain t request.writing.rules) w else w
 
 abbrev pub wanted : Asked → Input → Input
 wanted request missing = missing
@@ -119,6 +122,10 @@ wanted request (bad_page rule at) = bad_page rule at
 wanted request (bad_json fault) = bad_json fault
 wanted request (tree bytes t w) = tree bytes t (wanted_tree request t w)
 
--- what the files give a request to work on
+-- what the files give a request, with the tree as the rewrites leave it
+abbrev pub rewritten_of : Asked → Contents → Input
+rewritten_of request seen = origin_input request.origin request.options seen
+
+-- what they give it to work on
 abbrev pub input_of : Asked → Contents → Input
-input_of request seen = wanted request (origin_input request.origin request.options seen)
+input_of request seen = wanted request (rewritten_of request seen)

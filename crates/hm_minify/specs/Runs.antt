@@ -1,5 +1,5 @@
 -- What a run has done: what stands after it, and why.
-use Rattle.std.specs.Prelude.{ℕ, ◌≡◌, ◌≤◌, ◌⊎◌, false, List, length, [], ◌∷◌, ◌++◌, Option, Some}
+use Rattle.std.specs.Prelude.{ℕ, ◌≡◌, ◌≤◌, ◌⊎◌, true, false, List, length, [], ◌∷◌, ◌++◌, Option, Some}
 use Rattle.std.specs.Io.KnownBytes.{append_known}
 use Rattle.hm_base.specs.Walks.{Event}
 use Rattle.hm_base.specs.declared.rules.Rule.{Rule}
@@ -10,7 +10,8 @@ use Rattle.hm_refs.specs.Names.{Entry}
 use Rattle.hm_refs.specs.declared.fault.TableFault.{TableFault}
 use Rattle.hm_construction_laws.specs.Trees.{built, page_tree}
 use Rattle.hm_options.specs.Rewrites.{rewrite}
-use Rattle.hm_plan.specs.Shortest.{IsShortest, layer_count}
+use Rattle.hm_order.specs.Laws.{ShortestAny}
+use Rattle.hm_order.specs.Shortest.{IsShortest, layer_count}
 use Rattle.hm_fragment.specs.Fragments.{fragment_tree}
 use Rattle.hm_fragment.specs.Frames.{framed}
 use Rattle.hm_spelling_spec.specs.Spellings.{Shortest, Spells}
@@ -18,7 +19,7 @@ use Rattle.hm_dump.specs.Dump.{dump_of}
 use Rattle.hm_json_tree.specs.Reading.{json_walk, walk}
 use Rattle.hm_json_tree.specs.Texts.{json_text}
 use Rattle.hm_json_tree.specs.declared.fault.JsonFault.{JsonFault}
-use Rattle.hm_minify.specs.Inputs.{bad_table, bad_page, bad_json, tree as tree_input, input_of, wanted_tree}
+use Rattle.hm_minify.specs.Inputs.{bad_table, bad_page, bad_json, tree as tree_input, input_of, rewritten_of, wanted_tree}
 use Rattle.hm_words.specs.Words.{Asked, checks}
 use Rattle.hm_minify.specs.Endings.{format_of, Ending, store_fault, is_fault, checked_ending, ending}
 use Rattle.hm_minify.specs.Lines.{length_line, yes_line, measured_line, refused_line, json_line, table_line, store_line}
@@ -65,7 +66,8 @@ pub data Course (e : Contents → Ending) (R : Contents → Type 0) (ended : Sta
 
 -- ---- By what is done. `seen` are contents that the files can have; where the files are known, their contents.
 
--- The files give a table and a tree; OUT and CERT hold it shortest and certified, and the line says the length.
+-- The files give a table and a tree; OUT and CERT hold it shortest and certified, and the line says the length. With the flag for
+-- the order, OUT is as short as any spelling of the rewritten tree with the attributes of its tags in any order.
 pub record HasMinified (request : Asked) (out_name cert_name : List ℕ) (before after : Outside) : Type 0 where
   pub seen : Contents
   pub are_told : AreTold before.files seen
@@ -76,11 +78,13 @@ pub record HasMinified (request : Asked) (out_name cert_name : List ℕ) (before
   pub out : List ℕ
   pub cert : List ℕ
   pub shortest : IsShortest table request.writing.rules (format_of request.writing.sparse) tree out cert
+  pub any_order : request.writing.order ≡ true → (w : List Event) → rewritten_of request seen ≡ tree_input bytes table w → ShortestAny table request.writing.rules w (length out)
   pub files : after.files ≡ after_writes before.files (write out_name out ∷ write cert_name cert ∷ [])
   pub line : Prints (length_line (length out)) before after
 
 -- The files give a table and the tree of a fragment. OUT behind the front of fragments is that tree shortest, which CERT certifies; OUT
--- itself is a fragment with that tree, and the line says its length.
+-- itself is a fragment with that tree, and the line says its length. With the flag for the order, OUT behind its front is as short as
+-- any spelling with the attributes in any order.
 pub record HasMinifiedFragment (request : Asked) (out_name cert_name : List ℕ) (before after : Outside) : Type 0 where
   pub seen : Contents
   pub are_told : AreTold before.files seen
@@ -93,11 +97,13 @@ pub record HasMinifiedFragment (request : Asked) (out_name cert_name : List ℕ)
   pub shortest : IsShortest table request.writing.rules (format_of request.writing.sparse) tree (framed out) cert
   pub reads_back : fragment_tree table out ≡ built tree
   pub least : (fragment : List ℕ) → Spells table request.writing.rules tree (framed fragment) → length out ≤ length fragment
+  pub any_order : request.writing.order ≡ true → (w : List Event) → rewritten_of request seen ≡ tree_input bytes table w → ShortestAny table request.writing.rules w (length (framed out))
   pub files : after.files ≡ after_writes before.files (write out_name out ∷ write cert_name cert ∷ [])
   pub line : Prints (length_line (length out)) before after
 
 -- The files give a table, the tree of a fragment, and a fragment with that tree; no fragment that spells it is shorter, and the line
--- says the length.
+-- says the length. With the flag for the order, the fragment behind its front is as short as any spelling with the attributes in any
+-- order.
 pub record HasCheckedFragment (request : Asked) (out_name : List ℕ) (before after : Outside) : Type 0 where
   pub seen : Contents
   pub are_told : AreTold before.files seen
@@ -109,11 +115,12 @@ pub record HasCheckedFragment (request : Asked) (out_name : List ℕ) (before af
   pub there : seen out_name ≡ Some out
   pub reads_back : fragment_tree table out ≡ built tree
   pub least : (fragment : List ℕ) → Spells table request.writing.rules tree (framed fragment) → length out ≤ length fragment
+  pub any_order : request.writing.order ≡ true → (w : List Event) → rewritten_of request seen ≡ tree_input bytes table w → ShortestAny table request.writing.rules w (length (framed out))
   pub files : after.files ≡ before.files
   pub line : Prints (yes_line (length out)) before after
 
 -- The JSON in a file stands for a walk. OUT and CERT hold the tree that is wanted of the rewritten walk shortest and certified, and
--- the line says the length.
+-- the line says the length. With the flag for the order, OUT is as short as any spelling with the attributes in any order.
 pub record HasMinifiedJson (request : Asked) (json_name out_name cert_name : List ℕ) (before after : Outside) : Type 0 where
   pub seen : Contents
   pub are_told : AreTold before.files seen
@@ -125,10 +132,12 @@ pub record HasMinifiedJson (request : Asked) (json_name out_name cert_name : Lis
   pub out : List ℕ
   pub cert : List ℕ
   pub shortest : IsShortest table request.writing.rules (format_of request.writing.sparse) (wanted_tree request table (rewrite request.options read)) out cert
+  pub any_order : request.writing.order ≡ true → ShortestAny table request.writing.rules (rewrite request.options read) (length out)
   pub files : after.files ≡ after_writes before.files (write out_name out ∷ write cert_name cert ∷ [])
   pub line : Prints (length_line (length out)) before after
 
--- The files give a table, a tree and a text that parses to it, no spelling is shorter, and the line says the length.
+-- The files give a table, a tree and a text that parses to it, no spelling is shorter, and the line says the length. With the flag for
+-- the order, the text is as short as any spelling with the attributes in any order.
 pub record HasChecked (request : Asked) (out_name : List ℕ) (before after : Outside) : Type 0 where
   pub seen : Contents
   pub are_told : AreTold before.files seen
@@ -140,6 +149,7 @@ pub record HasChecked (request : Asked) (out_name : List ℕ) (before after : Ou
   pub there : seen out_name ≡ Some out
   pub parses : page_tree table out ≡ built tree
   pub shortest : Shortest table request.writing.rules tree (length out)
+  pub any_order : request.writing.order ≡ true → (w : List Event) → rewritten_of request seen ≡ tree_input bytes table w → ShortestAny table request.writing.rules w (length out)
   pub files : after.files ≡ before.files
   pub line : Prints (yes_line (length out)) before after
 

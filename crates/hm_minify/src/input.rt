@@ -11,9 +11,10 @@ ghost use Rattle.hm_minify.specs.Loads.{IsTreeRead, NoInput, NoTreeRead};
 
 use crate::Unread;
 use crate::loads::{load_fragment, load_json, load_table, load_text, make_text};
-use hm_base::{SourceText, TreeOptions};
+use hm_base::{Memory, SourceText, TreeOptions};
 use hm_build::parse;
 use hm_options::rewrite;
+use hm_order::reorder;
 use hm_refs::Table;
 use hm_store::Store;
 use hm_tree::Tree;
@@ -177,11 +178,17 @@ pub fn load_input<S: Store>(
     }
 }
 
-/// What a request works on, of what was read for it: today all as it is.
-pub fn wanted(input: Input, _asked: &Asked<'_>) -> Input
+/// What a request works on, of what was read for it: with the flag for it, the attributes of each tag are put into the order in which
+/// its text is shortest.
+pub fn wanted(alloc: Global, input: Input, asked: &Asked<'_>) -> Result<Input, Memory>
     requires settled { Settled input.tree }
-    ensures wanted { inputs.tree result.bytes result.table.entries result.tree ≡ inputs.wanted (request_of _asked.now) (inputs.tree input.bytes input.table.entries input.tree) }
-    ensures settled { Settled result.tree }
+    ensures wanted { IfOk result (λ made. inputs.tree made.bytes made.table.entries made.tree ≡ inputs.wanted (request_of asked.now) (inputs.tree input.bytes input.table.entries input.tree)) }
+    ensures settled { IfOk result (λ made. Settled made.tree) }
 {
-    input
+    if !asked.writing.order {
+        return Ok(input);
+    }
+    let Input { bytes, table, tree } = input;
+    let tree = reorder(alloc, tree, &table, asked.writing.rules)?;
+    Ok(Input { bytes, table, tree })
 }

@@ -2,8 +2,8 @@
 ghost use Rattle.std.specs.Prelude.{◌≡◌, ◌≢◌, IfOk, Err, false};
 ghost use Rattle.hm_cert.specs.Certificate.{AreRows};
 ghost use Rattle.hm_elements.specs.Settled.{Settled};
-ghost use Rattle.hm_plan.specs.Minified.{IsMinifiedBy};
-ghost use Rattle.hm_plan.specs.Shortest.{certified_rows};
+ghost use Rattle.hm_order.specs.Minified.{IsMinifiedBy};
+ghost use Rattle.hm_order.specs.Shortest.{certified_rows};
 ghost use Rattle.hm_minify.specs.Endings as spec;
 
 use crate::ended::{Ended, Stop, says};
@@ -13,7 +13,7 @@ use crate::{Input, Status};
 use hm_base::OUTPUT_LIMIT;
 use hm_cert::{Certificate, CertificateFault};
 use hm_check::{Verdict, check};
-use hm_plan::{Minified, minify_tree};
+use hm_order::{Minified, minify_tree};
 use hm_refs::laws::every_table;
 use hm_words::Writing;
 use std::alloc::Global;

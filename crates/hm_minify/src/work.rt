@@ -2,7 +2,7 @@
 ghost use Rattle.std.specs.Prelude.{◌≡◌, ◌≢◌, ◌⊎◌, ◌≤◌, ◌++◌, ◌∷◌, [], drop, length, IfOk, Err, true, false};
 ghost use Rattle.hm_cert.specs.Certificate.{AreRows};
 ghost use Rattle.hm_elements.specs.Settled.{Settled};
-ghost use Rattle.hm_plan.specs.Shortest.{certified_rows};
+ghost use Rattle.hm_order.specs.Shortest.{certified_rows};
 ghost use Rattle.hm_store.specs.Causes.{Rose};
 ghost use Rattle.hm_store.specs.Contents.{Sees, Tells};
 ghost use Rattle.hm_dump.specs.Dump.{dump_of};
@@ -22,7 +22,7 @@ use hm_base::Format;
 use hm_dump::Shown;
 use hm_fragment::front;
 use hm_json_tree::JsonShown;
-use hm_plan::minify_tree;
+use hm_order::minify_tree;
 use hm_store::Store;
 use hm_tree::Tree;
 use hm_words::{Asked, Work, Writing};
@@ -148,7 +148,7 @@ pub fn work<'w, S: Store>(
     ensures store { result ≡ Err Stop.Store → Rose (S.faults store.old) (S.faults store.new) ⊎ Tells (S.files store.old) (λ seen. spec.asked_ending (request_of asked.now) seen ≡ spec.store_fault) }
 {
     match load_input(alloc, store, &asked.origin, &asked.options) {
-        Ok(input) => answer(alloc, asked, wanted(input, asked), store),
+        Ok(input) => answer(alloc, asked, wanted(alloc, input, asked)?, store),
         Err(Unread::Table { fault }) => {
             Ok(says(alloc, Status::TableRefused, table_line(alloc, &fault)?))
         }

@@ -1,3 +1,4 @@
+pub use Rattle.hm_plan.proofs.Headline
 pub mod Prices
 pub mod Values
 pub mod Split
@@ -8,7 +9,8 @@ pub mod Likes
 pub mod Shortest
 pub mod Alone
 pub mod Places
-pub mod Copied
+pub mod InOrder
+pub mod Savings
 pub mod Weighed
 pub mod Easy
 pub mod Scans

@@ -1,14 +1,14 @@
 -- The first of the best places, found from the last one on, and the order in which the attribute there goes last.
-use Rattle.std.proofs.Common.{◌≡◌, ◌+◌, ◌<◌, ◌≤◌, ℕ, zero, suc, Bool, true, false, not, nat_le, nat_lt, ◌==◌, if◌then◌else◌, List, [], ◌∷◌, ◌++◌, length, slice_get, Option, Some, None, refl, sym, ap, ◌∙◌, subst, arith, inl, inr, ◌⊎◌}
+use Rattle.std.proofs.Common.{◌≡◌, ◌+◌, ◌<◌, ◌≤◌, ℕ, zero, suc, Bool, true, false, not, nat_le, List, [], ◌∷◌, ◌++◌, length, slice_get, Option, Some, None, refl, sym, ap, ◌∙◌, subst, arith, inl, inr, ◌⊎◌}
 use Rattle.std.proofs.lemmas.Bool.Decides.{nat_tests}
 use Rattle.std.proofs.lemmas.Option.{slice_get_within}
 use Rattle.hm_base.specs.Walks.{Attribute}
-use Rattle.hm_tree.proofs.ListLemmas.{slice_get-append, slice_get_at}
+use Rattle.hm_tree.specs.Moved.{moved}
 use Rattle.hm_spelling_spec.specs.Tags.{Spelling}
 use Rattle.hm_graph_laws.specs.Ways.{over}
 use Rattle.hm_order.specs.Costs.{plus, inner_cost, last_cost}
 use Rattle.hm_order.specs.Orders.{chosen, is_at_most, is_better_last, ordered, picked, Picked}
-use Rattle.hm_order.specs.Places.{AreCosts, cost_at, IsFirstBest, moved}
+use Rattle.hm_order.specs.Places.{AreCosts, cost_at, IsFirstBest}
 use Rattle.hm_order.proofs.Alone.{inner_apart}
 use Rattle.hm_order.proofs.Prices.{over_plus}
 use Rattle.hm_order.specs.declared.costs.AttrCost.{AttrCost}
@@ -161,37 +161,6 @@ costs_more g closes [] [] c a h i l = ((i, l), tt)
 costs_more g closes [] (x ∷ xs) c a h i l = absurd h
 costs_more g closes (d ∷ costs) [] c a h i l = absurd h
 costs_more g closes (d ∷ costs) (x ∷ xs) c a h i l = (h.0, costs_more g closes costs xs c a h.1 i l)
-
--- ---- The attribute at each place of that order
-
-pub moved_front : (xs : List Attribute) (best i : ℕ) → i < best → best < length xs → slice_get (moved best xs) i ≡ slice_get xs i
-moved_front [] best i low inside = refl
-moved_front (a ∷ xs) zero i low inside = absurd (omega (arith, low))
-moved_front (a ∷ xs) (suc best) zero low inside = refl
-moved_front (a ∷ xs) (suc best) (suc i) low inside = moved_front xs best i (omega (arith, low)) (omega (arith, inside))
-
-pub moved_behind : (xs : List Attribute) (best i : ℕ) → best ≤ i → i + 1 < length xs → slice_get (moved best xs) i ≡ slice_get xs (i + 1)
-moved_behind [] best i low inside = absurd (omega (arith, inside))
-moved_behind (a ∷ xs) zero i low inside = slice_get-append xs (a ∷ []) i (omega (arith, inside)) ∙ ap (slice_get (a ∷ xs)) (let next : suc i ≡ i + 1 = omega arith in next)
-moved_behind (a ∷ xs) (suc best) zero low inside = absurd (omega (arith, low))
-moved_behind (a ∷ xs) (suc best) (suc i) low inside = moved_behind xs best i (omega (arith, low)) (omega (arith, inside)) ∙ ap (slice_get (a ∷ xs)) (let next : suc (i + 1) ≡ suc i + 1 = omega arith in next)
-
-pub moved_last : (xs : List Attribute) (best i : ℕ) → best < length xs → i + 1 ≡ length xs → slice_get (moved best xs) i ≡ slice_get xs best
-moved_last [] best i inside end = absurd (omega (arith, inside))
-moved_last (a ∷ xs) zero i inside end = ap (slice_get (xs ++ a ∷ [])) (let same : i ≡ length xs = omega (arith, end) in same) ∙ slice_get_at xs a
-moved_last (a ∷ xs) (suc best) zero inside end = absurd (omega (arith, inside, end))
-moved_last (a ∷ xs) (suc best) (suc i) inside end = moved_last xs best i (omega (arith, inside)) (omega (arith, end))
-
-pub moved_at : (xs : List Attribute) (last i k : ℕ) → last < length xs → i < length xs → k ≡ (if i + 1 == length xs then last else if nat_lt i last then i else i + 1) → slice_get (moved last xs) i ≡ slice_get xs k
-moved_at xs last i k inside low is = by (i + 1 == length xs) (nat_lt i last) refl refl is
-  where
-    by : (e l : Bool) → (i + 1 == length xs) ≡ e → nat_lt i last ≡ l → k ≡ (if e then last else if l then i else i + 1) → slice_get (moved last xs) i ≡ slice_get xs k
-    by true l he hl is = moved_last xs last i inside (grind (arith, nat_tests, he)) ∙ ap (slice_get xs) (sym is)
-    by false true he hl is = moved_front xs last i (grind (arith, nat_tests, hl)) inside ∙ ap (slice_get xs) (sym is)
-    by false false he hl is = moved_behind xs last i (grind (arith, nat_tests, hl)) (grind (arith, nat_tests, he, low)) ∙ ap (slice_get xs) (sym is)
-
-pub moved_place : (xs : List Attribute) (last i k n : ℕ) → last < length xs → i < length xs → n ≡ length xs → k ≡ (if i + 1 == n then last else if nat_lt i last then i else i + 1) → slice_get (moved last xs) i ≡ slice_get xs k
-moved_place xs last i k n inside low count is = moved_at xs last i k inside low (is ∙ ap (λ m. if i + 1 == m then last else if nat_lt i last then i else i + 1) count)
 
 -- ---- Where each costs one byte less as the last one, the first one goes last
 

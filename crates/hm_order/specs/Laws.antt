@@ -45,6 +45,11 @@ OrderedIsLike = (g : Spelling) (w : List Event) → Like w (reordered g w)
 abbrev pub OrderedIsAsLarge : Type 0
 OrderedIsAsLarge = (g : Spelling) (w : List Event) → (length (reordered g w) ≡ length w) × (walk_size (reordered g w) ≡ walk_size w)
 
+-- A bound on the spellings of the tree in that order bounds those of the tree with its attributes in any order.
+abbrev pub OrderedBoundsAll : Type 0
+OrderedBoundsAll = (t : List Entry) → IsTable t → (r : SpellRules) (w : List Event) → Settled (reordered (sparing_plain t r) w) → (n : ℕ)
+    → Shortest t r (reordered (sparing_plain t r) w) n → ShortestAny t r w n
+
 -- The shortest text of the tree in that order is one of the shortest over all orders.
 abbrev pub OrderedIsShortest : Type 0
 OrderedIsShortest = (t : List Entry) → IsTable t → (r : SpellRules) (w : List Event) → Settled w

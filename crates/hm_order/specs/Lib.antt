@@ -1,3 +1,5 @@
+pub use Rattle.hm_plan.specs.Minified
+pub use Rattle.hm_plan.specs.Shortest
 pub mod Costs
 pub mod Orders
 pub mod Places

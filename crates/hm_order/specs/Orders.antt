@@ -1,5 +1,5 @@
 -- The order of a tag's attributes: the first of those that cost least in the last place stands there, the others keep their order.
-use Rattle.std.specs.Prelude.{◌≡◌, ℕ, Bool, true, false, ◌&&◌, nat_le, nat_lt, length, List, [], ◌∷◌, ◌++◌, Option, Some, None}
+use Rattle.std.specs.Prelude.{◌≡◌, ℕ, Bool, true, false, ◌&&◌, nat_le, List, [], ◌∷◌, ◌++◌, Option, Some, None}
 use Rattle.std.specs.Prelude.{IsPermutation}
 use Rattle.hm_base.specs.Walks.{Attribute, Event, doctype, start, text, comment, end}
 use Rattle.hm_spelling_spec.specs.Tags.{Spelling}
@@ -40,11 +40,6 @@ is_end next = false
 abbrev pub ordered_event : Spelling → Event → Option Event → Event
 ordered_event g (start n foreign attributes) next = start n foreign (ordered g (foreign && is_end next) attributes)
 ordered_event g e next = e
-
--- a start with two attributes or more
-abbrev pub has_choice : Event → Bool
-has_choice (start n foreign attributes) = nat_lt 1 (length attributes)
-has_choice e = false
 
 -- a walk with the attributes of each tag in that order
 abbrev pub reordered : Spelling → List Event → List Event

@@ -1,8 +1,10 @@
 -- The place of the attribute that goes last, by what each one costs.
-use Rattle.std.specs.Prelude.{◌≡◌, ℕ, zero, suc, ◌+◌, ◌^◌, ◌<◌, ◌≤◌, Bool, List, [], ◌∷◌, ◌++◌, length, Some, slice_index_or}
-use Rattle.hm_base.specs.Walks.{Attribute}
+use Rattle.std.specs.Prelude.{◌≡◌, ℕ, zero, suc, ◌+◌, ◌^◌, ◌<◌, ◌≤◌, Bool, List, [], ◌∷◌, length, Option, Some, None, slice_get, slice_index_or}
+use Rattle.hm_base.specs.Walks.{Attribute, Event}
 use Rattle.hm_spelling_spec.specs.Tags.{Spelling}
 use Rattle.hm_order.specs.Costs.{inner_cost, last_cost}
+use Rattle.hm_order.specs.Orders.{ordered_event}
+use Rattle.hm_tree.specs.Moved.{put_last}
 use Rattle.hm_order.specs.declared.costs.AttrCost.{AttrCost}
 
 -- no sum of two costs overflows
@@ -29,8 +31,15 @@ AreCosts g closes [] (a ∷ attributes) = ⊥
 AreCosts g closes (c ∷ costs) [] = ⊥
 AreCosts g closes (c ∷ costs) (a ∷ attributes) = ((inner_cost g a ≡ Some c.inner) × (last_cost g closes a ≡ Some c.last)) × AreCosts g closes costs attributes
 
--- the attributes with the one at a place behind all others
-abbrev pub moved : ℕ → List Attribute → List Attribute
-moved i [] = []
-moved zero (a ∷ attributes) = attributes ++ a ∷ []
-moved (suc i) (a ∷ attributes) = a ∷ moved i attributes
+-- ---- One tag
+
+-- a walk with the attributes of event i in that order
+abbrev pub ordered_at : Spelling → List Event → ℕ → List Event
+ordered_at g [] i = []
+ordered_at g (e ∷ w) zero = ordered_event g e (slice_get w 0) ∷ w
+ordered_at g (e ∷ w) (suc i) = e ∷ ordered_at g w i
+
+-- the attribute that goes last to put event i into that order, or none where it is so already
+abbrev pub IsOrderedBy : Spelling → List Event → ℕ → Option ℕ → Type 0
+IsOrderedBy g w i None = ordered_at g w i ≡ w
+IsOrderedBy g w i (Some at) = put_last w i at ≡ ordered_at g w i

@@ -1,5 +1,5 @@
 //! Laws over the definitions. The functions do nothing.
-ghost use Rattle.hm_order.specs.Laws.{LikeIsSettled, OrderedIsAsLarge, OrderedIsLike, OrderedIsShortest, TagsSplit};
+ghost use Rattle.hm_order.specs.Laws.{LikeIsSettled, OrderedBoundsAll, OrderedIsAsLarge, OrderedIsLike, OrderedIsShortest, TagsSplit};
 
 /// What a tag costs is the sum of what its attributes cost, each by whether it is the last one.
 pub fn tags_split()
@@ -24,4 +24,9 @@ pub fn ordered_is_as_large()
 /// No order of any tag's attributes makes a shorter text.
 pub fn ordered_is_shortest()
     ensures { OrderedIsShortest }
+{}
+
+/// A bound on the texts of the tree that is written bounds those with the attributes in any order.
+pub fn ordered_bounds_all()
+    ensures { OrderedBoundsAll }
 {}

@@ -1,19 +1,12 @@
 //! The price of a tag with one attribute that stands alone.
 ghost use Rattle.std.specs.Prelude.{◌≡◌, ◌+◌, ◌<◌, ◌^◌, length, Some, IfOk};
-ghost use Rattle.hm_cert.specs.Layout.{told};
 ghost use Rattle.hm_graph_laws.specs.ExchangeLaws.{sparing_plain};
-ghost use Rattle.hm_graph_laws.specs.States.{first_state};
-ghost use Rattle.hm_graph_laws.specs.UnitEdges.{edges_of};
-ghost use Rattle.hm_graph_laws.specs.Units.{units_of};
-ghost use Rattle.hm_graph_laws.specs.Ways.{least};
 ghost use Rattle.hm_order.specs.Alone as alone;
 ghost use Rattle.hm_order.specs.Alone.{walk_alone};
 ghost use Rattle.hm_order.specs.Costs as costs;
 
-use hm_base::{Format, Memory, SpellRules};
-use hm_graph::Graph;
-use hm_graph::laws::every_graph;
-use hm_plan::backward;
+use hm_base::{Memory, SpellRules};
+use hm_plan::least_price;
 use hm_refs::Table;
 use hm_refs::laws::every_table;
 use hm_tree::{Attrs, Tree};
@@ -44,16 +37,6 @@ fn tree_alone(alloc: Global, name: &str, value: &str, closes: bool) -> Result<Tr
     maker.start_from(element_alone(closes), closes, &attrs)?;
     maker.end()?;
     Ok(maker.finish())
-}
-
-// The number of bytes of the shortest text of a tree.
-fn least_price(alloc: Global, tree: &Tree, table: &Table, rules: SpellRules) -> Result<u64, Memory>
-    ensures { IfOk result (λ price. told price ≡ least (edges_of (sparing_plain table.now.entries rules)) (units_of rules tree.now) first_state) }
-{
-    let graph = Graph::of(alloc, tree, table, rules, Format::Two)?;
-    every_graph(&graph);
-    let plan = backward(alloc, &graph)?;
-    Ok(plan.first)
 }
 
 /// What an attribute costs as the last one of its tag, in bytes. Its value isn't empty.

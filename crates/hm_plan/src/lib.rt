@@ -4,11 +4,13 @@
 
 mod copied;
 pub mod laws;
+mod least;
 mod minify;
 mod paths;
 mod plans;
 mod turned;
 
+pub use least::least_price;
 pub use minify::{Minified, minify_tree};
 pub use paths::write_path;
 pub use plans::{Plan, backward};

@@ -205,6 +205,23 @@ fn requests(rt: HostRuntime) -> Result<(), Fail> {
     Ok(())
 }
 
+/// Whether the words of a text ask for attributes in the order that is shortest.
+fn is_ordered(alloc: Global, text: &str) -> Result<bool, Fail> {
+    let words = worded(alloc, text)?;
+    match Asked::read(alloc, words.as_slice()) {
+        Ok(asked) => Ok(asked.writing.order),
+        Err(_) => Ok(false),
+    }
+}
+
+#[test]
+fn order(rt: HostRuntime) -> Result<(), Fail> {
+    let alloc = rt.alloc();
+    assert!(rt; is_ordered(alloc, "--order check none page out cert")?);
+    assert!(rt; !is_ordered(alloc, "check none page out cert --tight")?);
+    Ok(())
+}
+
 #[test]
 fn no_requests(rt: HostRuntime) -> Result<(), Fail> {
     for text in [
@@ -240,6 +257,7 @@ fn no_requests(rt: HostRuntime) -> Result<(), Fail> {
         "measure none  1",
         "measure none 0 1 1",
         "measure none 0",
+        "measure none 0 1 --order",
         "",
     ] {
         let words = worded(rt.alloc(), text)?;

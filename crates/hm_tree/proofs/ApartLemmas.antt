@@ -6,14 +6,14 @@ use Rattle.hm_base.specs.Walks.{Event, doctype, start, text, comment, end, begin
 use Rattle.hm_tree.specs.Trees.{is_apart, are_texts_apart}
 use Rattle.hm_tree.specs.Rows.{is_text, ends_in_text, with_more, extended}
 
-begins_alike : (e : Event) (v w : List Event) → begins_text (e ∷ v) ≡ begins_text (e ∷ w)
+pub begins_alike : (e : Event) (v w : List Event) → begins_text (e ∷ v) ≡ begins_text (e ∷ w)
 begins_alike (doctype legacy) v w = refl
 begins_alike (start n foreign attributes) v w = refl
 begins_alike (text s raw) v w = refl
 begins_alike (comment s) v w = refl
 begins_alike (end n foreign) v w = refl
 
-apart_alike : (e : Event) (v w : List Event) → begins_text v ≡ begins_text w → is_apart e v ≡ is_apart e w
+pub apart_alike : (e : Event) (v w : List Event) → begins_text v ≡ begins_text w → is_apart e v ≡ is_apart e w
 apart_alike (doctype legacy) v w same = refl
 apart_alike (start n foreign attributes) v w same = refl
 apart_alike (text s raw) v w same = rw same refl

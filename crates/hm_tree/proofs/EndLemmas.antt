@@ -64,6 +64,7 @@ module _ (s : List ℕ) (pieces : List AttributePieces) (rows : List EventRow) (
             utf8 = IsUtf8-nil;
             event = rw (names, flags) refl;
             inside = inside;
+            own = λ n all_kept. tt;
             reaches = tt;
             parent = open_start;
             sound = rw (← names) (is_utf8-from_IsUtf8 (bytes_of s name) (IsUtf8-bytes_of s name utf8 inside));

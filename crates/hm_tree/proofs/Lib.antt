@@ -3,6 +3,8 @@ pub mod AttributeLemmas
 pub mod EndLemmas
 pub mod LastLemmas
 pub mod MakingLemmas
+pub mod MovedLemmas
+pub mod OwnLemmas
 pub mod ListLemmas
 pub mod NameLemmas
 pub mod OpenLemmas

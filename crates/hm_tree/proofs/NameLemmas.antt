@@ -9,7 +9,7 @@ use Rattle.hm_base.specs.Walks.{Attribute, has_name}
 use Rattle.hm_tree.specs.Names.{HasNames}
 
 -- one more attribute has its name, and those before it have theirs
-has_name-push : (n : List ℕ) (attributes : List Attribute) (a : Attribute) → has_name n (attributes ++ a ∷ []) ≡ cond (bytes_eq a.name n) true (has_name n attributes)
+pub has_name-push : (n : List ℕ) (attributes : List Attribute) (a : Attribute) → has_name n (attributes ++ a ∷ []) ≡ cond (bytes_eq a.name n) true (has_name n attributes)
 has_name-push n [] a = refl
 has_name-push n (b ∷ attributes) a = ap (λ t. cond (bytes_eq b.name n) true t) (has_name-push n attributes a) ∙ either (bytes_eq b.name n) (bytes_eq a.name n) (has_name n attributes)
   where

@@ -50,6 +50,7 @@ module _ (s n t : List ℕ) (pieces new : List AttributePieces) (rows : List Eve
     event = rw (name_is, shows) refl;
     inside = (rw (appended.text) (IsPiece-append (s ++ n) (texts_of attributes) name texts_utf8 name_piece), omega (arith, last));
     attributes = appended.inside;
+    own = λ n all_kept. omega (arith, all_kept, begins, counted, last);
     reaches = tt;
     parent = above;
     sound = and_from (is_utf8 n && are_texts attributes) (has_distinct_names attributes) (and_from (is_utf8 n) (are_texts attributes) (is_utf8-from_IsUtf8 n utf8) texts) distinct;

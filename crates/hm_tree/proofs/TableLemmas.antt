@@ -10,7 +10,7 @@ use Rattle.hm_base.specs.Walks.{Event, start, text, has_distinct_names, event_si
 use Rattle.hm_tree.specs.Trees.{IsTold, is_sound, innermost, parent_of}
 use Rattle.hm_tree.specs.Attributes.{are_texts}
 use Rattle.hm_tree.specs.Pieces.{HasPieces, IsPiece, ArePiecesShown, attributes_in, bytes_of}
-use Rattle.hm_tree.specs.Rows.{IsInside, AreInside, ReachesEnd, LastReachesEnd, IsRowTable, event_at, events_of, parents_from}
+use Rattle.hm_tree.specs.Rows.{IsInside, AreInside, IsAfter, own_end, HaveOwn, ReachesEnd, LastReachesEnd, IsRowTable, event_at, events_of, parents_from}
 use Rattle.hm_tree.specs.declared.pieces.AttributePieces.{AttributePieces}
 use Rattle.hm_tree.specs.declared.pieces.TextRange.{TextRange}
 use Rattle.hm_tree.specs.declared.rows.RowPart.{RowPart}
@@ -55,6 +55,30 @@ IsInside-at s n [] i d h within = absurd (omega arith)
 IsInside-at s n (r ∷ rows) zero d h within = h.0
 IsInside-at s n (r ∷ rows) (suc i) d h within = IsInside-at s n rows i d h.1 (omega arith)
 
+-- one more row, whose attributes stand after those of all rows
+HaveOwn-push : (s : List ℕ) (n m : ℕ) (rows : List EventRow) (r : EventRow) → n ≤ m → AreInside s m rows → HaveOwn n rows → IsAfter m r.part → HaveOwn n (rows ++ r ∷ [])
+HaveOwn-push s n m [] r le inside own new = (sooner r.part new, tt)
+  where
+    sooner : (part : RowPart) → IsAfter m part → IsAfter n part
+    sooner (parts.Doctype legacy) h = tt
+    sooner (parts.Start foreign count name first) h = omega (arith, le, h)
+    sooner (parts.Text p raw) h = tt
+    sooner (parts.Comment p) h = tt
+    sooner (parts.End name foreign) h = tt
+HaveOwn-push s n m (q ∷ rows) r le inside own new = (own.0, HaveOwn-push s (own_end n q.part) m rows r (within q.part inside.0) inside.1 own.1 new)
+  where
+    within : (part : RowPart) → IsInside s m part → own_end n part ≤ m
+    within (parts.Doctype legacy) h = le
+    within (parts.Start foreign count name first) h = h.1
+    within (parts.Text p raw) h = le
+    within (parts.Comment p) h = le
+    within (parts.End name foreign) h = le
+
+-- another row in place of the last one, where both have no attributes
+HaveOwn-parts : (n : ℕ) (rows : List EventRow) (r q : EventRow) → ((k : ℕ) → IsAfter k q.part) → HaveOwn n (rows ++ r ∷ []) → HaveOwn n (rows ++ q ∷ [])
+HaveOwn-parts n [] r q none own = (none n, tt)
+HaveOwn-parts n (p ∷ rows) r q none own = (own.0, HaveOwn-parts (own_end n p.part) rows r q none own.1)
+
 LastReachesEnd-push : (s : List ℕ) (rows : List EventRow) (r : EventRow) → ReachesEnd s r.part → LastReachesEnd s (rows ++ r ∷ [])
 LastReachesEnd-push s [] r h = h
 LastReachesEnd-push s (q ∷ []) r h = h
@@ -72,6 +96,7 @@ pub record IsNewRow (more t : List ℕ) (extra kept : List AttributePieces) (w :
   pub event : event_at t kept r.part ≡ e
   pub inside : IsInside t (length kept) r.part
   pub attributes : All (HasPieces t) extra
+  pub own : (n : ℕ) → n + length extra ≡ length kept → IsAfter n r.part
   pub reaches : ReachesEnd t r.part
   pub parent : r.parent ≡ innermost w
   pub sound : is_sound e ≡ true
@@ -97,6 +122,7 @@ module _ (s more : List ℕ) (pieces extra : List AttributePieces) (rows : List 
       record {
         inside = AreInside-push s more (length pieces) (length (pieces ++ extra)) rows r new.utf8 (omega (arith, length-append pieces extra)) table.inside new.inside;
         attributes = All-append (HasPieces (s ++ more)) pieces extra (HasPieces-append s more pieces new.utf8 table.attributes) new.attributes;
+        own = HaveOwn-push s 0 (length pieces) rows r (omega arith) table.inside table.own (new.own (length pieces) (sym (length-append pieces extra)));
         parents = rw (events_more, map-append (λ q. q.parent) rows (r ∷ []), table.parents, new.parent) (sym (parents_from-push [] 0 w e));
         last = LastReachesEnd-push (s ++ more) rows r new.reaches;
         told = subst IsTold (sym events_more) (record {
@@ -170,6 +196,7 @@ module _ (s more : List ℕ) (pieces : List AttributePieces) (rows : List EventR
       record {
         inside = AreInside-push s more (length pieces) (length pieces) rows (longer r q raw) utf8 (omega arith) (AreInside-parts s (length pieces) rows r table.inside).0 (IsPiece-longer s more p q utf8 piece from to);
         attributes = HasPieces-append s more pieces utf8 table.attributes;
+        own = HaveOwn-parts 0 rows r (longer r q raw) (λ k. tt) table.own;
         parents = rw events_of-longer parents_same;
         last = LastReachesEnd-push (s ++ more) rows (longer r q raw) to;
         told = subst IsTold (sym events_of-longer) told_still;

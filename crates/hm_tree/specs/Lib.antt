@@ -1,5 +1,6 @@
 pub mod Attributes
 pub mod Lexemes
+pub mod Moved
 pub mod Names
 pub mod Pairs
 pub mod Parents

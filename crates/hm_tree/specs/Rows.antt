@@ -36,6 +36,27 @@ abbrev pub AreInside : List ℕ → ℕ → List EventRow → Type 0
 AreInside s n [] = Unit {0}
 AreInside s n (r ∷ rows) = IsInside s n r.part × AreInside s n rows
 
+-- the attributes of a start are none of the first n
+abbrev pub IsAfter : ℕ → RowPart → Type 0
+IsAfter n (parts.Doctype legacy) = Unit {0}
+IsAfter n (parts.Start foreign count name first) = n ≤ first
+IsAfter n (parts.Text p raw) = Unit {0}
+IsAfter n (parts.Comment p) = Unit {0}
+IsAfter n (parts.End name foreign) = Unit {0}
+
+-- how many attributes stand before the end of a row's own, where n stand before them
+abbrev pub own_end : ℕ → RowPart → ℕ
+own_end n (parts.Doctype legacy) = n
+own_end n (parts.Start foreign count name first) = first + count
+own_end n (parts.Text p raw) = n
+own_end n (parts.Comment p) = n
+own_end n (parts.End name foreign) = n
+
+-- no attribute is that of two rows
+abbrev pub HaveOwn : ℕ → List EventRow → Type 0
+HaveOwn n [] = Unit {0}
+HaveOwn n (r ∷ rows) = IsAfter n r.part × HaveOwn (own_end n r.part) rows
+
 -- a text reaches to the end of the bytes
 abbrev pub ReachesEnd : List ℕ → RowPart → Type 0
 ReachesEnd s (parts.Doctype legacy) = Unit {0}
@@ -54,6 +75,7 @@ LastReachesEnd s (r ∷ q ∷ rows) = LastReachesEnd s (q ∷ rows)
 pub record IsRowTable (s : List ℕ) (pieces : List AttributePieces) (rows : List EventRow) : Type 0 where
   pub inside : AreInside s (length pieces) rows
   pub attributes : All (HasPieces s) pieces
+  pub own : HaveOwn 0 rows
   pub parents : map (λ r. r.parent) rows ≡ parents_from [] 0 (events_of s pieces rows)
   pub last : LastReachesEnd s rows
   pub told : IsTold (events_of s pieces rows)

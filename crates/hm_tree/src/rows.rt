@@ -2,6 +2,7 @@
 ghost use Rattle.std.specs.Prelude.{◌≡◌, ◌+◌, ◌^◌, ◌<◌, ◌≤◌, [], ◌∷◌, ◌++◌, length, slice_get, slice_range, true, Some, OnOk, OnErr};
 ghost use Rattle.hm_base.specs.Walks as walks;
 ghost use Rattle.hm_base.specs.Walks.{start, doctype, comment, event_size, path_after, walk_size, with_text};
+ghost use Rattle.hm_tree.specs.Moved.{moved, put_last, with_part};
 ghost use Rattle.hm_tree.specs.Rows.{ends_in_text, extended};
 ghost use Rattle.hm_tree.specs.Sources.{listed};
 ghost use Rattle.hm_tree.specs.Trees.{IsTold, end_of, innermost, last_agrees, parent_of};
@@ -156,6 +157,19 @@ impl Rows {
         ensures { result ≡ parent_of self.now i }
     {
         self.rows[i as usize].parent.index()
+    }
+
+    // Puts attribute `at` of event `i` after the others of its tag, where it has that attribute.
+    pub(crate) fn put_last(&mut self, i: u32, at: u32)
+        requires { i < length self.old }
+        ensures { self.new ≡ put_last self.old i at }
+    {
+        let row = self.rows[i as usize];
+        if let RowPart::Start { count, first, .. } = row.part {
+            if at < u32::from(count) {
+                move_in_part(&mut self.attributes, first, count, at);
+            }
+        }
     }
 
     pub(crate) fn push_doctype(&mut self, legacy: bool, parent: Option<u32>) -> Result<(), Memory>
@@ -317,6 +331,27 @@ impl Rows {
         self.rows.push(EventRow { part, parent })?;
         Ok(())
     }
+}
+
+// Puts the attribute at a place after the others.
+fn move_last(attributes: &mut [AttributePieces], at: usize)
+    requires { at < length attributes.old }
+    ensures { attributes.new ≡ moved at attributes.old }
+{
+    attributes[at..].rotate_left(1);
+}
+
+// Does so with one of `count` of the attributes, from the index `first` on.
+fn move_in_part(attributes: &mut Vec<AttributePieces>, first: u32, count: u16, at: u32)
+    requires inside { first + count ≤ length attributes.old.items }
+    requires there { at < count }
+    ensures { attributes.new.items ≡ with_part first count attributes.old.items (moved at (slice_range attributes.old.items first (first + count))) }
+{
+    let from = first as usize;
+    move_last(
+        &mut attributes[from..from + usize::from(count)],
+        at as usize,
+    );
 }
 
 // `count` of the attributes, from the index `first` on.

@@ -1,6 +1,7 @@
 //! A tree as its walk.
 ghost use Rattle.std.specs.Prelude.{◌≡◌, ◌<◌, ◌↔◌, [], length, slice_get, take, true, Some, IsTrue, MatchOption};
 ghost use Rattle.hm_base.specs.Walks.{path_after, ends_match};
+ghost use Rattle.hm_tree.specs.Moved.{put_last};
 ghost use Rattle.hm_tree.specs.Trees.{DifferFirstAt, IsStartAt, IsWalk, are_texts_apart, parent_of};
 ghost use Rattle.hm_tree.specs.Views.{event_of};
 
@@ -67,6 +68,14 @@ impl Tree {
         ensures { slice_get self.now i ≡ Some (event_of result) }
     {
         self.rows.event(i)
+    }
+
+    /// Puts attribute `at` of event `i` after the others of its tag. Where event `i` has no such attribute the tree stays as it is.
+    pub fn put_last(&mut self, i: u32, at: u32)
+        requires { i < length self.old }
+        ensures { self.new ≡ put_last self.old i at }
+    {
+        self.rows.put_last(i, at);
     }
 
     /// The last start that is open directly before event `i`; for an end this is its own start.

@@ -100,7 +100,7 @@ flag_added name rows e = ap (λ x. row_at name (with_values name AsWritten Comma
 
 -- no flag has the name of the names
 pub no_names : (w : Text) → has flags w ≡ true → bytes_eq (name_of w) (codes "names") ≡ false
-no_names = each_flag (λ w. bytes_eq (name_of w) (codes "names") ≡ false) refl refl refl refl refl refl refl refl refl refl refl refl
+no_names = each_flag (λ w. bytes_eq (name_of w) (codes "names") ≡ false) refl refl refl refl refl refl refl refl refl refl refl refl refl
 
 pub or_first : (a b : Bool) → a || b ≡ false → a ≡ false
 or_first true b e = absurd (true≢false e)

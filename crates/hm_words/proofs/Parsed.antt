@@ -28,10 +28,10 @@ matches_are ws known =
 
 -- each flag has the default value `false`, and is no name
 flag_default : (w : Text) → has flags w ≡ true → default_of (name_of w) rules ≡ Some (codes "false" ∷ [], AsWritten)
-flag_default = each_flag (λ w. default_of (name_of w) rules ≡ Some (codes "false" ∷ [], AsWritten)) refl refl refl refl refl refl refl refl refl refl refl refl
+flag_default = each_flag (λ w. default_of (name_of w) rules ≡ Some (codes "false" ∷ [], AsWritten)) refl refl refl refl refl refl refl refl refl refl refl refl refl
 
 pub flag_apart : (w : Text) → has flags w ≡ true → bytes_eq (codes "names") (name_of w) ≡ false
-flag_apart = each_flag (λ w. bytes_eq (codes "names") (name_of w) ≡ false) refl refl refl refl refl refl refl refl refl refl refl refl
+flag_apart = each_flag (λ w. bytes_eq (codes "names") (name_of w) ≡ false) refl refl refl refl refl refl refl refl refl refl refl refl refl
 
 names_default : list_all (λ a. not (bytes_eq a.id (codes "names")) || is_empty a.defaults) rules ≡ true
 names_default = refl

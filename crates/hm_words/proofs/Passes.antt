@@ -20,9 +20,9 @@ shape = (built line).top
 
 flag_turn : (rows : List Row) (p : Option Text) (w : Text) → has flags w ≡ true → has_row (name_of w) (with_name p rows) ≡ false → turn_passes shape [] (stands rows p) w ≡ true
 flag_turn rows None = each_flag (λ w. has_row (name_of w) rows ≡ false → turn_passes shape [] (stands rows None) w ≡ true)
-    (λ e. rw e refl) (λ e. rw e refl) (λ e. rw e refl) (λ e. rw e refl) (λ e. rw e refl) (λ e. rw e refl) (λ e. rw e refl) (λ e. rw e refl) (λ e. rw e refl) (λ e. rw e refl) (λ e. rw e refl) (λ e. rw e refl)
+    (λ e. rw e refl) (λ e. rw e refl) (λ e. rw e refl) (λ e. rw e refl) (λ e. rw e refl) (λ e. rw e refl) (λ e. rw e refl) (λ e. rw e refl) (λ e. rw e refl) (λ e. rw e refl) (λ e. rw e refl) (λ e. rw e refl) (λ e. rw e refl)
 flag_turn rows (Some v) = each_flag (λ w. has_row (name_of w) (with_name (Some v) rows) ≡ false → turn_passes shape [] (stands rows (Some v)) w ≡ true)
-    (λ e. rw e refl) (λ e. rw e refl) (λ e. rw e refl) (λ e. rw e refl) (λ e. rw e refl) (λ e. rw e refl) (λ e. rw e refl) (λ e. rw e refl) (λ e. rw e refl) (λ e. rw e refl) (λ e. rw e refl) (λ e. rw e refl)
+    (λ e. rw e refl) (λ e. rw e refl) (λ e. rw e refl) (λ e. rw e refl) (λ e. rw e refl) (λ e. rw e refl) (λ e. rw e refl) (λ e. rw e refl) (λ e. rw e refl) (λ e. rw e refl) (λ e. rw e refl) (λ e. rw e refl) (λ e. rw e refl)
 
 name_turn : (rows : List Row) (p : Option Text) (v : Text) → is_flag v ≡ false → turn_passes shape [] (stands rows p) v ≡ true
 name_turn rows None [] e = refl

@@ -44,12 +44,12 @@ with_flag name rows = with_values name AsWritten CommandLine (codes "true" ∷ [
 
 -- what holds of each flag holds of a word that is one of them
 pub each_flag : (P : Text → Type 0) → P (codes "--comments") → P (codes "--booleans") → P (codes "--empty") → P (codes "--redundant") → P (codes "--doctype") → P (codes "--space")
-    → P (codes "--conservative") → P (codes "--omit") → P (codes "--unquote") → P (codes "--tight") → P (codes "--ascii") → P (codes "--sparse") → (w : Text) → has flags w ≡ true → P w
+    → P (codes "--conservative") → P (codes "--omit") → P (codes "--unquote") → P (codes "--tight") → P (codes "--ascii") → P (codes "--sparse") → P (codes "--order") → (w : Text) → has flags w ≡ true → P w
 unfolding flags
-each_flag P comments booleans empty redundant doctype space conservative omit unquote tight ascii sparse w =
+each_flag P comments booleans empty redundant doctype space conservative omit unquote tight ascii sparse order w =
     here (codes "--comments") _ comments (here (codes "--booleans") _ booleans (here (codes "--empty") _ empty (here (codes "--redundant") _ redundant (here (codes "--doctype") _ doctype
     (here (codes "--space") _ space (here (codes "--conservative") _ conservative (here (codes "--omit") _ omit (here (codes "--unquote") _ unquote (here (codes "--tight") _ tight
-    (here (codes "--ascii") _ ascii (here (codes "--sparse") _ sparse (λ e. absurd (true≢false (sym e))))))))))))))
+    (here (codes "--ascii") _ ascii (here (codes "--sparse") _ sparse (here (codes "--order") _ order (λ e. absurd (true≢false (sym e)))))))))))))))
   where
     here : (known : Text) (more : Bool) → P known → (more ≡ true → P w) → bytes_eq known w || more ≡ true → P w
     here known more this next e = by_test (bytes_eq known w) refl
@@ -71,12 +71,12 @@ abbrev pub name_of : Text → Text
 name_of w = drop 2 w
 
 pub is_dashed : (w : Text) → has flags w ≡ true → w ≡ dashed (name_of w)
-is_dashed = each_flag (λ w. w ≡ dashed (name_of w)) refl refl refl refl refl refl refl refl refl refl refl refl
+is_dashed = each_flag (λ w. w ≡ dashed (name_of w)) refl refl refl refl refl refl refl refl refl refl refl refl refl
 
 pub flag_step : (rows : List Row) (p : Option Text) (w : Text) → has flags w ≡ true → walked rules [] (stands rows p) w ≡ stands (with_flag (name_of w) (with_name p rows)) None
 unfolding walked
-flag_step rows None = each_flag (λ w. walked rules [] (stands rows None) w ≡ stands (with_flag (name_of w) rows) None) refl refl refl refl refl refl refl refl refl refl refl refl
-flag_step rows (Some v) = each_flag (λ w. walked rules [] (stands rows (Some v)) w ≡ stands (with_flag (name_of w) (with_name (Some v) rows)) None) refl refl refl refl refl refl refl refl refl refl refl refl
+flag_step rows None = each_flag (λ w. walked rules [] (stands rows None) w ≡ stands (with_flag (name_of w) rows) None) refl refl refl refl refl refl refl refl refl refl refl refl refl
+flag_step rows (Some v) = each_flag (λ w. walked rules [] (stands rows (Some v)) w ≡ stands (with_flag (name_of w) (with_name (Some v) rows)) None) refl refl refl refl refl refl refl refl refl refl refl refl refl
 
 pub no_flag : (x : ℕ) (xs : Text) → (x == 45) ≡ false → (bytes_eq (x ∷ xs) (45 ∷ 45 ∷ []) ≡ false) × (long_of (x ∷ xs) ≡ None) × (short_of (x ∷ xs) ≡ None)
 no_flag x xs e = (rw e refl, rw e refl, rw e refl)

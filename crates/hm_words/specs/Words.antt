@@ -11,7 +11,7 @@ use Rattle.hm_words.specs.declared.commands.Source.{Source}
 use Rattle.hm_words.specs.declared.commands.Source.TheVariants as sources
 use Rattle.hm_words.specs.declared.flags.Choices.{Choices}
 use Rattle.hm_words.specs.declared.flags.Setting.{Setting}
-use Rattle.hm_words.specs.declared.flags.Setting.TheVariants.{Comments, Booleans, Empty, Redundant, Doctype, Space, Conservative, Omit, Unquote, Tight, Ascii, Sparse}
+use Rattle.hm_words.specs.declared.flags.Setting.TheVariants.{Comments, Booleans, Empty, Redundant, Doctype, Space, Conservative, Omit, Unquote, Tight, Ascii, Sparse, Order}
 use Rattle.hm_words.specs.declared.writing.Writing.{Writing}
 
 -- where the tree of a request comes from, with the names of its files
@@ -84,6 +84,7 @@ rows =
     ∷ row (codes "tight") Tight
     ∷ row (codes "ascii") Ascii
     ∷ row (codes "sparse") Sparse
+    ∷ row (codes "order") Order
     ∷ []
 
 -- the words of the flags
@@ -128,12 +129,13 @@ set Unquote given c = record c { writing = record c.writing { rules = record c.w
 set Tight given c = record c { writing = record c.writing { rules = record c.writing.rules { tight = given } } }
 set Ascii given c = record c { writing = record c.writing { rules = record c.writing.rules { ascii = given } } }
 set Sparse given c = record c { writing = record c.writing { sparse = given } }
+set Order given c = record c { writing = record c.writing { order = given } }
 
 -- nothing is chosen
 abbrev pub no_choices : Choices
 no_choices = record {
   options = record { doctype = false; comments = false; booleans = false; empty = false; redundant = false; space = false; conservative = false };
-  writing = record { rules = record { omit = false; unquote = false; tight = false; ascii = false; frame = false }; sparse = false };
+  writing = record { rules = record { omit = false; unquote = false; tight = false; ascii = false; frame = false }; sparse = false; order = false };
 }
 
 -- what a flag sets, by the words
@@ -273,9 +275,17 @@ is_fragment (fragment_at table page) = true
 is_fragment (json_at table page) = false
 is_fragment (made table number size) = false
 
--- The flags may stand with the command: any with each, but a fragment wants that tags may be left out.
+-- the tree is that of a page that is made of a number
+abbrev pub is_made : Origin → Bool
+is_made (page_at table page) = false
+is_made (fragment_at table page) = false
+is_made (json_at table page) = false
+is_made (made table number size) = true
+
+-- The flags may stand with the command: any with each, but a fragment wants that tags may be left out, and a page that is made of a
+-- number keeps the order of its attributes.
 abbrev pub fits : Command → List (List ℕ) → Bool
-fits command ws = not (is_fragment command.0) || has ws (codes "--omit")
+fits command ws = (not (is_fragment command.0) || has ws (codes "--omit")) && (not (is_made command.0) || not (has ws (codes "--order")))
 
 -- how the tree of an origin is written: the start tag of body isn't left out where it is that of a fragment
 abbrev pub written_of : Origin → Writing → Writing

@@ -23,6 +23,7 @@ pub enum Setting {
     Tight,
     Ascii,
     Sparse,
+    Order,
 }
 
 /// A flag: its name, which follows two hyphens in its word, and what it sets.
@@ -33,7 +34,7 @@ pub struct Flag {
 }
 
 /// The table of flags. A further flag is a row of it.
-pub const FLAGS: [Flag; 12] = [
+pub const FLAGS: [Flag; 13] = [
     Flag {
         name: "comments",
         setting: Setting::Comments,
@@ -82,6 +83,10 @@ pub const FLAGS: [Flag; 12] = [
         name: "sparse",
         setting: Setting::Sparse,
     },
+    Flag {
+        name: "order",
+        setting: Setting::Order,
+    },
 ];
 
 /// What all flags set.
@@ -113,6 +118,7 @@ impl Setting {
             Setting::Tight => writing.rules.tight = given,
             Setting::Ascii => writing.rules.ascii = given,
             Setting::Sparse => writing.sparse = given,
+            Setting::Order => writing.order = given,
         }
         Choices { options, writing }
     }

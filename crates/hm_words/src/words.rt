@@ -159,6 +159,7 @@ const NO_CHOICES: Choices = Choices {
             frame: false,
         },
         sparse: false,
+        order: false,
     },
 };
 
@@ -294,12 +295,28 @@ fn is_fragment(origin: &Origin<'_>) -> bool
     matches!(*origin, Origin::FragmentAt { table: _, page: _ })
 }
 
-/// Whether the flags may stand with the command: any with each, but a fragment wants that tags may be left out.
+/// Whether the tree is that of a page that is made of a number.
+fn is_made(origin: &Origin<'_>) -> bool
+    ensures { result ≡ spec.is_made (origin_of origin.now) }
+{
+    matches!(
+        *origin,
+        Origin::Made {
+            table: _,
+            number: _,
+            size: _
+        }
+    )
+}
+
+/// Whether the flags may stand with the command: any with each, but a fragment wants that tags may be left out, and a page that is
+/// made of a number keeps the order of its attributes.
 #[tactic(auto, unfolding(crate::specs::Words::flags))]
 fn fits(command: &(Origin<'_>, Work<'_>), matches: &ArgMatches<'_>) -> bool
     ensures { (words : List (List ℕ)) → IsMatched words matches.now → result ≡ spec.fits (command_of command.now) words }
 {
-    !is_fragment(&command.0) || is_given(matches, "omit")
+    (!is_fragment(&command.0) || is_given(matches, "omit"))
+        && (!is_made(&command.0) || !is_given(matches, "order"))
 }
 
 /// How the tree of an origin is written: the start tag of body isn't left out where it is that of a fragment.

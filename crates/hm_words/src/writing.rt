@@ -1,9 +1,11 @@
 //! How a tree is written.
 use hm_base::SpellRules;
 
-/// How a tree is written: the spellings that are allowed, and whether its certificate is a sparse one.
+/// How a tree is written: the spellings that are allowed, whether its certificate is a sparse one, and whether the attributes of each
+/// tag are put into the order in which it is shortest.
 #[derive(Clone, Copy, Debug, PartialEq, Eq)]
 pub struct Writing {
     pub rules: SpellRules,
     pub sparse: bool,
+    pub order: bool,
 }

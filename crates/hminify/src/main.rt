@@ -39,7 +39,7 @@ fn words<R: Env + AllocGlobal>(rt: &R) -> Result<Vec<Word>, NoWords> {
 fn main(rt: HostRuntime) -> ExitCode {
     match words(&rt) {
         Ok(words) => {
-            let mut store = FileStore::new(&rt);
+            let mut store = FileStore::new(rt.alloc(), &rt);
             let mut sink = WriteSink::new(io::writer(&rt));
             let status = run(rt.alloc(), words.as_slice(), &mut store, &mut sink);
             ExitCode::from(status.code())

@@ -44,7 +44,7 @@ fn real_files_hold_the_output_and_its_certificate(rt: HostRuntime) -> Result<(),
     words.push(word(rt.alloc(), "--omit")?)?;
     words.push(word(rt.alloc(), "--unquote")?)?;
     let mut printed = Vec::new(rt.alloc());
-    let mut store = FileStore::new(&rt);
+    let mut store = FileStore::new(rt.alloc(), &rt);
     let mut sink = WriteSink::new(&mut printed);
     let status = run(rt.alloc(), words.as_slice(), &mut store, &mut sink);
     drop(sink);

@@ -4,12 +4,12 @@ use Rattle.hm_words.specs.Answers.{request_of}
 use Rattle.hm_minify.proofs.Answered.{answer_before, asked_seen, if_both, work_apart}
 use Rattle.hm_minify.proofs.work.work.Goals as goal
 
-pub returns-in-Ok-clause-ended : goal.returns-in-Ok-clause-ended
-returns-in-Ok-clause-ended g c =
+pub returns-in_ok-wanted-in-Ok-clause-ended : goal.returns-in_ok-wanted-in-Ok-clause-ended
+returns-in_ok-wanted-in-Ok-clause-ended g c =
     let told = g.S.Store.files c.args.store.now in
     let request = request_of c.args.asked.now in
-    let made = c.wanted.result in
+    let made = c.in_ok-wanted-in-Ok.field-0 in
     IfOk-weaker c.answer.result _ _
     (λ ended e. asked_seen told request (tree c.in-Ok.input.bytes c.in-Ok.input.table.entries c.in-Ok.input.tree) made.bytes made.table.entries made.tree ended (work_apart request.origin request.work c.requires.apart)
-    c.in-Ok.ensures.ok c.wanted.ensures.wanted (answer_before told _ request.work request.writing made.bytes made.table.entries made.tree ended c.in-Ok.ensures.same e.0) (c.wanted.ensures.settled, e.1))
+    c.in-Ok.ensures.ok c.in_ok-wanted-in-Ok.ensures.wanted (answer_before told _ request.work request.writing made.bytes made.table.entries made.tree ended c.in-Ok.ensures.same e.0) (c.in_ok-wanted-in-Ok.ensures.settled, e.1))
     (if_both c.answer.result _ _ c.answer.ensures.ended c.answer.ensures.readable)

@@ -1,4 +1,4 @@
-use Rattle.hm_order.proofs.Copied.{ordered_is_as_large}
+use Rattle.hm_order.proofs.InOrder.{ordered_is_as_large}
 use Rattle.hm_order.proofs.laws.ordered_is_as_large.Goals as goal
 
 pub returns : goal.returns

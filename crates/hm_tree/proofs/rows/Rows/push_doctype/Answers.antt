@@ -22,6 +22,7 @@ pushed c =
       utf8 = IsUtf8-nil;
       event = refl;
       inside = tt;
+      own = λ n all_kept. tt;
       reaches = tt;
       parent = c.requires.parent;
       sound = refl;

@@ -26,6 +26,7 @@ pushed c =
       utf8 = c.utf8.text;
       event = rw (← bytes, bytes_of-new s c.args.text.now c.append-text.result from to) refl;
       inside = rw (← bytes) (IsPiece-new s c.args.text.now c.append-text.result c.utf8.text from to);
+      own = λ n all_kept. tt;
       reaches = rw (← bytes, length-append s c.args.text.now) to;
       parent = c.requires.parent;
       sound = is_utf8-from_IsUtf8 c.args.text.now c.utf8.text;

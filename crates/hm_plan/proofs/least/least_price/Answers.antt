@@ -9,7 +9,7 @@ use Rattle.hm_graph_laws.specs.Prices.{first_price}
 use Rattle.hm_graph_laws.specs.States.{first_state}
 use Rattle.hm_graph_laws.specs.Units.{units_of}
 use Rattle.hm_graph_laws.specs.Ways.{least}
-use Rattle.hm_order.proofs.tags.least_price.Goals as goal
+use Rattle.hm_plan.proofs.least.least_price.Goals as goal
 
 pub returns : goal.returns
 returns c =

@@ -1,0 +1,163 @@
+-- A table in which an attribute goes after the others of its row.
+use Rattle.std.proofs.Common.{◌≡◌, ℕ, zero, suc, ◌+◌, ◌-◌, ◌<◌, ◌≤◌, List, [], ◌∷◌, ◌++◌, Bool, length, get_or, take, drop, slice_get, slice_range, Some, All, ap, ap₂, ◌∙◌, refl, sym, subst, arith, length-append, length-take, length-drop}
+use Rattle.std.proofs.lemmas.List.Elements.{All-append, All-take, All-drop}
+use Rattle.std.proofs.lemmas.List.{length-map}
+use Rattle.std.proofs.lemmas.Option.{slice_get_read}
+use Rattle.std.proofs.lemmas.Slice.{between_is, take-put_mid_below, drop-put_mid, between-put_mid}
+use Rattle.hm_base.specs.Walks.{Event, doctype, start, text, comment, end}
+use Rattle.hm_tree.specs.Moved.{moved, with_moved, put_last, with_part}
+use Rattle.hm_tree.specs.Pieces.{HasPieces, attribute_in, attributes_in, bytes_of}
+use Rattle.hm_tree.specs.Rows.{AreInside, IsAfter, own_end, HaveOwn, IsRowTable, event_at, events_of, parents_from}
+use Rattle.hm_tree.specs.Trees.{IsTold}
+use Rattle.hm_tree.specs.declared.pieces.AttributePieces.{AttributePieces}
+use Rattle.hm_tree.specs.declared.pieces.TextRange.{TextRange}
+use Rattle.hm_tree.specs.declared.rows.RowPart.{RowPart}
+use Rattle.hm_tree.specs.declared.rows.RowPart.TheVariants as parts
+use Rattle.hm_tree.specs.declared.rows.EventRow.{EventRow}
+use Rattle.hm_tree.proofs.MovedLemmas.{All-moved, length-moved, map-moved, moved_past, put_last-same, length-put_last, walk_size-put_last, parents_from-put_last, IsTold-put_last}
+use Rattle.hm_tree.proofs.TableLemmas.{IsTableOf, part_event, part_inside, row_within}
+
+-- rows whose attributes are none of the first n begin no earlier
+grows : (n : ℕ) (part : RowPart) → IsAfter n part → n ≤ own_end n part
+grows n (parts.Doctype legacy) h = omega arith
+grows n (parts.Start foreign count name first) h = omega (arith, h)
+grows n (parts.Text p raw) h = omega arith
+grows n (parts.Comment p) h = omega arith
+grows n (parts.End name foreign) h = omega arith
+
+begins_later : (n : ℕ) (rows : List EventRow) (i : ℕ) (r : EventRow) (foreign : Bool) (count : ℕ) (name : TextRange) (first : ℕ) → HaveOwn n rows → slice_get rows i ≡ Some r → r.part ≡ parts.Start foreign count name first → n ≤ first
+begins_later n [] i r foreign count name first own at is = absurd (cc)
+begins_later n (q ∷ rows) zero r foreign count name first own at is =
+    let same : q ≡ r = cc in
+    let part : q.part ≡ parts.Start foreign count name first = ap (λ x. x.part) same ∙ is in
+    let h : IsAfter n (parts.Start foreign count name first) = subst (IsAfter n) part own.0 in
+    h
+begins_later n (q ∷ rows) (suc i) r foreign count name first own at is =
+    let later = begins_later (own_end n q.part) rows i r foreign count name first own.1 at is in
+    omega (arith, later, grows n q.part own.0)
+
+module _ (s : List ℕ) (old new : List AttributePieces) (first count at : ℕ) (below : (from to : ℕ) → to ≤ first → slice_range new from to ≡ slice_range old from to)
+    (above : (from to : ℕ) → first + count ≤ from → slice_range new from to ≡ slice_range old from to) (own : slice_range new first (first + count) ≡ moved at (slice_range old first (first + count))) where
+  stays_above : (n : ℕ) (part : RowPart) → first + count ≤ n → IsAfter n part → event_at s new part ≡ event_at s old part
+  stays_above n (parts.Doctype legacy) le h = refl
+  stays_above n (parts.Start foreign c name from) le h = ap (λ x. start (bytes_of s name) foreign (attributes_in s x)) (above from (from + c) (omega (arith, le, h)))
+  stays_above n (parts.Text p raw) le h = refl
+  stays_above n (parts.Comment p) le h = refl
+  stays_above n (parts.End name foreign) le h = refl
+
+  all_above : (n : ℕ) (rows : List EventRow) → first + count ≤ n → HaveOwn n rows → events_of s new rows ≡ events_of s old rows
+  all_above n [] le h = refl
+  all_above n (r ∷ rows) le h = ap₂ (λ e w. e ∷ w) (stays_above n r.part le h.0) (all_above (own_end n r.part) rows (let more = grows n r.part h.0 in omega (arith, le, more)) h.1)
+
+  stays_below : (n : ℕ) (part : RowPart) → own_end n part ≤ first → event_at s new part ≡ event_at s old part
+  stays_below n (parts.Doctype legacy) le = refl
+  stays_below n (parts.Start foreign c name from) le = ap (λ x. start (bytes_of s name) foreign (attributes_in s x)) (below from (from + c) le)
+  stays_below n (parts.Text p raw) le = refl
+  stays_below n (parts.Comment p) le = refl
+  stays_below n (parts.End name foreign) le = refl
+
+  -- the one row
+  moves : (part : RowPart) (foreign : Bool) (name : TextRange) → part ≡ parts.Start foreign count name first → event_at s new part ≡ with_moved at (event_at s old part)
+  moves part foreign name is = rw is (ap (λ x. start (bytes_of s name) foreign x) (ap (attributes_in s) own ∙ map-moved (attribute_in s) at (slice_range old first (first + count))))
+
+  ends_there : (n : ℕ) (part : RowPart) (foreign : Bool) (name : TextRange) → part ≡ parts.Start foreign count name first → first + count ≤ own_end n part
+  ends_there n part foreign name is = let h : own_end n part ≡ first + count = ap (own_end n) is in omega (arith, h)
+
+  events_moved : (n : ℕ) (rows : List EventRow) (i : ℕ) (r : EventRow) (foreign : Bool) (name : TextRange) → HaveOwn n rows → slice_get rows i ≡ Some r → r.part ≡ parts.Start foreign count name first → events_of s new rows ≡ put_last (events_of s old rows) i at
+  events_moved n [] i r foreign name h there is = absurd (cc)
+  events_moved n (q ∷ rows) zero r foreign name h there is =
+      let same : q ≡ r = cc in
+      let part : q.part ≡ parts.Start foreign count name first = ap (λ x. x.part) same ∙ is in
+      ap₂ (λ e w. e ∷ w) (moves q.part foreign name part) (all_above (own_end n q.part) rows (ends_there n q.part foreign name part) h.1)
+  events_moved n (q ∷ rows) (suc i) r foreign name h there is =
+      let later = begins_later (own_end n q.part) rows i r foreign count name first h.1 there is in
+      ap₂ (λ e w. e ∷ w) (stays_below n q.part later) (events_moved (own_end n q.part) rows i r foreign name h.1 there is)
+
+  -- the table stays one
+  table_moved : (rows : List EventRow) (i : ℕ) (r : EventRow) (foreign : Bool) (name : TextRange) → slice_get rows i ≡ Some r → r.part ≡ parts.Start foreign count name first → length new ≡ length old → All (HasPieces s) new → IsRowTable s old rows
+      → IsTableOf s new rows (put_last (events_of s old rows) i at)
+  table_moved rows i r foreign name there is as_many inside table =
+      let w = events_of s old rows in
+      let view : events_of s new rows ≡ put_last w i at = events_moved 0 rows i r foreign name table.own there is in (
+        record {
+          inside = subst (λ n. AreInside s n rows) (sym as_many) table.inside;
+          attributes = inside;
+          own = table.own;
+          parents = table.parents ∙ sym (parents_from-put_last [] 0 w i at) ∙ ap (parents_from [] 0) (sym view);
+          last = table.last;
+          told = subst IsTold (sym view) (IsTold-put_last w i at table.told);
+          size = rw (view, walk_size-put_last w i at) table.size;
+          count = rw (view, walk_size-put_last w i at, as_many) table.count;
+        },
+        view,
+      )
+
+-- a part of the attributes, in which one goes after the others
+module _ (s : List ℕ) (old : List AttributePieces) (first count at : ℕ) (range : first + count ≤ length old) where
+  abbrev own : List AttributePieces
+  own = moved at (slice_range old first (first + count))
+
+  abbrev new : List AttributePieces
+  new = with_part first count old own
+
+  begins : first ≤ length old
+  begins = omega (arith, range)
+
+  as_many_own : length own ≡ count
+  as_many_own = length-moved at (slice_range old first (first + count)) ∙ omega (arith, length-take (first + count - first) (drop first old), length-drop first old, range)
+
+  as_many_all : length new ≡ length old
+  as_many_all = omega (arith, length-append (take first old) (own ++ drop count (drop first old)), length-append own (drop count (drop first old)), length-take first old, length-drop first old, length-drop count (drop first old), as_many_own, range)
+
+  new_below : (from to : ℕ) → to ≤ first → slice_range new from to ≡ slice_range old from to
+  new_below from to le = between_is new from to ∙ ap (drop from) (take-put_mid_below first count old own to le begins) ∙ sym (between_is old from to)
+
+  new_above : (from to : ℕ) → first + count ≤ from → slice_range new from to ≡ slice_range old from to
+  new_above from to le = ap (take (to - from)) (drop-put_mid first count old own from le begins as_many_own)
+
+  new_own : slice_range new first (first + count) ≡ moved at (slice_range old first (first + count))
+  new_own = between-put_mid first count old own (first + count) begins (omega (arith, as_many_own))
+
+  inside_all : All (HasPieces s) old → All (HasPieces s) new
+  inside_all h =
+      All-append (HasPieces s) (take first old) (own ++ drop count (drop first old)) (All-take (HasPieces s) first old h)
+      (All-append (HasPieces s) own (drop count (drop first old)) (All-moved (HasPieces s) at (slice_range old first (first + count)) (All-take (HasPieces s) (first + count - first) (drop first old) (All-drop (HasPieces s) first old h)))
+      (All-drop (HasPieces s) count (drop first old) (All-drop (HasPieces s) first old h)))
+
+  pub IsTableOf-moved : (rows : List EventRow) (w : List Event) (i : ℕ) (r : EventRow) (foreign : Bool) (name : TextRange) → events_of s old rows ≡ w → slice_get rows i ≡ Some r → r.part ≡ parts.Start foreign count name first → IsRowTable s old rows
+      → IsTableOf s (with_part first count old (moved at (slice_range old first (first + count)))) rows (put_last w i at)
+  IsTableOf-moved rows w i r foreign name view there part table =
+      subst (λ v. IsTableOf s new rows (put_last v i at)) view (table_moved s old new first count at new_below new_above new_own rows i r foreign name there part as_many_all (inside_all table.attributes) table)
+
+-- ---- A row of a table whose events are w
+
+module _ (s : List ℕ) (pieces : List AttributePieces) (rows : List EventRow) (w : List Event) (view : events_of s pieces rows ≡ w) (i : ℕ) (within : i < length w) (table : IsRowTable s pieces rows) (r : EventRow) (is : r ≡ get_or rows i r) (at : ℕ) where
+  there : slice_get rows i ≡ Some r
+  there = slice_get_read rows (length rows) i r refl (row_within s pieces rows w view i within) is
+
+  -- an attribute goes after the others
+  pub row_moved : (foreign : Bool) (count : ℕ) (name : TextRange) (first : ℕ) → r.part ≡ parts.Start foreign count name first → (after : List AttributePieces) → after ≡ with_part first count pieces (moved at (slice_range pieces first (first + count)))
+      → IsTableOf s after rows (put_last w i at)
+  row_moved foreign count name first part after e =
+      let range : first + count ≤ length pieces = (part_inside s pieces rows w view i within table r is (parts.Start foreign count name first) part).1 in
+      subst (λ x. IsTableOf s x rows (put_last w i at)) (sym e) (IsTableOf-moved s pieces first count at range rows w i r foreign name view there part table)
+
+  -- there is no such attribute
+  pub row_past : (foreign : Bool) (count : ℕ) (name : TextRange) (first : ℕ) → r.part ≡ parts.Start foreign count name first → count ≤ at → put_last w i at ≡ w
+  row_past foreign count name first part past =
+      let own = slice_range pieces first (first + count) in
+      let range : first + count ≤ length pieces = (part_inside s pieces rows w view i within table r is (parts.Start foreign count name first) part).1 in
+      let as_many : length (attributes_in s own) ≡ count = length-map own (attribute_in s) ∙ omega (arith, length-take (first + count - first) (drop first pieces), length-drop first pieces, range) in
+      put_last-same w i at (start (bytes_of s name) foreign (attributes_in s own)) (part_event s pieces rows w view i within table r is (parts.Start foreign count name first) part)
+      (ap (start (bytes_of s name) foreign) (moved_past at (attributes_in s own) (omega (arith, as_many, past))))
+
+  -- another event has none
+  pub row_other : ((foreign : Bool) (count : ℕ) (name : TextRange) (first : ℕ) → r.part ≡ parts.Start foreign count name first → ⊥) → put_last w i at ≡ w
+  row_other other = by_part r.part refl
+    where
+      by_part : (part : RowPart) → r.part ≡ part → put_last w i at ≡ w
+      by_part (parts.Doctype legacy) e = put_last-same w i at (doctype legacy) (part_event s pieces rows w view i within table r is (parts.Doctype legacy) e) refl
+      by_part (parts.Start foreign count name first) e = absurd (other foreign count name first e)
+      by_part (parts.Text p raw) e = put_last-same w i at (text (bytes_of s p) raw) (part_event s pieces rows w view i within table r is (parts.Text p raw) e) refl
+      by_part (parts.Comment p) e = put_last-same w i at (comment (bytes_of s p)) (part_event s pieces rows w view i within table r is (parts.Comment p) e) refl
+      by_part (parts.End name foreign) e = put_last-same w i at (end (bytes_of s name) foreign) (part_event s pieces rows w view i within table r is (parts.End name foreign) e) refl

@@ -1,0 +1,31 @@
+use Rattle.std.proofs.Common.{string_bytes, ap, sym, ◌∙◌, arith}
+use Rattle.hm_tree.specs.Moved.{put_last}
+use Rattle.hm_tree.specs.declared.rows.RowPart.TheVariants.{Start}
+use Rattle.hm_tree.proofs.OwnLemmas.{row_moved, row_other, row_past}
+use Rattle.hm_tree.proofs.TableLemmas.{IsTableOf, part_inside}
+use Rattle.hm_tree.proofs.rows.Rows.put_last.Goals as goal
+
+pub move_in_part-requires-clause-inside : goal.move_in_part-requires-clause-inside
+move_in_part-requires-clause-inside c =
+    (part_inside (string_bytes c.self.inside.text) c.self.inside.attributes.items c.self.inside.rows.items c.args.self.now c.self.view_is c.args.i c.requires c.self.invariant c.index-row.result.now c.index-row.ensures
+    (Start c.in-Start.foreign c.in-Start.count c.in-Start.name c.in-Start.first) c.in-Start.is).1
+
+moved_so : (c : goal.After-move_in_part) → IsTableOf (string_bytes c.self.inside.text) c.move_in_part.new.attributes.items c.self.inside.rows.items (put_last c.args.self.now c.args.i c.args.at)
+moved_so c =
+    row_moved (string_bytes c.self.inside.text) c.self.inside.attributes.items c.self.inside.rows.items c.args.self.now c.self.view_is c.args.i c.requires c.self.invariant c.index-row.result.now c.index-row.ensures c.args.at
+    c.in-Start.foreign c.in-Start.count c.in-Start.name c.in-Start.first c.in-Start.is c.move_in_part.new.attributes.items c.move_in_part.ensures
+
+pub invariant_of-self : goal.invariant_of-self
+invariant_of-self c = (moved_so c).0
+
+pub returns-then-at-from : goal.returns-then-at-from
+returns-then-at-from c = (moved_so c).1
+
+pub returns-else-at-from : goal.returns-else-at-from
+returns-else-at-from c =
+    sym (row_past (string_bytes c.self.inside.text) c.self.inside.attributes.items c.self.inside.rows.items c.args.self.now c.self.view_is c.args.i c.requires c.self.invariant c.index-row.result.now c.index-row.ensures c.args.at
+    c.in-Start.foreign c.in-Start.count c.in-Start.name c.in-Start.first c.in-Start.is (omega (arith, c.if-at-from.false, c.from.ensures)))
+
+pub returns-in_default : goal.returns-in_default
+returns-in_default c =
+    sym (row_other (string_bytes c.self.inside.text) c.self.inside.attributes.items c.self.inside.rows.items c.args.self.now c.self.view_is c.args.i c.requires c.self.invariant c.index-row.result.now c.index-row.ensures c.args.at c.in_default.not-Start)

@@ -1,6 +1,7 @@
 -- The part of a line that is shown.
-use Rattle.std.proofs.Common.{◌≡◌, ℕ, zero, suc, ◌+◌, ◌-◌, ◌<◌, ◌≤◌, Bool, true, false, cond, not, nat_le, List, [], ◌∷◌, ◌++◌, length, get_or, take, drop, refl, sym, ap, ◌∙◌, subst, arith, append-nil, append_assoc, take-add, take-append-drop}
+use Rattle.std.proofs.Common.{◌≡◌, ℕ, zero, suc, ◌+◌, ◌-◌, ◌<◌, ◌≤◌, Bool, true, false, cond, not, nat_le, List, [], ◌∷◌, ◌++◌, length, get_or, take, drop, refl, sym, ap, ap₂, ◌∙◌, subst, arith, append-nil, append_assoc, take-add, take-append-drop}
 use Rattle.std.proofs.lemmas.List.{at_drop_all, at_drop_more, drop-drop, drop-take, drop_more, length-append, length-drop, take-take, take_all, take_more}
+use Rattle.std.proofs.Math.Seq.{take-append_seam}
 use Rattle.std.specs.Fmt.{is_char_start}
 use Rattle.hm_base.specs.Bytes.{head_is}
 use Rattle.hm_location.specs.declared.shown.TheConstants.{BEFORE, BEHIND}
@@ -179,6 +180,19 @@ caret_shown s at p begin cut count e f d h =
     let q = take (p - begin) (drop begin s) in
     let all : take (length q - cut) (drop cut q) ≡ drop cut q = take_all (length q - cut) (drop cut q) (omega (arith, length-drop cut q)) in
     h ∙ ap columns (all ∙ d ∙ ap (shown_before BEFORE) f ∙ ap (λ a. shown_before BEFORE (line_front s a)) e)
+
+-- the bytes before the place are the first of all that are shown
+first_of : (a b q : List ℕ) (n : ℕ) → q ≡ a ++ b → n ≡ length a → take n q ≡ a
+first_of a b q n e f = ap₂ take f e ∙ take-append_seam a b
+
+pub front_of : (s : List ℕ) (at p begin cut front : ℕ) (bytes : List ℕ) → p ≡ shown_place s at → take (p - begin) (drop begin s) ≡ line_front s p → drop cut (take (p - begin) (drop begin s)) ≡ shown_before BEFORE (take (p - begin) (drop begin s))
+    → bytes ≡ front_shown s at ++ rest_shown s at → front ≡ length (take (p - begin) (drop begin s)) - cut → (take front bytes ≡ front_shown s at) × (front ≤ length bytes)
+unfolding front_shown
+front_of s at p begin cut front bytes e f d is h =
+    let q = take (p - begin) (drop begin s) in
+    let shown : drop cut q ≡ front_shown s at = d ∙ ap (shown_before BEFORE) f ∙ ap (λ a. shown_before BEFORE (line_front s a)) e in
+    let n : front ≡ length (front_shown s at) = omega (arith, h, length-drop cut q, ap length shown) in
+    (first_of (front_shown s at) (rest_shown s at) bytes front is n, omega (arith, n, ap length is, length-append (front_shown s at) (rest_shown s at)))
 
 pub rest_of_all : (s : List ℕ) (p len : ℕ) → take len (take (length s - p) (drop p s)) ≡ line_rest (take (length s - p) (drop p s)) → take len (drop p s) ≡ line_rest (drop p s)
 rest_of_all s p len h = subst (λ q. take len q ≡ line_rest q) (take_all (length s - p) (drop p s) (omega (arith, length-drop p s))) h

@@ -3,5 +3,5 @@
 mod place;
 mod shown;
 
-pub use place::{Location, location_of};
+pub use place::{Location, is_char_start, location_of, without_mark};
 pub use shown::{BEFORE, BEHIND, ShownLine, shown_line};

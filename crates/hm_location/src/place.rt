@@ -74,7 +74,7 @@ pub(crate) fn count_columns(bytes: &[u8]) -> usize
 }
 
 /// The begin of a line without a byte order mark.
-fn without_mark(bytes: &[u8]) -> &[u8]
+pub fn without_mark(bytes: &[u8]) -> &[u8]
     ensures bytes { result.now ≡ without_mark bytes.now }
     ensures few { length result.now ≤ length bytes.now }
 {
@@ -100,7 +100,7 @@ pub(crate) fn count_chars(bytes: &[u8]) -> usize
 }
 
 /// Whether a byte is the first of a character.
-pub(crate) fn is_char_start(byte: u8) -> bool
+pub fn is_char_start(byte: u8) -> bool
     ensures { result ≡ is_char_start byte }
 {
     byte < 0x80 || byte >= 0xC0

@@ -17,6 +17,8 @@ pub const BEHIND: usize = 40;
 pub struct ShownLine<'a> {
     /// The bytes, without the end of the line.
     pub bytes: &'a [u8],
+    /// How many of the bytes stand before the place.
+    pub front: usize,
     /// How many characters begin before the place, but for a byte order mark: a caret below it stands after so many spaces.
     pub caret: usize,
 }
@@ -26,6 +28,8 @@ pub struct ShownLine<'a> {
 pub fn shown_line(text: &[u8], at: usize) -> ShownLine<'_>
     requires { at ≤ length text.now }
     ensures bytes { result.bytes.now ≡ front_shown text.now at ++ rest_shown text.now at }
+    ensures front { take result.front result.bytes.now ≡ front_shown text.now at }
+    ensures inside { result.front ≤ length result.bytes.now }
     ensures caret { result.caret ≡ columns (front_shown text.now at) }
     ensures short { length result.bytes.now ≤ 100 }
     ensures part { IsPart result.bytes.now (line_at text.now (shown_place text.now at)) }
@@ -38,6 +42,7 @@ pub fn shown_line(text: &[u8], at: usize) -> ShownLine<'_>
     let kept = cut_behind(rest);
     ShownLine {
         bytes: &text[begin + cut..place + kept],
+        front: front.len() - cut,
         caret: count_columns(&front[cut..]),
     }
 }

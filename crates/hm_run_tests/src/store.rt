@@ -137,7 +137,7 @@ fn a_real_file_is_written_and_read(rt: HostRuntime) -> Result<(), Fail> {
     let name = format!(in rt.alloc(); "hm_store_{number}.test")?;
     let folder = env::temp_dir(&rt)?;
     let path = folder.join(rt.alloc(), name.as_str())?;
-    let mut store = FileStore::new(&rt);
+    let mut store = FileStore::new(rt.alloc(), &rt);
     let text = path.as_str();
     assert_eq!(rt;
         load(rt.alloc(), &mut store, text, 100).is_err(),
@@ -286,7 +286,7 @@ impl Files for Signals {
 /// A read that a signal interrupts is made once more, and one that fails is not.
 #[test]
 fn an_interrupted_read_is_tried_again(rt: HostRuntime) -> Result<(), Fail> {
-    let mut store = FileStore::new(&Signals);
+    let mut store = FileStore::new(rt.alloc(), &Signals);
     assert_eq!(rt; store.open_in("page"), Ok(true));
     let mut bytes = [0u8; 4];
     assert_eq!(rt; store.pull(&mut bytes), Ok(1));

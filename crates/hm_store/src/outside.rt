@@ -8,18 +8,28 @@ ghost use Rattle.hm_store.specs.Edge.{ForBoth, no_open_files};
 
 use crate::faults::count_failure;
 use crate::{Failed, Sink, Store};
+use std::alloc::Global;
 use std::io::{ErrorKind, Read, Write};
 use std::marker::Model;
 use std::rt::Files;
 use std::{fs, io};
 
 /// Files of the system, by path. A file that isn't there counts as a failed call.
+///
+/// It keeps in mind which call has failed last, and how many bytes the last file got. No contract speaks of that.
 #[derive(Drop)]
 pub struct FileStore<'r, R: Files> {
+    alloc: Global,
     rt: &'r R,
     reading: Option<R::File>,
     writing: Option<R::File>,
     faults: u64,
+    /// The name of the file that was opened last, where there was memory for it.
+    name: Option<String>,
+    /// Why the last call that failed did so.
+    error: Option<io::Error>,
+    /// The bytes that were put since a file was opened last.
+    bytes_put: u64,
 }
 
 impl<'r, R: Files> Model for FileStore<'r, R> {
@@ -35,16 +45,46 @@ impl<'r, R: Files> Model for FileStore<'r, R> {
 }
 
 impl<'r, R: Files> FileStore<'r, R> {
-    /// A store with no open file.
-    pub fn new(rt: &'r R) -> Self
+    /// A store with no open file. Memory is taken for the name of a file alone.
+    pub fn new(alloc: Global, rt: &'r R) -> Self
         ensures { result ≡ no_open_files }
     {
         FileStore {
+            alloc,
             rt,
             reading: None,
             writing: None,
             faults: 0,
+            name: None,
+            error: None,
+            bytes_put: 0,
         }
+    }
+
+    /// Why the last call that failed did so, as the system tells it.
+    pub fn last_error(&self) -> Option<io::Error> {
+        self.error
+    }
+
+    /// The name of the file that was opened last, or that couldn't be, where there was memory for it.
+    pub fn last_name(&self) -> Option<&str> {
+        match &self.name {
+            Some(name) => Some(name.as_str()),
+            None => None,
+        }
+    }
+
+    /// How many bytes were put to the file that was opened last.
+    pub fn bytes_put(&self) -> u64 {
+        self.bytes_put
+    }
+
+    /// Keeps in mind that this file is opened.
+    fn note_name(&mut self, name: &str)
+        ensures { self.new ≡ self.old }
+    {
+        self.name = String::from_str(self.alloc, name).ok();
+        self.bytes_put = 0;
     }
 }
 
@@ -89,13 +129,17 @@ impl<'r, R: Files> Store for FileStore<'r, R> {
         ensures counted { self.new.faults ≡ counted self.old.faults result }
         ensures cause { HasCause self.old.faults self.new.faults result }
     {
+        self.note_name(name);
         self.reading = None;
         match fs::open(self.rt, name) {
             Ok(file) => {
                 self.reading = Some(file);
                 Ok(true)
             }
-            Err(_) => Err(count_failure(&mut self.faults)),
+            Err(error) => {
+                self.error = Some(error);
+                Err(count_failure(&mut self.faults))
+            }
         }
     }
 
@@ -113,7 +157,10 @@ impl<'r, R: Files> Store for FileStore<'r, R> {
             None => unreachable!(),
             Some(file) => match read_retrying(file, into) {
                 Ok(count) => Ok(count),
-                Err(_) => Err(count_failure(&mut self.faults)),
+                Err(error) => {
+                    self.error = Some(error);
+                    Err(count_failure(&mut self.faults))
+                }
             },
         }
     }
@@ -124,13 +171,17 @@ impl<'r, R: Files> Store for FileStore<'r, R> {
         ensures counted { self.new.faults ≡ counted self.old.faults result }
         ensures cause { HasCause self.old.faults self.new.faults result }
     {
+        self.note_name(name);
         self.writing = None;
         match fs::create(self.rt, name) {
             Ok(file) => {
                 self.writing = Some(file);
                 Ok(())
             }
-            Err(_) => Err(count_failure(&mut self.faults)),
+            Err(error) => {
+                self.error = Some(error);
+                Err(count_failure(&mut self.faults))
+            }
         }
     }
 
@@ -146,8 +197,14 @@ impl<'r, R: Files> Store for FileStore<'r, R> {
         match &mut self.writing {
             None => unreachable!(),
             Some(file) => match file.write_all(bytes) {
-                Ok(()) => Ok(()),
-                Err(_) => Err(count_failure(&mut self.faults)),
+                Ok(()) => {
+                    self.bytes_put = self.bytes_put.saturating_add(bytes.len() as u64);
+                    Ok(())
+                }
+                Err(error) => {
+                    self.error = Some(error);
+                    Err(count_failure(&mut self.faults))
+                }
             },
         }
     }
@@ -166,16 +223,24 @@ impl<'r, R: Files> Store for FileStore<'r, R> {
         self.writing = None;
         match flushed {
             Ok(()) => Ok(()),
-            Err(_) => Err(count_failure(&mut self.faults)),
+            Err(error) => {
+                self.error = Some(error);
+                Err(count_failure(&mut self.faults))
+            }
         }
     }
 }
 
 /// A writer as a sink.
+///
+/// It keeps in mind the first bytes that were put, and why the last put that failed did so. No contract speaks of that.
 #[derive(Drop)]
 pub struct WriteSink<W: Write> {
     inner: W,
     faults: u64,
+    /// The first four bytes of the first put that had as many.
+    begin: Option<[u8; 4]>,
+    error: Option<io::Error>,
 }
 
 impl<W: Write> Model for WriteSink<W> {
@@ -194,7 +259,33 @@ impl<W: Write> WriteSink<W> {
     pub fn new(inner: W) -> Self
         ensures { result ≡ record { inner = inner; faults = 0 } }
     {
-        WriteSink { inner, faults: 0 }
+        WriteSink {
+            inner,
+            faults: 0,
+            begin: None,
+            error: None,
+        }
+    }
+
+    /// The first four bytes of the first put that had as many.
+    pub fn begin(&self) -> Option<[u8; 4]> {
+        self.begin
+    }
+
+    /// Why the last put that failed did so, as the system tells it.
+    pub fn last_error(&self) -> Option<io::Error> {
+        self.error
+    }
+
+    /// Keeps in mind the begin of what is put first.
+    fn note_begin(&mut self, bytes: &[u8])
+        ensures { self.new ≡ self.old }
+    {
+        if self.begin.is_none() {
+            if let [a, b, c, d, ..] = bytes {
+                self.begin = Some([*a, *b, *c, *d]);
+            }
+        }
     }
 }
 
@@ -217,9 +308,13 @@ impl<W: Write> Sink for WriteSink<W> {
         ensures counted { self.new.faults ≡ counted self.old.faults result }
         ensures cause { HasCause self.old.faults self.new.faults result }
     {
+        self.note_begin(bytes);
         match write_through(&mut self.inner, bytes) {
             Ok(()) => Ok(()),
-            Err(_) => Err(count_failure(&mut self.faults)),
+            Err(error) => {
+                self.error = Some(error);
+                Err(count_failure(&mut self.faults))
+            }
         }
     }
 }

@@ -1,5 +1,5 @@
 use Rattle.std.proofs.Common.{◌+◌, ◌-◌, arith, drop, take}
-use Rattle.hm_location.proofs.ShownLaws.{IsShown, all_shown, caret_shown, rest_of_all}
+use Rattle.hm_location.proofs.ShownLaws.{IsShown, all_shown, caret_shown, front_of, rest_of_all}
 use Rattle.hm_location.proofs.shown.shown_line.Goals as goal
 
 shown : (c : goal.After-count_columns) → IsShown c.args.text.now c.args.at (take (c.shown_place-place.result + c.cut_behind-kept.result - (c.line_start-begin.result.begin + c.cut_before-cut.result)) (drop (c.line_start-begin.result.begin + c.cut_before-cut.result) c.args.text.now))
@@ -16,3 +16,9 @@ returns-clause-short c = (shown c).short
 
 pub returns-clause-part : goal.returns-clause-part
 returns-clause-part c = (shown c).part
+
+pub returns-clause-front : goal.returns-clause-front
+returns-clause-front c = (front_of c.args.text.now c.args.at c.shown_place-place.result c.line_start-begin.result.begin c.cut_before-cut.result _ _ c.shown_place-place.ensures.place c.line_start-begin.ensures.front c.cut_before-cut.ensures.shown (shown c).is (omega arith)).0
+
+pub returns-clause-inside : goal.returns-clause-inside
+returns-clause-inside c = (front_of c.args.text.now c.args.at c.shown_place-place.result c.line_start-begin.result.begin c.cut_before-cut.result _ _ c.shown_place-place.ensures.place c.line_start-begin.ensures.front c.cut_before-cut.ensures.shown (shown c).is (omega arith)).1

@@ -1,4 +1,5 @@
 pub mod Bools
+pub mod ByTokens
 pub mod FirstsLaws
 pub mod FlagLaws
 pub mod Found

@@ -19,13 +19,13 @@ use Rattle.hm_refs.specs.Json.{if_point, point_in, points_in, codepoints, entrie
 use Rattle.hm_refs.specs.declared.fault.TableFault.TheVariants.{TooLong, BadName, BadPoints}
 use Rattle.hm_refs.proofs.Gathered.{checked_table}
 
-abbrev text_cmp : List ℕ → List ℕ → Ordering
+abbrev pub text_cmp : List ℕ → List ℕ → Ordering
 text_cmp = slice_cmp nat_cmp
 
 abbrev Above : List ℕ → Members → Type 0
 Above k ms = AllByRecursion (λ l. text_cmp k l ≡ Less) (keys_in ms)
 
-abbrev Ascends : Members → Type 0
+abbrev pub Ascends : Members → Type 0
 Ascends ms = IsStrictlySortedBy text_cmp (keys_in ms)
 
 turned : (k l : List ℕ) → text_cmp k l ≡ Greater → text_cmp l k ≡ Less
@@ -45,7 +45,7 @@ above_put k n d (member l e ms) h a = by_order (text_cmp k l) (above_put k n d m
     by_order Equal more = a
     by_order Greater more = (a.0, more)
 
-put_ascends : (k : List ℕ) (d : Data) (ms : Members) → Ascends ms → Ascends (put k d ms)
+pub put_ascends : (k : List ℕ) (d : Data) (ms : Members) → Ascends ms → Ascends (put k d ms)
 unfolding IsStrictlySortedBy
 put_ascends k d no_members h = (tt, tt)
 put_ascends k d (member l e ms) h = by_order (text_cmp k l) refl (put_ascends k d ms h.1)

@@ -39,6 +39,10 @@ abbrev pub with_entry : List ℕ → Option (List ℕ) → List Entry → List E
 with_entry k None t = t
 with_entry k (Some ps) t = record { name = k; points = ps } ∷ t
 
+-- one entry more, the last
+abbrev pub and_entry : List Entry → List ℕ → List ℕ → List Entry
+and_entry t k ps = t ++ record { name = k; points = ps } ∷ []
+
 abbrev pub entries_in : Members → List Entry
 entries_in no_members = []
 entries_in (member k d ms) = with_entry k (codepoints d) (entries_in ms)

@@ -4,6 +4,7 @@ pub mod References
 pub mod Tables
 pub mod Plain
 pub mod Json
+pub mod Ordered
 pub mod Faults
 pub mod Examples
 pub mod JsonExamples

@@ -9,6 +9,7 @@ pub mod laws;
 mod limits;
 mod nodes;
 mod numbers;
+mod ordered;
 mod plain;
 mod reading;
 mod ready;

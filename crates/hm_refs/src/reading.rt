@@ -9,15 +9,16 @@ ghost use Rattle.serde_json.specs.View.{items_view, members_view, view};
 ghost use Rattle.hm_base.specs.Bytes.{is_alnum, is_letter};
 ghost use Rattle.hm_refs.specs.Names.{is_good_name, is_tail};
 ghost use Rattle.hm_refs.specs.Tables.{points_list};
-ghost use Rattle.hm_refs.specs.Json.{codepoints, entries_in, first_bad_name, first_bad_points, json, keys_in, names, names_of_members, point_in, points_in};
+ghost use Rattle.hm_refs.specs.Json.{and_entry, codepoints, entries_in, first_bad_name, first_bad_points, if_point, json, keys_in, names, names_of_members, point_in, points_in};
 ghost use Rattle.hm_refs.specs.Nodes.{entries_of};
 
 use crate::fault::TableFault;
 use crate::limits::LENGTH_LIMIT;
 use crate::nodes::ReferenceName;
+use crate::ordered::ordered_names;
 use crate::table::{Table, word_of};
 use crate::text::NameText;
-use hm_base::{Points, TABLE_LIMIT};
+use hm_base::{Memory, Points, TABLE_LIMIT};
 use serde_json::{Map, Value};
 use std::alloc::Global;
 
@@ -31,6 +32,9 @@ impl Table {
     {
         if bytes.len() > TABLE_LIMIT as usize {
             return Err(TableFault::TooLong);
+        }
+        if let Some(names) = ordered_names(alloc, bytes) {
+            return Table::checked(alloc, names);
         }
         let value = parse(alloc, bytes)?;
         match value.as_object() {
@@ -103,10 +107,25 @@ fn gather(alloc: Global, members: &Map<String, Value>) -> Result<Vec<ReferenceNa
             let key = word_of(alloc, key.as_str())?;
             return Err(TableFault::BadPoints { key });
         };
-        let text = NameText::read(String::from_str(alloc, key.as_str())?);
-        names.push(ReferenceName { text, points })?;
+        add_name(alloc, &mut names, key.as_str(), points)?;
     }
     Ok(names)
+}
+
+/// Adds a name with its code points.
+pub(crate) fn add_name(
+    alloc: Global,
+    names: &mut Vec<ReferenceName>,
+    name: &str,
+    points: Points,
+) -> Result<(), Memory>
+    ensures { OnOk result
+        (entries_of names.new.items
+        ≡ and_entry (entries_of names.old.items) name.now (points_list points)) }
+{
+    let text = NameText::read(String::from_str(alloc, name)?);
+    names.push(ReferenceName { text, points })?;
+    Ok(())
 }
 
 /// The code points of a name's object.
@@ -143,7 +162,7 @@ fn points_in(values: &[Value]) -> Option<Points>
 fn one_point(first: &Value) -> Option<Points>
     ensures { option_map points_list result ≡ points_in (item (view first.now) no_items) }
 {
-    let first = point_of(first)?;
+    let first = point_in(first)?;
     Some(Points {
         first,
         second: None,
@@ -154,8 +173,8 @@ fn two_points(first: &Value, second: &Value) -> Option<Points>
     ensures { option_map points_list result
         ≡ points_in (item (view first.now) (item (view second.now) no_items)) }
 {
-    let first = point_of(first)?;
-    let second = point_of(second)?;
+    let first = point_in(first)?;
+    let second = point_in(second)?;
     Some(Points {
         first,
         second: Some(second),
@@ -163,10 +182,17 @@ fn two_points(first: &Value, second: &Value) -> Option<Points>
 }
 
 /// A code point as a whole number.
-fn point_of(value: &Value) -> Option<char>
+fn point_in(value: &Value) -> Option<char>
     ensures { result ≡ point_in (view value.now) }
 {
-    let number = u32::try_from(value.as_u64()?).ok()?;
+    point_of(value.as_u64()?)
+}
+
+/// The code point with this number, where a name may stand for it.
+pub(crate) fn point_of(number: u64) -> Option<char>
+    ensures { result ≡ if_point number }
+{
+    let number = u32::try_from(number).ok()?;
     if number == 0 {
         return None;
     }
@@ -174,7 +200,7 @@ fn point_of(value: &Value) -> Option<char>
 }
 
 /// Whether a key has the form of a name.
-fn is_good_name(name: &[u8]) -> bool
+pub(crate) fn is_good_name(name: &[u8]) -> bool
     ensures { result ≡ is_good_name name.now }
 {
     match name {

@@ -20,32 +20,34 @@ _hminify() {
         return
     fi
     case $command,$names in
-        ,0) mapfile -t COMPREPLY < <(compgen -W 'minify check fragment checkfragment tree json minifyjson measure' -- "$word") ;;
-        minify,1) mapfile -t COMPREPLY < <(compgen -W 'none' -- "$word"; compgen -f -- "$word") ;;
+        ,0) mapfile -t COMPREPLY < <(compgen -W 'minify check fragment checkfragment tree json explain minifyjson measure help version' -- "$word") ;;
+        minify,1) mapfile -t COMPREPLY < <(compgen -W 'html none' -- "$word"; compgen -f -- "$word") ;;
         minify,2) mapfile -t COMPREPLY < <(compgen -f -- "$word") ;;
         minify,3) mapfile -t COMPREPLY < <(compgen -f -- "$word") ;;
         minify,4) mapfile -t COMPREPLY < <(compgen -f -- "$word") ;;
-        check,1) mapfile -t COMPREPLY < <(compgen -W 'none' -- "$word"; compgen -f -- "$word") ;;
+        check,1) mapfile -t COMPREPLY < <(compgen -W 'html none' -- "$word"; compgen -f -- "$word") ;;
         check,2) mapfile -t COMPREPLY < <(compgen -f -- "$word") ;;
         check,3) mapfile -t COMPREPLY < <(compgen -f -- "$word") ;;
         check,4) mapfile -t COMPREPLY < <(compgen -f -- "$word") ;;
-        fragment,1) mapfile -t COMPREPLY < <(compgen -W 'none' -- "$word"; compgen -f -- "$word") ;;
+        fragment,1) mapfile -t COMPREPLY < <(compgen -W 'html none' -- "$word"; compgen -f -- "$word") ;;
         fragment,2) mapfile -t COMPREPLY < <(compgen -f -- "$word") ;;
         fragment,3) mapfile -t COMPREPLY < <(compgen -f -- "$word") ;;
         fragment,4) mapfile -t COMPREPLY < <(compgen -f -- "$word") ;;
-        checkfragment,1) mapfile -t COMPREPLY < <(compgen -W 'none' -- "$word"; compgen -f -- "$word") ;;
+        checkfragment,1) mapfile -t COMPREPLY < <(compgen -W 'html none' -- "$word"; compgen -f -- "$word") ;;
         checkfragment,2) mapfile -t COMPREPLY < <(compgen -f -- "$word") ;;
         checkfragment,3) mapfile -t COMPREPLY < <(compgen -f -- "$word") ;;
         checkfragment,4) mapfile -t COMPREPLY < <(compgen -f -- "$word") ;;
-        tree,1) mapfile -t COMPREPLY < <(compgen -W 'none' -- "$word"; compgen -f -- "$word") ;;
+        tree,1) mapfile -t COMPREPLY < <(compgen -W 'html none' -- "$word"; compgen -f -- "$word") ;;
         tree,2) mapfile -t COMPREPLY < <(compgen -f -- "$word") ;;
-        json,1) mapfile -t COMPREPLY < <(compgen -W 'none' -- "$word"; compgen -f -- "$word") ;;
+        json,1) mapfile -t COMPREPLY < <(compgen -W 'html none' -- "$word"; compgen -f -- "$word") ;;
         json,2) mapfile -t COMPREPLY < <(compgen -f -- "$word") ;;
-        minifyjson,1) mapfile -t COMPREPLY < <(compgen -W 'none' -- "$word"; compgen -f -- "$word") ;;
+        explain,1) mapfile -t COMPREPLY < <(compgen -W 'html none' -- "$word"; compgen -f -- "$word") ;;
+        explain,2) mapfile -t COMPREPLY < <(compgen -f -- "$word") ;;
+        minifyjson,1) mapfile -t COMPREPLY < <(compgen -W 'html none' -- "$word"; compgen -f -- "$word") ;;
         minifyjson,2) mapfile -t COMPREPLY < <(compgen -f -- "$word") ;;
         minifyjson,3) mapfile -t COMPREPLY < <(compgen -f -- "$word") ;;
         minifyjson,4) mapfile -t COMPREPLY < <(compgen -f -- "$word") ;;
-        measure,1) mapfile -t COMPREPLY < <(compgen -W 'none' -- "$word"; compgen -f -- "$word") ;;
+        measure,1) mapfile -t COMPREPLY < <(compgen -W 'html none' -- "$word"; compgen -f -- "$word") ;;
     esac
 }
 

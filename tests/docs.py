@@ -179,14 +179,14 @@ def try_links(document, text):
 
 
 def try_map(known):
-    """Each crate has a folder and a README, and stands in the map and in the README of the whole."""
+    """Each crate has a folder and a README, and stands in the map and among the claims."""
     for name in known:
         if not (TOP / 'crates' / name / 'README.md').is_file():
             fault('crates.txt', f'{name} has no README')
         if f'(../crates/{name}/README.md)' not in read(TOP / MAP):
             fault(MAP, f'no line for {name}')
-        if f'(crates/{name}/README.md)' not in read(TOP / 'README.md'):
-            fault('README.md', f'no link to {name}')
+        if f'(../crates/{name}/README.md)' not in read(TOP / 'docs/CLAIMS.md'):
+            fault('docs/CLAIMS.md', f'no link to {name}')
 
 
 def try_version():
@@ -198,6 +198,17 @@ def try_version():
         told = re.search(form, read(TOP / path), re.M)
         if told is None or told[1] != version:
             fault(path, f'its version is {told and told[1]}, wanted {version}')
+    path = 'crates/hm_minify/src/notices.rt'
+    told = re.search(r'^pub const VERSION: &\[u8\] = b"hminify ([^\\]*)\\n([^\\]*)\\n";', read(TOP / path), re.M)
+    if told is None or told[1] != version:
+        fault(path, f'its version is {told and told[1]}, wanted {version}')
+    proved = re.search(r'^\*\*Proved\*\* with `([^`]*)`', read(TOP / 'README.md'), re.M)
+    if told is None or proved is None or proved[1] != told[2]:
+        fault('README.md', f'proved with {proved and proved[1]}, and {path} has {told and told[2]}')
+    if told and shutil.which('rt'):
+        here = subprocess.run(['rt', 'version'], capture_output=True, text=True).stdout.strip()
+        if here != told[2]:
+            fault(path, f'proved with {told[2]}, and the toolchain here is {here}')
 
 
 def try_paths(known):

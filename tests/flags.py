@@ -13,9 +13,6 @@ import sys
 from pathlib import Path
 
 TOP = Path(__file__).resolve().parent.parent
-# The words that TABLE may be in place of a file.
-TABLE_WORDS = ['none']
-
 FLAG = re.compile(r'(?:--)?[a-z]+(?:-[a-z]+)*')
 
 faults = []
@@ -71,11 +68,30 @@ def program_flags():
 
 
 def program_commands():
-    """The commands of hm_words, by the rows of their table."""
-    found = re.findall(r'^\s+(?:∷ )?command_row \(codes "([a-z]+)"\)', read('crates/hm_words/specs/Words.antt'), re.M)
+    """The commands of hm_words, by the rows of their table, and the notices by theirs."""
+    text = read('crates/hm_words/specs/Words.antt')
+    found = re.findall(r'^\s+(?:∷ )?command_row \(codes "([a-z]+)"\)', text, re.M)
+    notices = re.findall(r'^\s+(?:∷ )?notice_row \(codes "([a-z]+)"\)', text, re.M)
+    if not found or not notices:
+        fault('crates/hm_words/specs/Words.antt', 'no table of commands or none of notices')
+    return found + notices
+
+
+def table_words():
+    """The words that TABLE may be in place of a file, by the definition of hm_words."""
+    body = definitions(read('crates/hm_words/specs/Words.antt')).get('is_table_word', '')
+    found = sorted(re.findall(r'codes "([a-z]+)"', body))
     if not found:
-        fault('crates/hm_words/specs/Words.antt', 'no table of commands')
+        fault('crates/hm_words/specs/Words.antt', 'no words of TABLE')
     return found
+
+
+def help_text():
+    """What `help` prints."""
+    found = re.search(r'^pub const HELP: &\[u8\] =\s*b"((?:[^"\\]|\\.)*)";', read('crates/hm_minify/src/notices.rt'), re.M | re.S)
+    if found is None:
+        fault('crates/hm_minify/src/notices.rt', 'no text of help')
+    return found[1].replace('\\"', '"').replace('\\\\', '\\') if found else ''
 
 
 def program_statuses():
@@ -148,6 +164,22 @@ def statuses(path, pattern):
     return sorted(found - {'70'}, key=int)
 
 
+def try_help(flags, commands):
+    """The help names each command with its words, each flag, each word of TABLE and each exit status, in 80 columns."""
+    place, text = 'crates/hm_minify/src/notices.rt, the help', help_text()
+    parts = {it.split('\n', 1)[0].split()[0]: it for it in text.split('\n\n') if it}
+    told = {name: words.split() for name, words in re.findall(r'^  ([a-z]+)((?: [A-Z]+)*)  ', parts.get('commands', ''), re.M)}
+    if told != commands:
+        fault(place, f'the commands are {told}, in docs/BEHAVIOUR.md {commands}')
+    try_names(place, re.findall(r'^  (--[a-z-]+)  ', text, re.M), flags)
+    try_names(place, sorted(re.findall(r'^  ([a-z]+)  ', parts.get('TABLE', ''), re.M)), table_words())
+    if (found := sorted(re.findall(r'(?:^|  )(\d)  ', parts.get('exit', ''), re.M), key=int)) != program_statuses():
+        fault(place, f'the exit statuses are {found}, those of the program {program_statuses()}')
+    for line in text.splitlines():
+        if len(line) > 80:
+            fault(place, f'more than 80 columns: {line!r}')
+
+
 def try_names(place, names, wanted):
     """Each wanted name stands once, and no other."""
     for name in wanted:
@@ -170,6 +202,7 @@ def try_documents(flags):
         if told != commands:
             fault(place, f'the commands are {told}, in docs/BEHAVIOUR.md {commands}')
     try_names('docs/BEHAVIOUR.md', list(commands), program_commands())
+    try_help(flags, commands)
     for path in ['docs/BEHAVIOUR.md', 'tests/statuses.sh']:
         if usage_line() not in ' '.join(read(path).split()):
             fault(path, f'no usage line {usage_line()!r}')
@@ -240,7 +273,7 @@ def bash_words(name, words):
     """What bash offers for the words of a command: files, and for TABLE its words too."""
     for at, word in enumerate(words, 1):
         if word == 'TABLE':
-            table = ' '.join(TABLE_WORDS)
+            table = ' '.join(table_words())
             yield f'        {name},{at}) mapfile -t COMPREPLY < <(compgen -W {table!r} -- "$word"; compgen -f -- "$word") ;;'
         elif word not in ('NUMBER', 'SIZE'):
             yield f'        {name},{at}) mapfile -t COMPREPLY < <(compgen -f -- "$word") ;;'
@@ -249,7 +282,7 @@ def bash_words(name, words):
 def zsh_words(name, words):
     for at, word in enumerate(words, 1):
         if word == 'TABLE':
-            table = ' '.join(TABLE_WORDS)
+            table = ' '.join(table_words())
             yield f"        {name},{at}) _alternative 'tables:table:({table})' 'files:{word}:_files' ;;"
         elif word in ('NUMBER', 'SIZE'):
             yield f"        {name},{at}) _message '{word}' ;;"
@@ -292,7 +325,7 @@ def try_offers(flags):
         for command in ['minify', 'minifyjson']:
             if offers(command, 'none', 'VER') != ['VERSION']:
                 fault('completions/hminify.bash', f'PAGE of {command} offers no file')
-        if 'none' not in offers(flags[0], 'tree', 'no'):
+        if 'none' not in offers(flags[0], 'tree', 'no') or 'html' not in offers('tree', 'ht'):
             fault('completions/hminify.bash', 'TABLE offers no word')
     if shutil.which('zsh'):
         ran = subprocess.run(['zsh', '-n', 'completions/_hminify'], cwd=TOP, capture_output=True, text=True)

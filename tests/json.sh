@@ -21,7 +21,6 @@ PATH=$room/bin:$PATH
 NODE_PATH=${NODE_PATH:-/usr/share/nodejs}
 export PATH NODE_PATH
 cd "$room/work" || exit 1
-cp "$here/tables/entities.json" .
 
 # The last call's status is $status, its output stands in the files out and err of the room.
 call() {
@@ -53,21 +52,21 @@ try_left() {
     wants "$name: line" is "$(cat "$room/out")" "length ${#text}"
     wants "$name: OUT" is "$(cat out.html)" "$text"
     cp out.html copy.html
-    call hminify check entities.json copy.html out.html out.cert --omit --unquote --tight
+    call hminify check html copy.html out.html out.cert --omit --unquote --tight
     wants "$name: its certificate holds" is "$(cat "$room/out")" "yes ${#text}"
 }
 
 try_python() {
     call python3 teas.py out.html out.cert
     try_left teas.py '<!doctype html><html lang=en><title>Teas</title><ul><li id=tea0>Assam<li id=tea1>Earl Grey & milk<li id=tea2>&LTnone></ul>'
-    call hminify json entities.json out.html
+    call hminify json html out.html
     wants 'teas.py: OUT has the tree that was handed over' python3 -c 'import json, sys
 sys.exit(json.load(open("teas.json")) != json.load(open(sys.argv[1])))' "$room/out"
 }
 
 try_parse5() {
     printf '<!DOCTYPE html><title>Two</title><ul><li><b>one</ul></i><p>two<svg viewBox="0 0 1 1"><linearGradient id=a /></svg>' >page.html
-    call hminify minify entities.json page.html out.html out.cert --omit --unquote --tight
+    call hminify minify html page.html out.html out.cert --omit --unquote --tight
     wants 'mended.mjs: the page is refused by itself' is "$(cat "$room/out")" 'page refused: NotCurrent at 47'
     call node mended.mjs page.html out.html out.cert
     try_left mended.mjs '<!doctype html><title>Two</title><ul><li><b>one</b></ul><p><b>two<svg viewbox="0 0 1 1"><lineargradient id=a /></svg></b>'

@@ -24,14 +24,17 @@ same() {
     fi
 }
 
-# Runs the program: a name, the wanted status, the wanted line, and the words.
+# Runs the program: a name, the wanted status, the wanted line, and the words. What is wanted on standard error stands in `told`,
+# for one call.
+told=
 ends() {
     name=$1 status=$2 line=$3
     shift 3
     "$program" "$@" >said 2>err
     same "$name: status" $? "$status"
     same "$name: line" "$(cat said)" "$line"
-    same "$name: nothing on standard error" "$(cat err)" ''
+    same "$name: standard error" "$(cat err)" "$told"
+    told=
 }
 
 # The bytes of a file, with one line for its end, so that a line feed more or less shows.
@@ -49,11 +52,13 @@ fill() {
 right_out='<!doctype html><p>a<p>b|'
 right_cert=$(printf 'html-cert 2\nrules omit unquote\n23\n8\n8\n8\n8\n4\n0\n0\n0\n0\n|')
 json='[["doctype","plain"],["start","html",[]],["start","head",[]],["end"],["start","body",[]],["start","p",[]],["text","a"],["end"],["start","p",[]],["text","b"],["end"],["end"],["end"]]'
-usage='usage: hminify minify, check, fragment, checkfragment or minifyjson TABLE PAGE OUT CERT, tree or json TABLE PAGE, measure TABLE NUMBER SIZE'
+usage='usage: hminify minify, check, fragment, checkfragment or minifyjson TABLE PAGE OUT CERT, tree, json or explain TABLE PAGE, measure TABLE NUMBER SIZE, help, version'
+flags='hminify: flags and TABLE have to be those that OUT and CERT were written with'
 
 printf '<!doctype html><p>a</p><p>b</p>' >page
 printf '<!doctype html><p>a</i>' >wrong
 printf '[]' >table
+printf '<!doctype html>&amp;' >amp
 
 # What was there is longer than what is written, so bytes of it would be left where a file isn't emptied.
 head -c 5000 /dev/zero >out
@@ -62,16 +67,49 @@ ends 'minify' 0 'length 23' minify none page out cert --omit --unquote
 same 'minify: OUT' "$(bytes out)" "$right_out"
 same 'minify: CERT' "$(bytes cert)" "$right_cert"
 ends 'check' 0 'yes 23' check none page out cert --omit --unquote
+told=$flags
 ends 'check without the rules' 1 'no 1 rules differ' check none page out cert
+told="hminify: there is no command
+try 'hminify help'"
 ends 'no words' 2 "$usage"
+told="hminify: '--omitt' is no flag
+try 'hminify help'"
+ends 'a word that is no flag' 2 "$usage" tree none page --omitt
+told="hminify: 'tree' wants TABLE PAGE, 2 words and not 1
+try 'hminify help'"
+ends 'a word too few' 2 "$usage" tree page
+ends 'version' 0 "hminify $(cat "$here/VERSION")
+$(sed -n 's/^\*\*Proved\*\* with `\([^`]*\)`.*/\1/p' "$here/README.md")" version
+"$program" help >said 2>err
+same 'help: status' $? 0
+"$program" -h >said_too 2>err
+same 'help: -h says the same' "$(cat said_too)" "$(cat said)"
 ends 'a page that is refused' 3 'page refused: StrayEnd at 19' minify none wrong out cert --omit --unquote
 ends 'a table that is refused' 4 'table refused: NotObject' minify table page out cert --omit --unquote
+told='hminify: absent: No such file or directory'
 ends 'no page' 5 'store fault' minify none absent out cert --omit --unquote
+told='hminify: absent/out: No such file or directory'
 ends 'OUT in no folder' 5 'store fault' minify none page absent/out cert --omit --unquote
 ends 'json' 0 "$json" json none page
+ends 'explain a page' 0 'page: settled, page 31 output 23' explain html page --omit --unquote
+ends 'explain a page that is refused' 3 'wrong:1:20: StrayEnd: This end tag closes nothing, since no element of its name is open.
+<!doctype html><p>a</i>
+                   ^' explain html wrong
+printf '%s' '{}' >html
+ends 'the word html is no file' 0 'doctype
+element html
+  element head
+  element body
+    text "&"' tree html amp
+ends 'a file of that name' 0 'doctype
+element html
+  element head
+  element body
+    text "&amp;"' tree ./html amp
 printf '%s\n' "$json" >tree
 printf '[["doctype","plain"],["start","html",[]],["end"]]' >unsettled
 ends 'JSON that is refused' 8 'json refused: NotSettled event 2 point 2' minifyjson none unsettled out cert --omit --unquote
+told='hminify: absent: No such file or directory'
 ends 'no JSON' 5 'store fault' minifyjson none absent out cert --omit --unquote
 same 'after all of these: OUT' "$(bytes out)" "$right_out"
 same 'after all of these: CERT' "$(bytes cert)" "$right_cert"
@@ -91,6 +129,8 @@ ends 'fragment' 0 'length 8' fragment none part part_out part_cert --omit --unqu
 same 'fragment: OUT' "$(bytes part_out)" '<p>a<p>b|'
 same 'fragment: CERT' "$(bytes part_cert)" "$(printf 'html-cert 2\nrules omit unquote frame\n29\n14\n14\n14\n4\n0\n0\n0\n0\n|')"
 ends 'checkfragment' 0 'yes 8' checkfragment none part part_out part_cert --omit --unquote
+told="hminify: 'fragment' needs '--omit'
+try 'hminify help'"
 ends 'a fragment without --omit' 2 "$usage" fragment none part part_out part_cert --unquote
 ends 'a fragment that closes its body' 3 'page refused: FrameEnd at 1' fragment none closing part_out part_cert --omit --unquote
 ends 'OUT closes its body' 1 'no 2 output refused: FrameEnd at 1' checkfragment none part closing part_cert --omit --unquote
@@ -100,11 +140,13 @@ if [ -c /dev/full ]; then
     rm out cert
     "$program" minify none page out cert --omit --unquote >/dev/full 2>err
     same 'a full standard output: status' $? 6
+    same 'a full standard output: standard error' "$(cat err)" 'hminify: standard output: No space left on device'
     same 'a full standard output: OUT' "$(bytes out)" "$right_out"
     same 'a full standard output: CERT' "$(bytes cert)" "$right_cert"
     "$program" minify none page /dev/full cert --omit --unquote >said 2>err
     same 'a full OUT: status' $? 5
     same 'a full OUT: line' "$(cat said)" 'store fault'
+    same 'a full OUT: standard error' "$(cat err)" 'hminify: /dev/full: No space left on device'
     same 'a full OUT: CERT' "$(bytes cert)" "$right_cert"
 fi
 
@@ -133,6 +175,7 @@ ends 'a fragment of 16,777,216 bytes' 0 'length 16777216' fragment none large ou
 fill '' 16777217 a >large
 ends 'a fragment of 16,777,217 bytes' 3 'page refused: TooLong at 16777216' fragment none large out cert --omit
 fill '' 67108843 a >large
+told=$flags
 ends 'OUT of a fragment of 67,108,843 bytes' 1 'no 3 trees differ at event 5' checkfragment none part large part_cert --omit --unquote
 fill '' 67108844 a >large
 ends 'OUT of a fragment of 67,108,844 bytes' 1 'no 2 output refused: TooLong at 67108843' checkfragment none part large part_cert --omit --unquote

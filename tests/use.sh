@@ -72,13 +72,12 @@ refused='<!DOCTYPE HTML PUBLIC "-//W3C//DTD HTML 4.01//EN"><p>an old page</p>'
 # shellcheck disable=SC2016 # a name with what shells and ninja read in their own way
 odd='a page: $1.html'
 
-# A project: the recipes, the table, two pages that can be written and one that is refused.
+# A project: the recipes, two pages that can be written and one that is refused.
 project() {
     rm -rf "$room/work"
     mkdir -p "$room/work/site/sub" "$room/work/.github/workflows"
     cd "$room/work" || exit 1
     recipes
-    cp "$here/tables/entities.json" .
     printf '<!DOCTYPE html>\n<title>One</title>\n<!-- a -->\n<p class="a">Fish &amp; Chips</p>\n<p>Tea</p>\n' >site/index.html
     printf '<!DOCTYPE html><ul> <li>a</li> <li>b</li> </ul>' >site/sub/two.html
     printf '%s' "$refused" >site/old.html
@@ -107,8 +106,9 @@ try_build() {
     [ "$tool" = make ] || wants "$tool: any name but one with line feeds" cmp -s public/index.html "public/$odd"
     call "$@"
     wants "$tool: then nothing is left to do" grep -q "$nothing" "$room/out"
-    echo '{' >entities.json
-    call "$@"
+    echo '{' >table.json
+    find site -name '*.html' -exec touch -d '+1 minute' {} +
+    call env HMINIFY_TABLE=table.json "$@"
     wants "$tool: a table that is refused stops it" is "$status" "$stops"
     wants "$tool: and that is said" grep -q 'table refused: NotJson (status 4)' "$room/err" "$room/out"
 }
@@ -148,8 +148,7 @@ of mine.html'
     cp -r public before
     call ./in-place-all
     wants 'in place: pages that are done come out the same' diff -r before public
-    rm entities.json
-    call ./in-place-all
+    call env HMINIFY_TABLE=absent.json ./in-place-all
     wants 'in place: without a table it fails' is "$status" 123
     wants 'in place: and keeps the pages' diff -r before public
 }

@@ -139,6 +139,14 @@ impl Case {
         Ok(())
     }
 
+    /// Takes a printed line that is wanted, which may have any bytes.
+    fn take_bytes(&mut self, alloc: Global, text: &str) -> io::Result<()> {
+        self.wanted
+            .extend_from_slice(bytes_of(alloc, text)?.as_slice())?;
+        self.wanted.push(b'\n')?;
+        Ok(())
+    }
+
     /// Takes a file.
     pub fn take_file(&mut self, alloc: Global, name: &str, bytes: &[u8]) -> io::Result<()> {
         self.files.push(NamedFile {
@@ -245,6 +253,7 @@ impl Case {
                 Err(_) => Err(io::Error::from(ErrorKind::InvalidData)),
             },
             "|" => self.take_line(rest),
+            "says" => self.take_bytes(alloc, rest),
             "torn" => {
                 self.torn = true;
                 Ok(())

@@ -24,7 +24,7 @@ use Rattle.hm_refs.specs.Tables.{IsTable}
 use Rattle.hm_store.specs.Contents.{Contents}
 use Rattle.hm_words.specs.Words.{Asked, Command, Origin, Work, are_filled, are_files_apart, are_flags, asked, asks, checks, choices_of, command_in, fits, is_apart, minifies, names_in, with_flags, written_of}
 use Rattle.hm_words.specs.declared.writing.Writing.{Writing}
-use Rattle.hm_minify.specs.Endings.{asked_ending, certificate_ending, check_ending, checked_ending, format_of, found_ending, framed_ending, out_fragment, says, tree_ending, verdict_ending, with_tree, written_part}
+use Rattle.hm_minify.specs.Endings.{asked_ending, certificate_ending, check_ending, checked_ending, format_of, found_ending, framed_ending, out_fragment, page_name, refusal, says, tree_ending, verdict_ending, with_tree, written_part}
 use Rattle.hm_minify.specs.Inputs.{Input, missing, bad_table, bad_page, bad_json, tree as tree_input, input_of, origin_input, wanted}
 use Rattle.hm_minify.specs.Laws.{FragmentIsChecked, MinifiedIsChecked, TreeIsChecked, judged, own_verdict, with_writes}
 use Rattle.hm_minify.specs.Lines.{yes_line}
@@ -104,7 +104,7 @@ own_ending t k x w page s rows short few =
 pub tree_is_checked : TreeIsChecked
 tree_is_checked q out cert work page seen bytes t w reads settled sparse text lines rows short few =
     let x : Writing = record q.writing { sparse = sparse } in
-    ap (λ y. with_tree y (tree_ending q.work q.writing seen)) reads ∙ ap (λ k. tree_ending k q.writing seen bytes t w) work
+    ap (λ y. with_tree y (refusal q.origin q.work seen) (tree_ending (page_name q.origin) q.work q.writing seen)) reads ∙ ap (λ k. tree_ending (page_name q.origin) k q.writing seen bytes t w) work
     ∙ ap (λ o. check_ending q.writing.rules t w o (seen cert)) text ∙ ap (check_ending q.writing.rules t w (Some (shortest_text t q.writing.rules w))) lines
     ∙ own_ending t (request_table q seen bytes t w reads) x w page settled rows short few
 
@@ -171,7 +171,7 @@ fragment_is_checked words origin out cert options x fragment e seen bytes t w re
     let k : IsTable t = request_table q seen bytes t w reads in
     let back : IsReadBack t w text = text_read_back t k x.rules (ruled_so.omits fragment) frame w settled (request_framed q seen bytes t w fragment reads) in
     ap (λ f. asked_ending (asks origin (checks out cert) options x) (with_writes seen (write out (written_part f text) ∷ write cert c ∷ []))) frame
-    ∙ ap (λ y. with_tree y (tree_ending (checks out cert) x now)) (input_after words origin out cert o c options x seen bytes t w apart reads)
+    ∙ ap (λ y. with_tree y (refusal origin (checks out cert) now) (tree_ending (page_name origin) (checks out cert) x now)) (input_after words origin out cert o c options x seen bytes t w apart reads)
     ∙ ap (λ y. check_ending x.rules t w y (now cert)) (out_there seen out cert o c (files_apart origin out cert apart))
     ∙ ap (check_ending x.rules t w (Some o)) (cert_there seen out cert o c)
     ∙ own_fragment t k x w frame settled back rows short few

@@ -5,14 +5,14 @@ use Rattle.std.specs.Str.{bytes_eq}
 use Rattle.hm_base.specs.Walks.{Event}
 use Rattle.hm_base.specs.declared.plain.SpellRules.{SpellRules}
 use Rattle.hm_elements.specs.Settled.{Settled}
-use Rattle.hm_minify.specs.Inputs.{IsInput, Input, tree as tree_input, input_of, is_none, origin_input, wanted}
+use Rattle.hm_minify.specs.Inputs.{IsInput, Input, tree as tree_input, input_of, origin_input, wanted}
 use Rattle.hm_refs.proofs.Places.{same_bytes}
 use Rattle.hm_refs.specs.Names.{Entry}
 use Rattle.hm_store.specs.Contents.{Contents, Sees}
 use Rattle.hm_store.specs.Files.{FileMap, file_of}
-use Rattle.hm_words.specs.Words.{Asked, Origin, Work, page_at, fragment_at, json_at, made, minifies, checks, shows, tells_json, measures, is_apart, is_away, is_origin_apart, is_work_apart, are_apart, are_files_apart}
+use Rattle.hm_words.specs.Words.{Asked, Origin, Work, page_at, fragment_at, json_at, made, minifies, checks, shows, tells_json, explains, measures, is_apart, is_away, is_origin_apart, is_work_apart, is_table_word, are_apart, are_files_apart}
 use Rattle.hm_words.specs.declared.writing.Writing.{Writing}
-use Rattle.hm_minify.specs.Endings.{Ending, IsReadable, IsReadableTree, with_tree, tree_ending, asked_ending, check_ending}
+use Rattle.hm_minify.specs.Endings.{Ending, IsReadable, IsReadableTree, page_name, refusal, with_tree, tree_ending, asked_ending, check_ending}
 use Rattle.hm_minify.proofs.Seen.{IsApartFrom, mixed, sees_both, origin_stays}
 
 -- ---- names that differ
@@ -52,9 +52,9 @@ files_apart origin out cert apart =
     not_true (bytes_eq out cert) (right (is_away origin cert) (not (bytes_eq out cert)) (right (is_away origin out) (is_away origin cert && not (bytes_eq out cert)) apart))
 
 -- neither is that of a table or of a second file
-both_apart : (table page out cert : List ℕ) → (are_apart table out && not (bytes_eq page out)) ≡ true → (are_apart table cert && not (bytes_eq page cert)) ≡ true → ((is_none table || not (is_either out cert table)) ≡ true) × (is_either out cert page ≡ false)
+both_apart : (table page out cert : List ℕ) → (are_apart table out && not (bytes_eq page out)) ≡ true → (are_apart table cert && not (bytes_eq page cert)) ≡ true → ((is_table_word table || not (is_either out cert table)) ≡ true) × (is_either out cert page ≡ false)
 both_apart table page out cert h k = (
-  apart_of_both (is_none table) (bytes_eq table out) (bytes_eq table cert) (left (are_apart table out) (not (bytes_eq page out)) h) (left (are_apart table cert) (not (bytes_eq page cert)) k),
+  apart_of_both (is_table_word table) (bytes_eq table out) (bytes_eq table cert) (left (are_apart table out) (not (bytes_eq page out)) h) (left (are_apart table cert) (not (bytes_eq page cert)) k),
   neither (bytes_eq page out) (bytes_eq page cert) (right (are_apart table out) (not (bytes_eq page out)) h) (right (are_apart table cert) (not (bytes_eq page cert)) k),
 )
 
@@ -62,7 +62,7 @@ both_away : (origin : Origin) (out cert : List ℕ) → is_away origin out ≡ t
 both_away (page_at table page) out cert h k = both_apart table page out cert h k
 both_away (fragment_at table page) out cert h k = both_apart table page out cert h k
 both_away (json_at table page) out cert h k = both_apart table page out cert h k
-both_away (made table number size) out cert h k = apart_of_both (is_none table) (bytes_eq table out) (bytes_eq table cert) h k
+both_away (made table number size) out cert h k = apart_of_both (is_table_word table) (bytes_eq table out) (bytes_eq table cert) h k
 
 -- they aren't those of the origin's files
 pub away : (origin : Origin) (out cert : List ℕ) → are_files_apart origin out cert ≡ true → IsApartFrom (is_either out cert) origin
@@ -90,30 +90,31 @@ check_comes r t w out cert ended seen more h =
 -- ---- the ending of a request
 
 -- what doesn't depend on further files is said by the contents that are known
-pub told_ending : (told : Option FileMap) (a c : Work) (r : Writing) (bytes : ℕ) (t : List Entry) (w : List Event) (ended : Ending) → a ≡ c → ended ≡ tree_ending c r (file_of told) bytes t w → Sees told (λ seen. ended ≡ tree_ending a r seen bytes t w)
-told_ending told a c r bytes t w ended is e = record { seen = file_of told; are_told = λ _ _. refl; holds = e ∙ ap (λ x. tree_ending x r (file_of told) bytes t w) (sym is) }
+pub told_ending : (told : Option FileMap) (page : List ℕ) (a c : Work) (r : Writing) (bytes : ℕ) (t : List Entry) (w : List Event) (ended : Ending) → a ≡ c → ended ≡ tree_ending page c r (file_of told) bytes t w → Sees told (λ seen. ended ≡ tree_ending page a r seen bytes t w)
+told_ending told page a c r bytes t w ended is e = record { seen = file_of told; are_told = λ _ _. refl; holds = e ∙ ap (λ x. tree_ending page x r (file_of told) bytes t w) (sym is) }
 
 -- the tree and the ending are those of the same contents
-ending_seen : (told : Option FileMap) (origin : Origin) (work : Work) (r : Writing) (Reads : Contents → Type 0) (bytes : ℕ) (t : List Entry) (w : List Event) (ended : Ending) → is_work_apart origin work ≡ true
+ending_seen : (told : Option FileMap) (page : List ℕ) (origin : Origin) (work : Work) (r : Writing) (Reads : Contents → Type 0) (bytes : ℕ) (t : List Entry) (w : List Event) (ended : Ending) → is_work_apart origin work ≡ true
     → ((theirs : List ℕ → Bool) (seen more : Contents) → IsApartFrom theirs origin → Reads seen → Reads (mixed theirs seen more)) → Sees told Reads
-    → Sees told (λ seen. ended ≡ tree_ending work r seen bytes t w) → Sees told (λ seen. Reads seen × (ended ≡ tree_ending work r seen bytes t w))
-ending_seen told origin (minifies out cert) r Reads bytes t w ended apart stays i a = record { seen = i.seen; are_told = i.are_told; holds = (i.holds, a.holds) }
-ending_seen told origin (checks out cert) r Reads bytes t w ended apart stays i a = sees_both told (is_either out cert) Reads (λ seen. ended ≡ check_ending r.rules t w (seen out) (seen cert))
+    → Sees told (λ seen. ended ≡ tree_ending page work r seen bytes t w) → Sees told (λ seen. Reads seen × (ended ≡ tree_ending page work r seen bytes t w))
+ending_seen told page origin (minifies out cert) r Reads bytes t w ended apart stays i a = record { seen = i.seen; are_told = i.are_told; holds = (i.holds, a.holds) }
+ending_seen told page origin (checks out cert) r Reads bytes t w ended apart stays i a = sees_both told (is_either out cert) Reads (λ seen. ended ≡ check_ending r.rules t w (seen out) (seen cert))
     (λ seen more h. stays (is_either out cert) seen more (away origin out cert apart) h)
     (λ seen more h. check_comes r.rules t w out cert ended seen more h) i a
-ending_seen told origin shows r Reads bytes t w ended apart stays i a = record { seen = i.seen; are_told = i.are_told; holds = (i.holds, a.holds) }
-ending_seen told origin tells_json r Reads bytes t w ended apart stays i a = record { seen = i.seen; are_told = i.are_told; holds = (i.holds, a.holds) }
-ending_seen told origin measures r Reads bytes t w ended apart stays i a = record { seen = i.seen; are_told = i.are_told; holds = (i.holds, a.holds) }
+ending_seen told page origin shows r Reads bytes t w ended apart stays i a = record { seen = i.seen; are_told = i.are_told; holds = (i.holds, a.holds) }
+ending_seen told page origin tells_json r Reads bytes t w ended apart stays i a = record { seen = i.seen; are_told = i.are_told; holds = (i.holds, a.holds) }
+ending_seen told page origin explains r Reads bytes t w ended apart stays i a = record { seen = i.seen; are_told = i.are_told; holds = (i.holds, a.holds) }
+ending_seen told page origin measures r Reads bytes t w ended apart stays i a = record { seen = i.seen; are_told = i.are_told; holds = (i.holds, a.holds) }
 
 pub asked_seen : (told : Option FileMap) (a : Asked) (x : Input) (bytes : ℕ) (t : List Entry) (w : List Event) (ended : Ending) → is_work_apart a.origin a.work ≡ true → IsInput told a.origin a.options x → tree_input bytes t w ≡ wanted a x
-    → Sees told (λ seen. ended ≡ tree_ending a.work a.writing seen bytes t w) → Settled w × IsReadableTree a.work a.writing t w → Sees told (λ seen. (ended ≡ asked_ending a seen) × IsReadable a (input_of a seen))
+    → Sees told (λ seen. ended ≡ tree_ending (page_name a.origin) a.work a.writing seen bytes t w) → Settled w × IsReadableTree a.work a.writing t w → Sees told (λ seen. (ended ≡ asked_ending a seen) × IsReadable a (input_of a seen))
 asked_seen told a x bytes t w ended apart i is e readable =
-    let s = ending_seen told a.origin a.work a.writing (λ seen. origin_input a.origin a.options seen ≡ x) bytes t w ended apart (λ theirs seen more away h. origin_stays theirs a.origin a.options seen more away ∙ h) i e in
+    let s = ending_seen told (page_name a.origin) a.origin a.work a.writing (λ seen. origin_input a.origin a.options seen ≡ x) bytes t w ended apart (λ theirs seen more away h. origin_stays theirs a.origin a.options seen more away ∙ h) i e in
     let reads : tree_input bytes t w ≡ input_of a s.seen = is ∙ ap (wanted a) (sym s.holds.0) in
     record {
       seen = s.seen;
       are_told = s.are_told;
-      holds = (s.holds.1 ∙ ap (λ y. with_tree y (tree_ending a.work a.writing s.seen)) reads, subst (IsReadable a) reads readable);
+      holds = (s.holds.1 ∙ ap (λ y. with_tree y (refusal a.origin a.work s.seen) (tree_ending (page_name a.origin) a.work a.writing s.seen)) reads, subst (IsReadable a) reads readable);
     }
 
 pub if_both : {A E : Type 0} (r : Result A E) (P Q : A → Type 0) → IfOk r P → IfOk r Q → IfOk r (λ a. P a × Q a)
@@ -123,5 +124,5 @@ if_both (Err e) P Q p q = tt
 -- ---- the steps of a request
 
 -- the files are as they were before the tree was loaded
-pub answer_before : (told mid : Option FileMap) (work : Work) (r : Writing) (bytes : ℕ) (t : List Entry) (w : List Event) (ended : Ending) → mid ≡ told → Sees mid (λ seen. ended ≡ tree_ending work r seen bytes t w) → Sees told (λ seen. ended ≡ tree_ending work r seen bytes t w)
-answer_before told mid work r bytes t w ended same a = subst (λ files. Sees files (λ seen. ended ≡ tree_ending work r seen bytes t w)) same a
+pub answer_before : (told mid : Option FileMap) (page : List ℕ) (work : Work) (r : Writing) (bytes : ℕ) (t : List Entry) (w : List Event) (ended : Ending) → mid ≡ told → Sees mid (λ seen. ended ≡ tree_ending page work r seen bytes t w) → Sees told (λ seen. ended ≡ tree_ending page work r seen bytes t w)
+answer_before told mid page work r bytes t w ended same a = subst (λ files. Sees files (λ seen. ended ≡ tree_ending page work r seen bytes t w)) same a

@@ -17,7 +17,7 @@ use Rattle.hm_fragment.specs.Laws.{IsReadBack}
 use Rattle.hm_minify.proofs.Headline.{table_is}
 use Rattle.hm_minify.proofs.Ordered.{wanted_framed}
 use Rattle.hm_minify.proofs.Wanted.{of_wanted}
-use Rattle.hm_minify.specs.Inputs.{tree as tree_input, fragment_input, fragment_outcome, input_from, input_of, is_none, origin_input, rewritten_input, table_names}
+use Rattle.hm_minify.specs.Inputs.{tree as tree_input, fragment_input, fragment_outcome, input_from, input_of, is_html, is_none, names_of_table, origin_input, rewritten_input}
 use Rattle.hm_options.specs.Rewrites.{rewrite}
 use Rattle.hm_order.specs.Shortest.{shortest_text}
 use Rattle.hm_refs.specs.Names.{Entry}
@@ -88,7 +88,7 @@ file_framed o (Some (Ok u)) (Some fragment) m t v tables e = outcome_framed o t 
 
 origin_framed : (origin : Origin) (o : TreeOptions) (seen : Contents) (m : ℕ) (t : List Entry) (v : List Event) → is_fragment origin ≡ true → origin_input origin o seen ≡ tree_input m t v → IsFramed v
 origin_framed (page_at table page) o seen m t v is e = cc
-origin_framed (fragment_at table page) o seen m t v is e = file_framed o (table_names (is_none table) (seen table)) (seen page) m t v (λ u names. table_is (is_none table) (seen table) u names) e
+origin_framed (fragment_at table page) o seen m t v is e = file_framed o (names_of_table table (seen table)) (seen page) m t v (λ u names. table_is (is_none table) (is_html table) (seen table) u names) e
 origin_framed (json_at table page) o seen m t v is e = cc
 origin_framed (made table number size) o seen m t v is e = cc
 

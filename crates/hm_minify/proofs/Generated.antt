@@ -13,13 +13,13 @@ use Rattle.hm_construction_laws.specs.Trees.{Outcome, built, refused_by}
 use Rattle.hm_gen.proofs.Lengths.{pages_are_within_limit}
 use Rattle.hm_gen.specs.Pages.{page as made_page}
 use Rattle.hm_gen_laws.proofs.Page.{pages_are_built}
-use Rattle.hm_minify.specs.Inputs.{Input, missing, bad_table, bad_page, bad_json, tree as tree_input, input_from, input_of, is_none, origin_input, page_input, page_outcome, rewritten_input, table_names, wanted}
+use Rattle.hm_minify.specs.Inputs.{Input, missing, bad_table, bad_page, bad_json, tree as tree_input, input_from, input_of, is_html, is_none, names_of_table, origin_input, page_input, page_outcome, rewritten_input, wanted}
 use Rattle.hm_json_tree.specs.declared.fault.JsonFault.{JsonFault}
 use Rattle.hm_refs.specs.Names.{Entry}
 use Rattle.hm_refs.specs.Tables.{IsTable}
 use Rattle.hm_refs.specs.declared.fault.TableFault.{TableFault}
 use Rattle.hm_store.specs.Contents.{Contents}
-use Rattle.hm_words.specs.Words.{Command, CommandRow, Origin, Work, page_at, fragment_at, json_at, made, minifies, checks, shows, tells_json, measures, Asked, asked, asks, are_filled, are_flags, choices_of, command_by, command_in, commands, fits, is_apart, is_number, made_of, names_in, number_in, origin_in, row_among, with_flags, with_origin, with_rest, with_work, work_in, written_of}
+use Rattle.hm_words.specs.Words.{Command, CommandRow, Origin, Work, page_at, fragment_at, json_at, made, minifies, checks, shows, tells_json, explains, measures, Asked, asked, asks, are_filled, are_flags, choices_of, command_by, command_in, commands, fits, is_apart, is_number, made_of, names_in, number_in, origin_in, row_among, with_flags, with_origin, with_rest, with_work, work_in, written_of}
 use Rattle.hm_words.specs.declared.commands.Deed.{Deed}
 use Rattle.hm_words.specs.declared.commands.Deed.TheVariants as deeds
 use Rattle.hm_words.specs.declared.commands.Source.{Source}
@@ -105,6 +105,7 @@ deed_of (minifies out cert) = deeds.Minify
 deed_of (checks out cert) = deeds.Check
 deed_of shows = deeds.Show
 deed_of tells_json = deeds.TellJson
+deed_of explains = deeds.Explain
 deed_of measures = deeds.Measure
 
 worded : (deed : Deed) (names : List (List ℕ)) (work : Work) → work_in deed names ≡ Some work → deed_of work ≡ deed
@@ -120,6 +121,8 @@ worded deeds.Show [] work e = ap deed_of (sym (some_is shows work e))
 worded deeds.Show (name ∷ names) work e = cc
 worded deeds.TellJson [] work e = ap deed_of (sym (some_is tells_json work e))
 worded deeds.TellJson (name ∷ names) work e = cc
+worded deeds.Explain [] work e = ap deed_of (sym (some_is explains work e))
+worded deeds.Explain (name ∷ names) work e = cc
 worded deeds.Measure [] work e = ap deed_of (sym (some_is measures work e))
 worded deeds.Measure (name ∷ names) work e = cc
 
@@ -193,12 +196,12 @@ never_refused t k number size m o n (built w) is rule at e = cc
 never_refused t k number size m o n (refused_by known place) is rule at e = outcome_is_built t k number size m (refused_by known place) is known place refl
 
 made_never_refused : (o : TreeOptions) (seen : Contents) (table : List ℕ) (number size : ℕ) → IsMeasured number size → (rule : Rule) (at : ℕ) → origin_input (made table number size) o seen ≡ bad_page rule at → ⊥
-made_never_refused o seen table number size m rule at e = by_names (table_names (is_none table) (seen table)) refl e
+made_never_refused o seen table number size m rule at e = by_names (names_of_table table (seen table)) refl e
   where
-    by_names : (names : Option (Result (List Entry) TableFault)) → table_names (is_none table) (seen table) ≡ names → input_from (page_input o) names (Some (made_page number size)) ≡ bad_page rule at → ⊥
+    by_names : (names : Option (Result (List Entry) TableFault)) → names_of_table table (seen table) ≡ names → input_from (page_input o) names (Some (made_page number size)) ≡ bad_page rule at → ⊥
     by_names None is h = cc
     by_names (Some (Err fault)) is h = cc
-    by_names (Some (Ok t)) is h = never_refused t (table_is (is_none table) (seen table) t is) number size m o (length (made_page number size)) (page_outcome t (made_page number size)) refl rule at h
+    by_names (Some (Ok t)) is h = never_refused t (table_is (is_none table) (is_html table) (seen table) t is) number size m o (length (made_page number size)) (page_outcome t (made_page number size)) refl rule at h
 
 origin_never_refused : (origin : Origin) (o : TreeOptions) (seen : Contents) → IsGenerated origin → (rule : Rule) (at : ℕ) → origin_input origin o seen ≡ bad_page rule at → ⊥
 origin_never_refused (page_at table page) o seen m rule at e = m
@@ -230,7 +233,7 @@ origin_never_json : (origin : Origin) (o : TreeOptions) (seen : Contents) → Is
 origin_never_json (page_at table page) o seen m fault e = m
 origin_never_json (fragment_at table page) o seen m fault e = m
 origin_never_json (json_at table page) o seen m fault e = m
-origin_never_json (made table number size) o seen m fault e = names_never_json o (made_page number size) (table_names (is_none table) (seen table)) fault e
+origin_never_json (made table number size) o seen m fault e = names_never_json o (made_page number size) (names_of_table table (seen table)) fault e
 
 wanted_never_json : (q : Asked) (x : Input) → ((fault : JsonFault) → x ≡ bad_json fault → ⊥) → (fault : JsonFault) → wanted q x ≡ bad_json fault → ⊥
 wanted_never_json q missing never fault e = cc

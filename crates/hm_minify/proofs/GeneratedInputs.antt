@@ -11,19 +11,19 @@ use Rattle.hm_words.specs.Words.{made}
 use Rattle.hm_refs.specs.Names.{Entry}
 use Rattle.hm_store.specs.Contents.{Sees}
 use Rattle.hm_store.specs.Files.{FileMap, file_of}
-use Rattle.hm_minify.specs.Inputs.{Input, IsInput, tree, bad_table, bad_page, is_none, page_input, table_names, rewritten_input, input_from}
+use Rattle.hm_minify.specs.Inputs.{Input, IsInput, tree, bad_table, bad_page, names_of_table, page_input, rewritten_input, input_from}
 use Rattle.hm_minify.specs.Loads.{IsPageText, IsTableOf, IsTextIn, IsTreeRead, NoInput, NoTable, NoTextIn, NoTreeRead}
 use Rattle.hm_minify.specs.declared.unread.Unread.{Unread}
 use Rattle.hm_minify.specs.declared.unread.Unread.TheVariants as reasons
 use Rattle.hm_minify.proofs.Loaded.{page_read}
 
 -- the content of the table is one that can be known
-seen_table : (told : Option FileMap) (table page : List ℕ) (o : TreeOptions) (content : Option (List ℕ)) (input : Input) → (IsSome told → file_of told table ≡ content) → input_from (page_input o) (table_names (is_none table) content) (Some page) ≡ input
-    → Sees told (λ seen. input_from (page_input o) (table_names (is_none table) (seen table)) (Some page) ≡ input)
+seen_table : (told : Option FileMap) (table page : List ℕ) (o : TreeOptions) (content : Option (List ℕ)) (input : Input) → (IsSome told → file_of told table ≡ content) → input_from (page_input o) (names_of_table table content) (Some page) ≡ input
+    → Sees told (λ seen. input_from (page_input o) (names_of_table table (seen table)) (Some page) ≡ input)
 seen_table (Some files) table page o content input is_table is = record {
   seen = file_of (Some files);
   are_told = λ _ _. refl;
-  holds = ap (λ c. input_from (page_input o) (table_names (is_none table) c) (Some page)) (is_table refl) ∙ is;
+  holds = ap (λ c. input_from (page_input o) (names_of_table table c) (Some page)) (is_table refl) ∙ is;
 }
 seen_table None table page o content input is_table is = record { seen = λ _. content; are_told = λ h. cc; holds = is }
 

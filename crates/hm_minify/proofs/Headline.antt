@@ -7,8 +7,11 @@ use Rattle.hm_cert.specs.Certificate.{AreRows}
 use Rattle.hm_construction_laws.specs.Trees.{Outcome, built, refused_by}
 use Rattle.hm_elements.specs.Settled.{Settled}
 use Rattle.hm_gen.specs.Pages.{page as made_page}
-use Rattle.hm_minify.specs.Inputs.{Input, missing, bad_table, bad_page, bad_json, tree as tree_input, input_of, input_from, fragment_input, fragment_outcome, json_input, origin_input, wanted, is_none, page_input, page_outcome, rewritten_input, table_names, walk_input}
+use Rattle.hm_minify.specs.Inputs.{Input, missing, bad_table, bad_page, bad_json, tree as tree_input, input_of, input_from, fragment_input, fragment_outcome, json_input, origin_input, wanted, is_html, is_none, names_of_table, page_input, page_outcome, rewritten_input, table_names, walk_input}
 use Rattle.hm_json_tree.specs.Reading.{JsonWalk, walk, too_long, not_json, not_array, no_event, some_open, not_settled, json_walk}
+use Rattle.hm_html_names.proofs.Alike.{html_is}
+use Rattle.hm_html_names.proofs.Computing.{is_ready}
+use Rattle.hm_html_names.specs.HtmlNames.{html_entries}
 use Rattle.hm_refs.proofs.Gathered.{no_table}
 use Rattle.hm_refs.proofs.Members.{names_table}
 use Rattle.hm_refs.specs.Json.{names}
@@ -23,13 +26,17 @@ use Rattle.hm_words.specs.Words.{Asked, Origin, page_at, fragment_at, json_at, m
 
 -- ---- The table
 
-content_is_table : (o : Option (Result (List Entry) TableFault)) (t : List Entry) (content : Option (List ℕ)) → o ≡ table_names false content → o ≡ Some (Ok t) → IsTable t
+content_is_table : (o : Option (Result (List Entry) TableFault)) (t : List Entry) (content : Option (List ℕ)) → o ≡ table_names false false content → o ≡ Some (Ok t) → IsTable t
 content_is_table o t None is e = let h : None ≡ Some (Ok t) = sym is ∙ e in cc
 content_is_table o t (Some bytes) is e = names_table bytes t (let h : Some (names bytes) ≡ Some (Ok t) = sym is ∙ e in cc)
 
-pub table_is : (none : Bool) (content : Option (List ℕ)) (t : List Entry) → table_names none content ≡ Some (Ok t) → IsTable t
-table_is true content t e = let h : [] ≡ t = cc in subst IsTable h no_table
-table_is false content t e = content_is_table (table_names false content) t content refl e
+standard_is_table : (o : Option (Result (List Entry) TableFault)) (e t : List Entry) → IsTable e → o ≡ Some (Ok e) → o ≡ Some (Ok t) → IsTable t
+standard_is_table o e t k has is = let h : e ≡ t = cc in subst IsTable h k
+
+pub table_is : (none html : Bool) (content : Option (List ℕ)) (t : List Entry) → table_names none html content ≡ Some (Ok t) → IsTable t
+table_is true html content t e = let h : [] ≡ t = cc in subst IsTable h no_table
+table_is false true content t e = standard_is_table (table_names false true content) html_entries t (subst IsTable html_is is_ready.table) refl e
+table_is false false content t e = content_is_table (table_names false false content) t content refl e
 
 -- ---- The table of a request
 
@@ -63,16 +70,16 @@ file_table : (reads : List Entry → List ℕ → Input) → KeepsNames reads �
 file_table reads keeps m t u w None k e = cc
 file_table reads keeps m t u w (Some content) k e = subst IsTable (keeps t u content m w e) k
 
-input_table : (reads : List Entry → List ℕ → Input) → KeepsNames reads → (m : ℕ) (u : List Entry) (w : List Event) (none : Bool) (content page : Option (List ℕ)) (names : Option (Result (List Entry) TableFault)) → table_names none content ≡ names → input_from reads names page ≡ tree_input m u w → IsTable u
-input_table reads keeps m u w none content page None is e = cc
-input_table reads keeps m u w none content page (Some (Err fault)) is e = cc
-input_table reads keeps m u w none content page (Some (Ok t)) is e = file_table reads keeps m t u w page (table_is none content t is) e
+input_table : (reads : List Entry → List ℕ → Input) → KeepsNames reads → (m : ℕ) (u : List Entry) (w : List Event) (none html : Bool) (content page : Option (List ℕ)) (names : Option (Result (List Entry) TableFault)) → table_names none html content ≡ names → input_from reads names page ≡ tree_input m u w → IsTable u
+input_table reads keeps m u w none html content page None is e = cc
+input_table reads keeps m u w none html content page (Some (Err fault)) is e = cc
+input_table reads keeps m u w none html content page (Some (Ok t)) is e = file_table reads keeps m t u w page (table_is none html content t is) e
 
 origin_table : (origin : Origin) (o : TreeOptions) (seen : Contents) (m : ℕ) (t : List Entry) (w : List Event) → origin_input origin o seen ≡ tree_input m t w → IsTable t
-origin_table (page_at table page) o seen m t w e = input_table (page_input o) (pages_keep o) m t w (is_none table) (seen table) (seen page) (table_names (is_none table) (seen table)) refl e
-origin_table (fragment_at table page) o seen m t w e = input_table (fragment_input o) (fragments_keep o) m t w (is_none table) (seen table) (seen page) (table_names (is_none table) (seen table)) refl e
-origin_table (json_at table page) o seen m t w e = input_table (json_input o) (json_keeps o) m t w (is_none table) (seen table) (seen page) (table_names (is_none table) (seen table)) refl e
-origin_table (made table number size) o seen m t w e = input_table (page_input o) (pages_keep o) m t w (is_none table) (seen table) (Some (made_page number size)) (table_names (is_none table) (seen table)) refl e
+origin_table (page_at table page) o seen m t w e = input_table (page_input o) (pages_keep o) m t w (is_none table) (is_html table) (seen table) (seen page) (names_of_table table (seen table)) refl e
+origin_table (fragment_at table page) o seen m t w e = input_table (fragment_input o) (fragments_keep o) m t w (is_none table) (is_html table) (seen table) (seen page) (names_of_table table (seen table)) refl e
+origin_table (json_at table page) o seen m t w e = input_table (json_input o) (json_keeps o) m t w (is_none table) (is_html table) (seen table) (seen page) (names_of_table table (seen table)) refl e
+origin_table (made table number size) o seen m t w e = input_table (page_input o) (pages_keep o) m t w (is_none table) (is_html table) (seen table) (Some (made_page number size)) (names_of_table table (seen table)) refl e
 
 wanted_table : (a : Asked) (x : Input) (m : ℕ) (t : List Entry) (w : List Event) → ((n : ℕ) (v : List Event) → x ≡ tree_input n t v → IsTable t) → wanted a x ≡ tree_input m t w → IsTable t
 wanted_table a missing m t w table e = cc

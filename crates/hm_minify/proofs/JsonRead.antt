@@ -3,7 +3,7 @@ use Rattle.std.proofs.Common.{◌≡◌, ◌∙◌, ℕ, List, length, Option, S
 use Rattle.hm_base.specs.Walks.{Event}
 use Rattle.hm_base.specs.declared.plain.TreeOptions.{TreeOptions}
 use Rattle.hm_json_tree.specs.Reading.{JsonWalk, walk, too_long, not_json, not_array, no_event, some_open, not_settled, json_walk}
-use Rattle.hm_minify.specs.Inputs.{tree as tree_input, input_from, is_none, json_input, origin_input, table_names, walk_input, wanted_tree}
+use Rattle.hm_minify.specs.Inputs.{tree as tree_input, input_from, json_input, names_of_table, origin_input, walk_input, wanted_tree}
 use Rattle.hm_minify.proofs.Wanted.{of_wanted}
 use Rattle.hm_minify.specs.Outside.{Outside}
 use Rattle.hm_minify.specs.Runs.{HasMinified, HasMinifiedJson}
@@ -41,7 +41,7 @@ content_read o (Some (Ok u)) (Some json) m t v e = walk_read o u t json _ m v (j
 pub json_minified : (q : Asked) (table json_name out cert : List ℕ) (b a : Outside) → q.origin ≡ json_at table json_name → HasMinified q out cert b a → HasMinifiedJson q json_name out cert b a
 json_minified q table json_name out cert b a origin h =
     let w = of_wanted q (origin_input q.origin q.options h.seen) h.bytes h.table h.tree h.reads in
-    let r = content_read q.options (table_names (is_none table) (h.seen table)) (h.seen json_name) h.bytes h.table w.tree (ap (λ x. origin_input x q.options h.seen) (sym origin) ∙ w.input) in
+    let r = content_read q.options (names_of_table table (h.seen table)) (h.seen json_name) h.bytes h.table w.tree (ap (λ x. origin_input x q.options h.seen) (sym origin) ∙ w.input) in
     record {
       seen = h.seen;
       are_told = h.are_told;

@@ -1,3 +1,4 @@
+pub mod Alike
 pub mod Loaded
 pub mod GeneratedInputs
 pub mod Joined
@@ -16,3 +17,5 @@ pub mod Wanted
 pub mod JsonRead
 pub mod Ordered
 pub mod Framing
+pub mod Explaining
+pub mod PagesTold

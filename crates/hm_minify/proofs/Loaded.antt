@@ -25,20 +25,23 @@ use Rattle.hm_refs.specs.Names.{Entry}
 use Rattle.hm_refs.specs.declared.fault.TableFault.{TableFault}
 use Rattle.hm_refs.specs.declared.fault.TableFault.TheVariants.{TooLong}
 use Rattle.hm_construction_laws.specs.Trees.{Outcome, built, refused_by, page_tree, tree_of_source}
-use Rattle.hm_build.specs.Parsing.{IsRefusedAs}
+use Rattle.hm_load.specs.Pages.{IsPageTree, IsRefusedAs, NoPageTree, page_outcome_within}
+use Rattle.hm_load.specs.declared.fault.PageFault.{PageFault}
+use Rattle.hm_load.specs.declared.fault.PageFault.TheVariants as page_faults
 use Rattle.hm_fragment.proofs.Fragments.{with_front}
 use Rattle.hm_fragment.specs.Fragments.{fragment_tree}
 use Rattle.hm_fragment.specs.Frames.{front, unframed}
+use Rattle.hm_html_names.specs.HtmlNames.{html_entries}
 use Rattle.hm_json_tree.specs.Progress.{fault_walk}
 use Rattle.hm_json_tree.specs.Reading.{json_walk, too_long, walk}
 use Rattle.hm_json_tree.specs.declared.fault.JsonFault.{JsonFault}
 use Rattle.hm_json_tree.specs.declared.fault.JsonFault.TheVariants as json_faults
 use Rattle.hm_json_tree.specs.declared.limits.TheConstants.{JSON_LIMIT}
 use Rattle.hm_options.specs.Rewrites.{rewrite}
-use Rattle.hm_words.specs.Words.{are_apart, fragment_at, json_at, page_at}
-use Rattle.hm_minify.specs.Inputs.{Input, IsInput, tree, bad_table, bad_page, bad_json, file_with_table, fragment_input, fragment_outcome, is_none, json_input, page_input, table_names, page_outcome, rewritten_input, input_from, walk_input}
-use Rattle.hm_minify.specs.Loads.{IsFragmentOf, IsLoaded, IsPageText, IsRefusedFragment, IsRefusedJson, IsTableOf, IsTextIn, IsTextOf, IsTreeRead, IsWalkOf, NoFragment, NoFragmentIn, NoInput, NoInputWhere, NoTable, NoText, NoTextIn, NoTreeRead, NoWalk}
-use Rattle.hm_minify.specs.Stops.{refused_as}
+use Rattle.hm_words.specs.Words.{are_apart, fragment_at, is_table_word, json_at, page_at}
+use Rattle.hm_minify.specs.Inputs.{Input, IsInput, tree, bad_table, bad_page, bad_json, file_with_table, fragment_input, fragment_outcome, is_html, is_none, json_input, names_of_table, page_input, table_names, page_outcome, rewritten_input, input_from, walk_input}
+use Rattle.hm_minify.specs.Loads.{IsFragmentOf, IsLoaded, IsRefusedFragment, IsRefusedJson, IsTableOf, IsTextIn, IsWalkOf, NoFragment, NoFragmentIn, NoInput, NoInputWhere, NoTable, NoTextIn, NoWalk}
+use Rattle.hm_minify.specs.Stops.{page_unread, refused_as}
 use Rattle.hm_minify.specs.declared.unread.Unread.{Unread}
 use Rattle.hm_minify.specs.declared.unread.Unread.TheVariants as reasons
 
@@ -68,19 +71,30 @@ names_front content = by_length (nat_lt TABLE_LIMIT (length content)) refl
         long_table (take (TABLE_LIMIT + 1) content) (still_long content TABLE_LIMIT h) ∙ sym (long_table content h)
     by_length false e = ap names (take_all (TABLE_LIMIT + 1) content (short_by_test TABLE_LIMIT (length content) e))
 
-pub table_of_bytes : (told : Option FileMap) (name bytes : List ℕ) (read : Result (List Entry) TableFault) → is_none name ≡ false → IsLoaded told name TABLE_LIMIT bytes → names bytes ≡ read → IsTableOf told name read
-table_of_bytes told name bytes read none l e = record {
+pub table_of_bytes : (told : Option FileMap) (name bytes : List ℕ) (read : Result (List Entry) TableFault) → is_none name ≡ false → is_html name ≡ false → IsLoaded told name TABLE_LIMIT bytes → names bytes ≡ read → IsTableOf told name read
+table_of_bytes told name bytes read none html l e = record {
   content = Some l.content;
   there = l.there;
-  is = ap (λ b. table_names b (Some l.content)) none ∙ ap Some (sym (names_front l.content) ∙ ap names (sym l.front) ∙ e);
+  is = ap₂ (λ a b. table_names a b (Some l.content)) none html ∙ ap Some (sym (names_front l.content) ∙ ap names (sym l.front) ∙ e);
 }
 
 pub table_of_none : (told : Option FileMap) (name : List ℕ) (t : List Entry) → is_none name ≡ true → t ≡ [] → IsTableOf told name (Ok t)
 table_of_none told name t none e = record {
   content = file_of told name;
   there = λ i. refl;
-  is = ap (λ b. table_names b (file_of told name)) none ∙ ap (λ x. Some (Ok x)) (sym e);
+  is = ap (λ b. table_names b (is_html name) (file_of told name)) none ∙ ap (λ x. Some (Ok x)) (sym e);
 }
+
+pub table_of_html : (told : Option FileMap) (name : List ℕ) (t : List Entry) → is_none name ≡ false → is_html name ≡ true → t ≡ html_entries → IsTableOf told name (Ok t)
+table_of_html told name t none html e = record {
+  content = file_of told name;
+  there = λ i. refl;
+  is = ap₂ (λ a b. table_names a b (file_of told name)) none html ∙ ap (λ x. Some (Ok x)) (sym e);
+}
+
+-- a table that is neither of the words is a file
+pub is_no_word : (name : List ℕ) → is_none name ≡ false → is_html name ≡ false → is_table_word name ≡ false
+is_no_word name none html = rw (none, html) refl
 
 -- ---- a page
 
@@ -131,7 +145,7 @@ no_text_in page (refused.Page rule at) h = λ t. by_length t (nat_lt PAGE_LIMIT 
 no_text_in page refused.Memory h = tt
 
 -- what is found of the prefix that is loaded is found of the page
-page_front : (t : List Entry) (content : List ℕ) → page_outcome t (take (PAGE_LIMIT + 1) content) ≡ page_outcome t content
+pub page_front : (t : List Entry) (content : List ℕ) → page_outcome t (take (PAGE_LIMIT + 1) content) ≡ page_outcome t content
 page_front t content = by_length (nat_lt PAGE_LIMIT (length content)) refl
   where
     by_length : (long : Bool) → nat_lt PAGE_LIMIT (length content) ≡ long → page_outcome t (take (PAGE_LIMIT + 1) content) ≡ page_outcome t content
@@ -140,18 +154,6 @@ page_front t content = by_length (nat_lt PAGE_LIMIT (length content)) refl
         long_page t (take (PAGE_LIMIT + 1) content) (still_long content PAGE_LIMIT h) ∙ sym (long_page t content h)
     by_length false e = ap (page_outcome t) (take_all (PAGE_LIMIT + 1) content (short_by_test PAGE_LIMIT (length content) e))
 
-pub text_of_bytes : (told : Option FileMap) (name bytes : List ℕ) (text : Source) (n : ℕ) → IsLoaded told name PAGE_LIMIT bytes → IsPageText bytes text n → IsTextOf told name text n
-text_of_bytes told name bytes text n l r =
-    let w = whole_content told name bytes l (short_by_limit PAGE_LIMIT (length bytes) r.read.short) in
-    record { page = l.content; there = l.there; read = subst (λ x. IsPageText x text n) w.0 r }
-
-pub no_text_of_bytes : (told : Option FileMap) (name bytes : List ℕ) (unread : Unread) → IsLoaded told name PAGE_LIMIT bytes → NoTextIn bytes unread → NoText told name unread
-no_text_of_bytes told name bytes (reasons.Table fault) l n = absurd n
-no_text_of_bytes told name bytes (reasons.Page rule at) l n = record { page = l.content; there = l.there; refused = λ t. sym (page_front t l.content) ∙ ap (page_outcome t) (sym l.front) ∙ n t }
-no_text_of_bytes told name bytes (reasons.Json fault) l n = absurd n
-no_text_of_bytes told name bytes reasons.Store l n = absurd n
-no_text_of_bytes told name bytes reasons.Memory l n = tt
-
 -- ---- both
 
 -- the tree of a page is that of its text
@@ -159,39 +161,55 @@ pub page_read : (t : List Entry) (text : Source) (page : List ℕ) (outcome : Ou
 unfolding page_outcome page_tree
 page_read t text page outcome r e = rw (r.short, r.sound) (ap (tree_of_source t) (sym r.is) ∙ e)
 
+-- a word of a table gives the same names whatever a file of that name holds
+any_content : (none html : Bool) (a b : Option (List ℕ)) → (none || html) ≡ true → table_names none html a ≡ table_names none html b
+any_content true html a b e = refl
+any_content false true a b e = refl
+any_content false false a b e = cc
+
 -- contents of two files that differ, or of the second one alone, are contents that can be those of all files
-pub seen_file : (told : Option FileMap) (reads : List Entry → List ℕ → Input) (table name : List ℕ) (table_content content : Option (List ℕ)) (input : Input) → are_apart table name ≡ true
-    → (IsSome told → file_of told table ≡ table_content) → (IsSome told → file_of told name ≡ content) → input_from reads (table_names (is_none table) table_content) content ≡ input
-    → Sees told (λ seen. file_with_table reads table name seen ≡ input)
-seen_file (Some files) reads table name table_content content input apart is_table is_file is = record {
+pub seen_both : (told : Option FileMap) (reads : List Entry → List ℕ → Input) (table name : List ℕ) (table_content content : Option (List ℕ)) (input : Input) → are_apart table name ≡ true
+    → (IsSome told → file_of told table ≡ table_content) → (IsSome told → file_of told name ≡ content) → input_from reads (names_of_table table table_content) content ≡ input
+    → Sees told (λ seen. (file_with_table reads table name seen ≡ input) × (seen name ≡ content))
+seen_both (Some files) reads table name table_content content input apart is_table is_file is = record {
   seen = file_of (Some files);
   are_told = λ _ _. refl;
-  holds = ap (λ c. input_from reads (table_names (is_none table) c) (file_of (Some files) name)) (is_table refl) ∙ ap (input_from reads (table_names (is_none table) table_content)) (is_file refl) ∙ is;
+  holds = (ap (λ c. input_from reads (names_of_table table c) (file_of (Some files) name)) (is_table refl) ∙ ap (input_from reads (names_of_table table table_content)) (is_file refl) ∙ is, is_file refl);
 }
-seen_file None reads table name table_content content input apart is_table is_file is = by_none (is_none table) refl
+seen_both None reads table name table_content content input apart is_table is_file is = by_word (is_table_word table) refl
   where
-    apart_by : (b : Bool) → is_none table ≡ b → (b || not (bytes_eq table name)) ≡ true
+    apart_by : (b : Bool) → is_table_word table ≡ b → (b || not (bytes_eq table name)) ≡ true
     apart_by b e = ap (λ x. x || not (bytes_eq table name)) (sym e) ∙ apart
 
     differ : (b : Bool) → (false || not b) ≡ true → b ≡ false
     differ true h = cc
     differ false h = refl
 
-    by_none : (none : Bool) → is_none table ≡ none → Sees None (λ seen. file_with_table reads table name seen ≡ input)
-    by_none true e = record {
+    by_word : (word : Bool) → is_table_word table ≡ word → Sees None (λ seen. (file_with_table reads table name seen ≡ input) × (seen name ≡ content))
+    by_word true e = record {
       seen = λ _. content;
       are_told = λ h. cc;
-      holds = ap (λ b. input_from reads (table_names b content) content) e ∙ ap (λ b. input_from reads (table_names b table_content) content) (sym e) ∙ is;
+      holds = (ap (λ x. input_from reads x content) (any_content (is_none table) (is_html table) content table_content e) ∙ is, refl);
     }
-    by_none false e = record {
+    by_word false e = record {
       seen = λ other. cond (bytes_eq table other) table_content content;
       are_told = λ h. cc;
-      holds = ap (λ b. input_from reads (table_names (is_none table) (cond b table_content content)) (cond (bytes_eq table name) table_content content)) (same_bytes table)
-          ∙ ap (λ b. input_from reads (table_names (is_none table) table_content) (cond b table_content content)) (differ (bytes_eq table name) (apart_by false e)) ∙ is;
+      holds = (
+        ap (λ b. input_from reads (names_of_table table (cond b table_content content)) (cond (bytes_eq table name) table_content content)) (same_bytes table)
+            ∙ ap (λ b. input_from reads (names_of_table table table_content) (cond b table_content content)) (differ (bytes_eq table name) (apart_by false e)) ∙ is,
+        ap (λ b. cond b table_content content) (differ (bytes_eq table name) (apart_by false e)),
+      );
     }
 
+seen_file : (told : Option FileMap) (reads : List Entry → List ℕ → Input) (table name : List ℕ) (table_content content : Option (List ℕ)) (input : Input) → are_apart table name ≡ true
+    → (IsSome told → file_of told table ≡ table_content) → (IsSome told → file_of told name ≡ content) → input_from reads (names_of_table table table_content) content ≡ input
+    → Sees told (λ seen. file_with_table reads table name seen ≡ input)
+seen_file told reads table name table_content content input apart is_table is_file is =
+    let s = seen_both told reads table name table_content content input apart is_table is_file is in
+    record { seen = s.seen; are_told = s.are_told; holds = s.holds.0 }
+
 -- where the table can be read, the second file gives what its content gives
-seen_content : (told : Option FileMap) (reads : List Entry → List ℕ → Input) (table name : List ℕ) (t : List Entry) (content : List ℕ) (input : Input) → are_apart table name ≡ true → IsTableOf told table (Ok t)
+pub seen_content : (told : Option FileMap) (reads : List Entry → List ℕ → Input) (table name : List ℕ) (t : List Entry) (content : List ℕ) (input : Input) → are_apart table name ≡ true → IsTableOf told table (Ok t)
     → (IsSome told → file_of told name ≡ Some content) → reads t content ≡ input → Sees told (λ seen. file_with_table reads table name seen ≡ input)
 seen_content told reads table name t content input apart a there is = seen_file told reads table name a.content (Some content) input apart a.there there (ap (λ x. input_from reads x (Some content)) a.is ∙ is)
 
@@ -209,27 +227,21 @@ seen_no_table told reads table name reasons.Memory apart n = tt
 
 -- ---- a page with its table
 
-pub input_of_tree : (told : Option FileMap) (table page : List ℕ) (o : TreeOptions) (t : List Entry) (text : Source) (n : ℕ) (w : List Event) → are_apart table page ≡ true → IsTableOf told table (Ok t) → IsTextOf told page text n → IsTreeRead t text o w → IsInput told (page_at table page) o (tree n t w)
-input_of_tree told table page o t text n w apart a b r = seen_content told (page_input o) table page t b.page (tree n t w) apart a b.there
-    (ap (rewritten_input o t (length b.page)) (page_read t text b.page (built r.walk) b.read.read r.reads) ∙ ap₂ (λ m v. tree m t v) (sym b.read.all) (sym r.is))
+page_is : (t : List Entry) (page : List ℕ) → page_outcome t page ≡ page_outcome_within PAGE_LIMIT t page
+unfolding page_outcome
+page_is t page = refl
+
+pub input_of_page : (told : Option FileMap) (table page : List ℕ) (o : TreeOptions) (t : List Entry) (w : List Event) (n : ℕ) (v : List Event) → are_apart table page ≡ true → IsTableOf told table (Ok t) → IsPageTree told page t w n → v ≡ rewrite o w → IsInput told (page_at table page) o (tree n t v)
+input_of_page told table page o t w n v apart a b is = seen_content told (page_input o) table page t b.page (tree n t v) apart a b.there
+    (ap (rewritten_input o t (length b.page)) (page_is t b.page ∙ b.reads) ∙ ap₂ (λ m x. tree m t x) (sym b.all) (sym is))
 
 pub no_table : (told : Option FileMap) (table page : List ℕ) (o : TreeOptions) (unread : Unread) → are_apart table page ≡ true → NoTable told table unread → NoInput told (page_at table page) o unread
 no_table told table page o unread apart n = seen_no_table told (page_input o) table page unread apart n
 
-pub no_text : (told : Option FileMap) (table page : List ℕ) (o : TreeOptions) (t : List Entry) (unread : Unread) → are_apart table page ≡ true → IsTableOf told table (Ok t) → NoText told page unread → NoInput told (page_at table page) o unread
-no_text told table page o t (reasons.Table fault) apart a n = absurd n
-no_text told table page o t (reasons.Page rule at) apart a n = seen_content told (page_input o) table page t n.page (bad_page rule at) apart a n.there (ap (rewritten_input o t (length n.page)) (n.refused t))
-no_text told table page o t (reasons.Json fault) apart a n = absurd n
-no_text told table page o t reasons.Store apart a n = tt
-no_text told table page o t reasons.Memory apart a n = tt
-
-pub no_tree : (told : Option FileMap) (table page : List ℕ) (o : TreeOptions) (t : List Entry) (text : Source) (n : ℕ) (unread : Unread) → are_apart table page ≡ true → IsTableOf told table (Ok t) → IsTextOf told page text n → NoTreeRead t text unread → NoInput told (page_at table page) o unread
-no_tree told table page o t text n (reasons.Table fault) apart a b h = absurd h
-no_tree told table page o t text n (reasons.Page rule at) apart a b h = seen_content told (page_input o) table page t b.page (bad_page rule at) apart a b.there
-    (ap (rewritten_input o t (length b.page)) (page_read t text b.page (refused_by rule at) b.read.read h))
-no_tree told table page o t text n (reasons.Json fault) apart a b h = absurd h
-no_tree told table page o t text n reasons.Store apart a b h = tt
-no_tree told table page o t text n reasons.Memory apart a b h = tt
+pub no_page : (told : Option FileMap) (table page : List ℕ) (o : TreeOptions) (t : List Entry) (fault : PageFault) → are_apart table page ≡ true → IsTableOf told table (Ok t) → NoPageTree told page t fault → NoInput told (page_at table page) o (page_unread fault)
+no_page told table page o t (page_faults.Page rule at) apart a n = seen_content told (page_input o) table page t n.page (bad_page rule at) apart a n.there (ap (rewritten_input o t (length n.page)) (page_is t n.page ∙ n.refused))
+no_page told table page o t page_faults.Store apart a n = tt
+no_page told table page o t page_faults.Memory apart a n = tt
 
 -- what is loaded of a file
 none_found : (told : Option (List ℕ)) (bytes : List ℕ) → IsSome {T = List ℕ} None → told ≡ Some bytes
@@ -394,11 +406,11 @@ pub of_slice : (told : Option FileMap) (name : List ℕ) (limit : ℕ) (items by
 of_slice told name limit items bytes e l = subst (IsLoaded told name limit) (sym e) l
 
 -- the files are as they were
-pub told_text : (old new : Option FileMap) (name : List ℕ) (unread : Unread) → new ≡ old → NoText new name unread → NoText old name unread
-told_text old new name unread e n = subst (λ told. NoText told name unread) e n
+pub told_page : (old new : Option FileMap) (name : List ℕ) (t : List Entry) (w : List Event) (n : ℕ) → new ≡ old → IsPageTree new name t w n → IsPageTree old name t w n
+told_page old new name t w n e h = subst (λ told. IsPageTree told name t w n) e h
 
-pub told_page : (old new : Option FileMap) (name : List ℕ) (text : Source) (n : ℕ) → new ≡ old → IsTextOf new name text n → IsTextOf old name text n
-told_page old new name text n e h = subst (λ told. IsTextOf told name text n) e h
+pub told_no_page : (old new : Option FileMap) (name : List ℕ) (t : List Entry) (fault : PageFault) → new ≡ old → NoPageTree new name t fault → NoPageTree old name t fault
+told_no_page old new name t fault e n = subst (λ told. NoPageTree told name t fault) e n
 
 pub told_no_walk : (old new : Option FileMap) (name : List ℕ) (unread : Unread) → new ≡ old → NoWalk new name unread → NoWalk old name unread
 told_no_walk old new name unread e n = subst (λ told. NoWalk told name unread) e n

@@ -3,27 +3,31 @@ use Rattle.std.proofs.Common.{◌≡◌, ℕ, ◌⊎◌, inl, inr, Bool, true, f
 use Rattle.std.specs.declared.option.Option.{Option}
 use Rattle.std.specs.Io.KnownBytes.{append_known}
 use Rattle.hm_base.specs.Walks.{Event}
+use Rattle.hm_base.specs.declared.rules.Rule.{Rule}
+use Rattle.hm_words.specs.declared.notices.Notice.{Notice}
 use Rattle.hm_words.specs.declared.writing.Writing.{Writing}
 use Rattle.hm_refs.specs.Names.{Entry}
 use Rattle.hm_store.specs.Contents.{AreTold, Contents, Sees}
 use Rattle.hm_elements.specs.Settled.{Settled}
 use Rattle.hm_minify.specs.Inputs.{Input, missing, bad_table, bad_page, bad_json, tree as tree_input, input_of}
 use Rattle.hm_order.specs.Shortest.{IsShortest, certificate_of, shortest_text}
-use Rattle.hm_words.specs.Words.{Asked, Work, minifies, checks as checks_files, shows as shows_tree, tells_json, measures as measures_tree, asked, is_fragment}
-use Rattle.hm_minify.specs.Endings.{IsReadableAsked, IsReadableBy, written_part, format_of, is_fault, with_tree, tree_ending, check_ending, asked_ending, request_ending, ending}
+use Rattle.hm_words.specs.Words.{Asked, Work, minifies, checks as checks_files, shows as shows_tree, tells_json, explains as explains_page, measures as measures_tree, Origin, asked, is_fragment, notice_in}
+use Rattle.hm_minify.specs.Endings.{IsReadableAsked, IsReadableBy, written_part, format_of, is_explained, is_fault, page_name, refusal, with_tree, tree_ending, check_ending, asked_ending, Ending, words_ending, ending}
 use Rattle.hm_fragment.specs.Frames.{framed, unframed}
 use Rattle.hm_fragment.specs.Laws.{IsReadBack}
-use Rattle.hm_minify.specs.Lines.{length_line, usage_line}
+use Rattle.hm_minify.specs.Lines.{length_line, refused_line, usage_line}
 use Rattle.hm_minify.specs.Outside.{Outside, Prints}
 use Rattle.hm_minify.specs.Runs.{Ends, EndsAs, Puts, HasMinified, HasMinifiedFragment, HasChecked, HasCheckedFragment, HasDenied, HasShown, HasToldJson, HasMeasured, HasRefusedPage, HasRefusedJson, HasRefusedTable}
 use Rattle.hm_minify.specs.Writes.{after_writes, write}
 use Rattle.hm_minify.specs.declared.status.Status.{Status}
 use Rattle.hm_minify.specs.declared.status.Status.TheVariants as status
+use Rattle.hm_minify.proofs.Courses.{put_says}
 use Rattle.hm_minify.proofs.Found.{check_other, check_writes, checked_fragment_yes, checked_yes, is_found}
 use Rattle.hm_minify.proofs.Generated.{IsGenerated, asked_limits, json_never_refused, page_never_refused}
 use Rattle.hm_minify.proofs.Framing.{IsRuled, least_fragment, request_framed, ruled, text_read_back}
 use Rattle.hm_minify.proofs.Headline.{request_table, input_is_shortest}
 use Rattle.hm_minify.proofs.Ordered.{bounds_all}
+use Rattle.hm_minify.proofs.Steps.{ending_of_asked, ending_of_none}
 
 -- ---- statuses that no tree gives
 
@@ -31,37 +35,39 @@ use Rattle.hm_minify.proofs.Ordered.{bounds_all}
 abbrev is_of_tree : Status → Bool
 is_of_tree s = is_found s || is_fault s
 
-tree_status : (work : Work) (r : Writing) (seen : Contents) (n : ℕ) (t : List Entry) (w : List Event) → is_of_tree (tree_ending work r seen n t w).status ≡ true
-tree_status (minifies out cert) r seen n t w = refl
-tree_status (checks_files out cert) r seen n t w = check_other r.rules t w (seen out) (seen cert) (check_ending r.rules t w (seen out) (seen cert)).status refl
-tree_status shows_tree r seen n t w = refl
-tree_status tells_json r seen n t w = refl
-tree_status measures_tree r seen n t w = refl
+tree_status : (page : List ℕ) (work : Work) (r : Writing) (seen : Contents) (n : ℕ) (t : List Entry) (w : List Event) → is_of_tree (tree_ending page work r seen n t w).status ≡ true
+tree_status page (minifies out cert) r seen n t w = refl
+tree_status page (checks_files out cert) r seen n t w = check_other r.rules t w (seen out) (seen cert) (check_ending r.rules t w (seen out) (seen cert)).status refl
+tree_status page shows_tree r seen n t w = refl
+tree_status page tells_json r seen n t w = refl
+tree_status page explains_page r seen n t w = refl
+tree_status page measures_tree r seen n t w = refl
 
 -- another one is the ending of no work on a tree
-other_status : (s : Status) → is_of_tree s ≡ false → (work : Work) (r : Writing) (seen : Contents) (n : ℕ) (t : List Entry) (w : List Event) → (tree_ending work r seen n t w).status ≡ s → ⊥
-other_status s other work r seen n t w e = let h : true ≡ false = sym (tree_status work r seen n t w) ∙ ap is_of_tree e ∙ other in cc
+other_status : (s : Status) → is_of_tree s ≡ false → (page : List ℕ) (work : Work) (r : Writing) (seen : Contents) (n : ℕ) (t : List Entry) (w : List Event) → (tree_ending page work r seen n t w).status ≡ s → ⊥
+other_status s other page work r seen n t w e = let h : true ≡ false = sym (tree_status page work r seen n t w) ∙ ap is_of_tree e ∙ other in cc
 
 -- ---- words without a meaning
 
-input_is_asked : (work : Work) (r : Writing) (seen : Contents) (x : Input) → (with_tree x (tree_ending work r seen)).status ≡ status.Usage → ⊥
-input_is_asked work r seen missing e = cc
-input_is_asked work r seen (bad_table fault) e = cc
-input_is_asked work r seen (bad_page rule at) e = cc
-input_is_asked work r seen (bad_json fault) e = cc
-input_is_asked work r seen (tree_input n t w) e = other_status status.Usage refl work r seen n t w e
+input_is_asked : (origin : Origin) (work : Work) (r : Writing) (seen : Contents) (x : Input) → (with_tree x (refusal origin work seen) (tree_ending (page_name origin) work r seen)).status ≡ status.Usage → ⊥
+input_is_asked origin work r seen missing e = cc
+input_is_asked origin work r seen (bad_table fault) e = cc
+input_is_asked origin work r seen (bad_page rule at) e = cc
+input_is_asked origin work r seen (bad_json fault) e = cc
+input_is_asked origin work r seen (tree_input n t w) e = other_status status.Usage refl (page_name origin) work r seen n t w e
 
-unasked : (a : Option Asked) (seen : Contents) → (request_ending a seen).status ≡ status.Usage → a ≡ None
-unasked None seen e = refl
-unasked (Some a) seen e = absurd (input_is_asked a.work a.writing seen (input_of a seen) e)
+unasked : (n : Option Notice) (a : Option Asked) (seen : Contents) → (words_ending n a seen).status ≡ status.Usage → (a ≡ None) × (n ≡ None)
+unasked (Some n) a seen e = cc
+unasked None None seen e = (refl, refl)
+unasked None (Some a) seen e = absurd (input_is_asked a.origin a.work a.writing seen (input_of a seen) e)
 
 pub usage_answers : (r : Status) → r ≡ status.Usage → is_fault r ≡ false
 usage_answers r e = ap is_fault e
 
-pub usage_unasked : (words : List (List ℕ)) (r : Status) (b a : Outside) → Ends words r b a → r ≡ status.Usage → (asked words ≡ None) × Prints usage_line b a
+pub usage_unasked : (words : List (List ℕ)) (r : Status) (b a : Outside) → Ends words r b a → r ≡ status.Usage → (asked words ≡ None) × (notice_in words ≡ None) × Prints usage_line b a
 usage_unasked words r b a w is =
-    let none : asked words ≡ None = unasked (asked words) w.seen (sym w.holds.status ∙ is) in
-    (none, w.holds.line ∙ ap (λ x. append_known b.printed (request_ending x w.seen).line) none)
+    let none = unasked (notice_in words) (asked words) w.seen (sym w.holds.status ∙ is) in
+    (none.0, none.1, w.holds.line ∙ ap (λ (x : Ending). append_known b.printed x.line) (ending_of_none words w.seen none.0 none.1))
 
 usage_or_sink : (line : List ℕ) (r : Status) (b a : Outside) → Puts line status.Usage r b a → (r ≡ status.Usage) ⊎ ((r ≡ status.SinkFault) ⊎ (r ≡ status.Memory))
 usage_or_sink line r b a (inl p) = inl p.0
@@ -71,16 +77,24 @@ pub usage_or_fault : (line : List ℕ) (r : Status) (b a : Outside) → Puts lin
 usage_or_fault line r b a (inl p) = usage_or_sink line r b a p
 usage_or_fault line r b a (inr m) = inr (inr m)
 
+-- a notice is put, or a put has failed
+done_or_sink : (line : List ℕ) (r : Status) (b a : Outside) → Puts line status.Done r b a → (r ≡ status.Done) ⊎ (r ≡ status.SinkFault)
+done_or_sink line r b a (inl p) = inl p.0
+done_or_sink line r b a (inr p) = inr p.0
+
+pub noticed : (line : List ℕ) (r : Status) (b a : Outside) → Puts line status.Done r b a → ((r ≡ status.Done) ⊎ (r ≡ status.SinkFault)) × (r ≡ status.Done → Prints line b a)
+noticed line r b a p = (done_or_sink line r b a p, λ is. (put_says line status.Done r b a p (λ h. let x : status.Done ≡ status.SinkFault = sym is ∙ h in cc)).1)
+
 -- ---- the ending of what was asked
 
 -- the ending of a request, whose work is known
-abbrev EndsBy : Asked → Work → Contents → Input → Status → Outside → Outside → Type 0
-EndsBy q work seen x r b a = EndsAs (with_tree x (tree_ending work q.writing seen)) r b a
+abbrev pub EndsBy : Asked → Work → Contents → Input → Status → Outside → Outside → Type 0
+EndsBy q work seen x r b a = EndsAs (with_tree x (refusal q.origin work seen) (tree_ending (page_name q.origin) work q.writing seen)) r b a
 
-of_asked : (words : List (List ℕ)) (q : Asked) (r : Status) (b a : Outside) (seen : Contents) → asked words ≡ Some q → EndsAs (request_ending (asked words) seen) r b a → EndsAs (asked_ending q seen) r b a
-of_asked words q r b a seen e w = subst (λ x. EndsAs (request_ending x seen) r b a) e w
+of_asked : (words : List (List ℕ)) (q : Asked) (r : Status) (b a : Outside) (seen : Contents) → asked words ≡ Some q → EndsAs (ending words seen) r b a → EndsAs (asked_ending q seen) r b a
+of_asked words q r b a seen e w = subst (λ (x : Ending). EndsAs x r b a) (ending_of_asked words q seen e) w
 
-of_work : (words : List (List ℕ)) (q : Asked) (work : Work) (r : Status) (b a : Outside) (seen : Contents) → asked words ≡ Some q → q.work ≡ work → EndsAs (request_ending (asked words) seen) r b a → EndsBy q work seen (input_of q seen) r b a
+pub of_work : (words : List (List ℕ)) (q : Asked) (work : Work) (r : Status) (b a : Outside) (seen : Contents) → asked words ≡ Some q → q.work ≡ work → EndsAs (ending words seen) r b a → EndsBy q work seen (input_of q seen) r b a
 of_work words q work r b a seen e is w = subst (λ x. EndsBy q x seen (input_of q seen) r b a) is (of_asked words q r b a seen e w)
 
 -- ---- minify
@@ -237,11 +251,12 @@ denied_of q name lines r b a seen n t v (Some out) (Some cert) work told reads o
 
 -- only a check is denied
 denied_tree : (q : Asked) (work : Work) (r : Status) (b a : Outside) (seen : Contents) (n : ℕ) (t : List Entry) (v : List Event) → q.work ≡ work → AreTold b.files seen → input_of q seen ≡ tree_input n t v
-    → EndsAs (tree_ending work q.writing seen n t v) r b a → r ≡ status.No → HasDenied q b a
+    → EndsAs (tree_ending (page_name q.origin) work q.writing seen n t v) r b a → r ≡ status.No → HasDenied q b a
 denied_tree q (minifies out cert) r b a seen n t v work told reads w is = let e : status.Done ≡ status.No = sym w.status ∙ is in cc
 denied_tree q (checks_files out cert) r b a seen n t v work told reads w is = denied_of q out cert r b a seen n t v (seen out) (seen cert) work told reads refl refl w is
 denied_tree q shows_tree r b a seen n t v work told reads w is = let e : status.Done ≡ status.No = sym w.status ∙ is in cc
 denied_tree q tells_json r b a seen n t v work told reads w is = let e : status.Done ≡ status.No = sym w.status ∙ is in cc
+denied_tree q explains_page r b a seen n t v work told reads w is = let e : status.Done ≡ status.No = sym w.status ∙ is in cc
 denied_tree q measures_tree r b a seen n t v work told reads w is = let e : status.Done ≡ status.No = sym w.status ∙ is in cc
 
 denied_input : (q : Asked) (r : Status) (b a : Outside) (seen : Contents) (x : Input) → AreTold b.files seen → input_of q seen ≡ x → EndsBy q q.work seen x r b a → r ≡ status.No → HasDenied q b a
@@ -316,22 +331,25 @@ always_measures words q r b a e work w h = always_input q r b a w.seen (input_of
 
 -- ---- whatever is done
 
-page_of : (q : Asked) (r : Status) (b a : Outside) (seen : Contents) (x : Input) → AreTold b.files seen → input_of q seen ≡ x → EndsBy q q.work seen x r b a → r ≡ status.PageRefused → HasRefusedPage q b a
-page_of q r b a seen missing told reads w is = let e : status.StoreFault ≡ status.PageRefused = sym w.status ∙ is in cc
-page_of q r b a seen (bad_table fault) told reads w is = let e : status.TableRefused ≡ status.PageRefused = sym w.status ∙ is in cc
-page_of q r b a seen (bad_page rule at) told reads w is = record { seen = seen; are_told = told; rule = rule; at = at; reads = reads; files = w.files; line = w.line }
-page_of q r b a seen (bad_json fault) told reads w is = let e : status.JsonRefused ≡ status.PageRefused = sym w.status ∙ is in cc
-page_of q r b a seen (tree_input n t v) told reads w is = absurd (other_status status.PageRefused refl q.work q.writing seen n t v (sym w.status ∙ is))
+plain_refusal : (q : Asked) (seen : Contents) (rule : Rule) (at : ℕ) → is_explained q.origin q.work ≡ false → refusal q.origin q.work seen rule at ≡ refused_line rule at
+plain_refusal q seen rule at plain = rw plain refl
 
-pub refuses_page : (words : List (List ℕ)) (q : Asked) (r : Status) (b a : Outside) → asked words ≡ Some q → Ends words r b a → r ≡ status.PageRefused → HasRefusedPage q b a
-refuses_page words q r b a e w is = page_of q r b a w.seen (input_of q w.seen) w.are_told refl (of_asked words q r b a w.seen e w.holds) is
+page_of : (q : Asked) (r : Status) (b a : Outside) (seen : Contents) (x : Input) → is_explained q.origin q.work ≡ false → AreTold b.files seen → input_of q seen ≡ x → EndsBy q q.work seen x r b a → r ≡ status.PageRefused → HasRefusedPage q b a
+page_of q r b a seen missing plain told reads w is = let e : status.StoreFault ≡ status.PageRefused = sym w.status ∙ is in cc
+page_of q r b a seen (bad_table fault) plain told reads w is = let e : status.TableRefused ≡ status.PageRefused = sym w.status ∙ is in cc
+page_of q r b a seen (bad_page rule at) plain told reads w is = record { seen = seen; are_told = told; rule = rule; at = at; reads = reads; files = w.files; line = w.line ∙ ap (append_known b.printed) (plain_refusal q seen rule at plain) }
+page_of q r b a seen (bad_json fault) plain told reads w is = let e : status.JsonRefused ≡ status.PageRefused = sym w.status ∙ is in cc
+page_of q r b a seen (tree_input n t v) plain told reads w is = absurd (other_status status.PageRefused refl (page_name q.origin) q.work q.writing seen n t v (sym w.status ∙ is))
+
+pub refuses_page : (words : List (List ℕ)) (q : Asked) (r : Status) (b a : Outside) → asked words ≡ Some q → is_explained q.origin q.work ≡ false → Ends words r b a → r ≡ status.PageRefused → HasRefusedPage q b a
+refuses_page words q r b a e plain w is = page_of q r b a w.seen (input_of q w.seen) plain w.are_told refl (of_asked words q r b a w.seen e w.holds) is
 
 table_of : (q : Asked) (r : Status) (b a : Outside) (seen : Contents) (x : Input) → AreTold b.files seen → input_of q seen ≡ x → EndsBy q q.work seen x r b a → r ≡ status.TableRefused → HasRefusedTable q b a
 table_of q r b a seen missing told reads w is = let e : status.StoreFault ≡ status.TableRefused = sym w.status ∙ is in cc
 table_of q r b a seen (bad_table fault) told reads w is = record { seen = seen; are_told = told; fault = fault; reads = reads; files = w.files; line = w.line }
 table_of q r b a seen (bad_page rule at) told reads w is = let e : status.PageRefused ≡ status.TableRefused = sym w.status ∙ is in cc
 table_of q r b a seen (bad_json fault) told reads w is = let e : status.JsonRefused ≡ status.TableRefused = sym w.status ∙ is in cc
-table_of q r b a seen (tree_input n t v) told reads w is = absurd (other_status status.TableRefused refl q.work q.writing seen n t v (sym w.status ∙ is))
+table_of q r b a seen (tree_input n t v) told reads w is = absurd (other_status status.TableRefused refl (page_name q.origin) q.work q.writing seen n t v (sym w.status ∙ is))
 
 pub refuses_table : (words : List (List ℕ)) (q : Asked) (r : Status) (b a : Outside) → asked words ≡ Some q → Ends words r b a → r ≡ status.TableRefused → HasRefusedTable q b a
 refuses_table words q r b a e w is = table_of q r b a w.seen (input_of q w.seen) w.are_told refl (of_asked words q r b a w.seen e w.holds) is
@@ -341,7 +359,7 @@ json_of q r b a seen missing told reads w is = let e : status.StoreFault ≡ sta
 json_of q r b a seen (bad_table fault) told reads w is = let e : status.TableRefused ≡ status.JsonRefused = sym w.status ∙ is in cc
 json_of q r b a seen (bad_page rule at) told reads w is = let e : status.PageRefused ≡ status.JsonRefused = sym w.status ∙ is in cc
 json_of q r b a seen (bad_json fault) told reads w is = record { seen = seen; are_told = told; fault = fault; reads = reads; files = w.files; line = w.line }
-json_of q r b a seen (tree_input n t v) told reads w is = absurd (other_status status.JsonRefused refl q.work q.writing seen n t v (sym w.status ∙ is))
+json_of q r b a seen (tree_input n t v) told reads w is = absurd (other_status status.JsonRefused refl (page_name q.origin) q.work q.writing seen n t v (sym w.status ∙ is))
 
 pub refuses_json : (words : List (List ℕ)) (q : Asked) (r : Status) (b a : Outside) → asked words ≡ Some q → Ends words r b a → r ≡ status.JsonRefused → HasRefusedJson q b a
 refuses_json words q r b a e w is = json_of q r b a w.seen (input_of q w.seen) w.are_told refl (of_asked words q r b a w.seen e w.holds) is

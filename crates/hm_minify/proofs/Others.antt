@@ -7,13 +7,14 @@ use Rattle.std.specs.FinMap.{get, get-insert}
 use Rattle.std.proofs.lemmas.Map.Text.{is_eq-slice_cmp}
 use Rattle.hm_refs.proofs.Places.{same_bytes, other_bytes}
 use Rattle.hm_base.specs.Walks.{Event}
+use Rattle.hm_words.specs.declared.notices.Notice.{Notice}
 use Rattle.hm_words.specs.declared.writing.Writing.{Writing}
 use Rattle.hm_refs.specs.Names.{Entry}
 use Rattle.hm_store.specs.Contents.{Contents, Sees}
 use Rattle.hm_store.specs.Files.{FileMap, file_of, with_file, HasFront}
 use Rattle.hm_minify.specs.Inputs.{Input, missing, bad_table, bad_page, bad_json, tree as tree_input, input_of}
-use Rattle.hm_words.specs.Words.{Work, Asked, minifies, checks, shows, tells_json, measures, asked, has}
-use Rattle.hm_minify.specs.Endings.{with_tree, tree_ending, request_ending, ending, outputs, asked_outputs}
+use Rattle.hm_words.specs.Words.{Origin, Work, Asked, minifies, checks, shows, tells_json, explains, measures, asked, has, notice_in}
+use Rattle.hm_minify.specs.Endings.{page_name, refusal, with_tree, tree_ending, request_ending, words_ending, ending, outputs, asked_outputs}
 use Rattle.hm_minify.specs.Writes.{Write, IsLeft}
 use Rattle.hm_minify.proofs.Found.{check_writes}
 
@@ -51,23 +52,28 @@ left_other old (w ∷ ws) new name h (inr (inr l)) =
 
 -- ---- what is written
 
-tree_names : (work : Work) (r : Writing) (seen : Contents) (bytes : ℕ) (t : List Entry) (w : List Event) (name : List ℕ) → has (outputs work) name ≡ false → has (names_of (tree_ending work r seen bytes t w).writes) name ≡ false
-tree_names (minifies out cert) r seen bytes t w name h = h
-tree_names (checks out cert) r seen bytes t w name h = ap (λ ws. has (names_of ws) name) (check_writes r.rules t w (seen out) (seen cert))
-tree_names shows r seen bytes t w name h = refl
-tree_names tells_json r seen bytes t w name h = refl
-tree_names measures r seen bytes t w name h = refl
+tree_names : (page : List ℕ) (work : Work) (r : Writing) (seen : Contents) (bytes : ℕ) (t : List Entry) (w : List Event) (name : List ℕ) → has (outputs work) name ≡ false → has (names_of (tree_ending page work r seen bytes t w).writes) name ≡ false
+tree_names page (minifies out cert) r seen bytes t w name h = h
+tree_names page (checks out cert) r seen bytes t w name h = ap (λ ws. has (names_of ws) name) (check_writes r.rules t w (seen out) (seen cert))
+tree_names page shows r seen bytes t w name h = refl
+tree_names page tells_json r seen bytes t w name h = refl
+tree_names page explains r seen bytes t w name h = refl
+tree_names page measures r seen bytes t w name h = refl
 
-input_names : (work : Work) (r : Writing) (seen : Contents) (x : Input) (name : List ℕ) → has (outputs work) name ≡ false → has (names_of (with_tree x (tree_ending work r seen)).writes) name ≡ false
-input_names work r seen missing name h = refl
-input_names work r seen (bad_table fault) name h = refl
-input_names work r seen (bad_page rule at) name h = refl
-input_names work r seen (bad_json fault) name h = refl
-input_names work r seen (tree_input bytes t w) name h = tree_names work r seen bytes t w name h
+input_names : (origin : Origin) (work : Work) (r : Writing) (seen : Contents) (x : Input) (name : List ℕ) → has (outputs work) name ≡ false → has (names_of (with_tree x (refusal origin work seen) (tree_ending (page_name origin) work r seen)).writes) name ≡ false
+input_names origin work r seen missing name h = refl
+input_names origin work r seen (bad_table fault) name h = refl
+input_names origin work r seen (bad_page rule at) name h = refl
+input_names origin work r seen (bad_json fault) name h = refl
+input_names origin work r seen (tree_input bytes t w) name h = tree_names (page_name origin) work r seen bytes t w name h
 
 request_names : (a : Option Asked) (seen : Contents) (name : List ℕ) → has (asked_outputs a) name ≡ false → has (names_of (request_ending a seen).writes) name ≡ false
 request_names None seen name h = refl
-request_names (Some a) seen name h = input_names a.work a.writing seen (input_of a seen) name h
+request_names (Some a) seen name h = input_names a.origin a.work a.writing seen (input_of a seen) name h
+
+words_names : (n : Option Notice) (a : Option Asked) (seen : Contents) (name : List ℕ) → has (asked_outputs a) name ≡ false → has (names_of (words_ending n a seen).writes) name ≡ false
+words_names (Some n) a seen name h = refl
+words_names None a seen name h = request_names a seen name h
 
 pub others : (words : List (List ℕ)) (old new : Option FileMap) (name : List ℕ) → Sees old (λ seen. IsLeft old (ending words seen).writes new) → has (asked_outputs (asked words)) name ≡ false → file_of new name ≡ file_of old name
-others words old new name l h = left_other old (ending words l.seen).writes new name (request_names (asked words) l.seen name h) l.holds
+others words old new name l h = left_other old (ending words l.seen).writes new name (words_names (notice_in words) (asked words) l.seen name h) l.holds

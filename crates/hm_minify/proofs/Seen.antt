@@ -3,9 +3,9 @@ use Rattle.std.proofs.Common.{◌≡◌, ℕ, Bool, true, false, cond, ◌||◌,
 use Rattle.std.specs.declared.option.Option.{Option}
 use Rattle.std.specs.Str.{bytes_eq}
 use Rattle.hm_base.specs.declared.plain.TreeOptions.{TreeOptions}
-use Rattle.hm_minify.specs.Inputs.{Input, file_with_table, fragment_input, input_from, is_none, json_input, origin_input, page_input, table_names}
+use Rattle.hm_minify.specs.Inputs.{Input, file_with_table, fragment_input, input_from, is_html, is_none, json_input, names_of_table, origin_input, page_input, table_names}
 use Rattle.hm_gen.specs.Pages.{page as made_page}
-use Rattle.hm_words.specs.Words.{Origin, page_at, fragment_at, json_at, made}
+use Rattle.hm_words.specs.Words.{Origin, page_at, fragment_at, json_at, made, is_table_word}
 use Rattle.hm_refs.proofs.Places.{same_bytes}
 use Rattle.hm_refs.specs.Names.{Entry}
 use Rattle.hm_store.specs.Contents.{Contents, Sees}
@@ -43,26 +43,27 @@ files_seen told out cert text lines apart is_out is_cert = sees_both told (λ na
 
 -- ---- a file with its table
 
-names_stay : (none theirs : Bool) (content more : Option (List ℕ)) → (none || not theirs) ≡ true → table_names none (cond theirs more content) ≡ table_names none content
-names_stay true theirs content more apart = refl
-names_stay false true content more apart = cc
-names_stay false false content more apart = refl
+names_stay : (none html theirs : Bool) (content more : Option (List ℕ)) → ((none || html) || not theirs) ≡ true → table_names none html (cond theirs more content) ≡ table_names none html content
+names_stay true html theirs content more apart = refl
+names_stay false true theirs content more apart = refl
+names_stay false false true content more apart = cc
+names_stay false false false content more apart = refl
 
 -- none of these names is one of the origin's files
 abbrev pub IsApartFrom : (List ℕ → Bool) → Origin → Type 0
-IsApartFrom theirs (page_at table page) = ((is_none table || not (theirs table)) ≡ true) × (theirs page ≡ false)
-IsApartFrom theirs (fragment_at table page) = ((is_none table || not (theirs table)) ≡ true) × (theirs page ≡ false)
-IsApartFrom theirs (json_at table page) = ((is_none table || not (theirs table)) ≡ true) × (theirs page ≡ false)
-IsApartFrom theirs (made table number size) = (is_none table || not (theirs table)) ≡ true
+IsApartFrom theirs (page_at table page) = ((is_table_word table || not (theirs table)) ≡ true) × (theirs page ≡ false)
+IsApartFrom theirs (fragment_at table page) = ((is_table_word table || not (theirs table)) ≡ true) × (theirs page ≡ false)
+IsApartFrom theirs (json_at table page) = ((is_table_word table || not (theirs table)) ≡ true) × (theirs page ≡ false)
+IsApartFrom theirs (made table number size) = (is_table_word table || not (theirs table)) ≡ true
 
-file_stays : (theirs : List ℕ → Bool) (reads : List Entry → List ℕ → Input) (table name : List ℕ) (seen more : Contents) → (is_none table || not (theirs table)) ≡ true → theirs name ≡ false → file_with_table reads table name (mixed theirs seen more) ≡ file_with_table reads table name seen
+file_stays : (theirs : List ℕ → Bool) (reads : List Entry → List ℕ → Input) (table name : List ℕ) (seen more : Contents) → (is_table_word table || not (theirs table)) ≡ true → theirs name ≡ false → file_with_table reads table name (mixed theirs seen more) ≡ file_with_table reads table name seen
 file_stays theirs reads table name seen more apart other =
-    ap (λ t. input_from reads t (mixed theirs seen more name)) (names_stay (is_none table) (theirs table) (seen table) (more table) apart)
-    ∙ ap (λ b. input_from reads (table_names (is_none table) (seen table)) (cond b (more name) (seen name))) other
+    ap (λ t. input_from reads t (mixed theirs seen more name)) (names_stay (is_none table) (is_html table) (theirs table) (seen table) (more table) apart)
+    ∙ ap (λ b. input_from reads (names_of_table table (seen table)) (cond b (more name) (seen name))) other
 
 -- what an origin gives doesn't depend on files with other names
 pub origin_stays : (theirs : List ℕ → Bool) (origin : Origin) (o : TreeOptions) (seen more : Contents) → IsApartFrom theirs origin → origin_input origin o (mixed theirs seen more) ≡ origin_input origin o seen
 origin_stays theirs (page_at table page) o seen more apart = file_stays theirs (page_input o) table page seen more apart.0 apart.1
 origin_stays theirs (fragment_at table page) o seen more apart = file_stays theirs (fragment_input o) table page seen more apart.0 apart.1
 origin_stays theirs (json_at table page) o seen more apart = file_stays theirs (json_input o) table page seen more apart.0 apart.1
-origin_stays theirs (made table number size) o seen more apart = ap (λ t. input_from (page_input o) t (Some (made_page number size))) (names_stay (is_none table) (theirs table) (seen table) (more table) apart)
+origin_stays theirs (made table number size) o seen more apart = ap (λ t. input_from (page_input o) t (Some (made_page number size))) (names_stay (is_none table) (is_html table) (theirs table) (seen table) (more table) apart)

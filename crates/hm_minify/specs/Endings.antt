@@ -1,7 +1,9 @@
 -- How a run ends, by its words and by what the files hold.
-use Rattle.std.specs.Prelude.{ℕ, ◌-◌, Bool, true, false, List, [], ◌∷◌, ◌++◌, length, nat_lt, Option, Some, None, Result, Ok, Err, if◌then◌else◌}
+use Rattle.std.specs.Prelude.{ℕ, ◌-◌, ◌&&◌, Bool, true, false, List, [], ◌∷◌, ◌++◌, length, nat_lt, Option, Some, None, Result, Ok, Err, if◌then◌else◌}
+use Rattle.std.specs.Option.{unwrap_or}
 use Rattle.hm_base.specs.declared.plain.SpellRules.{SpellRules}
 use Rattle.hm_base.specs.declared.limits.TheConstants.{CERTIFICATE_LIMIT, OUTPUT_LIMIT}
+use Rattle.hm_base.specs.declared.rules.Rule.{Rule}
 use Rattle.hm_base.specs.declared.rules.Rule.TheVariants as rules
 use Rattle.hm_cert.specs.Certificate.{AreRows}
 use Rattle.hm_cert.specs.Reading.{given}
@@ -23,9 +25,11 @@ use Rattle.hm_dump.specs.Dump.{dump_of}
 use Rattle.hm_elements.specs.Settled.{Settled}
 use Rattle.hm_json_tree.specs.Texts.{json_text}
 use Rattle.hm_minify.specs.Inputs.{Input, missing, bad_table, bad_page, bad_json, tree as tree_input, input_of}
-use Rattle.hm_words.specs.Words.{Work, Asked, minifies, checks, shows, tells_json, measures, asked}
+use Rattle.hm_words.specs.Words.{Origin, Work, Asked, page_at, fragment_at, json_at, made, minifies, checks, shows, tells_json, explains, measures, asked, notice_in}
+use Rattle.hm_words.specs.declared.notices.Notice.{Notice}
 use Rattle.hm_words.specs.declared.writing.Writing.{Writing}
-use Rattle.hm_minify.specs.Lines.{length_line, refused_line, json_line, table_line, usage_line, store_line, yes_line, too_long_line, bad_line_line, why_line, measured_line}
+use Rattle.hm_minify.specs.Explanations.{explained_page, settled_line}
+use Rattle.hm_minify.specs.Lines.{length_line, refused_line, json_line, table_line, usage_line, store_line, notice_text, yes_line, too_long_line, bad_line_line, why_line, measured_line}
 use Rattle.hm_minify.specs.Writes.{Write, write}
 use Rattle.hm_minify.specs.declared.status.Status.{Status}
 use Rattle.hm_minify.specs.declared.status.Status.TheVariants as status
@@ -53,13 +57,45 @@ is_fault answer = false
 
 -- ---- What an input gives
 
--- a tree is worked on with its table of names, and with how many bytes its page has; else the first reason why there is none is said
-abbrev pub with_tree : Input → (ℕ → List Entry → List Event → Ending) → Ending
-with_tree missing work = store_fault
-with_tree (bad_table fault) work = says status.TableRefused (table_line fault)
-with_tree (bad_page rule at) work = says status.PageRefused (refused_line rule at)
-with_tree (bad_json fault) work = says status.JsonRefused (json_line fault)
-with_tree (tree_input bytes t w) work = work bytes t w
+-- a tree is worked on with its table of names, and with how many bytes its page has; else the first reason why there is none is said,
+-- and of a page that is refused what is told of it
+abbrev pub with_tree : Input → (Rule → ℕ → List ℕ) → (ℕ → List Entry → List Event → Ending) → Ending
+with_tree missing told work = store_fault
+with_tree (bad_table fault) told work = says status.TableRefused (table_line fault)
+with_tree (bad_page rule at) told work = says status.PageRefused (told rule at)
+with_tree (bad_json fault) told work = says status.JsonRefused (json_line fault)
+with_tree (tree_input bytes t w) told work = work bytes t w
+
+-- ---- What is told of a page that is refused
+
+-- the name of the file of a page; a page that is made has none
+abbrev pub page_name : Origin → List ℕ
+page_name (page_at table page) = page
+page_name (fragment_at table page) = page
+page_name (json_at table page) = page
+page_name (made table number size) = []
+
+abbrev pub is_page : Origin → Bool
+is_page (page_at table page) = true
+is_page (fragment_at table page) = false
+is_page (json_at table page) = false
+is_page (made table number size) = false
+
+abbrev pub is_explaining : Work → Bool
+is_explaining (minifies out cert) = false
+is_explaining (checks out cert) = false
+is_explaining shows = false
+is_explaining tells_json = false
+is_explaining explains = true
+is_explaining measures = false
+
+-- a page in a file is explained
+abbrev pub is_explained : Origin → Work → Bool
+is_explained origin work = is_page origin && is_explaining work
+
+-- rule and place, or where a page is explained three lines, by what its file holds
+abbrev pub refusal : Origin → Work → Contents → Rule → ℕ → List ℕ
+refusal origin work seen rule at = if is_explained origin work then explained_page (page_name origin) (unwrap_or (seen (page_name origin)) []) rule at else refused_line rule at
 
 -- the format of a certificate that is written
 abbrev pub format_of : Bool → Format
@@ -130,13 +166,18 @@ check_ending r t w (Some out) (Some cert) = checked_ending r t w out cert
 abbrev pub measured_ending : ℕ → Writing → List Entry → List Event → Ending
 measured_ending bytes x t w = says status.Done (measured_line bytes (length (shortest_text t x.rules w)) (layer_count x.rules w))
 
--- what is made of a tree, by what further files hold
-abbrev pub tree_ending : Work → Writing → Contents → ℕ → List Entry → List Event → Ending
-tree_ending (minifies out cert) x seen bytes t w = minified_ending x out cert t w
-tree_ending (checks out cert) x seen bytes t w = check_ending x.rules t w (seen out) (seen cert)
-tree_ending shows x seen bytes t w = says status.Done (dump_of w)
-tree_ending tells_json x seen bytes t w = says status.Done (json_text w ++ 10 ∷ [])
-tree_ending measures x seen bytes t w = measured_ending bytes x t w
+-- a page of this name and of `bytes` bytes isn't refused, and its tree is written shortest
+abbrev pub settled_ending : List ℕ → ℕ → Writing → List Entry → List Event → Ending
+settled_ending name bytes x t w = says status.Done (settled_line name bytes (length (shortest_text t x.rules w)))
+
+-- what is made of a tree of a page of this name, by what further files hold
+abbrev pub tree_ending : List ℕ → Work → Writing → Contents → ℕ → List Entry → List Event → Ending
+tree_ending name (minifies out cert) x seen bytes t w = minified_ending x out cert t w
+tree_ending name (checks out cert) x seen bytes t w = check_ending x.rules t w (seen out) (seen cert)
+tree_ending name shows x seen bytes t w = says status.Done (dump_of w)
+tree_ending name tells_json x seen bytes t w = says status.Done (json_text w ++ 10 ∷ [])
+tree_ending name explains x seen bytes t w = settled_ending name bytes x t w
+tree_ending name measures x seen bytes t w = measured_ending bytes x t w
 
 -- the certificate that is written of a tree can be read
 abbrev pub IsReadableTree : Work → Writing → List Entry → List Event → Type 0
@@ -144,6 +185,7 @@ IsReadableTree (minifies out cert) x t w = AreRows (certified_rows t x.rules (fo
 IsReadableTree (checks out cert) x t w = Unit {0}
 IsReadableTree shows x t w = Unit {0}
 IsReadableTree tells_json x t w = Unit {0}
+IsReadableTree explains x t w = AreRows (certified_rows t x.rules (format_of x.sparse) w)
 IsReadableTree measures x t w = AreRows (certified_rows t x.rules (format_of x.sparse) w)
 
 -- where there is a tree, it is settled, and what is written of it can be read
@@ -162,15 +204,20 @@ IsReadableAsked (Some a) seen = IsReadable a (input_of a seen)
 -- ---- All requests
 
 abbrev pub asked_ending : Asked → Contents → Ending
-asked_ending a seen = with_tree (input_of a seen) (tree_ending a.work a.writing seen)
+asked_ending a seen = with_tree (input_of a seen) (refusal a.origin a.work seen) (tree_ending (page_name a.origin) a.work a.writing seen)
 
 abbrev pub request_ending : Option Asked → Contents → Ending
 request_ending None seen = says status.Usage usage_line
 request_ending (Some a) seen = asked_ending a seen
 
+-- a notice is put where the words ask for one
+abbrev pub words_ending : Option Notice → Option Asked → Contents → Ending
+words_ending (Some n) a seen = says status.Done (notice_text n)
+words_ending None a seen = request_ending a seen
+
 -- how a run on these words ends, where no call failed and no memory was refused
 abbrev pub ending : List (List ℕ) → Contents → Ending
-ending words seen = request_ending (asked words) seen
+ending words seen = words_ending (notice_in words) (asked words) seen
 
 -- the names of the files that are written
 abbrev pub outputs : Work → List (List ℕ)
@@ -178,6 +225,7 @@ outputs (minifies out cert) = out ∷ cert ∷ []
 outputs (checks out cert) = []
 outputs shows = []
 outputs tells_json = []
+outputs explains = []
 outputs measures = []
 
 abbrev pub asked_outputs : Option Asked → List (List ℕ)

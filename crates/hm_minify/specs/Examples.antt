@@ -3,8 +3,9 @@ use Rattle.std.specs.Prelude.{ℕ, ◌≡◌, List, ◌∷◌, ◌++◌, Some, N
 use Rattle.hm_elements.specs.Names.{words}
 use Rattle.hm_store.specs.Contents.{Contents}
 use Rattle.hm_words.specs.Words.{asked, flags, choices_of}
+use Rattle.hm_words.specs.declared.notices.Notice.TheVariants.{Help, Version}
 use Rattle.hm_minify.specs.Endings.{ending, says, store_fault}
-use Rattle.hm_minify.specs.Lines.{usage_line}
+use Rattle.hm_minify.specs.Lines.{notice_text, usage_line}
 use Rattle.hm_minify.specs.declared.status.Status.TheVariants as status
 
 -- the one file `page`
@@ -26,5 +27,8 @@ endings : (ending (words "minify none absent out cert --omit --unquote") (page_a
     × (ending (words "measure none 0 20001") (page_alone d) ≡ says status.Usage usage_line)
     × (ending (words "tree page") (page_alone d) ≡ says status.Usage usage_line)
     × (ending (words "minify none page out page") (page_alone d) ≡ says status.Usage usage_line)
+    × (ending (words "help") (page_alone d) ≡ says status.Done (notice_text Help))
+    × (ending (words "-V") (page_alone d) ≡ says status.Done (notice_text Version))
+    × (ending (words "help help") (page_alone d) ≡ says status.Usage usage_line)
 unfolding asked flags choices_of
-endings = (refl, refl, refl, refl, refl, refl, refl, refl, refl)
+endings = (refl, refl, refl, refl, refl, refl, refl, refl, refl, refl, refl, refl)

@@ -14,6 +14,7 @@ use Rattle.hm_construction_laws.specs.Trees.{Outcome, built, refused_by, page_tr
 use Rattle.hm_fragment.specs.Fragments.{fragment_tree}
 use Rattle.hm_gen.specs.Pages.{page as made_page}
 use Rattle.hm_graph_laws.specs.ExchangeLaws.{sparing_plain}
+use Rattle.hm_html_names.specs.HtmlNames.{html_entries}
 use Rattle.hm_json_tree.specs.Reading.{JsonWalk, walk, too_long, not_json, not_array, no_event, some_open, not_settled, json_walk}
 use Rattle.hm_json_tree.specs.declared.fault.JsonFault.{JsonFault}
 use Rattle.hm_json_tree.specs.declared.fault.JsonFault.TheVariants as json_faults
@@ -34,10 +35,19 @@ pub data Input : Type 0 where
 abbrev pub is_none : List ℕ → Bool
 is_none name = bytes_eq name (codes "none")
 
--- the names that the content of a file gives, where it is there
-abbrev pub table_names : Bool → Option (List ℕ) → Option (Result (List Entry) TableFault)
-table_names true content = Some (Ok [])
-table_names false content = option_map names content
+-- the name of the table of the HTML Standard, which is no file either
+abbrev pub is_html : List ℕ → Bool
+is_html name = bytes_eq name (codes "html")
+
+-- no names, or those of the standard, or those that the content of a file gives, where it is there
+abbrev pub table_names : Bool → Bool → Option (List ℕ) → Option (Result (List Entry) TableFault)
+table_names true html content = Some (Ok [])
+table_names false true content = Some (Ok html_entries)
+table_names false false content = option_map names content
+
+-- what a name of a table gives, by the content of a file of that name
+abbrev pub names_of_table : List ℕ → Option (List ℕ) → Option (Result (List Entry) TableFault)
+names_of_table name content = table_names (is_none name) (is_html name) content
 
 -- ---- a page
 
@@ -91,11 +101,11 @@ input_from reads (Some (Ok t)) (Some content) = reads t content
 
 -- what a table and a second file give
 abbrev pub file_with_table : (List Entry → List ℕ → Input) → List ℕ → List ℕ → Contents → Input
-file_with_table reads table name seen = input_from reads (table_names (is_none table) (seen table)) (seen name)
+file_with_table reads table name seen = input_from reads (names_of_table table (seen table)) (seen name)
 
 -- what a table gives with a page
 abbrev pub given_with_table : TreeOptions → List ℕ → List ℕ → Contents → Input
-given_with_table o table page seen = input_from (page_input o) (table_names (is_none table) (seen table)) (Some page)
+given_with_table o table page seen = input_from (page_input o) (names_of_table table (seen table)) (Some page)
 
 -- what the files of an origin give
 abbrev pub origin_input : Origin → TreeOptions → Contents → Input

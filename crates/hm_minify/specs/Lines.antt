@@ -7,9 +7,12 @@ use Rattle.hm_check.specs.declared.verdicts.Why.{Why}
 use Rattle.hm_check.specs.declared.verdicts.Why.TheVariants as whys
 use Rattle.hm_json_tree.specs.declared.fault.JsonFault.{JsonFault}
 use Rattle.hm_json_tree.specs.declared.fault.JsonFault.TheVariants as json_faults
+use Rattle.hm_minify.specs.declared.notices.TheConstants.{HELP, VERSION}
 use Rattle.hm_refs.specs.Faults.{fault_name}
 use Rattle.hm_refs.specs.declared.fault.TableFault.{TableFault}
 use Rattle.hm_refs.specs.declared.fault.TableFault.TheVariants as faults
+use Rattle.hm_words.specs.declared.notices.Notice.{Notice}
+use Rattle.hm_words.specs.declared.notices.Notice.TheVariants.{Help, Version}
 
 -- a page was minified to `n` bytes
 abbrev pub length_line : ℕ → List ℕ
@@ -71,6 +74,13 @@ why_line (whys.TooLong length first) = codes "no 7 output " ++ decimal length ++
 abbrev pub measured_line : ℕ → ℕ → ℕ → List ℕ
 measured_line page out layers = codes "page " ++ decimal page ++ codes " output " ++ decimal out ++ codes " layers " ++ decimal layers ++ codes " yes\n"
 
+-- ---- notices
+
+-- what the program says of itself
+abbrev pub notice_text : Notice → List ℕ
+notice_text Help = HELP.now
+notice_text Version = VERSION.now
+
 -- ---- tables and the rest
 
 -- a table is refused for this fault
@@ -78,7 +88,7 @@ abbrev pub table_line : TableFault → List ℕ
 table_line fault = codes "table refused: " ++ fault_name fault ++ fault_about fault ++ 10 ∷ []
 
 abbrev pub usage_line : List ℕ
-usage_line = codes "usage: hminify minify, check, fragment, checkfragment or minifyjson TABLE PAGE OUT CERT, tree or json TABLE PAGE, measure TABLE NUMBER SIZE" ++ 10 ∷ []
+usage_line = codes "usage: hminify minify, check, fragment, checkfragment or minifyjson TABLE PAGE OUT CERT, tree, json or explain TABLE PAGE, measure TABLE NUMBER SIZE, help, version" ++ 10 ∷ []
 
 abbrev pub store_line : List ℕ
 store_line = codes "store fault" ++ 10 ∷ []

@@ -13,8 +13,8 @@ use Rattle.hm_fragment.specs.Fragments.{fragment_tree}
 use Rattle.hm_json_tree.specs.Reading.{json_walk, walk}
 use Rattle.hm_json_tree.specs.declared.fault.JsonFault.{JsonFault}
 use Rattle.hm_options.specs.Rewrites.{rewrite}
-use Rattle.hm_minify.specs.Inputs.{Input, IsInput, bad_table, bad_page, bad_json, is_none, json_input, table_names, fragment_outcome, page_outcome}
-use Rattle.hm_words.specs.Words.{Origin}
+use Rattle.hm_minify.specs.Inputs.{Input, IsInput, bad_table, bad_page, bad_json, json_input, names_of_table, fragment_outcome, page_outcome}
+use Rattle.hm_words.specs.Words.{Origin, is_table_word}
 use Rattle.hm_minify.specs.declared.unread.Unread.{Unread}
 use Rattle.hm_minify.specs.declared.unread.Unread.TheVariants as reasons
 
@@ -28,7 +28,7 @@ pub record IsLoaded (told : Option FileMap) (name : List ℕ) (limit : ℕ) (byt
 pub record IsTableOf (told : Option FileMap) (name : List ℕ) (read : Result (List Entry) TableFault) : Type 0 where
   pub content : Option (List ℕ)
   pub there : IsSome told → file_of told name ≡ content
-  pub is : table_names (is_none name) content ≡ Some read
+  pub is : names_of_table name content ≡ Some read
 
 -- the text of a page within the limit
 pub record IsTextIn (page : List ℕ) (text : Source) : Type 0 where
@@ -40,18 +40,6 @@ pub record IsTextIn (page : List ℕ) (text : Source) : Type 0 where
 pub record IsPageText (page : List ℕ) (text : Source) (bytes : ℕ) : Type 0 where
   pub read : IsTextIn page text
   pub all : bytes ≡ length page
-
--- the text of the page that a file holds
-pub record IsTextOf (told : Option FileMap) (name : List ℕ) (text : Source) (bytes : ℕ) : Type 0 where
-  pub page : List ℕ
-  pub there : IsSome told → file_of told name ≡ Some page
-  pub read : IsPageText page text bytes
-
--- a page is refused, whatever the names of references
-pub record IsRefusedPage (told : Option FileMap) (name : List ℕ) (rule : Rule) (at : ℕ) : Type 0 where
-  pub page : List ℕ
-  pub there : IsSome told → file_of told name ≡ Some page
-  pub refused : (t : List Entry) → page_outcome t page ≡ refused_by rule at
 
 -- the rewritten tree of a text
 pub record IsTreeRead (t : List Entry) (text : Source) (o : TreeOptions) (tree : List Event) : Type 0 where
@@ -104,7 +92,7 @@ pub record HasNames (told : Option FileMap) (name : List ℕ) : Type 0 where
 
 -- a file that is read isn't there: the table, or where there is one that can be read, the page
 abbrev pub IsFileMissing : Option FileMap → List ℕ → List ℕ → Type 0
-IsFileMissing told table page = ((is_none table ≡ false) × IsMissing told table) ⊎ (HasNames told table × IsMissing told page)
+IsFileMissing told table page = ((is_table_word table ≡ false) × IsMissing told table) ⊎ (HasNames told table × IsMissing told page)
 
 -- why there is no table; failed calls and lack of memory have other causes
 abbrev pub NoTable : Option FileMap → List ℕ → Unread → Type 0
@@ -121,14 +109,6 @@ NoTextIn page (reasons.Page rule at) = (t : List Entry) → page_outcome t page 
 NoTextIn page (reasons.Json fault) = ⊥
 NoTextIn page reasons.Store = ⊥
 NoTextIn page reasons.Memory = Unit {0}
-
--- why there is no text in a file
-abbrev pub NoText : Option FileMap → List ℕ → Unread → Type 0
-NoText told name (reasons.Table fault) = ⊥
-NoText told name (reasons.Page rule at) = IsRefusedPage told name rule at
-NoText told name (reasons.Json fault) = ⊥
-NoText told name reasons.Store = Unit {0}
-NoText told name reasons.Memory = Unit {0}
 
 -- why a fragment has no tree
 abbrev pub NoFragmentIn : List Entry → List ℕ → Unread → Type 0

@@ -22,6 +22,7 @@ use Rattle.hm_json_tree.specs.declared.fault.JsonFault.{JsonFault}
 use Rattle.hm_minify.specs.Inputs.{bad_table, bad_page, bad_json, tree as tree_input, input_of, rewritten_of, wanted_tree}
 use Rattle.hm_words.specs.Words.{Asked, checks}
 use Rattle.hm_minify.specs.Endings.{format_of, Ending, store_fault, is_fault, checked_ending, ending}
+use Rattle.hm_minify.specs.Explanations.{explained_page, settled_line}
 use Rattle.hm_minify.specs.Lines.{length_line, yes_line, measured_line, refused_line, json_line, table_line, store_line}
 use Rattle.hm_minify.specs.Outside.{Outside, Prints, StoreFails}
 use Rattle.hm_minify.specs.Writes.{write, after_writes, IsLeft}
@@ -208,6 +209,34 @@ pub record HasMeasured (request : Asked) (before after : Outside) : Type 0 where
   pub shortest : IsShortest table request.writing.rules (format_of request.writing.sparse) tree out cert
   pub files : after.files ≡ before.files
   pub line : Prints (measured_line bytes (length out) (layer_count request.writing.rules tree)) before after
+
+-- The file of that name holds a page that is refused, and three lines say where and why.
+pub record HasExplained (request : Asked) (page_name : List ℕ) (before after : Outside) : Type 0 where
+  pub seen : Contents
+  pub are_told : AreTold before.files seen
+  pub page : List ℕ
+  pub there : seen page_name ≡ Some page
+  pub rule : Rule
+  pub at : ℕ
+  pub reads : input_of request seen ≡ bad_page rule at
+  pub files : after.files ≡ before.files
+  pub lines : Prints (explained_page page_name page rule at) before after
+
+-- The file of that name holds a page that gives a tree. The line says how many bytes the page has, and how many the tree written
+-- shortest.
+pub record HasSettled (request : Asked) (page_name : List ℕ) (before after : Outside) : Type 0 where
+  pub seen : Contents
+  pub are_told : AreTold before.files seen
+  pub page : List ℕ
+  pub there : seen page_name ≡ Some page
+  pub table : List Entry
+  pub tree : List Event
+  pub reads : input_of request seen ≡ tree_input (length page) table tree
+  pub out : List ℕ
+  pub cert : List ℕ
+  pub shortest : IsShortest table request.writing.rules (format_of request.writing.sparse) tree out cert
+  pub files : after.files ≡ before.files
+  pub line : Prints (settled_line page_name (length page) (length out)) before after
 
 -- ---- Whatever is done
 

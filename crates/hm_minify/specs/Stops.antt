@@ -5,6 +5,8 @@ use Rattle.hm_minify.specs.declared.ended.Stop.{Stop}
 use Rattle.hm_minify.specs.declared.ended.Stop.TheVariants as stops
 use Rattle.hm_minify.specs.declared.unread.Unread.{Unread}
 use Rattle.hm_minify.specs.declared.unread.Unread.TheVariants as reasons
+use Rattle.hm_load.specs.declared.fault.PageFault.{PageFault}
+use Rattle.hm_load.specs.declared.fault.PageFault.TheVariants as page_faults
 use Rattle.hm_store.specs.declared.whole_files.LoadFault.{LoadFault}
 use Rattle.hm_store.specs.declared.whole_files.LoadFault.TheVariants as faults
 
@@ -22,3 +24,9 @@ unread_of faults.Memory = reasons.Memory
 abbrev pub refused_as : Refused → Unread
 refused_as (refusals.Page rule at) = reasons.Page rule at
 refused_as refusals.Memory = reasons.Memory
+
+-- why a page in a file has no tree
+abbrev pub page_unread : PageFault → Unread
+page_unread (page_faults.Page rule at) = reasons.Page rule at
+page_unread page_faults.Store = reasons.Store
+page_unread page_faults.Memory = reasons.Memory

@@ -2,7 +2,7 @@
 ghost use Rattle.std.specs.Io.{StartsWith};
 ghost use Rattle.std.specs.Prelude as prelude;
 ghost use Rattle.std.specs.Prelude.{◌≡◌, ◌≢◌, ◌⊎◌, ◌≤◌, ◌-◌, IfOk, Err, false, true, bytes_eq, string_bytes};
-ghost use Rattle.hm_build.specs.Parsing.{IsRefusedAs};
+ghost use Rattle.hm_load.specs.Pages.{IsRefusedAs};
 ghost use Rattle.hm_cert.specs.Certificate.{AreRows};
 ghost use Rattle.hm_construction_laws.specs.Trees.{Outcome};
 ghost use Rattle.hm_elements.specs.Settled.{Settled};

@@ -38,10 +38,12 @@ impl<'w> Model for Output<'w> {
     ghost invariant = { λ o. o.from ≤ length o.bytes.items };
 }
 
-/// What is put to the sink: a line, or the lines of a tree or its JSON, which never stand in memory together.
+/// What is put to the sink: a line, or lines that hold any bytes, or the lines of a tree or its JSON, which never stand in memory
+/// together.
 #[derive(Drop)]
 pub enum Said {
     Line { line: String },
+    Lines { lines: Vec<u8> },
     Tree { shown: Shown },
     Json { shown: JsonShown },
 }
@@ -55,6 +57,7 @@ impl Said {
     {
         match self {
             Said::Line { line } => out.put(line.as_bytes()),
+            Said::Lines { lines } => out.put(lines.as_slice()),
             Said::Tree { shown } => shown.put(out),
             Said::Json { shown } => shown.put(out),
         }
@@ -89,6 +92,17 @@ pub fn says<'w>(alloc: Global, status: Status, line: String) -> Ended<'w>
     Ended {
         status,
         said: Said::Line { line },
+        outputs: Vec::new(alloc),
+    }
+}
+
+/// Lines that hold any bytes are put, and nothing is written.
+pub fn says_lines<'w>(alloc: Global, status: Status, lines: Vec<u8>) -> Ended<'w>
+    ensures { result ≡ spec.says status lines.items }
+{
+    Ended {
+        status,
+        said: Said::Lines { lines },
         outputs: Vec::new(alloc),
     }
 }

@@ -10,9 +10,9 @@ ghost use Rattle.hm_minify.specs.Inputs.{IsInput, origin_input, missing};
 ghost use Rattle.hm_minify.specs.Loads.{IsTreeRead, NoInput, NoTreeRead};
 
 use crate::Unread;
-use crate::loads::{load_fragment, load_json, load_table, load_text, make_text};
+use crate::loads::{load_fragment, load_json, load_table, make_text};
 use hm_base::{Memory, SourceText, TreeOptions};
-use hm_build::parse;
+use hm_load::{load_page, parse};
 use hm_options::rewrite;
 use hm_order::reorder;
 use hm_refs::Table;
@@ -47,8 +47,8 @@ pub struct Input {
     pub tree: Tree,
 }
 
-/// Loads a table and then a page, and gives the table with the page's tree after the rewrites that are asked for. The
-/// table `none` has no names and is no file.
+/// Loads a table and then a page, and gives the table with the page's tree after the rewrites that are asked for. The tree is
+/// built while the page comes. The tables `none` and `html` are no files.
 fn load_tree<S: Store>(
     alloc: Global,
     store: &mut S,
@@ -67,13 +67,13 @@ fn load_tree<S: Store>(
         ⊎ Tells (S.files store.old) (λ seen. origin_input (page_at table.now page.now) options.now seen ≡ missing) }
 {
     let table = load_table(alloc, store, table)?;
-    let (text, bytes) = load_text(alloc, store, page)?;
-    let tree = read_tree(alloc, text, &table, options)?;
+    let (read, bytes) = load_page(alloc, store, page, &table)?;
+    let tree = rewrite(alloc, read, options)?;
     Ok(Input { bytes, table, tree })
 }
 
 /// Loads a table and then a fragment, and gives the table with the fragment's tree after the rewrites that are asked for. The
-/// table `none` has no names and is no file.
+/// tables `none` and `html` are no files.
 fn load_fragment_tree<S: Store>(
     alloc: Global,
     store: &mut S,
@@ -98,7 +98,7 @@ fn load_fragment_tree<S: Store>(
 }
 
 /// Loads a table and then the JSON of a tree, and gives the table with that tree after the rewrites that are asked for. The
-/// table `none` has no names and is no file. What is read of the JSON is freed before the rewrites.
+/// tables `none` and `html` are no files. What is read of the JSON is freed before the rewrites.
 fn load_json_tree<S: Store>(
     alloc: Global,
     store: &mut S,
@@ -123,7 +123,7 @@ fn load_json_tree<S: Store>(
 }
 
 /// Loads a table and makes the page of a number, with `size` blocks, and gives the table with the page's tree after the
-/// rewrites that are asked for. The table `none` has no names and is no file.
+/// rewrites that are asked for. The tables `none` and `html` are no files.
 fn make_tree<S: Store>(
     alloc: Global,
     store: &mut S,

@@ -3,12 +3,16 @@
 
 mod checked;
 mod ended;
+mod explained;
+mod explanation;
 mod input;
 pub mod laws;
 mod lines;
 mod loads;
 mod measured;
+mod notices;
 mod saved;
+mod sentences;
 mod status;
 mod top;
 mod unread;

@@ -10,7 +10,7 @@ use std::alloc::{AllocError, Global};
 
 /// What is said of words without a meaning.
 pub const USAGE: &[u8] =
-    b"usage: hminify minify, check, fragment, checkfragment or minifyjson TABLE PAGE OUT CERT, tree or json TABLE PAGE, measure TABLE NUMBER SIZE\n";
+    b"usage: hminify minify, check, fragment, checkfragment or minifyjson TABLE PAGE OUT CERT, tree, json or explain TABLE PAGE, measure TABLE NUMBER SIZE, help, version\n";
 
 /// What is said where a call on the store has failed, or a file isn't there.
 pub const STORE_FAULT: &[u8] = b"store fault\n";

@@ -1,4 +1,4 @@
-//! The table and the text of a page, loaded from a store.
+//! What is read of a store: a table, a fragment, a tree as JSON; and the text of a page that is made.
 ghost use Rattle.std.specs.Io.{StartsWith};
 ghost use Rattle.std.specs.Prelude.{length, ◌≡◌, ◌≢◌, ◌⊎◌, ◌≤◌, ℕ, List, Option, IfOk, IfErr, OnOk, Ok, Err, false};
 ghost use Rattle.hm_base.specs.Faults.{HasText, IsRefusedBy};
@@ -11,13 +11,14 @@ ghost use Rattle.hm_fragment.specs.Frames.{unframed};
 ghost use Rattle.hm_gen.specs.Pages.{page as made_page};
 ghost use Rattle.hm_store.specs.Causes.{Rose};
 ghost use Rattle.hm_store.specs.Files.{FileMap, IsMissing};
-ghost use Rattle.hm_minify.specs.Inputs.{is_none};
-ghost use Rattle.hm_minify.specs.Loads.{IsFragmentOf, IsPageText, IsTableOf, IsRefusedJson, IsTextOf, IsWalkOf, NoFragment, NoFragmentIn, NoTable, NoText, NoTextIn, NoWalk};
+ghost use Rattle.hm_words.specs.Words.{is_table_word};
+ghost use Rattle.hm_minify.specs.Loads.{IsFragmentOf, IsPageText, IsTableOf, IsRefusedJson, IsWalkOf, NoFragment, NoFragmentIn, NoTable, NoTextIn, NoWalk};
 
 use crate::Unread;
 use hm_base::{OUTPUT_LIMIT, PAGE_LIMIT, Rule, SourceText, TABLE_LIMIT, TextFault};
 use hm_fragment::{front, read_fragment};
 use hm_gen::page_of;
+use hm_html_names::html_table;
 use hm_json_tree::{JSON_LIMIT, JsonFault, read_tree};
 use hm_refs::{Table, TableFault};
 use hm_store::{Store, load, load_behind};
@@ -35,17 +36,21 @@ fn unread_table(fault: TableFault) -> Unread
     }
 }
 
-/// The table of that name; `none` is the one without names, and no file.
+/// The table of that name: `none` is the one without names, `html` that of the HTML Standard, and neither is a file.
 pub fn load_table<S: Store>(alloc: Global, store: &mut S, name: &str) -> Result<Table, Unread>
     ensures same { S.files store.new ≡ S.files store.old }
     ensures writing { S.is_writing store.new ≡ S.is_writing store.old }
     ensures ok { IfOk result (λ table. IsTableOf (S.files store.old) name.now (Ok table.entries)) }
     ensures err { IfErr result (NoTable (S.files store.old) name.now) }
     ensures later { S.faults store.old ≤ S.faults store.new }
-    ensures store { result ≡ Err Unread.Store → Rose (S.faults store.old) (S.faults store.new) ⊎ (is_none name.now ≡ false) × IsMissing (S.files store.old) name.now }
+    ensures store { result ≡ Err Unread.Store → Rose (S.faults store.old) (S.faults store.new) ⊎ (is_table_word name.now ≡ false) × IsMissing (S.files store.old) name.now }
 {
     if name == "none" {
         let table = Table::empty(alloc)?;
+        return Ok(table);
+    }
+    if name == "html" {
+        let table = html_table(alloc)?;
         return Ok(table);
     }
     let bytes = load(alloc, store, name, TABLE_LIMIT)?;
@@ -74,23 +79,6 @@ fn text_of(alloc: Global, page: Vec<u8>) -> Result<(SourceText, usize), Unread>
         Ok(text) => Ok((text, bytes)),
         Err(fault) => Err(Unread::from(fault.refusal(PAGE_LIMIT))),
     }
-}
-
-/// The text of the page of that name, and how many bytes the page has.
-pub fn load_text<S: Store>(
-    alloc: Global,
-    store: &mut S,
-    name: &str,
-) -> Result<(SourceText, usize), Unread>
-    ensures same { S.files store.new ≡ S.files store.old }
-    ensures writing { S.is_writing store.new ≡ S.is_writing store.old }
-    ensures ok { IfOk result (λ read. IsTextOf (S.files store.old) name.now read.0 read.1) }
-    ensures err { IfErr result (NoText (S.files store.old) name.now) }
-    ensures later { S.faults store.old ≤ S.faults store.new }
-    ensures store { result ≡ Err Unread.Store → Rose (S.faults store.old) (S.faults store.new) ⊎ IsMissing (S.files store.old) name.now }
-{
-    let bytes = load(alloc, store, name, PAGE_LIMIT)?;
-    text_of(alloc, bytes)
 }
 
 /// The text of the page of a number, with `size` blocks, and how many bytes the page has.

@@ -3,11 +3,11 @@ ghost use Rattle.std.specs.Prelude.{◌≡◌, ◌≢◌, ◌⊎◌, Some, None,
 ghost use Rattle.hm_store.specs.Contents.{Sees, Tells};
 ghost use Rattle.hm_store.specs.Files.{file_of};
 ghost use Rattle.hm_words.specs.Words as request;
-ghost use Rattle.hm_words.specs.Words.{Asked as Request, asked as asked_by};
+ghost use Rattle.hm_words.specs.Words.{Asked as Request, asked as asked_by, notice_in as notice_by};
 ghost use Rattle.hm_minify.specs.Endings as endings;
 ghost use Rattle.hm_minify.specs.Endings.{ending, is_fault};
 ghost use Rattle.hm_minify.specs.Inputs.{input_of};
-ghost use Rattle.hm_minify.specs.Lines.{usage_line, store_line};
+ghost use Rattle.hm_minify.specs.Lines.{notice_text, usage_line, store_line};
 ghost use Rattle.hm_minify.specs.Outside.{Between, Prints, PrintsFront, SinkFails, StoreFails};
 ghost use Rattle.hm_minify.specs.Runs as spec;
 ghost use Rattle.hm_minify.specs.Sayings.{bytes_said};
@@ -16,11 +16,12 @@ ghost use Rattle.hm_minify.specs.Writes.{after_writes, IsLeft};
 use crate::Status;
 use crate::ended::{Ended, Said, Stop};
 use crate::lines::{STORE_FAULT, USAGE};
+use crate::notices::notice_text;
 use crate::saved::save;
 use crate::work::work;
 use hm_base::Word;
 use hm_store::{Failed, Sink, Store};
-use hm_words::{Asked, WordsFault};
+use hm_words::{Asked, Notice, WordsFault, notice_in};
 use std::alloc::Global;
 
 /// Puts a line: the status that it says, or that the sink has failed.
@@ -53,8 +54,14 @@ fn finish<S: Store, O: Sink>(store: &mut S, out: &mut O, ended: Ended<'_>) -> St
     }
 }
 
-/// Does what the words ask for, step by step.
-fn perform<S: Store, O: Sink>(alloc: Global, words: &[Word], store: &mut S, out: &mut O) -> Status
+/// Does what a request asks for, step by step.
+fn perform_asked<S: Store, O: Sink>(
+    alloc: Global,
+    words: &[Word],
+    store: &mut S,
+    out: &mut O,
+) -> Status
+    requires silent { notice_by words.now ≡ None }
     ensures unasked { asked_by words.now ≡ None → (store.new ≡ store.old)
         × (Between S.Store O.Sink store.old out.old store.new out.new (spec.Puts usage_line Status.Usage result) ⊎ (result ≡ Status.Memory)) }
     ensures course { Between S.Store O.Sink store.old out.old store.new out.new (spec.Course (ending words.now) (endings.IsReadableAsked (asked_by words.now)) result) }
@@ -71,11 +78,30 @@ fn perform<S: Store, O: Sink>(alloc: Global, words: &[Word], store: &mut S, out:
     }
 }
 
-/// Does what the words ask for, and puts one line to the sink, or the lines of a tree or its JSON.
+/// Does what the words ask for, step by step. A notice asks nothing of the store, and no memory.
+fn perform<S: Store, O: Sink>(alloc: Global, words: &[Word], store: &mut S, out: &mut O) -> Status
+    ensures noticed { (notice : Notice) → notice_by words.now ≡ Some notice → (store.new ≡ store.old)
+        × Between S.Store O.Sink store.old out.old store.new out.new (spec.Puts (notice_text notice) Status.Done result) }
+    ensures unasked { asked_by words.now ≡ None → notice_by words.now ≡ None → (store.new ≡ store.old)
+        × (Between S.Store O.Sink store.old out.old store.new out.new (spec.Puts usage_line Status.Usage result) ⊎ (result ≡ Status.Memory)) }
+    ensures course { Between S.Store O.Sink store.old out.old store.new out.new (spec.Course (ending words.now) (endings.IsReadableAsked (asked_by words.now)) result) }
+    ensures writing { result ≡ Status.Memory → S.is_writing store.new ≡ S.is_writing store.old }
+{
+    match notice_in(words) {
+        Some(notice) => put_line(out, notice_text(notice), Status::Done),
+        None => perform_asked(alloc, words, store, out),
+    }
+}
+
+/// Does what the words ask for, and puts one line to the sink, or the lines of a tree, its JSON, or those of a notice or an explanation.
 pub fn run<S: Store, O: Sink>(alloc: Global, words: &[Word], store: &mut S, out: &mut O) -> Status
+    // What the program says of itself asks nothing of the store, and no memory.
+    ensures notice { (notice : Notice) → notice_by words.now ≡ Some notice → (store.new ≡ store.old) × ((result ≡ Status.Done) ⊎ (result ≡ Status.SinkFault))
+        × (result ≡ Status.Done → Between S.Store O.Sink store.old out.old store.new out.new (Prints (notice_text notice))) }
+
     // The words alone decide whether they have a meaning. Without one, nothing is asked of the store; memory may be refused first.
-    ensures usage { result ≡ Status.Usage → (asked_by words.now ≡ None) × (store.new ≡ store.old) × Between S.Store O.Sink store.old out.old store.new out.new (Prints usage_line) }
-    ensures no_meaning { asked_by words.now ≡ None → (store.new ≡ store.old) × ((result ≡ Status.Usage) ⊎ ((result ≡ Status.SinkFault) ⊎ (result ≡ Status.Memory))) }
+    ensures usage { result ≡ Status.Usage → (asked_by words.now ≡ None) × (notice_by words.now ≡ None) × (store.new ≡ store.old) × Between S.Store O.Sink store.old out.old store.new out.new (Prints usage_line) }
+    ensures no_meaning { asked_by words.now ≡ None → notice_by words.now ≡ None → (store.new ≡ store.old) × ((result ≡ Status.Usage) ⊎ ((result ≡ Status.SinkFault) ⊎ (result ≡ Status.Memory))) }
 
     // An answer is the ending that words and files give. Where no call has failed, there is nothing else but lack of memory.
     ensures answer { is_fault result ≡ false → Between S.Store O.Sink store.old out.old store.new out.new (spec.Ends words.now result) }
@@ -147,8 +173,16 @@ pub fn run<S: Store, O: Sink>(alloc: Global, words: &[Word], store: &mut S, out:
     ensures always_measured { (asked : Request) → asked_by words.now ≡ Some asked → asked.work ≡ request.measures
         → is_fault result ≡ false → (result ≡ Status.TableRefused) ⊎ (result ≡ Status.Done) }
 
-    // Whatever is done, a page is refused at its first offending place with its rule, and JSON and a table for their first fault.
-    ensures refused_page { (asked : Request) → asked_by words.now ≡ Some asked → result ≡ Status.PageRefused
+    // A page that is refused is explained: line and column of its first offending place, the rule, and the line with a caret below the place.
+    ensures explained { (asked : Request) (table page : List ℕ) → asked_by words.now ≡ Some asked → asked.origin ≡ request.page_at table page → asked.work ≡ request.explains
+        → result ≡ Status.PageRefused → Between S.Store O.Sink store.old out.old store.new out.new (spec.HasExplained asked page) }
+
+    // Of a page that isn't refused, it is told how short its tree can be written.
+    ensures settled { (asked : Request) (table page : List ℕ) → asked_by words.now ≡ Some asked → asked.origin ≡ request.page_at table page → asked.work ≡ request.explains
+        → result ≡ Status.Done → Between S.Store O.Sink store.old out.old store.new out.new (spec.HasSettled asked page) }
+
+    // Whatever else is done, a page is refused at its first offending place with its rule, and JSON and a table for their first fault.
+    ensures refused_page { (asked : Request) → asked_by words.now ≡ Some asked → endings.is_explained asked.origin asked.work ≡ false → result ≡ Status.PageRefused
         → Between S.Store O.Sink store.old out.old store.new out.new (spec.HasRefusedPage asked) }
     ensures refused_json { (asked : Request) → asked_by words.now ≡ Some asked → result ≡ Status.JsonRefused
         → Between S.Store O.Sink store.old out.old store.new out.new (spec.HasRefusedJson asked) }

@@ -1,6 +1,7 @@
 //! Why there is no tree.
 use hm_base::{Memory, Refused, Rule};
 use hm_json_tree::JsonFault;
+use hm_load::PageFault;
 use hm_refs::TableFault;
 use hm_store::LoadFault;
 
@@ -54,6 +55,21 @@ impl From<Refused> for Unread {
         match refused {
             Refused::Page { rule, at } => Unread::Page { rule, at },
             Refused::Memory => Unread::Memory,
+        }
+    }
+}
+
+impl From<PageFault> for Unread {
+    ghost use Rattle.std.specs.Prelude.{◌≡◌};
+    ghost use Rattle.hm_minify.specs.Stops.{page_unread};
+
+    ghost from_gives = { λ fault unread. unread ≡ page_unread fault };
+
+    fn from(fault: PageFault) -> Self {
+        match fault {
+            PageFault::Page { rule, at } => Unread::Page { rule, at },
+            PageFault::Store => Unread::Store,
+            PageFault::Memory => Unread::Memory,
         }
     }
 }

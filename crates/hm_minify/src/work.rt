@@ -2,6 +2,7 @@
 ghost use Rattle.std.specs.Prelude.{◌≡◌, ◌≢◌, ◌⊎◌, ◌≤◌, ◌++◌, ◌∷◌, [], drop, length, IfOk, Err, true, false};
 ghost use Rattle.hm_cert.specs.Certificate.{AreRows};
 ghost use Rattle.hm_elements.specs.Settled.{Settled};
+ghost use Rattle.hm_order.specs.Minified.{IsMinifiedBy};
 ghost use Rattle.hm_order.specs.Shortest.{certified_rows};
 ghost use Rattle.hm_store.specs.Causes.{Rose};
 ghost use Rattle.hm_store.specs.Contents.{Sees, Tells};
@@ -13,19 +14,21 @@ ghost use Rattle.hm_minify.specs.Endings as spec;
 ghost use Rattle.hm_minify.specs.Inputs.{input_of};
 
 use crate::checked::check_files;
-use crate::ended::{Ended, Output, Said, Stop, says, shows, tells_json};
+use crate::ended::{Ended, Output, Said, Stop, says, says_lines, shows, tells_json};
+use crate::explained::{Found, load_explained};
+use crate::explanation::{explained_page, settled_line};
 use crate::input::{load_input, wanted};
 use crate::lines::{json_line, length_line, refused_line, table_line};
 use crate::measured::measure;
 use crate::{Input, Status, Unread};
-use hm_base::Format;
+use hm_base::{Format, Memory};
 use hm_dump::Shown;
 use hm_fragment::front;
 use hm_json_tree::JsonShown;
-use hm_order::minify_tree;
+use hm_order::{Minified, minify_tree};
 use hm_store::Store;
 use hm_tree::Tree;
-use hm_words::{Asked, Work, Writing};
+use hm_words::{Asked, Origin, Work, Writing};
 use std::alloc::Global;
 
 /// The format of a certificate that is written.
@@ -47,6 +50,21 @@ fn begin_of(frame: bool, text: &[u8]) -> usize
     }
 }
 
+/// The tree of an input, written shortest, with its certificate.
+fn write_shortest(alloc: Global, input: &Input, writing: Writing) -> Result<Minified, Memory>
+    requires settled { Settled input.now.tree }
+    ensures made { IfOk result (IsMinifiedBy input.now.table.entries writing.rules (spec.format_of writing.sparse) input.now.tree) }
+    ensures readable { IfOk result (λ _. AreRows (certified_rows input.now.table.entries writing.rules (spec.format_of writing.sparse) input.now.tree)) }
+{
+    minify_tree(
+        alloc,
+        &input.tree,
+        &input.table,
+        writing.rules,
+        format_of(writing.sparse),
+    )
+}
+
 /// The tree of an input, written shortest and certified.
 fn minify<'w>(
     alloc: Global,
@@ -60,13 +78,7 @@ fn minify<'w>(
     ensures readable { IfOk result (λ _. AreRows (certified_rows input.now.table.entries writing.rules (spec.format_of writing.sparse) input.now.tree)) }
     ensures memory { result ≢ Err Stop.Store }
 {
-    let minified = minify_tree(
-        alloc,
-        &input.tree,
-        &input.table,
-        writing.rules,
-        format_of(writing.sparse),
-    )?;
+    let minified = write_shortest(alloc, input, writing)?;
     let from = begin_of(writing.rules.frame, minified.out.as_slice());
     let line = length_line(alloc, minified.out.len() - from)?;
     let mut outputs = Vec::new(alloc);
@@ -103,6 +115,37 @@ fn tell_json<'w>(alloc: Global, tree: Tree) -> Result<Ended<'w>, Stop>
     Ok(tells_json(alloc, Status::Done, JsonShown::of(alloc, tree)?))
 }
 
+/// The name of the file of a page; a page that is made has none.
+fn page_name<'w>(origin: &Origin<'w>) -> &'w str
+    ensures { result.now ≡ spec.page_name (origin_of origin.now) }
+{
+    match *origin {
+        Origin::PageAt { table: _, page } => page,
+        Origin::FragmentAt { table: _, page } => page,
+        Origin::JsonAt { table: _, page } => page,
+        Origin::Made {
+            table: _,
+            number: _,
+            size: _,
+        } => "",
+    }
+}
+
+/// Writes the tree of a page of this name shortest, and says how long that is. No file is written.
+fn settle<'w>(alloc: Global, input: &Input, writing: Writing, name: &str) -> Result<Ended<'w>, Stop>
+    requires settled { Settled input.now.tree }
+    ensures ended { IfOk result (λ ended. ended ≡ spec.settled_ending name.now input.now.bytes writing input.now.table.entries input.now.tree) }
+    ensures readable { IfOk result (λ _. AreRows (certified_rows input.now.table.entries writing.rules (spec.format_of writing.sparse) input.now.tree)) }
+    ensures memory { result ≢ Err Stop.Store }
+{
+    let minified = write_shortest(alloc, input, writing)?;
+    Ok(says(
+        alloc,
+        Status::Done,
+        settled_line(alloc, name, input.bytes, minified.out.len())?,
+    ))
+}
+
 /// What a request makes of a tree, which is freed, except where it is shown or told. A check reads two further files.
 fn answer<'w, S: Store>(
     alloc: Global,
@@ -112,14 +155,14 @@ fn answer<'w, S: Store>(
 ) -> Result<Ended<'w>, Stop>
     requires settled { Settled input.tree }
     requires apart { request.is_apart (origin_of asked.now.origin) (work_of asked.now.work) ≡ true }
-    ensures ended { IfOk result (λ ended. Sees (S.files store.old) (λ seen. ended ≡ spec.tree_ending (work_of asked.now.work) asked.now.writing seen input.bytes input.table.entries input.tree)) }
+    ensures ended { IfOk result (λ ended. Sees (S.files store.old) (λ seen. ended ≡ spec.tree_ending (spec.page_name (origin_of asked.now.origin)) (work_of asked.now.work) asked.now.writing seen input.bytes input.table.entries input.tree)) }
     ensures readable { IfOk result (λ _. spec.IsReadableTree (work_of asked.now.work) asked.now.writing input.table.entries input.tree) }
     ensures answers { IfOk result (λ ended. spec.is_fault ended.status ≡ false) }
     ensures same { S.files store.new ≡ S.files store.old }
     ensures writing { S.is_writing store.new ≡ S.is_writing store.old }
     ensures later { S.faults store.old ≤ S.faults store.new }
     ensures store { result ≡ Err Stop.Store → Rose (S.faults store.old) (S.faults store.new)
-        ⊎ Tells (S.files store.old) (λ seen. spec.tree_ending (work_of asked.now.work) asked.now.writing seen input.bytes input.table.entries input.tree ≡ spec.store_fault) }
+        ⊎ Tells (S.files store.old) (λ seen. spec.tree_ending (spec.page_name (origin_of asked.now.origin)) (work_of asked.now.work) asked.now.writing seen input.bytes input.table.entries input.tree ≡ spec.store_fault) }
 {
     match asked.work {
         Work::Minify { out, cert } => minify(alloc, &input, asked.writing, out, cert),
@@ -128,17 +171,19 @@ fn answer<'w, S: Store>(
         }
         Work::Show => show(alloc, input.tree),
         Work::TellJson => tell_json(alloc, input.tree),
+        Work::Explain => settle(alloc, &input, asked.writing, page_name(&asked.origin)),
         Work::Measure => measure(alloc, &input, asked.writing),
     }
 }
 
-/// What a request ends with. Files are read, and none is written yet.
-pub fn work<'w, S: Store>(
+/// What a request ends with, where its page isn't explained.
+fn work_plain<'w, S: Store>(
     alloc: Global,
     asked: &Asked<'w>,
     store: &mut S,
 ) -> Result<Ended<'w>, Stop>
     requires apart { request.is_apart (origin_of asked.now.origin) (work_of asked.now.work) ≡ true }
+    requires plain { spec.is_explained (origin_of asked.now.origin) (work_of asked.now.work) ≡ false }
     ensures ended { IfOk result (λ ended. Sees (S.files store.old) (λ seen. (ended ≡ spec.asked_ending (request_of asked.now) seen)
         × spec.IsReadable (request_of asked.now) (input_of (request_of asked.now) seen))) }
     ensures answers { IfOk result (λ ended. spec.is_fault ended.status ≡ false) }
@@ -160,5 +205,69 @@ pub fn work<'w, S: Store>(
         }
         Err(Unread::Store) => Err(Stop::Store),
         Err(Unread::Memory) => Err(Stop::Memory),
+    }
+}
+
+/// What is explained of the page of this name.
+fn work_explained<'w, S: Store>(
+    alloc: Global,
+    asked: &Asked<'w>,
+    store: &mut S,
+    table: &str,
+    page: &str,
+) -> Result<Ended<'w>, Stop>
+    requires apart { request.is_apart (origin_of asked.now.origin) (work_of asked.now.work) ≡ true }
+    requires origin { origin_of asked.now.origin ≡ request.page_at table.now page.now }
+    requires work { work_of asked.now.work ≡ request.explains }
+    ensures ended { IfOk result (λ ended. Sees (S.files store.old) (λ seen. (ended ≡ spec.asked_ending (request_of asked.now) seen)
+        × spec.IsReadable (request_of asked.now) (input_of (request_of asked.now) seen))) }
+    ensures answers { IfOk result (λ ended. spec.is_fault ended.status ≡ false) }
+    ensures same { S.files store.new ≡ S.files store.old }
+    ensures writing { S.is_writing store.new ≡ S.is_writing store.old }
+    ensures later { S.faults store.old ≤ S.faults store.new }
+    ensures store { result ≡ Err Stop.Store → Rose (S.faults store.old) (S.faults store.new) ⊎ Tells (S.files store.old) (λ seen. spec.asked_ending (request_of asked.now) seen ≡ spec.store_fault) }
+{
+    match load_explained(alloc, store, table, page, &asked.options) {
+        Ok(Found::Tree { input }) => answer(alloc, asked, wanted(alloc, input, asked)?, store),
+        Ok(
+            Found::Refused {
+                page: bytes,
+                rule,
+                at,
+            },
+        ) => {
+            let lines = explained_page(alloc, page, bytes.as_slice(), rule, at)?;
+            Ok(says_lines(alloc, Status::PageRefused, lines))
+        }
+        Err(Unread::Table { fault }) => {
+            Ok(says(alloc, Status::TableRefused, table_line(alloc, &fault)?))
+        }
+        Err(Unread::Page { rule: _, at: _ }) => unreachable!(),
+        Err(Unread::Json { fault: _ }) => unreachable!(),
+        Err(Unread::Store) => Err(Stop::Store),
+        Err(Unread::Memory) => Err(Stop::Memory),
+    }
+}
+
+/// What a request ends with. Files are read, and none is written yet.
+pub fn work<'w, S: Store>(
+    alloc: Global,
+    asked: &Asked<'w>,
+    store: &mut S,
+) -> Result<Ended<'w>, Stop>
+    requires apart { request.is_apart (origin_of asked.now.origin) (work_of asked.now.work) ≡ true }
+    ensures ended { IfOk result (λ ended. Sees (S.files store.old) (λ seen. (ended ≡ spec.asked_ending (request_of asked.now) seen)
+        × spec.IsReadable (request_of asked.now) (input_of (request_of asked.now) seen))) }
+    ensures answers { IfOk result (λ ended. spec.is_fault ended.status ≡ false) }
+    ensures same { S.files store.new ≡ S.files store.old }
+    ensures writing { S.is_writing store.new ≡ S.is_writing store.old }
+    ensures later { S.faults store.old ≤ S.faults store.new }
+    ensures store { result ≡ Err Stop.Store → Rose (S.faults store.old) (S.faults store.new) ⊎ Tells (S.files store.old) (λ seen. spec.asked_ending (request_of asked.now) seen ≡ spec.store_fault) }
+{
+    match (asked.work, asked.origin) {
+        (Work::Explain, Origin::PageAt { table, page }) => {
+            work_explained(alloc, asked, store, table, page)
+        }
+        _ => work_plain(alloc, asked, store),
     }
 }

@@ -16,7 +16,7 @@ const DONE: [&str; 7] = [
 ];
 
 const USAGE: &str =
-    "usage: hminify minify, check, fragment, checkfragment or minifyjson TABLE PAGE OUT CERT, tree or json TABLE PAGE, measure TABLE NUMBER SIZE\n";
+    "usage: hminify minify, check, fragment, checkfragment or minifyjson TABLE PAGE OUT CERT, tree, json or explain TABLE PAGE, measure TABLE NUMBER SIZE, help, version\n";
 
 /// What a run is given: its words, the page where there is one, and the calls that are listed to fail, counted from 1.
 #[derive(Clone, Copy)]

@@ -41,6 +41,7 @@ fn is_command(asked: &Asked<'_>, wanted: &[&str]) -> bool {
             Work::Check { out, cert } => wanted == ["check", table, page, out, cert].as_slice(),
             Work::Show => wanted == ["tree", table, page].as_slice(),
             Work::TellJson => wanted == ["json", table, page].as_slice(),
+            Work::Explain => wanted == ["explain", table, page].as_slice(),
             Work::Measure => false,
         },
         Origin::FragmentAt { table, page } => match asked.work {

@@ -6,4 +6,5 @@ pub mod Parsed
 pub mod Passes
 pub mod Chosen
 pub mod Meanings
+pub mod Unasked
 pub mod Decimals

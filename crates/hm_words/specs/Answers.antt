@@ -21,6 +21,7 @@ work_of (works.Minify out cert) = words.minifies out.now cert.now
 work_of (works.Check out cert) = words.checks out.now cert.now
 work_of works.Show = words.shows
 work_of works.TellJson = words.tells_json
+work_of works.Explain = words.explains
 work_of works.Measure = words.measures
 
 abbrev pub command_of : Origin × Work → words.Command

@@ -12,6 +12,8 @@ use Rattle.hm_words.specs.declared.commands.Source.TheVariants as sources
 use Rattle.hm_words.specs.declared.flags.Choices.{Choices}
 use Rattle.hm_words.specs.declared.flags.Setting.{Setting}
 use Rattle.hm_words.specs.declared.flags.Setting.TheVariants.{Comments, Booleans, Empty, Redundant, Doctype, Space, Conservative, Omit, Unquote, Tight, Ascii, Sparse, Order}
+use Rattle.hm_words.specs.declared.notices.Notice.{Notice}
+use Rattle.hm_words.specs.declared.notices.Notice.TheVariants.{Help, Version}
 use Rattle.hm_words.specs.declared.writing.Writing.{Writing}
 
 -- where the tree of a request comes from, with the names of its files
@@ -27,6 +29,7 @@ pub data Work : Type 0 where
   checks : List ℕ → List ℕ → Work  -- OUT, CERT
   shows : Work
   tells_json : Work
+  explains : Work
   measures : Work
 
 -- a command: where its tree comes from, and what is done with it
@@ -43,9 +46,13 @@ pub record Asked : Type 0 where
 abbrev pub asks : Origin → Work → TreeOptions → Writing → Asked
 asks origin work options writing = record { origin = origin; work = work; options = options; writing = writing }
 
--- the names of table and page differ, where the table `none` is no name
+-- the words of a table that is no file: `none` and `html`
+abbrev pub is_table_word : List ℕ → Bool
+is_table_word table = bytes_eq table (codes "none") || bytes_eq table (codes "html")
+
+-- the names of table and page differ, where a word of a table is no name
 abbrev pub are_apart : List ℕ → List ℕ → Bool
-are_apart table page = bytes_eq table (codes "none") || not (bytes_eq table page)
+are_apart table page = is_table_word table || not (bytes_eq table page)
 
 -- ---- Flags, anywhere among the words
 
@@ -148,7 +155,7 @@ choices_of ws = fold (set_by ws) no_choices rows
 
 -- ---- The names of a command's files
 
--- the names of the origin's files differ, where the table `none` is no name
+-- the names of the origin's files differ, where a word of a table is no name
 abbrev pub is_origin_apart : Origin → Bool
 is_origin_apart (page_at table page) = are_apart table page
 is_origin_apart (fragment_at table page) = are_apart table page
@@ -171,6 +178,7 @@ is_work_apart origin (minifies out cert) = are_files_apart origin out cert
 is_work_apart origin (checks out cert) = are_files_apart origin out cert
 is_work_apart origin shows = true
 is_work_apart origin tells_json = true
+is_work_apart origin explains = true
 is_work_apart origin measures = true
 
 -- all names differ
@@ -212,6 +220,7 @@ commands =
     ∷ command_row (codes "checkfragment") sources.Fragment deeds.Check
     ∷ command_row (codes "tree") sources.Page deeds.Show
     ∷ command_row (codes "json") sources.Page deeds.TellJson
+    ∷ command_row (codes "explain") sources.Page deeds.Explain
     ∷ command_row (codes "minifyjson") sources.Json deeds.Minify
     ∷ command_row (codes "measure") sources.Number deeds.Measure
     ∷ []
@@ -247,6 +256,7 @@ work_in deeds.Minify (out ∷ cert ∷ []) = Some (minifies out cert)
 work_in deeds.Check (out ∷ cert ∷ []) = Some (checks out cert)
 work_in deeds.Show [] = Some shows
 work_in deeds.TellJson [] = Some tells_json
+work_in deeds.Explain [] = Some explains
 work_in deeds.Measure [] = Some measures
 work_in deed names = None
 
@@ -299,3 +309,38 @@ with_flags ws (Some command) = if is_apart command.0 command.1 && fits command w
 -- what the words ask for, where they have a meaning
 unfoldable pub asked : List (List ℕ) → Option Asked
 asked ws = if are_filled ws && are_flags ws then with_flags ws (command_in (names_in ws)) else None
+
+-- ---- Notices
+
+-- a notice by a word that asks for it
+pub record NoticeRow : Type 0 where
+  pub name : List ℕ
+  pub notice : Notice
+
+abbrev notice_row : List ℕ → Notice → NoticeRow
+notice_row name notice = record { name = name; notice = notice }
+
+-- the table of notices
+abbrev pub notices : List NoticeRow
+notices =
+    notice_row (codes "help") Help
+    ∷ notice_row (codes "--help") Help
+    ∷ notice_row (codes "-h") Help
+    ∷ notice_row (codes "version") Version
+    ∷ notice_row (codes "--version") Version
+    ∷ notice_row (codes "-V") Version
+    ∷ []
+
+-- the notice of a word
+abbrev pub notice_among : List NoticeRow → List ℕ → Option Notice
+notice_among [] word = None
+notice_among (row ∷ rows) word = if bytes_eq word row.name then Some row.notice else notice_among rows word
+
+abbrev pub notice_of : List ℕ → Option Notice
+notice_of word = notice_among notices word
+
+-- A notice is asked for by a single word. Such a word has no other meaning.
+abbrev pub notice_in : List (List ℕ) → Option Notice
+notice_in [] = None
+notice_in (word ∷ []) = notice_of word
+notice_in (word ∷ more ∷ words) = None

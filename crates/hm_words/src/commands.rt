@@ -26,6 +26,8 @@ pub enum Deed {
     Show,
     /// It is told as JSON.
     TellJson,
+    /// Its page is explained: where and why it is refused, or how short its tree can be written.
+    Explain,
     /// It is written shortest, and what was written is checked in memory.
     Measure,
 }
@@ -46,6 +48,8 @@ pub fn row_of(name: &str) -> Option<(Source, Deed)>
         Some((Source::Page, Deed::Show))
     } else if name == "json" {
         Some((Source::Page, Deed::TellJson))
+    } else if name == "explain" {
+        Some((Source::Page, Deed::Explain))
     } else if name == "minifyjson" {
         Some((Source::Json, Deed::Minify))
     } else if name == "measure" {

@@ -4,11 +4,13 @@
 mod commands;
 mod flags;
 mod line;
+mod notices;
 mod numbers;
 mod words;
 mod writing;
 
-pub use commands::{Deed, Source};
+pub use commands::{Deed, Source, row_of};
 pub use flags::{Choices, FLAGS, Flag, Setting};
+pub use notices::{Notice, notice_in};
 pub use words::{Asked, Origin, WordsFault, Work};
 pub use writing::Writing;

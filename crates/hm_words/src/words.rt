@@ -57,6 +57,8 @@ pub enum Work<'w> {
     Show,
     /// It is told as JSON.
     TellJson,
+    /// Its page is explained: where and why it is refused, or how short its tree can be written.
+    Explain,
     /// It is written shortest, and what was written is checked in memory.
     Measure,
 }
@@ -79,14 +81,21 @@ pub enum WordsFault {
     Memory,
 }
 
-/// Whether two names differ, where the table `none` is none.
+/// Whether a table is one that is no file: `none`, or `html`.
+fn is_table_word(table: &str) -> bool
+    ensures { result ≡ spec.is_table_word table.now }
+{
+    table == "none" || table == "html"
+}
+
+/// Whether two names differ, where a word of a table is none.
 fn are_apart(table: &str, page: &str) -> bool
     ensures { result ≡ spec.are_apart table.now page.now }
 {
-    table == "none" || table != page
+    is_table_word(table) || table != page
 }
 
-/// Whether the names of an origin's files differ, where the table `none` is none.
+/// Whether the names of an origin's files differ, where a word of a table is none.
 fn is_origin_apart(origin: &Origin<'_>) -> bool
     ensures { result ≡ spec.is_origin_apart (origin_of origin.now) }
 {
@@ -125,7 +134,7 @@ fn are_files_apart(origin: &Origin<'_>, out: &str, cert: &str) -> bool
     is_away(origin, out) && is_away(origin, cert) && out != cert
 }
 
-/// Whether the names of a command's files differ, where the table `none` is none.
+/// Whether the names of a command's files differ, where a word of a table is none.
 fn is_apart(origin: &Origin<'_>, work: &Work<'_>) -> bool
     ensures { result ≡ spec.is_apart (origin_of origin.now) (work_of work.now) }
 {
@@ -135,6 +144,7 @@ fn is_apart(origin: &Origin<'_>, work: &Work<'_>) -> bool
             Work::Check { out, cert } => are_files_apart(origin, out, cert),
             Work::Show => true,
             Work::TellJson => true,
+            Work::Explain => true,
             Work::Measure => true,
         }
 }
@@ -249,6 +259,10 @@ fn work_in<'w>(deed: Deed, names: &[&'w str]) -> Option<Work<'w>>
         },
         Deed::TellJson => match names {
             [] => Some(Work::TellJson),
+            _ => None,
+        },
+        Deed::Explain => match names {
+            [] => Some(Work::Explain),
             _ => None,
         },
         Deed::Measure => match names {

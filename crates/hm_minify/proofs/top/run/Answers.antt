@@ -1,22 +1,29 @@
 use Rattle.std.proofs.Common.{ap, subst}
 use Rattle.hm_words.specs.Words.{asked, is_fragment}
 use Rattle.hm_minify.specs.Endings.{IsReadableAsked, ending, is_fault}
-use Rattle.hm_minify.specs.Lines.{usage_line}
+use Rattle.hm_minify.specs.Lines.{notice_text, usage_line}
 use Rattle.hm_minify.specs.Outside.{outside}
 use Rattle.hm_minify.proofs.Courses.{answer, answered, complete, whole, left, store_cause, store_said, sink_cause, sink_front, memory}
 use Rattle.hm_minify.proofs.JsonRead.{json_minified}
-use Rattle.hm_minify.proofs.Meanings.{usage_answers, usage_unasked, usage_or_fault, minified, minified_fragment, checks, checks_fragment, denies, shows, measures, always_measures, refuses_json, refuses_page, refuses_table, tells}
+use Rattle.hm_minify.proofs.Meanings.{usage_answers, usage_unasked, usage_or_fault, minified, minified_fragment, checks, checks_fragment, denies, shows, measures, always_measures, noticed, refuses_json, refuses_page, refuses_table, tells}
 use Rattle.hm_minify.proofs.Others.{others}
+use Rattle.hm_minify.proofs.PagesTold.{explains_page, settles}
 use Rattle.hm_minify.proofs.top.run.Goals as goal
+
+pub returns-clause-notice : goal.returns-clause-notice
+returns-clause-notice g c = λ n is.
+    let p = c.perform.ensures.noticed n is in
+    let q = noticed (notice_text n) c.perform.result (outside g.S.Store g.O.Sink c.args.store.now c.args.out.now) (outside g.S.Store g.O.Sink c.perform.new.store c.perform.new.out) p.1 in
+    (p.0, q.0, q.1)
 
 pub returns-clause-usage : goal.returns-clause-usage
 returns-clause-usage g c = λ is.
     let u = usage_unasked c.args.words.now c.perform.result _ _ (answer (ending c.args.words.now) (IsReadableAsked (asked c.args.words.now)) c.perform.result _ _ c.perform.ensures.course (usage_answers c.perform.result is)) is in
-    (u.0, (c.perform.ensures.unasked u.0).0, u.1)
+    (u.0, u.1, (c.perform.ensures.unasked u.0 u.1).0, u.2)
 
 pub returns-clause-no_meaning : goal.returns-clause-no_meaning
-returns-clause-no_meaning g c = λ none.
-    let p = c.perform.ensures.unasked none in
+returns-clause-no_meaning g c = λ none silent.
+    let p = c.perform.ensures.unasked none silent in
     (p.0, usage_or_fault usage_line c.perform.result (outside g.S.Store g.O.Sink c.args.store.now c.args.out.now) (outside g.S.Store g.O.Sink c.perform.new.store c.perform.new.out) p.1)
 
 pub returns-clause-answer : goal.returns-clause-answer
@@ -82,7 +89,13 @@ pub returns-clause-always_measured : goal.returns-clause-always_measured
 returns-clause-always_measured g c = λ request e work is. always_measures c.args.words.now request c.perform.result _ _ e work (answer (ending c.args.words.now) (IsReadableAsked (asked c.args.words.now)) c.perform.result _ _ c.perform.ensures.course is) is
 
 pub returns-clause-refused_page : goal.returns-clause-refused_page
-returns-clause-refused_page g c = λ request e is. refuses_page c.args.words.now request c.perform.result _ _ e (answer (ending c.args.words.now) (IsReadableAsked (asked c.args.words.now)) c.perform.result _ _ c.perform.ensures.course (ap is_fault is)) is
+returns-clause-refused_page g c = λ request e plain is. refuses_page c.args.words.now request c.perform.result _ _ e plain (answer (ending c.args.words.now) (IsReadableAsked (asked c.args.words.now)) c.perform.result _ _ c.perform.ensures.course (ap is_fault is)) is
+
+pub returns-clause-explained : goal.returns-clause-explained
+returns-clause-explained g c = λ request table page e origin work is. explains_page c.args.words.now request table page c.perform.result _ _ e origin work (answer (ending c.args.words.now) (IsReadableAsked (asked c.args.words.now)) c.perform.result _ _ c.perform.ensures.course (ap is_fault is)) is
+
+pub returns-clause-settled : goal.returns-clause-settled
+returns-clause-settled g c = λ request table page e origin work is. settles c.args.words.now request table page c.perform.result _ _ e origin work (answered (ending c.args.words.now) (IsReadableAsked (asked c.args.words.now)) c.perform.result _ _ c.perform.ensures.course (ap is_fault is)) is
 
 pub returns-clause-refused_json : goal.returns-clause-refused_json
 returns-clause-refused_json g c = λ request e is. refuses_json c.args.words.now request c.perform.result _ _ e (answer (ending c.args.words.now) (IsReadableAsked (asked c.args.words.now)) c.perform.result _ _ c.perform.ensures.course (ap is_fault is)) is

@@ -1,8 +1,9 @@
 use Rattle.std.proofs.lemmas.Result.{IfOk-weaker}
+use Rattle.hm_minify.specs.Endings.{page_name}
 use Rattle.hm_minify.specs.Inputs.{tree}
 use Rattle.hm_words.specs.Answers.{request_of}
 use Rattle.hm_minify.proofs.Answered.{answer_before, asked_seen, if_both, work_apart}
-use Rattle.hm_minify.proofs.work.work.Goals as goal
+use Rattle.hm_minify.proofs.work.work_plain.Goals as goal
 
 pub returns-in_ok-wanted-in-Ok-clause-ended : goal.returns-in_ok-wanted-in-Ok-clause-ended
 returns-in_ok-wanted-in-Ok-clause-ended g c =
@@ -11,5 +12,5 @@ returns-in_ok-wanted-in-Ok-clause-ended g c =
     let made = c.in_ok-wanted-in-Ok.field-0 in
     IfOk-weaker c.answer.result _ _
     (λ ended e. asked_seen told request (tree c.in-Ok.input.bytes c.in-Ok.input.table.entries c.in-Ok.input.tree) made.bytes made.table.entries made.tree ended (work_apart request.origin request.work c.requires.apart)
-    c.in-Ok.ensures.ok c.in_ok-wanted-in-Ok.ensures.wanted (answer_before told _ request.work request.writing made.bytes made.table.entries made.tree ended c.in-Ok.ensures.same e.0) (c.in_ok-wanted-in-Ok.ensures.settled, e.1))
+    c.in-Ok.ensures.ok c.in_ok-wanted-in-Ok.ensures.wanted (answer_before told _ (page_name request.origin) request.work request.writing made.bytes made.table.entries made.tree ended c.in-Ok.ensures.same e.0) (c.in_ok-wanted-in-Ok.ensures.settled, e.1))
     (if_both c.answer.result _ _ c.answer.ensures.ended c.answer.ensures.readable)

@@ -1,0 +1,46 @@
+//! Notices: what the program says of itself.
+ghost use Rattle.std.specs.Prelude.{◌≡◌, IfSome, None};
+ghost use Rattle.hm_words.specs.Words as spec;
+
+use hm_base::Word;
+
+/// What the program says of itself.
+#[derive(Clone, Copy, Debug, PartialEq, Eq)]
+pub enum Notice {
+    /// How it is called.
+    Help,
+    /// Its version, and the toolchain that it was proved with.
+    Version,
+}
+
+/// The notice that a word asks for. A further word is a row here.
+fn notice_of(word: &str) -> Option<Notice>
+    ensures { result ≡ spec.notice_of word.now }
+{
+    if word == "help" {
+        Some(Notice::Help)
+    } else if word == "--help" {
+        Some(Notice::Help)
+    } else if word == "-h" {
+        Some(Notice::Help)
+    } else if word == "version" {
+        Some(Notice::Version)
+    } else if word == "--version" {
+        Some(Notice::Version)
+    } else if word == "-V" {
+        Some(Notice::Version)
+    } else {
+        None
+    }
+}
+
+/// The notice that words ask for: a single word of the table of notices.
+pub fn notice_in(words: &[Word]) -> Option<Notice>
+    ensures notice { result ≡ spec.notice_in words.now }
+    ensures unasked { IfSome result (λ _. spec.asked words.now ≡ None) }
+{
+    match words {
+        [word] => notice_of(word.text.as_str()),
+        _ => None,
+    }
+}

@@ -1,8 +1,8 @@
 #!/usr/bin/env python3
 """calls.py [PROGRAM]: each call on the system fails in turn.
 
-Runs PROGRAM (`crates/hminify/out/hminify` where none is named) under strace on a small page and on a tree as JSON, with and without a
-table file, and has each call that it makes to open, read, write and close a file fail in turn, with ENOSPC, EIO, EINTR and EAGAIN. The run has to end so:
+Runs PROGRAM (`crates/hminify/out/hminify` where none is named) under strace on a small page, on a fragment and on a tree as JSON, with
+and without a table file, and has each call that it makes to open, read, write and close a file fail in turn, with ENOSPC, EIO, EINTR and EAGAIN. The run has to end so:
 
 - a file that isn't opened or read: status 5, `store fault`, no file changed;
 - OUT or CERT not opened or written: status 5, `store fault`, OUT as before or a prefix of what is right, CERT as before unless OUT
@@ -26,7 +26,11 @@ BUILT = os.path.join(HERE, "../crates/hminify/out/hminify")
 FLAGS = ["--omit", "--unquote"]
 TABLE = b'{"&lt;":{"codepoints":[60]},"&lt":{"codepoints":[60]}}'
 TREE = b'[["doctype","plain"],["start","html",[]],["start","head",[]],["end"],["start","body",[]],["text","a<b"],["end"],["end"]]'
-BEFORE = {"table": TABLE, "tree": TREE, "page": b"<!doctype html><p>a&#60;b</p>", "out": b"before " * 99, "cert": b"before, too " * 99}
+BEFORE = {"table": TABLE, "tree": TREE, "part": b"<p>a&#60;b</p>", "page": b"<!doctype html><p>a&#60;b</p>", "out": b"before " * 99, "cert": b"before, too " * 99}
+# The file that these commands read in place of `page`, and the commands that read no OUT and CERT, or read what another one wrote.
+READ = {"minifyjson": "tree", "fragment": "part", "checkfragment": "part"}
+SHORT = ("tree", "json", "explain")
+WRITTEN_BY = {"check": "minify", "checkfragment": "fragment"}
 ERRORS = ["ENOSPC", "EIO", "EINTR", "EAGAIN"]
 KINDS = ["openat", "read", "write", "close"]
 
@@ -90,15 +94,16 @@ def main():
     with tempfile.TemporaryDirectory(prefix="hminify-calls-") as top:
         folder = os.path.join(top, "files")
         os.mkdir(folder)
-        written = None
-        for words in ("minify table", "check table", "minify none", "tree table", "json table", "minifyjson table"):
+        written = {}
+        for words in ("minify table", "check table", "fragment table", "checkfragment table", "minifyjson table", "tree table", "json table",
+                      "explain table", "explain html", "minify none"):
             words = words.split()
-            before = BEFORE if words[0] != "check" else written
-            page = "tree" if words[0] == "minifyjson" else "page"
-            words = words + [page] + ([] if words[0] in ("tree", "json") else ["out", "cert"]) + FLAGS
+            command = words[0]
+            before = written.get(WRITTEN_BY.get(command), BEFORE)
+            words = words + [READ.get(command, "page")] + ([] if command in SHORT else ["out", "cert"]) + FLAGS
             *plain, lines = ended(program, words, before, folder)
             plain = tuple(plain)
-            written = written or plain[2]
+            written[command] = plain[2]
             for kind, number, name in list(calls_of(lines)):
                 for error in ERRORS:
                     *found, _ = ended(program, words, before, folder, "-e", "inject=%s:error=%s:when=%d" % (kind, error, number))

@@ -49,6 +49,8 @@ def cases(lines):
             case["status"] = int(rest)
         elif key == "|":
             case["printed"] += rest.encode() + b"\n"
+        elif key == "says":
+            case["printed"] += bytes_of(rest) + b"\n"
         elif key == "end":
             yield case
 

@@ -8,7 +8,7 @@ matplotlib.use("svg")
 matplotlib.rcParams.update({"svg.hashsalt": "hminify", "svg.fonttype": "none", "font.size": 9, "font.family": "DejaVu Sans"})
 import matplotlib.pyplot
 
-PICTURE = os.path.join(os.path.dirname(os.path.abspath(__file__)), "../docs/graph.svg")
+DOCS = os.path.join(os.path.dirname(os.path.abspath(__file__)), "../docs")
 BLUE = "#1b6ca8"
 
 # The graph of `<!doctype html><p title=x>a`: in each layer its states, by name, height and price; then the edges, by layer, states, and bytes.
@@ -26,6 +26,11 @@ EDGES = [
 ]
 SHORTEST = {(0, 0, 0), (1, 0, 0), (2, 0, 0), (3, 0, 0), (4, 0, 0), (5, 0, 0), (6, 0, 0), (7, 0, 0)}
 WIDTHS = [0, 2.1, 3.1, 5.3, 6.5, 7.7, 8.8, 9.8, 11.1]
+
+
+def save(figure, name):
+    """Writes a picture of docs/, the same bytes each time."""
+    figure.savefig(os.path.join(DOCS, name), bbox_inches="tight", metadata={"Date": None, "Creator": None})
 
 
 def draw_graph():
@@ -51,7 +56,7 @@ def draw_graph():
     axes.set_xlim(-0.4, 11.5)
     axes.set_ylim(-1.9, 1.6)
     axes.axis("off")
-    figure.savefig(PICTURE, bbox_inches="tight", metadata={"Date": None, "Creator": None})
+    save(figure, "graph.svg")
 
 
 if __name__ == "__main__":

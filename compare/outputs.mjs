@@ -12,7 +12,7 @@ import { mkdtempSync, readFileSync, rmSync, statSync } from "node:fs";
 import { tmpdir } from "node:os";
 import { basename, dirname, join, resolve } from "node:path";
 import { fileURLToPath } from "node:url";
-import { REASONS, firstOther, library, linesOf, pagesBelow } from "./trees.mjs";
+import { REASONS, firstOther, library, pagesBelow, shown, treeOf } from "./trees.mjs";
 
 const TABLE = join(dirname(fileURLToPath(import.meta.url)), "../tables/entities.json");
 const RULES = ["--omit", "--unquote", "--tight"];
@@ -30,37 +30,6 @@ function* pagesOf(words) {
       for (const path of pagesBelow(word)) yield [basename(resolve(word)), path];
     }
   }
-}
-
-const treeOf = (parse, bytes) => linesOf(parse, bytes).join("\n");
-
-/** The names of the elements and the texts alone, each run of whitespace as one space, without scripts and styles. */
-function shown(tree) {
-  const lines = [];
-  let [closed, pending, place] = [Infinity, "", 0];
-  const flush = () => {
-    const text = pending.replace(/(\\[nrt]|[ \f])+/g, " ").trim();
-    if (text !== "") lines.push(`${place} "${text}`);
-    pending = "";
-  };
-  for (const line of tree.split("\n")) {
-    const depth = line.search(/\S/);
-    if (depth > closed) continue;
-    closed = Infinity;
-    const [kind, name] = line.slice(depth).split(" ", 2);
-    if (kind === "element") {
-      flush();
-      lines.push(`${depth} ${name}`);
-      if (name === "script" || name === "style") closed = depth;
-    } else if (kind === "text") {
-      // two texts beside each other are one without the comment between them
-      if (depth !== place) flush();
-      place = depth;
-      pending += line.slice(depth + 6, -1);
-    }
-  }
-  flush();
-  return lines.join("\n");
 }
 
 class Sums {

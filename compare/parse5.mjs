@@ -19,6 +19,7 @@ const LEFT_OUT = new Map(Object.entries({
     "for other text",
   names_two_points: "the table has a name that the standard's table hasn't",
   page_two_point_name: "the table has a name that the standard's table hasn't",
+  table_key_of_62_letters: "the table has a name that the standard's table hasn't",
 }));
 
 /** The page's bytes as they stand behind the escapes. */

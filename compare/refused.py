@@ -2,9 +2,9 @@
 """refused.py [PROGRAM]: each request for memory refused in turn, and reads and writes that take fewer bytes than they are asked to.
 
 Builds `refuse.c` beside this script, which stands before the C library, and runs PROGRAM (`crates/hminify/out/hminify` where none is
-named) with it on a small page, on the check of its files, on an ordinary page of 977 bytes, on trees as JSON and on the other commands:
-once with each request for memory refused, once with it and all after it refused, and with reads and writes of at most 1, 2, 3, 7 and 100
-bytes. A refused request ends with the answer of the run without it, or with status 7, nothing printed, and OUT and CERT as they
+named) with it on a small page, on the check of its files, on an ordinary page of 977 bytes, on a fragment, on trees as JSON and on the
+other commands: once with each request for memory refused, once with it and all after it refused, and with reads and writes of at most
+1, 2, 3, 7 and 100 bytes. A refused request ends with the answer of the run without it, or with status 7, nothing printed, and OUT and CERT as they
 were; a shorter read or write changes nothing. Prints how often each came about; ends with 1 where something else did. Needs Linux
 with glibc, cc, and the standard library of Python 3.9 or later.
 """
@@ -19,6 +19,7 @@ sys.path.insert(0, HERE)
 from cases import DATA, bytes_of, cases  # noqa: E402
 
 PAGE = b"<!doctype html><p>a</p><p>b</p>"
+PART = b"<p>a</p><p>b</p>"
 TREE = (b'[["doctype","plain"],["start","html",[]],["start","head",[]],["end"],["start","body",[["id","x"]]],["start","p",[]],'
         b'["text","\\u00e9"],["end"],["comment","c"],["end"],["end"]]')
 FLAGS = ["--omit", "--unquote"]
@@ -89,7 +90,12 @@ def runs(program, library, folder):
     yield large
     written = large.ended(folder)[2]
     yield Run(program, library, "check, the ordinary page", ["check"] + ordinary["words"][1:], written)
+    part = Run(program, library, "fragment", ["fragment", "none", "page", "out", "cert"] + FLAGS, dict(KEPT, page=PART))
+    yield part
+    yield Run(program, library, "checkfragment", ["checkfragment", "none", "page", "out", "cert"] + FLAGS, part.ended(folder)[2])
     yield Run(program, library, "tree", ["tree", "none", "page"], dict(KEPT, page=PAGE))
+    for name, page in [("explain", PAGE), ("explain, refused", PAGE + b"</i>")]:
+        yield Run(program, library, name, ["explain", "html", "page"] + FLAGS, dict(KEPT, page=page))
     yield Run(program, library, "json", ["json", "none", "page"], dict(KEPT, page=PAGE))
     for name, tree in [("minifyjson", TREE), ("minifyjson, refused", TREE[:-1] + b',["text","x"]]')]:
         yield Run(program, library, name, ["minifyjson", "none", "tree", "out", "cert"] + FLAGS, dict(KEPT, tree=tree))

@@ -10,7 +10,7 @@ bytes for a byte of the page. A peak can't be less than that of this script, som
 `crates/hminify/out/hminify` where none is named; `--peer none` leaves the peer out. With `--json` there is no peer, and `json` and `minifyjson`
 run beside `minify`; for `minifyjson` all is told for the bytes of the JSON. In "reading alone" the tree breaks a rule after its last event, so
 that it is read and judged, and nothing is written. Without a FILE there are five documents
-of Debian's packages, and a made page of long values. Needs Linux and the standard library of Python 3.9 or later.
+of Debian's packages, and two made pages, one of long values and one of dense tags. Needs Linux and the standard library of Python 3.9 or later.
 """
 import argparse
 import os
@@ -75,6 +75,49 @@ def long_values(target, least):
     return os.path.getsize(target)
 
 
+def dense_tags(target, least):
+    """Writes a page of short lists and paragraphs with a tag for some four bytes, and gives the number of its bytes."""
+    choose = random.Random(7)
+    parts = ["<!DOCTYPE html>\n<html>\n<head>\n<title>Tags</title>\n</head>\n<body>\n"]
+    size = len(parts[0])
+
+    def marked(depth):
+        name = choose.choice(["b", "i", "u", "s"])
+        inside = "".join(marked(depth - 1) for _ in range(choose.randint(1, 2))) if depth else choose.choice(["", "a", "b"])
+        return "<%s>%s</%s>" % (name, inside, name)
+
+    while size < least:
+        items = [marked(choose.randint(0, 2)) for _ in range(choose.randint(1, 5))]
+        list_of_items = "<ul>%s</ul>\n" % "".join("<li>%s</li>" % item for item in items)
+        parts.append(choose.choice([list_of_items, "<p>%s</p>\n" % "".join(items)]))
+        size += len(parts[-1])
+    parts.append("</body>\n</html>\n")
+    with open(target, "w") as file:
+        file.write("".join(parts))
+    return os.path.getsize(target)
+
+
+# Pages that are made in place of taken from a document.
+MADE = {"long values": long_values, "dense tags": dense_tags}
+
+
+def put_page(name, path, target, least):
+    """Writes a document repeated or, without a path, the made page of this name, and gives the number of its bytes."""
+    return repeated(path, target, least) if path else MADE[name](target, least)
+
+
+def all_documents():
+    """The kinds of page, each with its document, or None where it is made."""
+    return dict(DOCUMENTS, **dict.fromkeys(MADE))
+
+
+def look_for(documents):
+    """Ends the script where a document isn't there."""
+    for path in documents.values():
+        if path and not os.path.exists(path):
+            raise SystemExit("no %s; the five documents: apt-get install %s" % (path, PACKAGES))
+
+
 class Call:
     """A command with the runs that it had."""
 
@@ -108,14 +151,14 @@ class Call:
             page, self.name, speeds(self.processor), speeds(self.wall), self.peak / size, written)
 
 
-def calls(program, peer):
+def calls(program, peer, table="none"):
     """The commands, in the order in which they take turns."""
     found = [
-        Call("minify", [program, "minify", "none", "page.html", "out.html", "cert"] + FLAGS, ["out.html", "cert"]),
-        Call("check", [program, "check", "none", "page.html", "out.html", "cert"] + FLAGS, []),
-        Call("minify --sparse", [program, "minify", "none", "page.html", "out3.html", "cert3", "--sparse"] + FLAGS, ["out3.html", "cert3"]),
-        Call("check, sparse", [program, "check", "none", "page.html", "out3.html", "cert3"] + FLAGS, []),
-        Call("tree", [program, "tree", "none", "page.html"], []),
+        Call("minify", [program, "minify", table, "page.html", "out.html", "cert"] + FLAGS, ["out.html", "cert"]),
+        Call("check", [program, "check", table, "page.html", "out.html", "cert"] + FLAGS, []),
+        Call("minify --sparse", [program, "minify", table, "page.html", "out3.html", "cert3", "--sparse"] + FLAGS, ["out3.html", "cert3"]),
+        Call("check, sparse", [program, "check", table, "page.html", "out3.html", "cert3"] + FLAGS, []),
+        Call("tree", [program, "tree", table, "page.html"], []),
     ]
     if peer:
         found.append(Call("peer", [peer, "--type", "html", "-o", "peer.html", "page.html"], ["peer.html"]))
@@ -159,10 +202,8 @@ def main():
     peer = shutil.which(given.peer) if wants_peer else None
     if wants_peer and peer is None:
         raise SystemExit("no %s: apt-get install minify, or say --peer none" % given.peer)
-    documents = dict(word.split("=", 1) for word in given.documents) or dict(DOCUMENTS, **{"long values": None})
-    for path in documents.values():
-        if path and not os.path.exists(path):
-            raise SystemExit("no %s; the five documents: apt-get install %s" % (path, PACKAGES))
+    documents = dict(word.split("=", 1) for word in given.documents) or all_documents()
+    look_for(documents)
     if peer:
         said = subprocess.run([peer, "--version"], capture_output=True, text=True)
         print("peer: %s" % (said.stdout or said.stderr).strip())
@@ -173,7 +214,7 @@ def main():
     for name, path in documents.items():
         with tempfile.TemporaryDirectory(prefix="hminify-speed-") as folder:
             target = os.path.join(folder, "page.html")
-            size = repeated(path, target, given.size) if path else long_values(target, given.size)
+            size = put_page(name, path, target, given.size)
             if given.json:
                 put_trees(program, folder)
             turns = json_calls(program) if given.json else calls(program, peer)

@@ -60,6 +60,63 @@ export function linesOf(parse, page) {
   return document.childNodes.flatMap((node) => dump(node, 0, []));
 }
 
+/** The same lines as one text. */
+export const treeOf = (parse, page) => linesOf(parse, page).join("\n");
+
+/** The names of the elements and the texts alone, each run of whitespace as one space, without scripts and styles. */
+export function shown(tree) {
+  const lines = [];
+  let [closed, pending, place] = [Infinity, "", 0];
+  const flush = () => {
+    const text = pending.replace(/(\\[nrt]|[ \f])+/g, " ").trim();
+    if (text !== "") lines.push(`${place} "${text}`);
+    pending = "";
+  };
+  for (const line of tree.split("\n")) {
+    const depth = line.search(/\S/);
+    if (depth > closed) continue;
+    closed = Infinity;
+    const [kind, name] = line.slice(depth).split(" ", 2);
+    if (kind === "element") {
+      flush();
+      lines.push(`${depth} ${name}`);
+      if (name === "script" || name === "style") closed = depth;
+    } else if (kind === "text") {
+      // two texts beside each other are one without the comment between them
+      if (depth !== place) flush();
+      place = depth;
+      pending += line.slice(depth + 6, -1);
+    }
+  }
+  flush();
+  return lines.join("\n");
+}
+
+// The elements that run on in a line of text.
+const IN_LINE = new Set(
+  ("a abbr acronym b bdi bdo big cite code data del dfn em font i ins kbd label mark nobr q s samp small span strike strong " +
+    "sub sup time tt u var").split(" "),
+);
+
+/** The words as they are read: all texts, each run of whitespace as one space, and a space where an element that isn't in line begins or ends. */
+export function words(tree) {
+  const read = [];
+  const open = [];
+  for (const line of tree.split("\n")) {
+    const depth = line.search(/\S/);
+    while (open.length > 0 && open.at(-1).depth >= depth) read.push(open.pop().edge);
+    const [kind, name] = line.slice(depth).split(" ", 2);
+    const hidden = open.at(-1)?.hidden;
+    if (kind === "element") {
+      open.push({ depth, edge: IN_LINE.has(name) ? "" : " ", hidden: hidden || name === "script" || name === "style" });
+      read.push(open.at(-1).edge);
+    } else if (kind === "text" && !hidden) {
+      read.push(line.slice(depth + 6, -1));
+    }
+  }
+  return read.join("").replace(/(\\[nrt]|[ \f])+/g, " ").trim();
+}
+
 /** The same of what `innerHTML` of an element is set to; a byte order mark is text there. */
 export function fragmentLinesOf({ parseFragment, defaultTreeAdapter, html }, element, fragment) {
   const text = new TextDecoder("utf-8", { fatal: true, ignoreBOM: true }).decode(fragment);

@@ -43,14 +43,11 @@ pulled old new rest_old rest_new n into after inside p room takes = record {
   ended = λ none. p.ended none room;
 }
 
--- where nothing is held, all that was taken was fed
-all_fed : (s : Spaced) → s.held ≡ [] → (page : List ℕ) → HasTaken s page → HasRead s.feeding page
-all_fed s none page h = subst (HasRead s.feeding) (sym (h.is ∙ ap (λ x. h.fed ++ x) none ∙ append-nil h.fed)) h.read
-
--- what the builder says of all that it was fed is said of all that was taken
-pub ends : (old new : Spaced) (b : Feeding) (P : ℕ → List Entry → List ℕ → Type 0) → b ≡ new.feeding → new.held ≡ [] → new.feeding.names ≡ old.feeding.names → new.feeding.pieces.limit ≡ old.feeding.pieces.limit
-    → ((taken : List ℕ) → HasTaken old taken → HasTaken new taken) → ((page : List ℕ) → HasRead b page → P b.pieces.limit b.names page) → (page : List ℕ) → HasTaken old page → P old.feeding.pieces.limit old.feeding.names page
-ends old new b P is none names limit takes said page h =
-    let fed : HasRead b page = subst (λ f. HasRead f page) (sym is) (all_fed new none page (takes page h)) in
-    let there : P new.feeding.pieces.limit new.feeding.names page = subst (λ (f : Feeding). P f.pieces.limit f.names page) is (said page fed) in
-    subst (λ t. P old.feeding.pieces.limit t page) names (subst (λ l. P l new.feeding.names page) limit there)
+-- what a builder that was fed what is held says of all that it was fed is said of all that was taken
+pub ends : (s : Spaced) (builder fed : Feeding) (items held : List ℕ) (P : ℕ → List Entry → List ℕ → Type 0) → record { feeding = builder; held = items } ≡ s → held ≡ items → fed.names ≡ builder.names → fed.pieces.limit ≡ builder.pieces.limit
+    → ((bytes : List ℕ) → HasRead builder bytes → HasRead fed (bytes ++ held)) → ((page : List ℕ) → HasRead fed page → P fed.pieces.limit fed.names page) → (page : List ℕ) → HasTaken s page → P s.feeding.pieces.limit s.feeding.names page
+ends s builder fed items held P is same names limit feeds said page taken =
+    let h : HasTaken (record { feeding = builder; held = items }) page = subst (λ x. HasTaken x page) (sym is) taken in
+    let read : HasRead fed page = subst (HasRead fed) (sym (h.is ∙ ap (λ x. h.fed ++ x) (sym same))) (feeds h.fed h.read) in
+    let there : P builder.pieces.limit builder.names page = subst (λ t. P builder.pieces.limit t page) names (subst (λ l. P l fed.names page) limit (said page read)) in
+    subst (λ (x : Spaced). P x.feeding.pieces.limit x.feeding.names page) is there

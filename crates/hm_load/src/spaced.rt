@@ -80,15 +80,18 @@ impl<'t> SpacedBuilder<'t> {
         Ok(())
     }
 
-    /// The tree of the page, of which all bytes were taken, or its first refusal, with its rule and its byte of the page.
+    /// The tree of the page, of which all bytes were taken, or its first refusal, with its rule and its byte of the page. The bytes
+    /// that are held are freed before the tree is ended.
     pub fn end(self) -> Result<Tree, Refused>
         ensures built { IfOk result (λ tree. (page : List ℕ) → HasTaken self.entry page → page_outcome_within self.entry.feeding.pieces.limit self.entry.feeding.names page ≡ built tree) }
         ensures settled { IfOk result (λ tree. (page : List ℕ) → HasTaken self.entry page → Settled tree) }
         ensures refused { IfErr result (λ refused. (page : List ℕ) → HasTaken self.entry page → IsRefusedAs (page_outcome_within self.entry.feeding.pieces.limit self.entry.feeding.names page) refused) }
     {
-        let mut last = self;
-        match last.feed_held() {
-            Ok(()) => last.builder.end(),
+        let SpacedBuilder { mut builder, held } = self;
+        let fed = builder.feed(held.as_slice());
+        drop(held);
+        match fed {
+            Ok(()) => builder.end(),
             Err(Memory) => Err(Refused::Memory),
         }
     }

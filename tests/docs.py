@@ -179,7 +179,7 @@ def try_links(document, text):
 
 
 def try_map(known):
-    """Each crate has a folder and a README, and stands in the map and among the claims."""
+    """Each crate has a folder and a README, and stands in the map, among the claims, and in the README of the whole."""
     for name in known:
         if not (TOP / 'crates' / name / 'README.md').is_file():
             fault('crates.txt', f'{name} has no README')
@@ -187,6 +187,8 @@ def try_map(known):
             fault(MAP, f'no line for {name}')
         if f'(../crates/{name}/README.md)' not in read(TOP / 'docs/CLAIMS.md'):
             fault('docs/CLAIMS.md', f'no link to {name}')
+        if f'`{name}`' not in read(TOP / 'README.md'):
+            fault('README.md', f'no word of {name}')
 
 
 def try_version():

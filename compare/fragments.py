@@ -20,7 +20,7 @@ import sys
 import tempfile
 
 from forged import changed
-from walks import BUILT, FLAGS, HERE, RAW, TABLE, VOID, Second, content, got, put
+from walks import BUILT, FLAGS, HERE, RAW, TABLE, VOID, Second, content, got, line_of, put
 
 FRONT = b"<!doctype html><body>"
 with open(os.path.join(HERE, "../tables/entities.json"), "rb") as entities:
@@ -165,7 +165,7 @@ class Both:
             elif os.path.exists(path):
                 os.remove(path)
         run = subprocess.run([self.program] + words, cwd=self.folder, stdin=subprocess.DEVNULL, capture_output=True, check=False)
-        return run.returncode, run.stdout, got(self.folder, "out"), got(self.folder, "cert")
+        return run.returncode, line_of(run.stdout), got(self.folder, "out"), got(self.folder, "cert")
 
     def ends(self, place, words, files):
         """How a run ends by the program. Where the second program ends otherwise, that is told."""

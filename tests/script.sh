@@ -180,6 +180,13 @@ wants 'another crates.txt: each is built' is "$(tr '\n' ' ' <calls)" 'lib hm_bas
 call "$top/hminify" --build x
 wants '--build beside other words is a word of the program' is "$(cat out)$status" "<--build><x>${room}3"
 
+mv "$top/crates/hminify/out/hminify" kept
+printf '#!/bin/sh\ngrep "^SigIgn:" /proc/self/status\n' >"$top/crates/hminify/out/hminify"
+chmod +x "$top/crates/hminify/out/hminify"
+call "$top/hminify" x
+wants 'a file that grows too large ends no program by a signal' grep -q '[13579bdf]......$' out
+mv kept "$top/crates/hminify/out/hminify"
+
 rmdir "$top/crates/hm_tree/out"
 : >calls
 call "$top/hminify" --build

@@ -150,8 +150,20 @@ if [ -c /dev/full ]; then
     same 'a full OUT: CERT' "$(bytes cert)" "$right_cert"
 fi
 
-# Little memory: OUT and CERT are as before.
+# A limit on the size of files: a fault as any other, where the signal is ignored.
 fill '<!doctype html>' 8000000 x >large
+(
+    trap '' XFSZ
+    ulimit -f 8
+    "$program" minify none large limited cert --omit --unquote >said 2>err
+)
+same 'a limit on the size of files: status' $? 5
+same 'a limit on the size of files: line' "$(cat said)" 'store fault'
+same 'a limit on the size of files: standard error' "$(cat err)" 'hminify: limited: File too large'
+same 'a limit on the size of files: OUT' "$(cmp -n "$(wc -c <limited)" limited large && echo a prefix)" 'a prefix'
+same 'a limit on the size of files: CERT' "$(bytes cert)" "$right_cert"
+
+# Little memory: OUT and CERT are as before.
 (
     # shellcheck disable=SC3045 # dash has it, and bash
     ulimit -v 16384

@@ -44,9 +44,9 @@ builds() {
 
 # A repository of three crates and one that the program isn't made of. Its rt notes each call, fails in a crate with a file
 # `bad`, leaves a broken program and fails in one with a file `worse`, sleeps for the seconds that a file `slow` has, and leaves a
-# program that is there. From the folder of the program it proves all crates at once, where the repository has no file `lone`. Its
-# program prints its words and its folder, and ends with 3. What it tries prints its words, says a line on standard error, and ends
-# with 3.
+# program that is there. From the folder of the program it proves all crates at once, where the repository has no file `lone`, and
+# waits before the one of the number in a file `late`. Its program prints its words and its folder, and ends with 3. What it tries
+# prints its words, says a line on standard error, and ends with 3.
 repository() {
     rm -rf "$room/a place"
     top="$room/a place/of mine"
@@ -67,8 +67,11 @@ echo "$1 $crate" >>"$CALLS"
 if [ "$1" = all ]; then
     cd ../.. || exit 1
     [ ! -e lone ] || exit 1
+    left=$(cat late 2>/dev/null || echo 0)
     for it in crates/*; do
         [ "$it" != crates/hm_cases ] || continue
+        [ "$left" -ne 1 ] || sleep 60
+        left=$((left - 1))
         mkdir -p "$it/out"
         echo "== $(basename "$it")"
     done
@@ -124,10 +127,16 @@ done
 sed -i 's/^hminify.*/hminify: hm_tree hm_1 hm_2 hm_3 hm_4 hm_5 hm_6 hm_7 hm_8 hm_9/' "$top/crates.txt"
 if [ "$(nproc)" -gt 1 ]; then
     call "$top/hminify" x
-    wants 'many crates are proved side by side' is "$(tr '\n' ' ' <calls)" 'all hminify run hminify '
+    wants 'many crates are proved side by side' is "$(tr '\n' ' ' <calls)" 'all hminify lib hm_9 run hminify '
     wants 'many crates: how many are proved is told' grep -q 'proved hminify (12 of 12), 0:0' err
     wants 'many crates: output' is "$(cat out)" "<x>$room"
     rm -r "$top"/crates/*/out
+    echo 11 >"$top/late"
+    : >calls
+    call "$top/hminify" x
+    wants 'many crates: nothing waits for the last two' is "$(tr '\n' ' ' <calls)" 'all hminify lib hm_9 run hminify '
+    wants 'many crates: the last two aren'"'"'t proved beside others' says 'hminify: proving hm_9 (1 of 2), 0:00'
+    rm -r "$top/late" "$top"/crates/*/out
     touch "$top/lone"
     : >calls
     call "$top/hminify" x

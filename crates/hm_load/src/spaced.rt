@@ -16,6 +16,17 @@ use std::marker::Model;
 /// How many bytes come for each one that the builder scans again.
 const SPACING: usize = 3;
 
+/// Frees all bytes of a list.
+///
+/// A block that is freed whole makes the C library's allocator take later blocks of up to that size from its heap, from where
+/// they aren't given back. So the list is cut short in place.
+fn free_in_place(bytes: &mut Vec<u8>)
+    ensures { bytes.new.items ≡ [] }
+{
+    bytes.clear();
+    bytes.shrink_to(1);
+}
+
 /// A builder of the tree of a page, with the bytes that it is to be fed next.
 ///
 /// At each feed the builder scans again what it keeps: the begin of a token that isn't ready. So bytes are held until they
@@ -58,7 +69,7 @@ impl<'t> SpacedBuilder<'t> {
         ensures limit { self.new.feeding.pieces.limit ≡ self.old.feeding.pieces.limit }
     {
         self.builder.feed(self.held.as_slice())?;
-        self.held.clear();
+        free_in_place(&mut self.held);
         Ok(())
     }
 
@@ -87,9 +98,12 @@ impl<'t> SpacedBuilder<'t> {
         ensures settled { IfOk result (λ tree. (page : List ℕ) → HasTaken self.entry page → Settled tree) }
         ensures refused { IfErr result (λ refused. (page : List ℕ) → HasTaken self.entry page → IsRefusedAs (page_outcome_within self.entry.feeding.pieces.limit self.entry.feeding.names page) refused) }
     {
-        let SpacedBuilder { mut builder, held } = self;
+        let SpacedBuilder {
+            mut builder,
+            mut held,
+        } = self;
         let fed = builder.feed(held.as_slice());
-        drop(held);
+        free_in_place(&mut held);
         match fed {
             Ok(()) => builder.end(),
             Err(Memory) => Err(Refused::Memory),

@@ -1,0 +1,93 @@
+//! Pages in pieces: however a page is cut, its tree or its refusal has to be that of the whole page. Prints each page that differs, and
+//! how many there are.
+//!
+//! The pages are those of `measure`, each as it is made and with a byte of it changed, and rows with how many elements are open after
+//! each piece.
+#![tactic(auto)]
+
+mod pieces;
+mod rows;
+
+use hm_base::Memory;
+use hm_gen::page_of;
+use hm_html_names::html_table;
+use hm_refs::Table;
+use pieces::{agrees_in_pieces, agrees_in_two};
+use std::alloc::Global;
+use std::io::{self, ErrorKind};
+
+/// How many pages are made from numbers.
+const MADE_PAGES: u32 = 200;
+
+/// How many of these are cut in two at each byte.
+const CUT_IN_TWO: u32 = 20;
+
+/// How many bytes of each are changed, one at a time.
+const CHANGES: u32 = 12;
+
+/// What a byte is changed to: bytes that begin or end something, and two that no page may have.
+const CHANGED_TO: &[u8] = b"<>&/!-\"'= \r\n;a\x00\xff";
+
+/// An answer whose error is want of memory.
+pub fn kept<T>(answer: Result<T, Memory>) -> io::Result<T> {
+    match answer {
+        Ok(value) => Ok(value),
+        Err(Memory) => Err(io::Error::from(ErrorKind::OutOfMemory)),
+    }
+}
+
+/// How many pages were cut, and how many of them differ.
+#[derive(Drop)]
+struct Counts {
+    pages: u32,
+    differ: u32,
+}
+
+impl Counts {
+    fn take(&mut self, agrees: bool) {
+        self.pages = self.pages.saturating_add(1);
+        if !agrees {
+            self.differ = self.differ.saturating_add(1);
+        }
+    }
+}
+
+/// Cuts a page into pieces, and the page with one byte changed after another.
+fn cut_page(alloc: Global, table: &Table, page: &mut [u8], counts: &mut Counts) {
+    counts.take(agrees_in_pieces(alloc, table, page));
+    let mut chance = page.len() as u32;
+    for _change in 0..CHANGES {
+        chance = pieces::next(chance);
+        let at = (chance >> 8) as usize % page.len().max(1);
+        let to = (chance >> 4) as usize % CHANGED_TO.len();
+        if let (Some(byte), Some(other)) = (page.get_mut(at), CHANGED_TO.get(to)) {
+            let before = *byte;
+            *byte = *other;
+            counts.take(agrees_in_pieces(alloc, table, page));
+            if let Some(byte) = page.get_mut(at) {
+                *byte = before;
+            }
+        }
+    }
+}
+
+fn main(rt: HostRuntime) -> io::Result<()> {
+    let alloc = rt.alloc();
+    let table = kept(html_table(alloc))?;
+    let mut counts = Counts {
+        pages: 0,
+        differ: 0,
+    };
+    for number in 0..MADE_PAGES {
+        let page = kept(page_of(alloc, number, number % 8))?;
+        let mut bytes = Vec::from_slice(alloc, page.as_bytes())?;
+        cut_page(alloc, &table, bytes.as_mut_slice(), &mut counts);
+        if number < CUT_IN_TWO {
+            counts.take(agrees_in_two(alloc, &table, bytes.as_slice()));
+        }
+    }
+    let (pages, differ) = (counts.pages, counts.differ);
+    println!(rt; "{pages} pages in pieces, {differ} differ")?;
+    let differ = rows::count_differing(alloc, &table)?;
+    println!(rt; "rows of open elements: {differ} differ")
+}

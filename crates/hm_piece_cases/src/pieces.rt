@@ -1,0 +1,98 @@
+//! A page in pieces beside the whole page.
+use hm_base::{Memory, PAGE_LIMIT, Refused, SourceText};
+use hm_load::{Builder, parse};
+use hm_refs::Table;
+use hm_tree::Tree;
+use std::alloc::Global;
+
+/// How a page is cut.
+#[derive(Clone, Copy)]
+enum Cutting {
+    /// Into single bytes.
+    Bytes,
+    /// Once, before this byte.
+    Once(usize),
+    /// Into pieces of 1 to 64 bytes, by the numbers of a sequence.
+    Chance,
+}
+
+/// The number after this one in the sequence of a linear congruential generator.
+pub fn next(chance: u32) -> u32 {
+    chance.wrapping_mul(1_664_525).wrapping_add(1_013_904_223)
+}
+
+/// Where the piece ends that begins at this byte of the page.
+fn end_of(cutting: Cutting, at: usize, chance: u32) -> usize {
+    match cutting {
+        Cutting::Bytes => at.saturating_add(1),
+        Cutting::Once(cut) if at < cut => cut,
+        Cutting::Once(_) => usize::MAX,
+        Cutting::Chance => at.saturating_add(1 + (chance >> 26) as usize),
+    }
+}
+
+/// What a page gives as a whole.
+fn of_whole(alloc: Global, table: &Table, page: &[u8]) -> Result<Tree, Refused> {
+    match SourceText::read(alloc, page, PAGE_LIMIT) {
+        Ok(text) => parse(alloc, &text, table),
+        Err(fault) => Err(fault.refusal(PAGE_LIMIT)),
+    }
+}
+
+/// What it gives in pieces.
+fn of_pieces(alloc: Global, table: &Table, page: &[u8], cutting: Cutting) -> Result<Tree, Refused> {
+    let mut builder = match Builder::new(alloc, table, PAGE_LIMIT) {
+        Ok(builder) => builder,
+        Err(Memory) => return Err(Refused::Memory),
+    };
+    let mut chance = page.len() as u32;
+    let mut at = 0;
+    while at < page.len() {
+        let end = end_of(cutting, at, chance).min(page.len());
+        if let Err(Memory) = builder.feed(&page[at..end]) {
+            return Err(Refused::Memory);
+        }
+        chance = next(chance);
+        at = end;
+    }
+    builder.end()
+}
+
+/// Whether two answers are the same. Want of memory is never an answer.
+fn are_same(one: &Result<Tree, Refused>, other: &Result<Tree, Refused>) -> bool {
+    match (one, other) {
+        (Ok(one), Ok(other)) => one.same(other),
+        (
+            Err(Refused::Page { rule, at }),
+            Err(
+                Refused::Page {
+                    rule: other_rule,
+                    at: other_at,
+                },
+            ),
+        ) => rule == other_rule && at == other_at,
+        _ => false,
+    }
+}
+
+/// Whether a page gives the same in single bytes, and in pieces by chance, as the whole.
+pub fn agrees_in_pieces(alloc: Global, table: &Table, page: &[u8]) -> bool {
+    let whole = of_whole(alloc, table, page);
+    for cutting in [Cutting::Bytes, Cutting::Chance] {
+        if !are_same(&whole, &of_pieces(alloc, table, page, cutting)) {
+            return false;
+        }
+    }
+    true
+}
+
+/// Whether a page gives the same cut in two, at each byte, as the whole.
+pub fn agrees_in_two(alloc: Global, table: &Table, page: &[u8]) -> bool {
+    let whole = of_whole(alloc, table, page);
+    for cut in 0..page.len() {
+        if !are_same(&whole, &of_pieces(alloc, table, page, Cutting::Once(cut))) {
+            return false;
+        }
+    }
+    true
+}

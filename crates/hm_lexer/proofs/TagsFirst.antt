@@ -1,5 +1,5 @@
 -- Where a tag begins, it is what is read.
-use Rattle.std.proofs.Common.{◌≡◌, ◌≢◌, ℕ, ◌-◌, ◌<◌, Bool, true, false, cond, not, ◌&&◌, ◌||◌, ◌==◌, List, [], ◌∷◌, drop, Some, None, refl, ap, sym, subst, ◌∙◌, arith}
+use Rattle.std.proofs.Common.{◌≡◌, ◌≢◌, ℕ, ◌-◌, ◌<◌, Bool, true, false, cond, not, ◌&&◌, ◌||◌, ◌==◌, List, [], ◌∷◌, drop, length, Some, None, refl, ap, sym, subst, ◌∙◌, arith}
 use Rattle.std.specs.Str.{IsCharBoundary}
 use Rattle.std.proofs.lemmas.Bool.Decides.{Decides-eqb}
 use Rattle.hm_base.specs.Bytes.{head_is, is_letter, is_null}
@@ -15,7 +15,9 @@ use Rattle.hm_scan.proofs.TagStarts.{Begins, short_begins, tag_begins}
 use Rattle.hm_token_laws.specs.First.{Mode, ordinary, in_svg, rcdata, raw, script, behind_empty_tags, behind_none}
 use Rattle.hm_lexer.specs.Reading.{Reading, IsTaken, Refuses, text_of}
 use Rattle.hm_lexer.specs.Steps.{IsBehind, begins_empty_tag, has_markup, read_in, refusal_of}
+use Rattle.hm_lexer.specs.Parts.{IsWhole}
 use Rattle.hm_lexer.proofs.Nexts.{next_refused, next_taken}
+use Rattle.hm_lexer.proofs.PartSteps.{whole_markup}
 
 starts : (c d : ℕ) (s : List ℕ) → begins_tag (c ∷ d ∷ s) ≡ true → c ≡ 60
 starts c d s h = let b : Begins (c ∷ d ∷ s) 0 = tag_begins (c ∷ d ∷ s) 0 h in b.first
@@ -86,6 +88,14 @@ tag_behind in_svg s at m b h = record { is = nothing_passed s at h; forward = om
 tag_behind (rcdata name) s at m b h = absurd (cc)
 tag_behind (raw name) s at m b h = absurd (cc)
 tag_behind script s at m b h = absurd (cc)
+
+some_bytes : (s : List ℕ) → begins_tag s ≡ true → 0 < length s
+some_bytes [] h = absurd (let none : begins_tag [] ≡ false = short_begins [] (omega arith) in cc)
+some_bytes (c ∷ s) h = omega arith
+
+-- and it is read whole
+pub whole_tag : (t : List Entry) (mode : Mode) (s : List ℕ) (at : ℕ) → has_markup mode ≡ true → IsCharBoundary s at → begins_tag (drop at s) ≡ true → IsWhole t mode (drop at s)
+whole_tag t mode s at m b h = whole_markup t mode (drop at s) (drop at s) (at - at) m (tag_behind mode s at m b h).is (some_bytes (drop at s) h) (tag_is_markup (drop at s) h)
 
 tag_is_read : (t : List Entry) (mode : Mode) (s : List ℕ) → has_markup mode ≡ true → begins_tag s ≡ true → read_in t mode s ≡ read_tag t s
 tag_is_read t ordinary s m h = rw (tag_is_markup s h, h) refl

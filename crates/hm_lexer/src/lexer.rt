@@ -185,6 +185,9 @@ impl<'a> Lexer<'a> {
             return self.whole_part(alloc, mode, tag);
         }
         let text = self.source.text();
+        if begins_tag(text, self.at) {
+            return self.tag_part(alloc, mode, tag);
+        }
         let begin = token_start(text, self.at, mode);
         if begin as usize == text.len() {
             return Ok(None);
@@ -208,6 +211,35 @@ impl<'a> Lexer<'a> {
         ensures unchanged { OnErr result (self.new ≡ self.old) }
     {
         match self.next_into(alloc, mode, tag) {
+            Ok(placed) => {
+                let _at = self.at;
+                return Ok(placed);
+            }
+            Err(Refused::Page { rule, at }) => {
+                if rule == Rule::Cut {
+                    return Ok(None);
+                }
+                Err(Refused::Page { rule, at })
+            }
+            Err(Refused::Memory) => return Err(Refused::Memory),
+        }
+    }
+
+    // Reads the tag that begins at the lexer's place, where its end is there.
+    fn tag_part(
+        &mut self,
+        alloc: Global,
+        mode: Mode,
+        tag: &mut Tag,
+    ) -> Result<Option<Placed>, Refused>
+        requires markup { has_markup (mode_of mode) ≡ true }
+        requires begins { tags.begins_tag (drop self.old.at (text_of self.old)) ≡ true }
+        requires whole { IsWhole self.old.names (mode_of mode) (left_of self.old) }
+        ensures ok { IfOk result (λ placed. GivesPart self.old (mode_of mode) (next_of placed tag.new) self.new) }
+        ensures err { IfErr result (λ refusal. RefusesPart self.old (mode_of mode) refusal) }
+        ensures unchanged { OnErr result (self.new ≡ self.old) }
+    {
+        match self.next_tag(alloc, mode, tag) {
             Ok(placed) => {
                 let _at = self.at;
                 return Ok(placed);

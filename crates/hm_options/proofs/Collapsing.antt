@@ -60,7 +60,7 @@ kept_one : (b : Bool) (n k : ℕ) → n ≤ k → (if b then suc n else n) ≤ s
 kept_one true n k h = omega (arith, h)
 kept_one false n k h = omega (arith, h)
 
-kept_within : (path : List Element) → kept_count path ≤ length path
+pub kept_within : (path : List Element) → kept_count path ≤ length path
 kept_within [] = omega arith
 kept_within (e ∷ path) = kept_one (keeps_space e) (kept_count path) (length path) (kept_within path)
 

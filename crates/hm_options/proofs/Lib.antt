@@ -17,4 +17,5 @@ pub mod Kept
 pub mod OneByOne
 pub mod Passing
 pub mod Ruled
+pub mod Steps
 pub mod StillSettled

@@ -1,6 +1,6 @@
 -- The elements around an event, by the starts of its parent and of its parent's parent.
-use Rattle.std.proofs.Common.{◌≡◌, ℕ, ◌<◌, Bool, true, false, not, ◌&&◌, ◌||◌, List, [], ◌∷◌, ◌++◌, take, drop, slice_get, bytes_eq, Some, sym, ap, subst, ◌∙◌, refl, arith}
-use Rattle.std.proofs.lemmas.List.{take-append-drop, take-take}
+use Rattle.std.proofs.Common.{◌≡◌, ℕ, ◌<◌, Bool, true, false, not, ◌&&◌, ◌||◌, List, [], ◌∷◌, ◌++◌, length, take, drop, slice_get, bytes_eq, Some, sym, ap, subst, ◌∙◌, refl, arith}
+use Rattle.std.proofs.lemmas.List.{take-append-drop, take-take, take_all}
 use Rattle.std.proofs.lemmas.Option.{slice_get_within}
 use Rattle.hm_base.specs.Walks.{Event, start, Attribute, Element, path_after}
 use Rattle.hm_elements.specs.Names.{is_among, noscript, head}
@@ -63,6 +63,18 @@ module _ (w : List Event) (i k : ℕ) (within : k < i) (n : List ℕ) (foreign :
 pub hidden_at_top : (path : List Element) → path ≡ [] → hides_space path ≡ false
 unfolding hides_space
 hidden_at_top path is = rw is refl
+
+-- the same after all events of a walk
+pub hidden_done : (w : List Event) (i k : ℕ) → i ≡ length w → k < i → (n : List ℕ) (foreign : Bool) (attributes : List Attribute) → slice_get w k ≡ Some (start n foreign attributes) → parent_of w i ≡ Some k → IsStartAt w k (path_after [] (take i w))
+    → hides_space (path_after [] w) ≡ not foreign && (is_among n space_parents || (bytes_eq n noscript && is_name head (current_name (path_after [] (take k w)))))
+hidden_done w i k all within n foreign attributes at parent is =
+    let whole : take i w ≡ w = take_all i w (omega (arith, all)) in
+    ap (λ v. hides_space (path_after [] v)) (sym whole) ∙ hidden_there w i k within n foreign attributes at parent is
+
+pub nothing_open : (w : List Event) (i : ℕ) → i ≡ length w → path_after [] (take i w) ≡ [] → hides_space (path_after [] w) ≡ false
+nothing_open w i all none =
+    let whole : take i w ≡ w = take_all i w (omega (arith, all)) in
+    hidden_at_top (path_after [] w) (ap (path_after []) (sym whole) ∙ none)
 
 -- the test of the parent, step by step
 module _ (hides foreign space no head_around : Bool) (is : hides ≡ not foreign && (space || (no && head_around))) where

@@ -1,6 +1,7 @@
 pub mod Rewritten
 pub mod Copies
 pub mod Space
+pub mod Steps
 pub mod Marks
 pub mod Fronts
 pub mod SpaceLaws

@@ -44,9 +44,7 @@ fn by_space(alloc: Global, tree: Tree, set: bool, conservative: bool) -> Result<
     ensures { IfOk result (λ made. made ≡ where_set set (collapsed conservative) tree) }
 {
     if set {
-        let made = collapse(alloc, &tree, conservative)?;
-        tree.release();
-        Ok(made)
+        collapse(alloc, tree, conservative)
     } else {
         Ok(tree)
     }

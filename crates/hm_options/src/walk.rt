@@ -1,22 +1,20 @@
 //! The whitespace of a tree.
-ghost use Rattle.std.specs.Prelude.{◌≡◌, ◌<◌, ◌+◌, ◌^◌, [], ◌∷◌, ◌++◌, length, take, slice_get, true, false, Some, if◌then◌else◌, IfOk, OnOk, List};
+ghost use Rattle.std.specs.Prelude.{◌≡◌, ◌<◌, ◌≤◌, ◌+◌, ◌^◌, [], ◌∷◌, ◌++◌, length, take, slice_get, slice_range, true, false, Some, IfOk, OnOk, List};
 ghost use Rattle.hm_base.specs.Bytes.{is_null};
-ghost use Rattle.hm_base.specs.Walks as walks;
 ghost use Rattle.hm_base.specs.Walks.{Element, path_after, path_behind, ends_match};
 ghost use Rattle.hm_elements.specs.Nesting.{is_name};
 ghost use Rattle.hm_elements.specs.Names.{head};
 ghost use Rattle.hm_elements.specs.Paths.{current_name};
 ghost use Rattle.hm_elements.specs.Settled.{Settled};
-ghost use Rattle.hm_options.specs.Copies.{event_before, may_follow};
 ghost use Rattle.hm_options.specs.Fronts.{spaced_text};
 ghost use Rattle.hm_options.specs.Marks.{kept_count};
 ghost use Rattle.hm_options.specs.Space as space;
-ghost use Rattle.hm_options.specs.Space.{collapsed, collapsed_event, collapsed_text, trimmed, without_leading, without_trailing};
-ghost use Rattle.hm_tree.specs.Rows.{ends_in_text};
-ghost use Rattle.hm_tree.specs.Trees.{HasRoom};
+ghost use Rattle.hm_options.specs.Space.{collapsed, text_of, without_leading, without_trailing};
+ghost use Rattle.hm_options.specs.Steps.{IsSeen, IsStep, first_text, plain_text_first};
+ghost use Rattle.hm_tree.specs.Edits.{last_event, without_first};
+ghost use Rattle.hm_tree.specs.Trees.{IsWalk};
 ghost use Rattle.hm_tree.specs.Views.{event_of};
 
-use crate::copy::put;
 use crate::names::keeps_space;
 use crate::spaces::{
     begins_with_space, ends_with_space, push_spaced, spaced_front, without_leading,
@@ -24,34 +22,28 @@ use crate::spaces::{
 };
 use hm_base::Memory;
 use hm_elements::{is_block, is_space_parent, same_name};
-use hm_tree::{EventView, Maker, Tree};
+use hm_tree::{Editor, EventView, Tree};
 use std::alloc::Global;
 
 /// The tree with its whitespace collapsed. In every text but raw ones and those in `pre`, `textarea` and `svg` each
 /// longest run of whitespace becomes one space. Unless `conservative` is set, more is done. A text that is one space is
 /// left out directly in elements that don't show it, such as `ul` and `table`. Any other text loses a space at the edge
 /// of a block.
-pub fn collapse(alloc: Global, tree: &Tree, conservative: bool) -> Result<Tree, Memory>
-    ensures ok { IfOk result (λ made. made ≡ collapsed conservative tree.now) }
-    ensures settled { Settled tree.now → IfOk result (λ made. Settled made) }
+pub fn collapse(alloc: Global, tree: Tree, conservative: bool) -> Result<Tree, Memory>
+    ensures ok { IfOk result (λ made. made ≡ collapsed conservative tree) }
+    ensures settled { Settled tree → IfOk result (λ made. Settled made) }
 {
-    let mut maker = Tree::maker(alloc);
+    let mut editor = tree.edit();
     let mut scratch = String::new(alloc);
     let mut kept = 0;
-    for i in 0..tree.len() {
-        let event = tree.event(i);
-        put_collapsed(
-            &mut maker,
-            &mut scratch,
-            tree,
-            i,
-            &event,
-            kept,
-            conservative,
-        )?;
-        kept = kept_behind(kept, &event);
+    for _ in 0..editor.left() {
+        // With what is done, what is left is a walk.
+        editor.left();
+        let after = kept_behind(kept, &editor.next());
+        edit_next(&mut editor, &mut scratch, kept, conservative)?;
+        kept = after;
     }
-    Ok(maker.finish())
+    Ok(editor.finish())
 }
 
 // How many of the elements that are open after an event keep their whitespace.
@@ -77,158 +69,168 @@ fn is_edge(event: &EventView<'_>) -> bool
     }
 }
 
-// Whether the event before event `i` is the start or the end of a block.
-fn is_edge_before(tree: &Tree, i: u32) -> bool
-    requires { i < length tree.now }
-    ensures { result ≡ space.is_edge (event_before tree.now i) }
+// Whether the last event that is done is the start or the end of a block.
+fn is_edge_before(editor: &Editor) -> bool
+    ensures { result ≡ space.is_edge (last_event editor.now.done) }
 {
-    i > 0 && is_edge(&tree.event(i - 1))
+    let done = editor.done();
+    done > 0 && is_edge(&editor.event(done - 1))
 }
 
-// Whether the event after event `i` is the start or the end of a block.
-fn is_edge_behind(tree: &Tree, i: u32) -> bool
-    requires { i < length tree.now }
-    ensures { result ≡ space.is_edge (slice_get tree.now (i + 1)) }
+// Whether the event after the next one is the start or the end of a block.
+fn is_edge_behind(editor: &Editor) -> bool
+    requires { 0 < length editor.now.left }
+    ensures { result ≡ space.is_edge (slice_get editor.now.left 1) }
 {
-    let len = tree.len();
-    i + 1 < len && is_edge(&tree.event(i + 1))
+    match editor.after_next() {
+        Some(event) => is_edge(&event),
+        None => false,
+    }
 }
 
-// Whether a text of only whitespace isn't seen as event `i`.
-fn hides_space(tree: &Tree, i: u32) -> bool
-    requires { i < length tree.now }
-    ensures { result ≡ space.hides_space (path_after [] (take i tree.now)) }
+// Whether a text of only whitespace isn't seen as the next event.
+fn hides_space(editor: &Editor) -> bool
+    ensures { result ≡ space.hides_space (path_after [] editor.now.done) }
 {
-    let Some(parent) = tree.parent(i) else {
+    let Some(parent) = editor.parent(editor.done()) else {
         return false;
     };
-    match tree.event(parent) {
+    match editor.event(parent) {
         EventView::Start { name, foreign, .. } => {
             !foreign
                 && (is_space_parent(name)
-                    || (same_name(name, "noscript") && is_in_head(tree, parent)))
+                    || (same_name(name, "noscript") && is_in_head(editor, parent)))
         }
         _ => false,
     }
 }
 
-// Whether event `i` stands directly in `head`.
-fn is_in_head(tree: &Tree, i: u32) -> bool
-    requires { i < length tree.now }
-    ensures { result ≡ is_name head (current_name (path_after [] (take i tree.now))) }
+// Whether event `i` of those that are done stands directly in `head`.
+fn is_in_head(editor: &Editor, i: u32) -> bool
+    requires { i < length editor.now.done }
+    ensures { result ≡ is_name head (current_name (path_after [] (take i editor.now.done))) }
 {
-    let Some(parent) = tree.parent(i) else {
+    let Some(parent) = editor.parent(i) else {
         return false;
     };
-    match tree.event(parent) {
+    match editor.event(parent) {
         EventView::Start { name, .. } => same_name(name, "head"),
         _ => false,
     }
 }
 
-// Puts what event `i` becomes.
-fn put_collapsed(
-    maker: &mut Maker,
+// Makes of the next event what it becomes.
+fn edit_next(
+    editor: &mut Editor,
     scratch: &mut String,
-    tree: &Tree,
-    i: u32,
-    event: &EventView<'_>,
     kept: u32,
     conservative: bool,
 ) -> Result<(), Memory>
-    requires at { slice_get tree.now i ≡ Some (event_of event.now) }
-    requires kept { kept ≡ kept_count (path_after [] (take i tree.now)) }
-    requires room { HasRoom (maker.old ++ event_of event.now ∷ []) }
-    requires follows { may_follow maker.old (event_of event.now) ≡ true }
-    ensures { OnOk result (maker.new ≡ maker.old ++ collapsed_event conservative (path_after [] (take i tree.now)) (event_before tree.now i) (event_of event.now) (slice_get tree.now (i + 1))) }
+    requires some { 0 < length editor.old.left }
+    requires walk { IsWalk (editor.old.done ++ editor.old.left) }
+    requires kept { kept ≡ kept_count (path_after [] editor.old.done) }
+    ensures { OnOk result (IsStep conservative editor.old editor.new) }
 {
-    if let EventView::Text { text, raw } = event {
-        if !*raw && kept == 0 {
-            return put_text(maker, scratch, text, tree, i, conservative);
+    if let EventView::Text { text, raw } = editor.next() {
+        if !raw && kept == 0 {
+            if spaced_front(text.as_bytes()).to == text.len() {
+                let seen = seen_of(editor, text, conservative);
+                keep_seen(editor, seen);
+                return Ok(());
+            }
+            scratch.clear();
+            push_spaced(scratch, text)?;
+            put_seen(editor, scratch.as_str(), conservative)?;
+            return Ok(());
         }
     }
-    put(maker, event)
+    editor.keep();
+    Ok(())
 }
 
-// Puts what a text becomes that isn't kept as it is, as event `i`.
-fn put_text(
-    maker: &mut Maker,
-    scratch: &mut String,
-    text: &str,
-    tree: &Tree,
-    i: u32,
-    conservative: bool,
-) -> Result<(), Memory>
-    requires inside { i < length tree.now }
-    requires shown { space.is_kept (path_after [] (take i tree.now)) ≡ false }
-    requires room { HasRoom (maker.old ++ walks.text text.now false ∷ []) }
-    requires some { is_null text.now ≡ false }
-    requires last { ends_in_text maker.old ≡ false }
-    ensures { OnOk result (maker.new ≡ maker.old ++ collapsed_text conservative (path_after [] (take i tree.now)) (event_before tree.now i) (slice_get tree.now (i + 1)) text.now) }
+// Of the next event, a text, keeps what is seen.
+fn keep_seen(editor: &mut Editor, seen: Seen)
+    requires text { plain_text_first editor.old.left ≡ true }
+    requires seen { IsSeen (first_text editor.old.left) seen }
+    ensures done { editor.new.done ≡ editor.old.done ++ text_of (slice_range (first_text editor.old.left) seen.from seen.to) }
+    ensures left { editor.new.left ≡ without_first editor.old.left }
 {
-    if spaced_front(text.as_bytes()).to == text.len() {
-        return put_spaced(maker, text, tree, i, conservative);
+    if seen.from == seen.to {
+        editor.leave_out();
+    } else {
+        editor.cut_text(seen.from, seen.to);
+        editor.keep();
     }
-    scratch.clear();
-    push_spaced(scratch, text)?;
-    put_spaced(maker, scratch.as_str(), tree, i, conservative)
 }
 
-// Puts a text whose runs of whitespace are single spaces, as event `i`.
-fn put_spaced(
-    maker: &mut Maker,
-    text: &str,
-    tree: &Tree,
-    i: u32,
-    conservative: bool,
-) -> Result<(), Memory>
-    requires inside { i < length tree.now }
-    requires room { HasRoom (maker.old ++ walks.text text.now false ∷ []) }
+// Puts what is seen of a text, whose runs of whitespace are single spaces, in place of the next event.
+fn put_seen(editor: &mut Editor, text: &str, conservative: bool) -> Result<(), Memory>
+    requires first { plain_text_first editor.old.left ≡ true }
     requires some { is_null text.now ≡ false }
-    requires last { ends_in_text maker.old ≡ false }
-    ensures { OnOk result (maker.new ≡ maker.old ++ spaced_text conservative (path_after [] (take i tree.now)) (event_before tree.now i) (slice_get tree.now (i + 1)) text.now) }
+    requires shorter { length text.now ≤ length (first_text editor.old.left) }
+    ensures done { OnOk result (editor.new.done ≡ editor.old.done ++ spaced_text conservative (path_after [] editor.old.done) (last_event editor.old.done) (slice_get editor.old.left 1) text.now) }
+    ensures left { OnOk result (editor.new.left ≡ without_first editor.old.left) }
+{
+    let seen = seen_of(editor, text, conservative);
+    if seen.from == seen.to {
+        editor.leave_out();
+    } else {
+        editor.put_text(&text[seen.from..seen.to])?;
+        editor.keep();
+    }
+    Ok(())
+}
+
+// The bytes of a text that are seen, from one place up to another.
+#[derive(Clone, Copy, Debug)]
+struct Seen {
+    from: usize,
+    to: usize,
+}
+
+// What is seen of a text whose runs of whitespace are single spaces, as the next event.
+fn seen_of(editor: &Editor, text: &str, conservative: bool) -> Seen
+    requires next { 0 < length editor.now.left }
+    requires some { is_null text.now ≡ false }
+    ensures seen { IsSeen text.now result }
+    ensures same { spaced_text conservative (path_after [] editor.now.done) (last_event editor.now.done) (slice_get editor.now.left 1) text.now ≡ text_of (slice_range text.now result.from result.to) }
 {
     if conservative {
-        maker.text(text, false)
-    } else {
-        put_trimmed(maker, text, tree, i)
+        return Seen {
+            from: 0,
+            to: text.len(),
+        };
+    }
+    if text == " " && hides_space(editor) {
+        return Seen { from: 0, to: 0 };
+    }
+    let front = front_trimmed(text, editor);
+    let from = text.len() - front.len();
+    let both = end_trimmed(front, editor);
+    Seen {
+        from,
+        to: from + both.len(),
     }
 }
 
-// The same as far as the text is seen.
-fn put_trimmed(maker: &mut Maker, text: &str, tree: &Tree, i: u32) -> Result<(), Memory>
-    requires inside { i < length tree.now }
-    requires room { HasRoom (maker.old ++ walks.text text.now false ∷ []) }
-    requires last { ends_in_text maker.old ≡ false }
-    ensures { OnOk result (maker.new ≡ maker.old ++ trimmed (path_after [] (take i tree.now)) (event_before tree.now i) (slice_get tree.now (i + 1)) text.now) }
-{
-    if text == " " && hides_space(tree, i) {
-        return Ok(());
-    }
-    let text = front_trimmed(text, tree, i);
-    let text = end_trimmed(text, tree, i);
-    maker.text(text, false)
-}
-
-// A text, as event `i`, without a space after the edge of a block.
-fn front_trimmed<'t>(text: &'t str, tree: &Tree, i: u32) -> &'t str
-    requires { i < length tree.now }
-    ensures { result.now ≡ without_leading (space.is_edge (event_before tree.now i)) text.now }
+// A text without a space after the edge of a block, as the next event.
+fn front_trimmed<'t>(text: &'t str, editor: &Editor) -> &'t str
+    ensures { result.now ≡ without_leading (space.is_edge (last_event editor.now.done)) text.now }
 {
     if begins_with_space(text) {
-        without_leading(text, is_edge_before(tree, i))
+        without_leading(text, is_edge_before(editor))
     } else {
         text
     }
 }
 
-// A text, as event `i`, without a space before the edge of a block.
-fn end_trimmed<'t>(text: &'t str, tree: &Tree, i: u32) -> &'t str
-    requires { i < length tree.now }
-    ensures { result.now ≡ without_trailing (space.is_edge (slice_get tree.now (i + 1))) text.now }
+// A text without a space before the edge of a block, as the next event.
+fn end_trimmed<'t>(text: &'t str, editor: &Editor) -> &'t str
+    requires { 0 < length editor.now.left }
+    ensures { result.now ≡ without_trailing (space.is_edge (slice_get editor.now.left 1)) text.now }
 {
     if ends_with_space(text) {
-        without_trailing(text, is_edge_behind(tree, i))
+        without_trailing(text, is_edge_behind(editor))
     } else {
         text
     }

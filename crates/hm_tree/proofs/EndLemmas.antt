@@ -15,7 +15,7 @@ use Rattle.hm_tree.specs.declared.rows.RowPart.TheVariants as parts
 use Rattle.hm_tree.specs.declared.rows.EventRow.{EventRow}
 use Rattle.hm_tree.proofs.OpenLemmas.{IsInnermost, innermost-IsInnermost}
 use Rattle.hm_tree.proofs.PieceLemmas.{IsUtf8-bytes_of}
-use Rattle.hm_tree.proofs.TableLemmas.{IsTableOf, IsTableOf-push, row_within, part_event, part_inside}
+use Rattle.hm_tree.proofs.TableLemmas.{IsTableOf, IsTableOf-push, of_rows, row_within, part_event, part_inside}
 
 module _ (s : List ℕ) (pieces : List AttributePieces) (rows : List EventRow) (w : List Event) (view : events_of s pieces rows ≡ w) (k : ℕ) (open_start : Some k ≡ innermost w) where
   around : IsInnermost w k
@@ -32,7 +32,7 @@ module _ (s : List ℕ) (pieces : List AttributePieces) (rows : List EventRow) (
     same_event : (part : RowPart) → r.part ≡ part → event_at s pieces part ≡ start around.element.name around.element.foreign around.start.attributes
     same_event part e =
         let both : Some (event_at s pieces part) ≡ Some (start around.element.name around.element.foreign around.start.attributes) =
-        sym (part_event s pieces rows w view k within table r is part e) ∙ around.start.at in
+        sym (part_event s pieces rows w view k within (of_rows table) r is part e) ∙ around.start.at in
         cc
 
     by_part : (part : RowPart) → r.part ≡ part → ((foreign : Bool) (count : ℕ) (name : TextRange) (first : ℕ) → r.part ≡ parts.Start foreign count name first → ⊥) → ⊥
@@ -54,7 +54,7 @@ module _ (s : List ℕ) (pieces : List AttributePieces) (rows : List EventRow) (
       flags = let h = same_event (parts.Start foreign count name first) part in cc
 
       inside : IsPiece s name
-      inside = (part_inside s pieces rows w view k within table r is (parts.Start foreign count name first) part).0
+      inside = (part_inside s pieces rows w view k within (of_rows table) r is (parts.Start foreign count name first) part).0
 
       -- the end of that element can be appended to the table
       pub IsTableOf-end : IsTableOf s pieces (rows ++ record { part = parts.End name foreign; parent = Some k } ∷ []) (w ++ end_of (path_after [] w))

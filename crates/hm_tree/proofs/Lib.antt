@@ -1,5 +1,8 @@
 pub mod ApartLemmas
 pub mod AttributeLemmas
+pub mod EditLemmas
+pub mod EditedLemmas
+pub mod EditorLemmas
 pub mod EndLemmas
 pub mod LastLemmas
 pub mod MakingLemmas

@@ -9,7 +9,7 @@ use Rattle.hm_tree.proofs.OpenLemmas.{IsInnermost, innermost-IsInnermost}
 use Rattle.hm_tree.proofs.TextLemmas.{with_text-extended, with_text-push, path_after-extended, open_after-extended, ends_match-extended}
 use Rattle.hm_tree.proofs.WalkLemmas.{path_after-push, open_after-push, ends_match-push, walk_size-push}
 
-innermost-push : (w : List Event) (e : Event) → innermost (w ++ e ∷ []) ≡ slice_get (open_behind (open_after [] 0 w) (length w) e) 0
+pub innermost-push : (w : List Event) (e : Event) → innermost (w ++ e ∷ []) ≡ slice_get (open_behind (open_after [] 0 w) (length w) e) 0
 innermost-push w e = ap (λ ks. slice_get ks 0) (open_after-push [] 0 w e (length w) (omega arith))
 
 module _ (w : List Event) (parent : Option ℕ) (depth : ℕ) (making : IsMaking w parent depth) where

@@ -1,5 +1,5 @@
 -- Walks in which an attribute goes after the others of its tag.
-use Rattle.std.proofs.Common.{◌≡◌, ℕ, zero, suc, ◌+◌, ◌<◌, ◌≤◌, Bool, true, false, not, cond, ◌&&◌, List, [], ◌∷◌, ◌++◌, length, map, get_or, slice_get, Some, All, ap, ◌∙◌, refl, sym, subst, arith, length-append}
+use Rattle.std.proofs.Common.{◌≡◌, ℕ, zero, suc, ◌+◌, ◌<◌, ◌≤◌, Bool, true, false, not, ◌&&◌, List, [], ◌∷◌, ◌++◌, length, map, get_or, slice_get, Some, All, ap, ◌∙◌, refl, sym, subst, arith, length-append}
 use Rattle.std.proofs.lemmas.Bool.{and_parts, and_from}
 use Rattle.std.proofs.lemmas.List.{map-append}
 use Rattle.std.proofs.lemmas.List.Elements.{All-cons, All-head, All-push, All-tail}
@@ -168,7 +168,7 @@ path_after-put_last path [] i at = refl
 path_after-put_last path (e ∷ w) zero at = ap (λ p. path_after p w) (behind_moved path at e)
 path_after-put_last path (e ∷ w) (suc i) at = path_after-put_last (path_behind path e) w i at
 
-ends_more : (path : List Element) (e : Event) (v w : List Event) → ((p : List Element) → ends_match p v ≡ ends_match p w) → ends_match path (e ∷ v) ≡ ends_match path (e ∷ w)
+pub ends_more : (path : List Element) (e : Event) (v w : List Event) → ((p : List Element) → ends_match p v ≡ ends_match p w) → ends_match path (e ∷ v) ≡ ends_match path (e ∷ w)
 ends_more path (doctype legacy) v w same = same path
 ends_more path (start n foreign attributes) v w same = same (record { name = n; foreign = foreign } ∷ path)
 ends_more path (text s raw) v w same = same path

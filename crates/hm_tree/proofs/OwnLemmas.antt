@@ -7,15 +7,19 @@ use Rattle.std.proofs.lemmas.Slice.{between_is, take-put_mid_below, drop-put_mid
 use Rattle.hm_base.specs.Walks.{Event, doctype, start, text, comment, end}
 use Rattle.hm_tree.specs.Moved.{moved, with_moved, put_last, with_part}
 use Rattle.hm_tree.specs.Pieces.{HasPieces, attribute_in, attributes_in, bytes_of}
-use Rattle.hm_tree.specs.Rows.{AreInside, IsAfter, own_end, HaveOwn, IsRowTable, event_at, events_of, parents_from}
+use Rattle.hm_tree.specs.Rows.{AreInside, IsAfter, own_end, HaveOwn, IsTable, event_at, events_of, parents_from}
 use Rattle.hm_tree.specs.Trees.{IsTold}
 use Rattle.hm_tree.specs.declared.pieces.AttributePieces.{AttributePieces}
 use Rattle.hm_tree.specs.declared.pieces.TextRange.{TextRange}
 use Rattle.hm_tree.specs.declared.rows.RowPart.{RowPart}
 use Rattle.hm_tree.specs.declared.rows.RowPart.TheVariants as parts
 use Rattle.hm_tree.specs.declared.rows.EventRow.{EventRow}
-use Rattle.hm_tree.proofs.MovedLemmas.{All-moved, length-moved, map-moved, moved_past, put_last-same, length-put_last, walk_size-put_last, parents_from-put_last, IsTold-put_last}
-use Rattle.hm_tree.proofs.TableLemmas.{IsTableOf, part_event, part_inside, row_within}
+use Rattle.hm_tree.proofs.MovedLemmas.{All-moved, length-moved, map-moved, moved_past, put_last-same, parents_from-put_last, IsTold-put_last}
+use Rattle.hm_tree.proofs.TableLemmas.{part_event, part_inside, row_within}
+
+-- the bytes, attributes and rows are a table for these events
+abbrev pub Shows : List ℕ → List AttributePieces → List EventRow → List Event → Type 0
+Shows s pieces rows w = IsTable s pieces rows × (events_of s pieces rows ≡ w)
 
 -- rows whose attributes are none of the first n begin no earlier
 grows : (n : ℕ) (part : RowPart) → IsAfter n part → n ≤ own_end n part
@@ -74,8 +78,8 @@ module _ (s : List ℕ) (old new : List AttributePieces) (first count at : ℕ) 
       ap₂ (λ e w. e ∷ w) (stays_below n q.part later) (events_moved (own_end n q.part) rows i r foreign name h.1 there is)
 
   -- the table stays one
-  table_moved : (rows : List EventRow) (i : ℕ) (r : EventRow) (foreign : Bool) (name : TextRange) → slice_get rows i ≡ Some r → r.part ≡ parts.Start foreign count name first → length new ≡ length old → All (HasPieces s) new → IsRowTable s old rows
-      → IsTableOf s new rows (put_last (events_of s old rows) i at)
+  table_moved : (rows : List EventRow) (i : ℕ) (r : EventRow) (foreign : Bool) (name : TextRange) → slice_get rows i ≡ Some r → r.part ≡ parts.Start foreign count name first → length new ≡ length old → All (HasPieces s) new → IsTable s old rows
+      → Shows s new rows (put_last (events_of s old rows) i at)
   table_moved rows i r foreign name there is as_many inside table =
       let w = events_of s old rows in
       let view : events_of s new rows ≡ put_last w i at = events_moved 0 rows i r foreign name table.own there is in (
@@ -84,10 +88,8 @@ module _ (s : List ℕ) (old new : List AttributePieces) (first count at : ℕ) 
           attributes = inside;
           own = table.own;
           parents = table.parents ∙ sym (parents_from-put_last [] 0 w i at) ∙ ap (parents_from [] 0) (sym view);
-          last = table.last;
+          few = rw as_many table.few;
           told = subst IsTold (sym view) (IsTold-put_last w i at table.told);
-          size = rw (view, walk_size-put_last w i at) table.size;
-          count = rw (view, walk_size-put_last w i at, as_many) table.count;
         },
         view,
       )
@@ -124,23 +126,23 @@ module _ (s : List ℕ) (old : List AttributePieces) (first count at : ℕ) (ran
       (All-append (HasPieces s) own (drop count (drop first old)) (All-moved (HasPieces s) at (slice_range old first (first + count)) (All-take (HasPieces s) (first + count - first) (drop first old) (All-drop (HasPieces s) first old h)))
       (All-drop (HasPieces s) count (drop first old) (All-drop (HasPieces s) first old h)))
 
-  pub IsTableOf-moved : (rows : List EventRow) (w : List Event) (i : ℕ) (r : EventRow) (foreign : Bool) (name : TextRange) → events_of s old rows ≡ w → slice_get rows i ≡ Some r → r.part ≡ parts.Start foreign count name first → IsRowTable s old rows
-      → IsTableOf s (with_part first count old (moved at (slice_range old first (first + count)))) rows (put_last w i at)
-  IsTableOf-moved rows w i r foreign name view there part table =
-      subst (λ v. IsTableOf s new rows (put_last v i at)) view (table_moved s old new first count at new_below new_above new_own rows i r foreign name there part as_many_all (inside_all table.attributes) table)
+  pub Shows-moved : (rows : List EventRow) (w : List Event) (i : ℕ) (r : EventRow) (foreign : Bool) (name : TextRange) → events_of s old rows ≡ w → slice_get rows i ≡ Some r → r.part ≡ parts.Start foreign count name first → IsTable s old rows
+      → Shows s (with_part first count old (moved at (slice_range old first (first + count)))) rows (put_last w i at)
+  Shows-moved rows w i r foreign name view there part table =
+      subst (λ v. Shows s new rows (put_last v i at)) view (table_moved s old new first count at new_below new_above new_own rows i r foreign name there part as_many_all (inside_all table.attributes) table)
 
 -- ---- A row of a table whose events are w
 
-module _ (s : List ℕ) (pieces : List AttributePieces) (rows : List EventRow) (w : List Event) (view : events_of s pieces rows ≡ w) (i : ℕ) (within : i < length w) (table : IsRowTable s pieces rows) (r : EventRow) (is : r ≡ get_or rows i r) (at : ℕ) where
+module _ (s : List ℕ) (pieces : List AttributePieces) (rows : List EventRow) (w : List Event) (view : events_of s pieces rows ≡ w) (i : ℕ) (within : i < length w) (table : IsTable s pieces rows) (r : EventRow) (is : r ≡ get_or rows i r) (at : ℕ) where
   there : slice_get rows i ≡ Some r
   there = slice_get_read rows (length rows) i r refl (row_within s pieces rows w view i within) is
 
   -- an attribute goes after the others
   pub row_moved : (foreign : Bool) (count : ℕ) (name : TextRange) (first : ℕ) → r.part ≡ parts.Start foreign count name first → (after : List AttributePieces) → after ≡ with_part first count pieces (moved at (slice_range pieces first (first + count)))
-      → IsTableOf s after rows (put_last w i at)
+      → Shows s after rows (put_last w i at)
   row_moved foreign count name first part after e =
       let range : first + count ≤ length pieces = (part_inside s pieces rows w view i within table r is (parts.Start foreign count name first) part).1 in
-      subst (λ x. IsTableOf s x rows (put_last w i at)) (sym e) (IsTableOf-moved s pieces first count at range rows w i r foreign name view there part table)
+      subst (λ x. Shows s x rows (put_last w i at)) (sym e) (Shows-moved s pieces first count at range rows w i r foreign name view there part table)
 
   -- there is no such attribute
   pub row_past : (foreign : Bool) (count : ℕ) (name : TextRange) (first : ℕ) → r.part ≡ parts.Start foreign count name first → count ≤ at → put_last w i at ≡ w

@@ -6,11 +6,11 @@ use Rattle.std.proofs.lemmas.List.Elements.{All-append}
 use Rattle.std.proofs.lemmas.Option.{slice_get-map, slice_get_read}
 use Rattle.std.proofs.lemmas.Str.{IsUtf8-append, IsUtf8-from_is_utf8, is_utf8-from_IsUtf8}
 use Rattle.std.specs.Str.{is_utf8}
-use Rattle.hm_base.specs.Walks.{Event, start, text, has_distinct_names, event_size, walk_size}
-use Rattle.hm_tree.specs.Trees.{IsTold, is_sound, innermost, parent_of}
+use Rattle.hm_base.specs.Walks.{Event, text, has_distinct_names, event_size, walk_size}
+use Rattle.hm_tree.specs.Trees.{IsTold, is_sound, are_sound, innermost, parent_of}
 use Rattle.hm_tree.specs.Attributes.{are_texts}
 use Rattle.hm_tree.specs.Pieces.{HasPieces, IsPiece, ArePiecesShown, attributes_in, bytes_of}
-use Rattle.hm_tree.specs.Rows.{IsInside, AreInside, IsAfter, own_end, HaveOwn, ReachesEnd, LastReachesEnd, IsRowTable, event_at, events_of, parents_from}
+use Rattle.hm_tree.specs.Rows.{IsInside, AreInside, IsAfter, own_end, HaveOwn, ReachesEnd, LastReachesEnd, CanShow, IsTable, IsRowTable, event_at, events_of, parents_from}
 use Rattle.hm_tree.specs.declared.pieces.AttributePieces.{AttributePieces}
 use Rattle.hm_tree.specs.declared.pieces.TextRange.{TextRange}
 use Rattle.hm_tree.specs.declared.rows.RowPart.{RowPart}
@@ -20,7 +20,7 @@ use Rattle.hm_tree.proofs.PieceLemmas.{IsPiece-append, IsPiece-longer, bytes_of-
 use Rattle.hm_tree.proofs.ShownLemmas.{All-slice_range, HasPieces-append, attributes_in-append, slice_range-append}
 use Rattle.hm_tree.proofs.WalkLemmas.{are_sound-push, are_sound-parts, are_sound-at, parents_from-push, parents_from-at, walk_size-push}
 
-inside_stays : (s more : List ℕ) (n m : ℕ) (part : RowPart) → IsUtf8 more → n ≤ m → IsInside s n part → IsInside (s ++ more) m part
+pub inside_stays : (s more : List ℕ) (n m : ℕ) (part : RowPart) → IsUtf8 more → n ≤ m → IsInside s n part → IsInside (s ++ more) m part
 inside_stays s more n m (parts.Doctype legacy) utf8 le h = tt
 inside_stays s more n m (parts.Start foreign count name first) utf8 le h = (IsPiece-append s more name utf8 h.0, omega (arith, h.1))
 inside_stays s more n m (parts.Text p raw) utf8 le h = IsPiece-append s more p utf8 h
@@ -204,12 +204,35 @@ module _ (s more : List ℕ) (pieces : List AttributePieces) (rows : List EventR
         count = rw events_of-longer (omega (arith, rw before at table.count, walk_size-push w (text (bytes_of s p) raw), walk_size-push w (text (bytes_of s p ++ more) raw), length-append (bytes_of s p) more, length-append rows (r ∷ []), length-append rows (longer r q raw ∷ [])));
       }
 
+-- such a table is a table
+pub of_rows : {s : List ℕ} {pieces : List AttributePieces} {rows : List EventRow} → IsRowTable s pieces rows → IsTable s pieces rows
+of_rows table = record {
+  inside = table.inside;
+  attributes = table.attributes;
+  few = omega (arith, row_count table);
+  own = table.own;
+  parents = table.parents;
+  told = table.told;
+}
+
+-- a start that can be shown shows its attributes
+pub shown_attributes : (s : List ℕ) (pieces : List AttributePieces) (foreign : Bool) (count : ℕ) (name : TextRange) (first : ℕ) → CanShow s pieces (parts.Start foreign count name first) → ArePiecesShown s (slice_range pieces first (first + count))
+shown_attributes s pieces foreign count name first h =
+    let own = slice_range pieces first (first + count) in
+    let both = and_parts (is_utf8 (bytes_of s name) && are_texts (attributes_in s own)) (has_distinct_names (attributes_in s own)) h.sound in
+    record {
+      inside = All-slice_range (HasPieces s) pieces first (first + count) h.attributes;
+      texts = (and_parts (is_utf8 (bytes_of s name)) (are_texts (attributes_in s own)) both.0).1;
+      distinct = both.1;
+      count = omega (arith, length-take (first + count - first) (drop first pieces), length-drop first pieces, h.inside.1, h.few);
+    }
+
 -- row i of a table whose events are w
 module _ (s : List ℕ) (pieces : List AttributePieces) (rows : List EventRow) (w : List Event) (view : events_of s pieces rows ≡ w) (i : ℕ) (within : i < length w) where
   pub row_within : i < length rows
   row_within = omega (arith, ap length view, length-map rows (λ q. event_at s pieces q.part))
 
-  module _ (table : IsRowTable s pieces rows) (r : EventRow) (is : r ≡ get_or rows i r) where
+  module _ (table : IsTable s pieces rows) (r : EventRow) (is : r ≡ get_or rows i r) where
     at : slice_get rows i ≡ Some r
     at = slice_get_read rows (length rows) i r refl row_within is
 
@@ -222,20 +245,14 @@ module _ (s : List ℕ) (pieces : List AttributePieces) (rows : List EventRow) (
     part_event part e =
         rw (← view) (slice_get-map (λ q. event_at s pieces q.part) rows i ∙ ap (option_map (λ q. event_at s pieces q.part)) at ∙ ap (λ q. Some (event_at s pieces q)) e)
 
-    -- a start shows its attributes
-    pub part_shown : (foreign : Bool) (count : ℕ) (name : TextRange) (first : ℕ) → r.part ≡ parts.Start foreign count name first → ArePiecesShown s (slice_range pieces first (first + count))
-    part_shown foreign count name first e =
-        let own = slice_range pieces first (first + count) in
-        let range : first + count ≤ length pieces = (part_inside (parts.Start foreign count name first) e).1 in
-        let there : slice_get (events_of s pieces rows) i ≡ Some (start (bytes_of s name) foreign (attributes_in s own)) = rw view (part_event (parts.Start foreign count name first) e) in
-        let sound : is_sound (start (bytes_of s name) foreign (attributes_in s own)) ≡ true = are_sound-at (events_of s pieces rows) i (start (bytes_of s name) foreign (attributes_in s own)) table.told.sound there in
-        let both = and_parts (is_utf8 (bytes_of s name) && are_texts (attributes_in s own)) (has_distinct_names (attributes_in s own)) sound in
-        record {
-          inside = All-slice_range (HasPieces s) pieces first (first + count) table.attributes;
-          texts = (and_parts (is_utf8 (bytes_of s name)) (are_texts (attributes_in s own)) both.0).1;
-          distinct = both.1;
-          count = omega (arith, length-take (first + count - first) (drop first pieces), length-drop first pieces, range, row_count table);
-        }
+    -- which can be shown
+    pub part_shows : CanShow s pieces r.part
+    part_shows = record {
+      inside = part_inside r.part refl;
+      attributes = table.attributes;
+      few = table.few;
+      sound = are_sound-at w i (event_at s pieces r.part) (subst (λ v. are_sound v ≡ true) view table.told.sound) (part_event r.part refl);
+    }
 
     -- and has the parent of event i
     pub row_parent : r.parent ≡ parent_of w i

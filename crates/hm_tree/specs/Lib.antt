@@ -1,4 +1,5 @@
 pub mod Attributes
+pub mod Edits
 pub mod Lexemes
 pub mod Moved
 pub mod Names

@@ -1,7 +1,7 @@
 -- How rows of a table stand for the events of a walk.
-use Rattle.std.specs.Prelude.{◌≡◌, ℕ, ◌+◌, ◌≤◌, List, [], ◌∷◌, length, map, slice_range, slice_get, All, Option, Bool, true, false, ◌++◌}
+use Rattle.std.specs.Prelude.{◌≡◌, ℕ, ◌+◌, ◌^◌, ◌<◌, ◌≤◌, List, [], ◌∷◌, length, map, slice_range, slice_get, All, Option, Bool, true, false, ◌++◌}
 use Rattle.hm_base.specs.Walks.{Event, doctype, start, text, comment, end, walk_size}
-use Rattle.hm_tree.specs.Trees.{IsTold, open_behind}
+use Rattle.hm_tree.specs.Trees.{IsTold, is_sound, open_behind}
 use Rattle.hm_tree.specs.Pieces.{HasPieces, IsPiece, attributes_in, bytes_of}
 use Rattle.hm_tree.specs.declared.pieces.AttributePieces.{AttributePieces}
 use Rattle.hm_tree.specs.declared.rows.RowPart.{RowPart}
@@ -71,7 +71,23 @@ LastReachesEnd s [] = Unit {0}
 LastReachesEnd s (r ∷ []) = ReachesEnd s r.part
 LastReachesEnd s (r ∷ q ∷ rows) = LastReachesEnd s (q ∷ rows)
 
--- a table of rows, with the bytes and the attributes that they point into
+-- a table of rows, with the bytes and the attributes that they point into; others may be there too
+pub record IsTable (s : List ℕ) (pieces : List AttributePieces) (rows : List EventRow) : Type 0 where
+  pub inside : AreInside s (length pieces) rows
+  pub attributes : All (HasPieces s) pieces
+  pub few : length pieces < 2 ^ 32
+  pub own : HaveOwn 0 rows
+  pub parents : map (λ r. r.parent) rows ≡ parents_from [] 0 (events_of s pieces rows)
+  pub told : IsTold (events_of s pieces rows)
+
+-- the event of a row can be shown
+pub record CanShow (s : List ℕ) (pieces : List AttributePieces) (part : RowPart) : Type 0 where
+  pub inside : IsInside s (length pieces) part
+  pub attributes : All (HasPieces s) pieces
+  pub few : length pieces < 2 ^ 32
+  pub sound : is_sound (event_at s pieces part) ≡ true
+
+-- the table of a tree that is being made, which has nothing else
 pub record IsRowTable (s : List ℕ) (pieces : List AttributePieces) (rows : List EventRow) : Type 0 where
   pub inside : AreInside s (length pieces) rows
   pub attributes : All (HasPieces s) pieces

@@ -154,8 +154,6 @@ impl Maker {
         requires { path_after [] self ≡ [] }
         ensures { result ≡ self }
     {
-        let mut rows = self.rows;
-        rows.shrink();
-        Tree::of(rows)
+        Tree::of(self.rows.finish())
     }
 }

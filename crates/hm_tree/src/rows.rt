@@ -1,25 +1,23 @@
-//! The events of a walk in a table: a row for each event, and all texts one after the other.
-ghost use Rattle.std.specs.Prelude.{◌≡◌, ◌+◌, ◌^◌, ◌<◌, ◌≤◌, [], ◌∷◌, ◌++◌, length, slice_get, slice_range, true, Some, OnOk, OnErr};
+//! The rows of a tree that is being made: one for each event, and all texts one after the other.
+ghost use Rattle.std.specs.Prelude.{◌≡◌, ◌+◌, ◌^◌, ◌<◌, ◌≤◌, [], ◌∷◌, ◌++◌, length, true, Some, OnOk, OnErr};
 ghost use Rattle.hm_base.specs.Walks as walks;
 ghost use Rattle.hm_base.specs.Walks.{start, doctype, comment, event_size, path_after, walk_size, with_text};
-ghost use Rattle.hm_tree.specs.Moved.{moved, put_last, with_part};
 ghost use Rattle.hm_tree.specs.Rows.{ends_in_text, extended};
 ghost use Rattle.hm_tree.specs.Sources.{listed};
 ghost use Rattle.hm_tree.specs.Trees.{IsTold, end_of, innermost, last_agrees, parent_of};
-ghost use Rattle.hm_tree.specs.Views.{event_of};
 
 use crate::appended::{append, append_attributes, text_len};
 use crate::parent::Parent;
-use crate::pieces::{AttributePieces, TextRange, cut};
+use crate::pieces::{AttributePieces, TextRange};
 use crate::sources::{AttributeSource, count};
-use crate::{AttrsView, EventView};
+use crate::table::Table;
 use hm_base::Memory;
 use std::alloc::Global;
 use std::marker::Model;
 
 // An event, with pieces of the table's text, and for a start the index of its first attribute and how many there are.
 #[derive(Clone, Copy, Debug)]
-enum RowPart {
+pub(crate) enum RowPart {
     Doctype {
         legacy: bool,
     },
@@ -45,9 +43,9 @@ enum RowPart {
 
 // An event, and the last start that is open directly before it.
 #[derive(Clone, Copy, Debug)]
-struct EventRow {
-    part: RowPart,
-    parent: Parent,
+pub(crate) struct EventRow {
+    pub(crate) part: RowPart,
+    pub(crate) parent: Parent,
 }
 
 // A page has many events and attributes, so their sizes are checked here.
@@ -94,62 +92,19 @@ impl Rows {
         self.rows.len() as u32
     }
 
-    // Frees the room that isn't needed.
-    pub(crate) fn shrink(&mut self)
-        ensures { self.new ≡ self.old }
+    // The table of these events, with no room to spare.
+    pub(crate) fn finish(self) -> Table
+        ensures { result ≡ self }
     {
-        self.text.shrink_to_fit();
-        self.attributes.shrink_to_fit();
-        self.rows.shrink_to_fit();
-    }
-
-    // Frees the memory. The lists are cut short in place before they are freed.
-    pub(crate) fn release(self) {
         let Rows {
             mut text,
             mut attributes,
             mut rows,
         } = self;
-        text.clear();
-        text.shrink_to(1);
-        attributes.clear();
-        attributes.shrink_to(1);
-        rows.clear();
-        rows.shrink_to(1);
-    }
-
-    pub(crate) fn event(&self, i: u32) -> EventView<'_>
-        requires { i < length self.now }
-        ensures { slice_get self.now i ≡ Some (event_of result) }
-    {
-        let row = self.rows[i as usize];
-        match row.part {
-            RowPart::Doctype { legacy } => EventView::Doctype { legacy },
-            RowPart::Start {
-                foreign,
-                count,
-                name,
-                first,
-            } => EventView::Start {
-                name: cut(self.text.as_str(), name),
-                foreign,
-                attrs: AttrsView::of(
-                    self.text.as_str(),
-                    part_of(self.attributes.as_slice(), first, count),
-                ),
-            },
-            RowPart::Text { text, raw } => EventView::Text {
-                text: cut(self.text.as_str(), text),
-                raw,
-            },
-            RowPart::Comment { text } => EventView::Comment {
-                text: cut(self.text.as_str(), text),
-            },
-            RowPart::End { name, foreign } => EventView::End {
-                name: cut(self.text.as_str(), name),
-                foreign,
-            },
-        }
+        text.shrink_to_fit();
+        attributes.shrink_to_fit();
+        rows.shrink_to_fit();
+        Table::of(text, attributes, rows)
     }
 
     pub(crate) fn parent(&self, i: u32) -> Option<u32>
@@ -157,19 +112,6 @@ impl Rows {
         ensures { result ≡ parent_of self.now i }
     {
         self.rows[i as usize].parent.index()
-    }
-
-    // Puts attribute `at` of event `i` after the others of its tag, where it has that attribute.
-    pub(crate) fn put_last(&mut self, i: u32, at: u32)
-        requires { i < length self.old }
-        ensures { self.new ≡ put_last self.old i at }
-    {
-        let row = self.rows[i as usize];
-        if let RowPart::Start { count, first, .. } = row.part {
-            if at < u32::from(count) {
-                move_in_part(&mut self.attributes, first, count, at);
-            }
-        }
     }
 
     pub(crate) fn push_doctype(&mut self, legacy: bool, parent: Option<u32>) -> Result<(), Memory>
@@ -331,34 +273,4 @@ impl Rows {
         self.rows.push(EventRow { part, parent })?;
         Ok(())
     }
-}
-
-// Puts the attribute at a place after the others.
-fn move_last(attributes: &mut [AttributePieces], at: usize)
-    requires { at < length attributes.old }
-    ensures { attributes.new ≡ moved at attributes.old }
-{
-    attributes[at..].rotate_left(1);
-}
-
-// Does so with one of `count` of the attributes, from the index `first` on.
-fn move_in_part(attributes: &mut Vec<AttributePieces>, first: u32, count: u16, at: u32)
-    requires inside { first + count ≤ length attributes.old.items }
-    requires there { at < count }
-    ensures { attributes.new.items ≡ with_part first count attributes.old.items (moved at (slice_range attributes.old.items first (first + count))) }
-{
-    let from = first as usize;
-    move_last(
-        &mut attributes[from..from + usize::from(count)],
-        at as usize,
-    );
-}
-
-// `count` of the attributes, from the index `first` on.
-fn part_of(attributes: &[AttributePieces], first: u32, count: u16) -> &[AttributePieces]
-    requires { first + count ≤ length attributes.now }
-    ensures { result.now ≡ slice_range attributes.now first (first + count) }
-{
-    let from = first as usize;
-    &attributes[from..from + usize::from(count)]
 }

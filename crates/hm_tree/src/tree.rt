@@ -5,8 +5,8 @@ ghost use Rattle.hm_tree.specs.Moved.{put_last};
 ghost use Rattle.hm_tree.specs.Trees.{DifferFirstAt, IsStartAt, IsWalk, are_texts_apart, parent_of};
 ghost use Rattle.hm_tree.specs.Views.{event_of};
 
-use crate::rows::Rows;
-use crate::{EventView, Maker};
+use crate::table::Table;
+use crate::{Editor, EventView, Maker};
 use std::alloc::Global;
 use std::marker::Model;
 
@@ -14,7 +14,7 @@ use std::marker::Model;
 /// neither are empty nor touch.
 #[derive(Debug, Drop)]
 pub struct Tree {
-    rows: Rows,
+    table: Table,
 }
 
 impl Model for Tree {
@@ -25,9 +25,9 @@ impl Model for Tree {
 
     ghost use Rattle.hm_tree.specs.Trees.{IsMade};
 
-    ghost view = { λ t. t.rows };
+    ghost view = { λ t. t.table };
 
-    ghost invariant = { λ t. IsMade t.rows };
+    ghost invariant = { λ t. IsMade t.table };
 }
 
 impl Tree {
@@ -38,13 +38,13 @@ impl Tree {
         Maker::new(alloc)
     }
 
-    pub(crate) fn of(rows: Rows) -> Tree
-        requires matched { ends_match [] rows ≡ true }
-        requires closed { path_after [] rows ≡ [] }
-        requires apart { are_texts_apart rows ≡ true }
-        ensures { result ≡ rows }
+    pub(crate) fn of(table: Table) -> Tree
+        requires matched { ends_match [] table ≡ true }
+        requires closed { path_after [] table ≡ [] }
+        requires apart { are_texts_apart table ≡ true }
+        ensures { result ≡ table }
     {
-        Tree { rows }
+        Tree { table }
     }
 
     /// How many events there are. The tree is a walk within its limits, whose names and texts are UTF-8 and whose texts
@@ -53,13 +53,20 @@ impl Tree {
         ensures len { result ≡ length self.now }
         ensures walk { IsWalk self.now }
     {
-        self.rows.len()
+        self.table.len()
     }
 
     /// Frees the memory. A large tree is freed in this way before more memory is asked for. What is first cut short
     /// leaves no large block to the C library's heap, where a long list can't grow in place.
     pub fn release(self) {
-        self.rows.release();
+        self.table.release();
+    }
+
+    /// The tree as one whose events are gone through and changed.
+    pub fn edit(self) -> Editor
+        ensures { result ≡ record { done = []; left = self } }
+    {
+        Editor::of(self.table)
     }
 
     /// Event `i`.
@@ -67,7 +74,7 @@ impl Tree {
         requires { i < length self.now }
         ensures { slice_get self.now i ≡ Some (event_of result) }
     {
-        self.rows.event(i)
+        self.table.event(i)
     }
 
     /// Puts attribute `at` of event `i` after the others of its tag. Where event `i` has no such attribute the tree stays as it is.
@@ -75,7 +82,7 @@ impl Tree {
         requires { i < length self.old }
         ensures { self.new ≡ put_last self.old i at }
     {
-        self.rows.put_last(i, at);
+        self.table.put_last(i, at);
     }
 
     /// The last start that is open directly before event `i`; for an end this is its own start.
@@ -88,7 +95,7 @@ impl Tree {
         ensures element { MatchOption result (path_after [] (take i self.now) ≡ [])
             (λ k. (k < i) × IsStartAt self.now k (path_after [] (take i self.now))) }
     {
-        self.rows.parent(i)
+        self.table.parent(i)
     }
 
     /// Whether the trees are the same, event by event.

@@ -1,16 +1,16 @@
-use Rattle.std.proofs.Common.{string_bytes, ap, sym, ◌∙◌, arith}
+use Rattle.std.proofs.Common.{string_bytes, sym, arith}
 use Rattle.hm_tree.specs.Moved.{put_last}
 use Rattle.hm_tree.specs.declared.rows.RowPart.TheVariants.{Start}
-use Rattle.hm_tree.proofs.OwnLemmas.{row_moved, row_other, row_past}
-use Rattle.hm_tree.proofs.TableLemmas.{IsTableOf, part_inside}
-use Rattle.hm_tree.proofs.rows.Rows.put_last.Goals as goal
+use Rattle.hm_tree.proofs.OwnLemmas.{Shows, row_moved, row_other, row_past}
+use Rattle.hm_tree.proofs.TableLemmas.{part_inside}
+use Rattle.hm_tree.proofs.table.Table.put_last.Goals as goal
 
 pub move_in_part-requires-clause-inside : goal.move_in_part-requires-clause-inside
 move_in_part-requires-clause-inside c =
     (part_inside (string_bytes c.self.inside.text) c.self.inside.attributes.items c.self.inside.rows.items c.args.self.now c.self.view_is c.args.i c.requires c.self.invariant c.index-row.result.now c.index-row.ensures
     (Start c.in-Start.foreign c.in-Start.count c.in-Start.name c.in-Start.first) c.in-Start.is).1
 
-moved_so : (c : goal.After-move_in_part) → IsTableOf (string_bytes c.self.inside.text) c.move_in_part.new.attributes.items c.self.inside.rows.items (put_last c.args.self.now c.args.i c.args.at)
+moved_so : (c : goal.After-move_in_part) → Shows (string_bytes c.self.inside.text) c.move_in_part.new.attributes.items c.self.inside.rows.items (put_last c.args.self.now c.args.i c.args.at)
 moved_so c =
     row_moved (string_bytes c.self.inside.text) c.self.inside.attributes.items c.self.inside.rows.items c.args.self.now c.self.view_is c.args.i c.requires c.self.invariant c.index-row.result.now c.index-row.ensures c.args.at
     c.in-Start.foreign c.in-Start.count c.in-Start.name c.in-Start.first c.in-Start.is c.move_in_part.new.attributes.items c.move_in_part.ensures

@@ -1,0 +1,83 @@
+-- A tree whose events are gone through from the first to the last, each kept, changed or left out.
+use Rattle.std.specs.Prelude.{◌≡◌, ℕ, ◌^◌, ◌<◌, ◌≤◌, false, List, [], ◌∷◌, ◌++◌, length, map, take, drop, slice_get, slice_range, All, Option, Some, None, IsCharBoundary}
+use Rattle.hm_base.specs.Bytes.{is_null}
+use Rattle.hm_base.specs.Walks.{Event, text}
+use Rattle.hm_tree.specs.Trees.{IsMade, IsTold, innermost}
+use Rattle.hm_tree.specs.Pieces.{HasPieces}
+use Rattle.hm_tree.specs.Rows.{AreInside, HaveOwn, events_of, parents_from}
+use Rattle.hm_tree.specs.declared.pieces.AttributePieces.{AttributePieces}
+use Rattle.hm_tree.specs.declared.rows.RowPart.{RowPart}
+use Rattle.hm_tree.specs.declared.rows.RowPart.TheVariants as parts
+use Rattle.hm_tree.specs.declared.rows.EventRow.{EventRow}
+
+-- the events that are done, and those that are left
+pub record Edited : Type 0 where
+  pub done : List Event
+  pub left : List Event
+
+-- the last event of a list
+abbrev pub last_event : List Event → Option Event
+last_event [] = None
+last_event (e ∷ []) = Some e
+last_event (e ∷ x ∷ w) = last_event (x ∷ w)
+
+-- the next event is done as it is
+abbrev pub kept : List Event → List Event → Edited
+kept v [] = record { done = v; left = [] }
+kept v (e ∷ w) = record { done = v ++ e ∷ []; left = w }
+
+-- all but the first
+abbrev pub without_first : List Event → List Event
+without_first [] = []
+without_first (e ∷ w) = w
+
+-- another text in place of that which is first
+abbrev pub with_first_text : List ℕ → List Event → List Event
+with_first_text t (text s raw ∷ w) = text t raw ∷ w
+with_first_text t w = w
+
+-- a part of the text that is first, in its place
+abbrev pub with_first_cut : ℕ → ℕ → List Event → List Event
+with_first_cut from to (text s raw ∷ w) = text (slice_range s from to) raw ∷ w
+with_first_cut from to w = w
+
+-- the bytes from one place up to another are a part of the text that is first, and not empty
+abbrev pub IsCut : List Event → ℕ → ℕ → Type 0
+IsCut (text s raw ∷ w) from to = (from < to) × IsCharBoundary s from × IsCharBoundary s to
+IsCut w from to = ⊥
+
+-- t is no longer than the text that is first, and not empty
+abbrev pub IsShorter : List Event → List ℕ → Type 0
+IsShorter (text s raw ∷ w) t = (length t ≤ length s) × (is_null t ≡ false)
+IsShorter w t = ⊥
+
+-- The rows `front` are done and the rows `rest` are left, of which only those that are done have their parents.
+pub record IsEdited (s : List ℕ) (pieces : List AttributePieces) (front rest : List EventRow) (parent : Option ℕ) : Type 0 where
+  pub inside : AreInside s (length pieces) (front ++ rest)
+  pub attributes : All (HasPieces s) pieces
+  pub few : length pieces < 2 ^ 32
+  pub own : HaveOwn 0 (front ++ rest)
+  pub told : IsTold (events_of s pieces (front ++ rest))
+  pub made : IsMade (events_of s pieces (front ++ rest))
+  pub parents : map (λ r. r.parent) front ≡ parents_from [] 0 (events_of s pieces front)
+  pub above : parent ≡ innermost (events_of s pieces front)
+
+-- The rows before `done` are done, those from `next` on are left.
+pub record IsEditing (s : List ℕ) (pieces : List AttributePieces) (rows : List EventRow) (done next : ℕ) (parent : Option ℕ) : Type 0 where
+  pub ordered : done ≤ next
+  pub within : next ≤ length rows
+  pub count : length rows < 2 ^ 29
+  pub edited : IsEdited s pieces (take done rows) (drop next rows) parent
+
+abbrev row_parent : Option EventRow → Option ℕ
+row_parent None = None
+row_parent (Some r) = r.parent
+
+-- the innermost start that is open after row `at`, where `parent` is that before it
+abbrev pub parent_behind : List EventRow → Option ℕ → RowPart → ℕ → Option ℕ
+parent_behind rows parent (parts.Doctype legacy) at = parent
+parent_behind rows parent (parts.Start foreign count name first) at = Some at
+parent_behind rows parent (parts.Text p raw) at = parent
+parent_behind rows parent (parts.Comment p) at = parent
+parent_behind rows None (parts.End name foreign) at = None
+parent_behind rows (Some k) (parts.End name foreign) at = row_parent (slice_get rows k)

@@ -1,0 +1,117 @@
+//! The events of a tree in a table: a row for each event, and the bytes and attributes that the rows point into.
+ghost use Rattle.std.specs.Prelude.{◌≡◌, ◌+◌, ◌<◌, ◌≤◌, length, slice_get, slice_range, string_bytes, Some};
+ghost use Rattle.hm_tree.specs.Moved.{moved, put_last, with_part};
+ghost use Rattle.hm_tree.specs.Rows.{IsTable, events_of};
+ghost use Rattle.hm_tree.specs.Trees.{IsTold, parent_of};
+ghost use Rattle.hm_tree.specs.Views.{event_of};
+
+use crate::EventView;
+use crate::pieces::AttributePieces;
+use crate::rows::{EventRow, RowPart};
+use crate::shown::show;
+use std::marker::Model;
+
+// A list of events. Bytes and attributes may be there that no row points at.
+#[derive(Debug, Drop)]
+pub(crate) struct Table {
+    pub(crate) text: String,
+    pub(crate) attributes: Vec<AttributePieces>,
+    pub(crate) rows: Vec<EventRow>,
+}
+
+impl Model for Table {
+    ghost use Rattle.std.specs.Prelude.{List, string_bytes};
+    ghost use Rattle.hm_base.specs.Walks.{Event};
+
+    ghost Value = { List Event };
+
+    ghost use Rattle.hm_tree.specs.Rows.{events_of, IsTable};
+
+    ghost view = { λ t. events_of (string_bytes t.text) t.attributes.items t.rows.items };
+
+    ghost invariant = { λ t. IsTable (string_bytes t.text) t.attributes.items t.rows.items };
+}
+
+impl Table {
+    pub(crate) fn of(text: String, attributes: Vec<AttributePieces>, rows: Vec<EventRow>) -> Table
+        requires { IsTable (string_bytes text) attributes.items rows.items }
+        ensures { result ≡ events_of (string_bytes text) attributes.items rows.items }
+    {
+        Table {
+            text,
+            attributes,
+            rows,
+        }
+    }
+
+    pub(crate) fn len(&self) -> u32
+        ensures len { result ≡ length self.now }
+        ensures told { IsTold self.now }
+    {
+        self.rows.len() as u32
+    }
+
+    // Frees the memory. The lists are cut short in place before they are freed.
+    pub(crate) fn release(self) {
+        let Table {
+            mut text,
+            mut attributes,
+            mut rows,
+        } = self;
+        text.clear();
+        text.shrink_to(1);
+        attributes.clear();
+        attributes.shrink_to(1);
+        rows.clear();
+        rows.shrink_to(1);
+    }
+
+    pub(crate) fn event(&self, i: u32) -> EventView<'_>
+        requires { i < length self.now }
+        ensures { slice_get self.now i ≡ Some (event_of result) }
+    {
+        let row = self.rows[i as usize];
+        show(self.text.as_str(), self.attributes.as_slice(), row.part)
+    }
+
+    pub(crate) fn parent(&self, i: u32) -> Option<u32>
+        requires { i < length self.now }
+        ensures { result ≡ parent_of self.now i }
+    {
+        self.rows[i as usize].parent.index()
+    }
+
+    // Puts attribute `at` of event `i` after the others of its tag, where it has that attribute.
+    pub(crate) fn put_last(&mut self, i: u32, at: u32)
+        requires { i < length self.old }
+        ensures { self.new ≡ put_last self.old i at }
+    {
+        let row = self.rows[i as usize];
+        if let RowPart::Start { count, first, .. } = row.part {
+            if at < u32::from(count) {
+                move_in_part(&mut self.attributes, first, count, at);
+            }
+        }
+    }
+}
+
+// Puts the attribute at a place after the others.
+fn move_last(attributes: &mut [AttributePieces], at: usize)
+    requires { at < length attributes.old }
+    ensures { attributes.new ≡ moved at attributes.old }
+{
+    attributes[at..].rotate_left(1);
+}
+
+// Does so with one of `count` of the attributes, from the index `first` on.
+fn move_in_part(attributes: &mut Vec<AttributePieces>, first: u32, count: u16, at: u32)
+    requires inside { first + count ≤ length attributes.old.items }
+    requires there { at < count }
+    ensures { attributes.new.items ≡ with_part first count attributes.old.items (moved at (slice_range attributes.old.items first (first + count))) }
+{
+    let from = first as usize;
+    move_last(
+        &mut attributes[from..from + usize::from(count)],
+        at as usize,
+    );
+}

@@ -3,7 +3,7 @@
 
 Takes N pages (40) below the folders that `tree` refuses with the standard's table, as evenly over the rules as there are pages, and compares what
 `explain` prints of each with what is computed here from the bytes of the page and from the rule and the byte that `tree` tells: line, column, the part
-of the line that is shown, and the caret. The sentences are those of `hm_minify/specs/Explanations.antt`. Pages are `*.html`, by their names in order.
+of the line that is shown, and the caret. The sentences are those of `hm_location/specs/Explanations.antt`. Pages are `*.html`, by their names in order.
 PROGRAM is `crates/hminify/out/hminify` where none is named. Without a FOLDER those of Debian's documents are taken. Prints how many pages there were of
 each rule, and each that differs; ends with 1 where one does, or where there are too few.
 
@@ -21,7 +21,7 @@ import cases as told_cases  # noqa: E402
 import json_pages  # noqa: E402
 
 HERE = os.path.dirname(os.path.abspath(__file__))
-SENTENCES = os.path.join(HERE, "../crates/hm_minify/specs/Explanations.antt")
+SENTENCES = os.path.join(HERE, "../crates/hm_location/specs/Explanations.antt")
 CASES = os.path.join(HERE, "../crates/hm_cases/data/cases.txt")
 MARK = b"\xef\xbb\xbf"
 MOST = 16777216

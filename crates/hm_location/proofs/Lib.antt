@@ -1,3 +1,5 @@
 pub mod LineLaws
 pub mod ShownLaws
 pub mod Beyond
+pub mod Alike
+pub mod Joined

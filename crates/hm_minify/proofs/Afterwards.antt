@@ -13,9 +13,9 @@ use Rattle.hm_check.specs.Verdicts.{verdict}
 use Rattle.hm_check.specs.declared.verdicts.Verdict.{Verdict}
 use Rattle.hm_check.specs.declared.verdicts.Verdict.TheVariants.{Yes}
 use Rattle.hm_elements.specs.Settled.{Settled}
-use Rattle.hm_construction_laws.specs.Trees.{built}
-use Rattle.hm_fragment.specs.Frames.{framed, front, unframed}
-use Rattle.hm_fragment.specs.Laws.{IsReadBack}
+use Rattle.hm_input.specs.Trees.{built}
+use Rattle.hm_input.specs.Frames.{framed, front, unframed}
+use Rattle.hm_input.specs.Laws.{IsReadBack}
 use Rattle.hm_base.specs.declared.plain.SpellRules.{SpellRules}
 use Rattle.hm_order.specs.Shortest.{certificate_of, certified_rows, shortest_text}
 use Rattle.hm_refs.proofs.Places.{same_bytes}
@@ -25,7 +25,8 @@ use Rattle.hm_store.specs.Contents.{Contents}
 use Rattle.hm_words.specs.Words.{Asked, Command, Origin, Work, are_filled, are_files_apart, are_flags, asked, asks, checks, choices_of, command_in, fits, is_apart, minifies, names_in, with_flags, written_of}
 use Rattle.hm_words.specs.declared.writing.Writing.{Writing}
 use Rattle.hm_minify.specs.Endings.{asked_ending, certificate_ending, check_ending, checked_ending, format_of, found_ending, framed_ending, out_fragment, page_name, refusal, says, tree_ending, verdict_ending, with_tree, written_part}
-use Rattle.hm_minify.specs.Inputs.{Input, missing, bad_table, bad_page, bad_json, tree as tree_input, input_of, origin_input, wanted}
+use Rattle.hm_input.specs.Inputs.{Input, missing, bad_table, bad_page, bad_json, tree as tree_input, origin_input}
+use Rattle.hm_minify.specs.Wanted.{input_of, wanted}
 use Rattle.hm_minify.specs.Laws.{FragmentIsChecked, MinifiedIsChecked, TreeIsChecked, judged, own_verdict, with_writes}
 use Rattle.hm_minify.specs.Lines.{yes_line}
 use Rattle.hm_minify.specs.Writes.{write}
@@ -35,7 +36,7 @@ use Rattle.hm_minify.proofs.Answered.{away, files_apart, is_either, work_apart}
 use Rattle.hm_minify.proofs.Found.{bytes_less, short_own}
 use Rattle.hm_minify.proofs.Framing.{request_framed, ruled, text_read_back}
 use Rattle.hm_minify.proofs.Headline.{request_table}
-use Rattle.hm_minify.proofs.Seen.{mixed, origin_stays}
+use Rattle.hm_input.proofs.Seen.{mixed, origin_stays}
 
 -- ---- the names differ
 

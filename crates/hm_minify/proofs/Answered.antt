@@ -5,7 +5,8 @@ use Rattle.std.specs.Str.{bytes_eq}
 use Rattle.hm_base.specs.Walks.{Event}
 use Rattle.hm_base.specs.declared.plain.SpellRules.{SpellRules}
 use Rattle.hm_elements.specs.Settled.{Settled}
-use Rattle.hm_minify.specs.Inputs.{IsInput, Input, tree as tree_input, input_of, origin_input, wanted}
+use Rattle.hm_input.specs.Inputs.{IsInput, Input, tree as tree_input, origin_input}
+use Rattle.hm_minify.specs.Wanted.{input_of, wanted}
 use Rattle.hm_refs.proofs.Places.{same_bytes}
 use Rattle.hm_refs.specs.Names.{Entry}
 use Rattle.hm_store.specs.Contents.{Contents, Sees}
@@ -13,7 +14,7 @@ use Rattle.hm_store.specs.Files.{FileMap, file_of}
 use Rattle.hm_words.specs.Words.{Asked, Origin, Work, page_at, fragment_at, json_at, made, minifies, checks, shows, tells_json, explains, measures, is_apart, is_away, is_origin_apart, is_work_apart, is_table_word, are_apart, are_files_apart}
 use Rattle.hm_words.specs.declared.writing.Writing.{Writing}
 use Rattle.hm_minify.specs.Endings.{Ending, IsReadable, IsReadableTree, page_name, refusal, with_tree, tree_ending, asked_ending, check_ending}
-use Rattle.hm_minify.proofs.Seen.{IsApartFrom, mixed, sees_both, origin_stays}
+use Rattle.hm_input.proofs.Seen.{IsApartFrom, mixed, sees_both, origin_stays}
 
 -- ---- names that differ
 

@@ -22,23 +22,23 @@ use Rattle.hm_check.specs.declared.verdicts.Verdict.{Verdict}
 use Rattle.hm_check.specs.declared.verdicts.Verdict.TheVariants.{Yes, No}
 use Rattle.hm_check.specs.declared.verdicts.Why.{Why}
 use Rattle.hm_check.specs.declared.verdicts.Why.TheVariants.{OutRefused, RulesDiffer}
-use Rattle.hm_construction_laws.specs.Trees.{Outcome, built, page_tree, refused_by}
+use Rattle.hm_input.specs.Trees.{Outcome, built, page_tree, refused_by}
 use Rattle.hm_elements.specs.Settled.{Settled}
-use Rattle.hm_fragment.proofs.Fragments.{bounds_are_of_fragments, of_fragment}
-use Rattle.hm_fragment.specs.Fragments.{fragment_tree}
-use Rattle.hm_fragment.specs.Frames.{framed, front, unframed}
-use Rattle.hm_minify.specs.Loads.{IsLoaded}
+use Rattle.hm_input.proofs.Fragments.{bounds_are_of_fragments, of_fragment}
+use Rattle.hm_input.specs.Fragments.{fragment_tree}
+use Rattle.hm_input.specs.Frames.{framed, front, unframed}
+use Rattle.hm_input.specs.Loads.{IsLoaded}
 use Rattle.hm_refs.specs.Names.{Entry}
 use Rattle.hm_refs.specs.Tables.{IsTable}
-use Rattle.hm_spelling_spec.specs.Spellings.{Shortest, Spells}
+use Rattle.hm_order.specs.Spellings.{Shortest, Spells}
 use Rattle.hm_store.specs.Contents.{Sees}
 use Rattle.hm_store.specs.Files.{FileMap}
 use Rattle.hm_minify.specs.Endings.{Ending, says, is_fault, verdict_ending, rules_differ, fragment_limit, out_fragment, fragment_ending, framed_ending, found_ending, certificate_ending, checked_ending, check_ending}
 use Rattle.hm_minify.specs.Lines.{too_long_line, why_line, yes_line}
 use Rattle.hm_minify.specs.declared.status.Status.{Status}
 use Rattle.hm_minify.specs.declared.status.Status.TheVariants as status
-use Rattle.hm_minify.proofs.Loaded.{page_length}
-use Rattle.hm_minify.proofs.Seen.{files_seen}
+use Rattle.hm_input.proofs.Loaded.{page_length}
+use Rattle.hm_input.proofs.Seen.{files_seen}
 
 -- ---- a file that is longer than its limit
 

@@ -7,23 +7,24 @@ use Rattle.hm_base.specs.declared.limits.TheConstants.{PAGE_LIMIT}
 use Rattle.hm_base.specs.declared.plain.SpellRules.{SpellRules}
 use Rattle.hm_base.specs.declared.plain.TreeOptions.{TreeOptions}
 use Rattle.hm_base.specs.declared.rules.Rule.TheVariants.{TooLong}
-use Rattle.hm_construction_laws.specs.Trees.{Outcome, built, refused_by}
+use Rattle.hm_input.specs.Trees.{Outcome, built, refused_by}
 use Rattle.hm_elements.specs.Settled.{Settled}
-use Rattle.hm_fragment.proofs.Fragments.{bounds_are_of_fragments, fragments_are_in_body, shortest_is_read_back}
-use Rattle.hm_fragment.proofs.Rewritten.{rewritten_stays_framed}
-use Rattle.hm_fragment.specs.Fragments.{fragment_tree}
-use Rattle.hm_fragment.specs.Frames.{IsFramed, framed, front}
-use Rattle.hm_fragment.specs.Laws.{IsReadBack}
-use Rattle.hm_minify.proofs.Headline.{table_is}
+use Rattle.hm_input.proofs.Fragments.{bounds_are_of_fragments, fragments_are_in_body, shortest_is_read_back}
+use Rattle.hm_input.proofs.Rewritten.{rewritten_stays_framed}
+use Rattle.hm_input.specs.Fragments.{fragment_tree}
+use Rattle.hm_input.specs.Frames.{IsFramed, framed, front}
+use Rattle.hm_input.specs.Laws.{IsReadBack}
+use Rattle.hm_input.proofs.Tables.{table_is}
 use Rattle.hm_minify.proofs.Ordered.{wanted_framed}
-use Rattle.hm_minify.proofs.Wanted.{of_wanted}
-use Rattle.hm_minify.specs.Inputs.{tree as tree_input, fragment_input, fragment_outcome, input_from, input_of, is_html, is_none, names_of_table, origin_input, rewritten_input}
-use Rattle.hm_options.specs.Rewrites.{rewrite}
+use Rattle.hm_minify.proofs.WantedTrees.{of_wanted}
+use Rattle.hm_input.specs.Inputs.{tree as tree_input, fragment_input, fragment_outcome, input_from, is_html, is_none, names_of_table, origin_input, rewritten_input}
+use Rattle.hm_minify.specs.Wanted.{input_of}
+use Rattle.hm_input.specs.Rewrites.{rewrite}
 use Rattle.hm_order.specs.Shortest.{shortest_text}
 use Rattle.hm_refs.specs.Names.{Entry}
 use Rattle.hm_refs.specs.Tables.{IsTable}
 use Rattle.hm_refs.specs.declared.fault.TableFault.{TableFault}
-use Rattle.hm_spelling_spec.specs.Spellings.{Shortest, Spells}
+use Rattle.hm_order.specs.Spellings.{Shortest, Spells}
 use Rattle.hm_store.specs.Contents.{Contents}
 use Rattle.hm_words.specs.Words.{Asked, Command, Origin, page_at, fragment_at, json_at, made, are_filled, are_flags, asked, asks, choices_of, command_in, fits, has, is_apart, is_fragment, names_in, with_flags, written_of}
 

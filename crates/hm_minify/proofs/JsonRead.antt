@@ -3,12 +3,13 @@ use Rattle.std.proofs.Common.{◌≡◌, ◌∙◌, ℕ, List, length, Option, S
 use Rattle.hm_base.specs.Walks.{Event}
 use Rattle.hm_base.specs.declared.plain.TreeOptions.{TreeOptions}
 use Rattle.hm_json_tree.specs.Reading.{JsonWalk, walk, too_long, not_json, not_array, no_event, some_open, not_settled, json_walk}
-use Rattle.hm_minify.specs.Inputs.{tree as tree_input, input_from, json_input, names_of_table, origin_input, walk_input, wanted_tree}
-use Rattle.hm_minify.proofs.Wanted.{of_wanted}
+use Rattle.hm_input.specs.Inputs.{tree as tree_input, input_from, json_input, names_of_table, origin_input, walk_input}
+use Rattle.hm_minify.specs.Wanted.{wanted_tree}
+use Rattle.hm_minify.proofs.WantedTrees.{of_wanted}
 use Rattle.hm_minify.specs.Outside.{Outside}
 use Rattle.hm_minify.specs.Runs.{HasMinified, HasMinifiedJson}
 use Rattle.hm_minify.specs.Endings.{format_of}
-use Rattle.hm_options.specs.Rewrites.{rewrite}
+use Rattle.hm_input.specs.Rewrites.{rewrite}
 use Rattle.hm_order.specs.Laws.{ShortestAny}
 use Rattle.hm_order.specs.Shortest.{IsShortest}
 use Rattle.hm_refs.specs.Names.{Entry}

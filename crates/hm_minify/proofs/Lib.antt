@@ -1,9 +1,4 @@
-pub mod Alike
-pub mod Loaded
-pub mod GeneratedInputs
-pub mod Joined
 pub mod Headline
-pub mod Seen
 pub mod Found
 pub mod Answered
 pub mod Accepted
@@ -13,7 +8,7 @@ pub mod Steps
 pub mod Others
 pub mod Meanings
 pub mod Afterwards
-pub mod Wanted
+pub mod WantedTrees
 pub mod JsonRead
 pub mod Ordered
 pub mod Framing

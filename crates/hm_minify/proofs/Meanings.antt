@@ -9,12 +9,13 @@ use Rattle.hm_words.specs.declared.writing.Writing.{Writing}
 use Rattle.hm_refs.specs.Names.{Entry}
 use Rattle.hm_store.specs.Contents.{AreTold, Contents, Sees}
 use Rattle.hm_elements.specs.Settled.{Settled}
-use Rattle.hm_minify.specs.Inputs.{Input, missing, bad_table, bad_page, bad_json, tree as tree_input, input_of}
+use Rattle.hm_input.specs.Inputs.{Input, missing, bad_table, bad_page, bad_json, tree as tree_input}
+use Rattle.hm_minify.specs.Wanted.{input_of}
 use Rattle.hm_order.specs.Shortest.{IsShortest, certificate_of, shortest_text}
 use Rattle.hm_words.specs.Words.{Asked, Work, minifies, checks as checks_files, shows as shows_tree, tells_json, explains as explains_page, measures as measures_tree, Origin, asked, is_fragment, notice_in}
 use Rattle.hm_minify.specs.Endings.{IsReadableAsked, IsReadableBy, written_part, format_of, is_explained, is_fault, page_name, refusal, with_tree, tree_ending, check_ending, asked_ending, Ending, words_ending, ending}
-use Rattle.hm_fragment.specs.Frames.{framed, unframed}
-use Rattle.hm_fragment.specs.Laws.{IsReadBack}
+use Rattle.hm_input.specs.Frames.{framed, unframed}
+use Rattle.hm_input.specs.Laws.{IsReadBack}
 use Rattle.hm_minify.specs.Lines.{length_line, refused_line, usage_line}
 use Rattle.hm_minify.specs.Outside.{Outside, Prints}
 use Rattle.hm_minify.specs.Runs.{Ends, EndsAs, Puts, HasMinified, HasMinifiedFragment, HasChecked, HasCheckedFragment, HasDenied, HasShown, HasToldJson, HasMeasured, HasRefusedPage, HasRefusedJson, HasRefusedTable}
@@ -23,7 +24,8 @@ use Rattle.hm_minify.specs.declared.status.Status.{Status}
 use Rattle.hm_minify.specs.declared.status.Status.TheVariants as status
 use Rattle.hm_minify.proofs.Courses.{put_says}
 use Rattle.hm_minify.proofs.Found.{check_other, check_writes, checked_fragment_yes, checked_yes, is_found}
-use Rattle.hm_minify.proofs.Generated.{IsGenerated, asked_limits, json_never_refused, page_never_refused}
+use Rattle.hm_input.proofs.Measured.{IsGenerated, asked_limits}
+use Rattle.hm_minify.proofs.Generated.{json_never_refused, page_never_refused}
 use Rattle.hm_minify.proofs.Framing.{IsRuled, least_fragment, request_framed, ruled, text_read_back}
 use Rattle.hm_minify.proofs.Headline.{request_table, input_is_shortest}
 use Rattle.hm_minify.proofs.Ordered.{bounds_all}

@@ -2,18 +2,19 @@
 use Rattle.std.proofs.Common.{◌≡◌, ◌∙◌, ℕ, Bool, true, false, cond, List, [], ◌∷◌, ◌++◌, refl, sym, ap, subst}
 use Rattle.hm_base.specs.Walks.{Event, doctype, start, text, comment, end}
 use Rattle.hm_elements.specs.Settled.{Settled}
-use Rattle.hm_fragment.proofs.Framed.{EndsFramed}
-use Rattle.hm_fragment.specs.Frames.{frame_start, frame_end, IsFramed}
-use Rattle.hm_graph_laws.specs.ExchangeLaws.{sparing_plain}
-use Rattle.hm_graph_laws.specs.Units.{may_close_itself}
-use Rattle.hm_minify.specs.Inputs.{tree as tree_input, input_of, rewritten_of, wanted, wanted_tree}
+use Rattle.hm_input.proofs.Framed.{EndsFramed}
+use Rattle.hm_input.specs.Frames.{frame_start, frame_end, IsFramed}
+use Rattle.hm_order.specs.ExchangeLaws.{sparing_plain}
+use Rattle.hm_order.specs.Units.{may_close_itself}
+use Rattle.hm_input.specs.Inputs.{tree as tree_input}
+use Rattle.hm_minify.specs.Wanted.{input_of, rewritten_of, wanted, wanted_tree}
 use Rattle.hm_minify.proofs.Headline.{request_table}
 use Rattle.hm_order.proofs.Shortest.{ordered_bounds_all}
 use Rattle.hm_order.specs.Laws.{ShortestAny}
 use Rattle.hm_order.specs.Orders.{ordered, reordered}
 use Rattle.hm_refs.specs.Names.{Entry}
-use Rattle.hm_spelling_spec.specs.Spellings.{Shortest}
-use Rattle.hm_spelling_spec.specs.Tags.{Spelling}
+use Rattle.hm_order.specs.Spellings.{Shortest}
+use Rattle.hm_order.specs.Tags.{Spelling}
 use Rattle.hm_store.specs.Contents.{Contents}
 use Rattle.hm_words.specs.Words.{Asked}
 

@@ -12,7 +12,8 @@ use Rattle.hm_words.specs.declared.writing.Writing.{Writing}
 use Rattle.hm_refs.specs.Names.{Entry}
 use Rattle.hm_store.specs.Contents.{Contents, Sees}
 use Rattle.hm_store.specs.Files.{FileMap, file_of, with_file, HasFront}
-use Rattle.hm_minify.specs.Inputs.{Input, missing, bad_table, bad_page, bad_json, tree as tree_input, input_of}
+use Rattle.hm_input.specs.Inputs.{Input, missing, bad_table, bad_page, bad_json, tree as tree_input}
+use Rattle.hm_minify.specs.Wanted.{input_of}
 use Rattle.hm_words.specs.Words.{Origin, Work, Asked, minifies, checks, shows, tells_json, explains, measures, asked, has, notice_in}
 use Rattle.hm_minify.specs.Endings.{page_name, refusal, with_tree, tree_ending, request_ending, words_ending, ending, outputs, asked_outputs}
 use Rattle.hm_minify.specs.Writes.{Write, IsLeft}

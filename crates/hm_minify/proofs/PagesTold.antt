@@ -7,15 +7,16 @@ use Rattle.std.specs.Io.KnownBytes.{append_known}
 use Rattle.hm_base.specs.Walks.{Event}
 use Rattle.hm_base.specs.declared.plain.TreeOptions.{TreeOptions}
 use Rattle.hm_base.specs.declared.rules.Rule.{Rule}
-use Rattle.hm_construction_laws.specs.Trees.{Outcome, built, refused_by}
+use Rattle.hm_input.specs.Trees.{Outcome, built, refused_by}
 use Rattle.hm_order.specs.Shortest.{certificate_of, shortest_text}
 use Rattle.hm_refs.specs.Names.{Entry}
 use Rattle.hm_refs.specs.declared.fault.TableFault.{TableFault}
 use Rattle.hm_store.specs.Contents.{AreTold, Contents, Sees}
 use Rattle.hm_words.specs.Words.{Asked, asked, explains, page_at}
 use Rattle.hm_minify.specs.Endings.{IsReadableAsked, IsReadableBy, ending, format_of, page_name, refusal}
-use Rattle.hm_minify.specs.Explanations.{explained_page, settled_line}
-use Rattle.hm_minify.specs.Inputs.{Input, bad_json, bad_page, bad_table, input_from, input_of, missing, names_of_table, origin_input, page_input, page_outcome, rewritten_input, tree as tree_input, wanted, wanted_tree}
+use Rattle.hm_location.specs.Explanations.{explained_page, settled_line}
+use Rattle.hm_input.specs.Inputs.{Input, bad_json, bad_page, bad_table, input_from, missing, names_of_table, origin_input, page_input, page_outcome, rewritten_input, tree as tree_input}
+use Rattle.hm_minify.specs.Wanted.{input_of, wanted, wanted_tree}
 use Rattle.hm_minify.specs.Outside.{Outside}
 use Rattle.hm_minify.specs.Runs.{Ends, EndsAs, HasExplained, HasSettled}
 use Rattle.hm_minify.specs.declared.status.Status.{Status}

@@ -10,7 +10,7 @@ use Rattle.hm_words.specs.Answers.{request_of}
 use Rattle.hm_words.specs.declared.notices.Notice.{Notice}
 use Rattle.hm_words.specs.declared.words.Asked as requests
 use Rattle.hm_minify.specs.Endings.{Ending, says, store_fault, is_fault, IsReadable, IsReadableAsked, asked_ending, request_ending, words_ending, ending}
-use Rattle.hm_minify.specs.Inputs.{input_of}
+use Rattle.hm_minify.specs.Wanted.{input_of}
 use Rattle.hm_minify.specs.Lines.{notice_text, usage_line, store_line}
 use Rattle.hm_minify.specs.Outside.{Outside, StoreFails}
 use Rattle.hm_minify.specs.Runs.{Puts, Finishes, Course, written, missing, stopped}

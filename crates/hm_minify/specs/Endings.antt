@@ -14,9 +14,9 @@ use Rattle.hm_check.specs.Verdicts.{verdict}
 use Rattle.hm_check.specs.declared.verdicts.Verdict.{Verdict}
 use Rattle.hm_check.specs.declared.verdicts.Verdict.TheVariants.{Yes, No}
 use Rattle.hm_check.specs.declared.verdicts.Why.TheVariants.{OutRefused, RulesDiffer}
-use Rattle.hm_construction_laws.specs.Trees.{Outcome, built, refused_by}
-use Rattle.hm_fragment.specs.Fragments.{fragment_tree}
-use Rattle.hm_fragment.specs.Frames.{framed, front, unframed}
+use Rattle.hm_input.specs.Trees.{Outcome, built, refused_by}
+use Rattle.hm_input.specs.Fragments.{fragment_tree}
+use Rattle.hm_input.specs.Frames.{framed, front, unframed}
 use Rattle.hm_store.specs.Contents.{Contents}
 use Rattle.hm_base.specs.Walks.{Event}
 use Rattle.hm_refs.specs.Names.{Entry}
@@ -24,11 +24,12 @@ use Rattle.hm_order.specs.Shortest.{certificate_of, certified_rows, layer_count,
 use Rattle.hm_dump.specs.Dump.{dump_of}
 use Rattle.hm_elements.specs.Settled.{Settled}
 use Rattle.hm_json_tree.specs.Texts.{json_text}
-use Rattle.hm_minify.specs.Inputs.{Input, missing, bad_table, bad_page, bad_json, tree as tree_input, input_of}
+use Rattle.hm_input.specs.Inputs.{Input, missing, bad_table, bad_page, bad_json, tree as tree_input}
+use Rattle.hm_minify.specs.Wanted.{input_of}
 use Rattle.hm_words.specs.Words.{Origin, Work, Asked, page_at, fragment_at, json_at, made, minifies, checks, shows, tells_json, explains, measures, asked, notice_in}
 use Rattle.hm_words.specs.declared.notices.Notice.{Notice}
 use Rattle.hm_words.specs.declared.writing.Writing.{Writing}
-use Rattle.hm_minify.specs.Explanations.{explained_page, settled_line}
+use Rattle.hm_location.specs.Explanations.{explained_page, settled_line}
 use Rattle.hm_minify.specs.Lines.{length_line, refused_line, json_line, table_line, usage_line, store_line, notice_text, yes_line, too_long_line, bad_line_line, why_line, measured_line}
 use Rattle.hm_minify.specs.Writes.{Write, write}
 use Rattle.hm_minify.specs.declared.status.Status.{Status}

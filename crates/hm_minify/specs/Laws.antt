@@ -11,10 +11,11 @@ use Rattle.hm_check.specs.declared.verdicts.Verdict.TheVariants.{Yes}
 use Rattle.hm_elements.specs.Settled.{Settled}
 use Rattle.hm_refs.specs.Names.{Entry}
 use Rattle.hm_refs.specs.Tables.{IsTable}
-use Rattle.hm_fragment.specs.Frames.{unframed}
+use Rattle.hm_input.specs.Frames.{unframed}
 use Rattle.hm_order.specs.Shortest.{certificate_of, certified_rows, shortest_text}
 use Rattle.hm_minify.specs.Endings.{IsReadableTree, asked_ending, format_of, minified_ending, says}
-use Rattle.hm_minify.specs.Inputs.{input_of, tree as tree_input}
+use Rattle.hm_minify.specs.Wanted.{input_of}
+use Rattle.hm_input.specs.Inputs.{tree as tree_input}
 use Rattle.hm_minify.specs.Lines.{yes_line}
 use Rattle.hm_minify.specs.Writes.{Write}
 use Rattle.hm_minify.specs.declared.status.Status.TheVariants as status

@@ -1,9 +1,5 @@
-pub mod Inputs
-pub mod Loads
-pub mod InputExamples
+pub mod Wanted
 pub mod Codes
-pub mod Explanations
-pub mod Explaining
 pub mod Lines
 pub mod Outside
 pub mod Writes

@@ -8,21 +8,22 @@ use Rattle.hm_store.specs.Contents.{AreTold, Contents, Sees, Tells}
 use Rattle.hm_store.specs.Files.{AppendsFront}
 use Rattle.hm_refs.specs.Names.{Entry}
 use Rattle.hm_refs.specs.declared.fault.TableFault.{TableFault}
-use Rattle.hm_construction_laws.specs.Trees.{built, page_tree}
-use Rattle.hm_options.specs.Rewrites.{rewrite}
+use Rattle.hm_input.specs.Trees.{built, page_tree}
+use Rattle.hm_input.specs.Rewrites.{rewrite}
 use Rattle.hm_order.specs.Laws.{ShortestAny}
 use Rattle.hm_order.specs.Shortest.{IsShortest, layer_count}
-use Rattle.hm_fragment.specs.Fragments.{fragment_tree}
-use Rattle.hm_fragment.specs.Frames.{framed}
-use Rattle.hm_spelling_spec.specs.Spellings.{Shortest, Spells}
+use Rattle.hm_input.specs.Fragments.{fragment_tree}
+use Rattle.hm_input.specs.Frames.{framed}
+use Rattle.hm_order.specs.Spellings.{Shortest, Spells}
 use Rattle.hm_dump.specs.Dump.{dump_of}
 use Rattle.hm_json_tree.specs.Reading.{json_walk, walk}
 use Rattle.hm_json_tree.specs.Texts.{json_text}
 use Rattle.hm_json_tree.specs.declared.fault.JsonFault.{JsonFault}
-use Rattle.hm_minify.specs.Inputs.{bad_table, bad_page, bad_json, tree as tree_input, input_of, rewritten_of, wanted_tree}
+use Rattle.hm_input.specs.Inputs.{bad_table, bad_page, bad_json, tree as tree_input}
+use Rattle.hm_minify.specs.Wanted.{input_of, rewritten_of, wanted_tree}
 use Rattle.hm_words.specs.Words.{Asked, checks}
 use Rattle.hm_minify.specs.Endings.{format_of, Ending, store_fault, is_fault, checked_ending, ending}
-use Rattle.hm_minify.specs.Explanations.{explained_page, settled_line}
+use Rattle.hm_location.specs.Explanations.{explained_page, settled_line}
 use Rattle.hm_minify.specs.Lines.{length_line, yes_line, measured_line, refused_line, json_line, table_line, store_line}
 use Rattle.hm_minify.specs.Outside.{Outside, Prints, StoreFails}
 use Rattle.hm_minify.specs.Writes.{write, after_writes, IsLeft}

@@ -3,22 +3,15 @@
 
 mod checked;
 mod ended;
-mod explained;
-mod explanation;
-mod input;
 pub mod laws;
 mod lines;
-mod loads;
 mod measured;
 mod notices;
 mod saved;
-mod sentences;
 mod status;
 mod top;
-mod unread;
+mod wanted;
 mod work;
 
-pub use input::Input;
 pub use status::Status;
 pub use top::run;
-pub use unread::Unread;

@@ -6,13 +6,14 @@ ghost use Rattle.hm_order.specs.Minified.{IsMinifiedBy};
 ghost use Rattle.hm_order.specs.Shortest.{certified_rows};
 ghost use Rattle.hm_minify.specs.Endings as spec;
 
+use crate::Status;
 use crate::ended::{Ended, Stop, says};
 use crate::lines::measured_line;
 use crate::work::format_of;
-use crate::{Input, Status};
 use hm_base::OUTPUT_LIMIT;
 use hm_cert::{Certificate, CertificateFault};
 use hm_check::{Verdict, check};
+use hm_input::Input;
 use hm_order::{Minified, minify_tree};
 use hm_refs::laws::every_table;
 use hm_words::Writing;

@@ -6,7 +6,7 @@ ghost use Rattle.hm_words.specs.Words as request;
 ghost use Rattle.hm_words.specs.Words.{Asked as Request, asked as asked_by, notice_in as notice_by};
 ghost use Rattle.hm_minify.specs.Endings as endings;
 ghost use Rattle.hm_minify.specs.Endings.{ending, is_fault};
-ghost use Rattle.hm_minify.specs.Inputs.{input_of};
+ghost use Rattle.hm_minify.specs.Wanted.{input_of};
 ghost use Rattle.hm_minify.specs.Lines.{notice_text, usage_line, store_line};
 ghost use Rattle.hm_minify.specs.Outside.{Between, Prints, PrintsFront, SinkFails, StoreFails};
 ghost use Rattle.hm_minify.specs.Runs as spec;

@@ -1,5 +1,9 @@
 pub use Rattle.hm_plan.specs.Minified
 pub use Rattle.hm_plan.specs.Shortest
+pub use Rattle.hm_graph_laws.specs.ExchangeLaws
+pub use Rattle.hm_graph_laws.specs.Units
+pub use Rattle.hm_spelling_spec.specs.Spellings
+pub use Rattle.hm_spelling_spec.specs.Tags
 pub mod Costs
 pub mod Orders
 pub mod Places

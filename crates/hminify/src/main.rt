@@ -3,11 +3,10 @@
 //! SIZE`, and flags; or `help` or `version` alone. What went wrong is told on standard error.
 #![tactic(auto)]
 
-mod usage;
-
 use hm_base::{CERTIFICATE_LIMIT, Word};
 use hm_minify::{Status, run};
 use hm_store::{FileStore, WriteSink};
+use hm_words::usage_fault;
 use std::alloc::{AllocError, Global};
 use std::io::ErrorKind;
 use std::process::ExitCode;
@@ -126,7 +125,7 @@ fn main(rt: HostRuntime) -> ExitCode {
                     "flags and TABLE have to be those that OUT and CERT were written with",
                 )
                 .map(|text| Some(text)),
-                Status::Usage => usage::usage_fault(alloc, words.as_slice()).map(|text| Some(text)),
+                Status::Usage => usage_fault(alloc, words.as_slice()).map(|text| Some(text)),
                 Status::StoreFault => call_fault(alloc, store.last_name(), store.last_error()),
                 Status::SinkFault => call_fault(alloc, Some("standard output"), sink.last_error()),
                 _ => Ok(None),

@@ -1,11 +1,11 @@
 use Rattle.std.proofs.Common.{◌+◌, ◌≤◌, length, drop, refl, sym, subst}
 use Rattle.std.proofs.lemmas.Result.{IfOk-weaker}
 use Rattle.hm_base.specs.declared.limits.TheConstants.{CERTIFICATE_LIMIT}
-use Rattle.hm_fragment.specs.Frames.{unframed}
+use Rattle.hm_input.specs.Frames.{unframed}
 use Rattle.hm_minify.specs.Endings.{fragment_limit}
-use Rattle.hm_minify.specs.Loads.{IsLoaded}
+use Rattle.hm_input.specs.Loads.{IsLoaded}
 use Rattle.hm_minify.proofs.Found.{checked_answers, checked_seen, limit_of}
-use Rattle.hm_minify.proofs.Loaded.{framed_loaded, is_loaded}
+use Rattle.hm_input.proofs.Loaded.{framed_loaded, is_loaded}
 use Rattle.hm_minify.proofs.checked.check_fragment.Goals as goal
 use Rattle.hm_store.specs.Files.{Takes, file_of}
 

@@ -1,9 +1,9 @@
 use Rattle.std.proofs.Common.{refl, sym, subst}
 use Rattle.std.proofs.lemmas.Result.{IfOk-weaker}
 use Rattle.hm_base.specs.declared.limits.TheConstants.{CERTIFICATE_LIMIT, OUTPUT_LIMIT}
-use Rattle.hm_minify.specs.Loads.{IsLoaded}
+use Rattle.hm_input.specs.Loads.{IsLoaded}
 use Rattle.hm_minify.proofs.Found.{checked_answers, checked_seen, limit_of}
-use Rattle.hm_minify.proofs.Loaded.{is_loaded}
+use Rattle.hm_input.proofs.Loaded.{is_loaded}
 use Rattle.hm_minify.proofs.checked.check_page.Goals as goal
 
 pub returns-clause-ended : goal.returns-clause-ended

@@ -1,7 +1,7 @@
 use Rattle.std.proofs.Common.{◌∙◌, ap, sym}
 use Rattle.std.proofs.lemmas.Result.{IfOk-weaker}
-use Rattle.hm_fragment.proofs.Fragments.{with_front}
-use Rattle.hm_fragment.specs.Frames.{unframed}
+use Rattle.hm_input.proofs.Fragments.{with_front}
+use Rattle.hm_input.specs.Frames.{unframed}
 use Rattle.hm_check.specs.Verdicts.{verdict}
 use Rattle.hm_minify.specs.Endings.{out_fragment}
 use Rattle.hm_minify.proofs.Found.{differ_said, same_said}

@@ -1,9 +1,9 @@
 use Rattle.std.proofs.Common.{rules, ap, refl, subst, sym, ◌∙◌}
 use Rattle.std.proofs.lemmas.Result.{IfOk-weaker}
 use Rattle.hm_base.specs.declared.rules.Rule.TheVariants.{TooLong}
-use Rattle.hm_load.specs.Pages.{IsRefusedAs}
+use Rattle.hm_input.specs.Pages.{IsRefusedAs}
 use Rattle.hm_check.specs.declared.verdicts.Why.TheVariants.{OutRefused}
-use Rattle.hm_fragment.specs.Frames.{unframed}
+use Rattle.hm_input.specs.Frames.{unframed}
 use Rattle.hm_minify.specs.Endings.{out_fragment, says}
 use Rattle.hm_minify.specs.Lines.{why_line}
 use Rattle.hm_minify.specs.declared.status.Status.TheVariants.{No}

@@ -1,6 +1,6 @@
 use Rattle.std.proofs.Common.{subst}
 use Rattle.std.proofs.lemmas.Result.{IfOk-weaker}
-use Rattle.hm_load.specs.Pages.{IsRefusedAs}
+use Rattle.hm_input.specs.Pages.{IsRefusedAs}
 use Rattle.hm_minify.proofs.Found.{refused_said}
 use Rattle.hm_minify.proofs.checked.say_no_fragment.Goals as goal
 

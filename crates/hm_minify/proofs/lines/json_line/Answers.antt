@@ -1,7 +1,7 @@
 use Rattle.std.proofs.Common.{◌≡◌, ◌∷◌, [], IfOk, sym, subst, string_bytes, codes}
 use Rattle.std.specs.Fmt.{decimal}
 use Rattle.hm_minify.specs.Lines.{json_line}
-use Rattle.hm_minify.proofs.Joined.{five}
+use Rattle.hm_location.proofs.Joined.{five}
 use Rattle.hm_minify.proofs.lines.json_line.Goals as goal
 
 pub returns-in-NotSettled : goal.returns-in-NotSettled

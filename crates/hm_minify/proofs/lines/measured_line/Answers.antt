@@ -1,6 +1,6 @@
 use Rattle.std.proofs.Common.{◌≡◌, IfOk, subst, string_bytes, codes}
 use Rattle.std.specs.Fmt.{decimal}
-use Rattle.hm_minify.proofs.Joined.{seven}
+use Rattle.hm_location.proofs.Joined.{seven}
 use Rattle.hm_minify.proofs.lines.measured_line.Goals as goal
 
 pub returns : goal.returns

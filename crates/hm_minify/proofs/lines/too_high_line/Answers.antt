@@ -1,7 +1,7 @@
 use Rattle.std.proofs.Common.{◌≡◌, ◌++◌, ◌∷◌, [], IfOk, ◌∙◌, subst, string_bytes, codes}
 use Rattle.std.specs.Fmt.{decimal}
 use Rattle.hm_minify.specs.Lines.{price_word}
-use Rattle.hm_minify.proofs.Joined.{nine}
+use Rattle.hm_location.proofs.Joined.{nine}
 use Rattle.hm_minify.proofs.lines.too_high_line.Goals as goal
 
 pub returns : goal.returns

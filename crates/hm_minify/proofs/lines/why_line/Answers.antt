@@ -1,7 +1,7 @@
 use Rattle.std.proofs.Common.{◌≡◌, ◌∷◌, [], IfOk, sym, subst, string_bytes, codes}
 use Rattle.std.specs.Fmt.{decimal}
 use Rattle.hm_minify.specs.Lines.{why_line}
-use Rattle.hm_minify.proofs.Joined.{five, seven}
+use Rattle.hm_location.proofs.Joined.{five, seven}
 use Rattle.hm_minify.proofs.lines.why_line.Goals as goal
 
 pub returns-in-WrongLayers : goal.returns-in-WrongLayers

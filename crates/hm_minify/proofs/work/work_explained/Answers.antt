@@ -3,11 +3,11 @@ use Rattle.hm_base.proofs.Bytes.{first_true}
 use Rattle.hm_words.specs.Answers.{request_of}
 use Rattle.hm_words.specs.Words.{is_origin_apart}
 use Rattle.hm_minify.specs.Endings.{says}
-use Rattle.hm_minify.specs.Loads.{NoTable}
+use Rattle.hm_input.specs.Loads.{NoTable}
 use Rattle.hm_minify.specs.declared.status.Status.TheVariants as status
-use Rattle.hm_minify.specs.declared.unread.Unread.TheVariants as reasons
+use Rattle.hm_input.specs.declared.unread.Unread.TheVariants as reasons
 use Rattle.hm_minify.proofs.Explaining.{fault_seen}
-use Rattle.hm_minify.proofs.Loaded.{no_table}
+use Rattle.hm_input.proofs.Loaded.{no_table}
 use Rattle.hm_minify.proofs.work.work_explained.Goals as goal
 
 pub returns-in_ok-table_line-in-Err-Table-clause-ended : goal.returns-in_ok-table_line-in-Err-Table-clause-ended

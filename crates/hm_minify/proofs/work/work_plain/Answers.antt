@@ -1,6 +1,6 @@
 use Rattle.std.proofs.lemmas.Result.{IfOk-weaker}
 use Rattle.hm_minify.specs.Endings.{page_name}
-use Rattle.hm_minify.specs.Inputs.{tree}
+use Rattle.hm_input.specs.Inputs.{tree}
 use Rattle.hm_words.specs.Answers.{request_of}
 use Rattle.hm_minify.proofs.Answered.{answer_before, asked_seen, if_both, work_apart}
 use Rattle.hm_minify.proofs.work.work_plain.Goals as goal

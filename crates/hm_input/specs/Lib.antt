@@ -1,0 +1,11 @@
+pub mod Inputs
+pub mod Loads
+pub mod Reasons
+pub mod Explaining
+pub mod Examples
+pub use Rattle.hm_fragment.specs.Fragments
+pub use Rattle.hm_fragment.specs.Frames
+pub use Rattle.hm_fragment.specs.Laws
+pub use Rattle.hm_fragment.specs.Trees
+pub use Rattle.hm_load.specs.Pages
+pub use Rattle.hm_options.specs.Rewrites

@@ -1,0 +1,146 @@
+-- What is known of a file that was loaded.
+use Rattle.std.specs.Prelude.{ℕ, ◌≡◌, ◌⊎◌, ◌+◌, false, nat_lt, List, length, take, Option, Some, None, IsSome, Result, Ok, Err}
+use Rattle.hm_base.specs.Source.{Source, source_of, text_fault}
+use Rattle.hm_base.specs.Walks.{Event}
+use Rattle.hm_base.specs.declared.limits.TheConstants.{PAGE_LIMIT}
+use Rattle.hm_base.specs.declared.plain.TreeOptions.{TreeOptions}
+use Rattle.hm_base.specs.declared.rules.Rule.{Rule}
+use Rattle.hm_store.specs.Files.{FileMap, file_of, IsMissing}
+use Rattle.hm_refs.specs.Names.{Entry}
+use Rattle.hm_refs.specs.declared.fault.TableFault.{TableFault}
+use Rattle.hm_fragment.specs.Trees.{built, refused_by, tree_of_source}
+use Rattle.hm_fragment.specs.Fragments.{fragment_tree}
+use Rattle.hm_json_tree.specs.Reading.{json_walk, walk}
+use Rattle.hm_json_tree.specs.declared.fault.JsonFault.{JsonFault}
+use Rattle.hm_options.specs.Rewrites.{rewrite}
+use Rattle.hm_input.specs.Inputs.{Input, IsInput, bad_table, bad_page, bad_json, json_input, names_of_table, fragment_outcome, page_outcome}
+use Rattle.hm_words.specs.Words.{Origin, is_table_word}
+use Rattle.hm_input.specs.declared.unread.Unread.{Unread}
+use Rattle.hm_input.specs.declared.unread.Unread.TheVariants as reasons
+
+-- the bytes that were loaded of a file with this content, one more than the limit at most
+pub record IsLoaded (told : Option FileMap) (name : List ℕ) (limit : ℕ) (bytes : List ℕ) : Type 0 where
+  pub content : List ℕ
+  pub there : IsSome told → file_of told name ≡ Some content
+  pub front : bytes ≡ take (limit + 1) content
+
+-- what a table gives
+pub record IsTableOf (told : Option FileMap) (name : List ℕ) (read : Result (List Entry) TableFault) : Type 0 where
+  pub content : Option (List ℕ)
+  pub there : IsSome told → file_of told name ≡ content
+  pub is : names_of_table name content ≡ Some read
+
+-- the text of a page within the limit
+pub record IsTextIn (page : List ℕ) (text : Source) : Type 0 where
+  pub short : nat_lt PAGE_LIMIT (length page) ≡ false
+  pub sound : text_fault page ≡ None
+  pub is : text ≡ source_of page
+
+-- the text of a page within the limit, with how many bytes the page has
+pub record IsPageText (page : List ℕ) (text : Source) (bytes : ℕ) : Type 0 where
+  pub read : IsTextIn page text
+  pub all : bytes ≡ length page
+
+-- the rewritten tree of a text
+pub record IsTreeRead (t : List Entry) (text : Source) (o : TreeOptions) (tree : List Event) : Type 0 where
+  pub walk : List Event
+  pub reads : tree_of_source t text ≡ built walk
+  pub is : tree ≡ rewrite o walk
+
+-- the rewritten tree of the fragment in a file, with how many bytes that has
+pub record IsFragmentOf (told : Option FileMap) (name : List ℕ) (t : List Entry) (tree : List Event) (bytes : ℕ) : Type 0 where
+  pub fragment : List ℕ
+  pub there : IsSome told → file_of told name ≡ Some fragment
+  pub reads : fragment_outcome t fragment ≡ built tree
+  pub all : bytes ≡ length fragment
+
+-- the fragment in a file is refused
+pub record IsRefusedFragment (told : Option FileMap) (name : List ℕ) (t : List Entry) (rule : Rule) (at : ℕ) : Type 0 where
+  pub fragment : List ℕ
+  pub there : IsSome told → file_of told name ≡ Some fragment
+  pub refused : fragment_outcome t fragment ≡ refused_by rule at
+
+-- the tree for which the JSON in a file stands, with how many bytes that has
+pub record IsWalkOf (told : Option FileMap) (name : List ℕ) (tree : List Event) (bytes : ℕ) : Type 0 where
+  pub json : List ℕ
+  pub there : IsSome told → file_of told name ≡ Some json
+  pub reads : json_walk json ≡ walk tree
+  pub all : bytes ≡ length json
+
+-- JSON stands for no tree, whatever the rewrites and the names of references
+abbrev pub IsNoWalk : List ℕ → JsonFault → Type 0
+IsNoWalk json fault = (o : TreeOptions) (t : List Entry) → json_input o t json ≡ bad_json fault
+
+-- so does that in a file
+pub record IsRefusedJson (told : Option FileMap) (name : List ℕ) (fault : JsonFault) : Type 0 where
+  pub json : List ℕ
+  pub there : IsSome told → file_of told name ≡ Some json
+  pub refused : IsNoWalk json fault
+
+-- why a text has no tree
+abbrev pub NoTreeRead : List Entry → Source → Unread → Type 0
+NoTreeRead t text (reasons.Table fault) = ⊥
+NoTreeRead t text (reasons.Page rule at) = tree_of_source t text ≡ refused_by rule at
+NoTreeRead t text (reasons.Json fault) = ⊥
+NoTreeRead t text reasons.Store = ⊥
+NoTreeRead t text reasons.Memory = Unit {0}
+
+-- a table that can be read
+pub record HasNames (told : Option FileMap) (name : List ℕ) : Type 0 where
+  pub entries : List Entry
+  pub read : IsTableOf told name (Ok entries)
+
+-- a file that is read isn't there: the table, or where there is one that can be read, the page
+abbrev pub IsFileMissing : Option FileMap → List ℕ → List ℕ → Type 0
+IsFileMissing told table page = ((is_table_word table ≡ false) × IsMissing told table) ⊎ (HasNames told table × IsMissing told page)
+
+-- why there is no table; failed calls and lack of memory have other causes
+abbrev pub NoTable : Option FileMap → List ℕ → Unread → Type 0
+NoTable told name (reasons.Table fault) = IsTableOf told name (Err fault)
+NoTable told name (reasons.Page rule at) = ⊥
+NoTable told name (reasons.Json fault) = ⊥
+NoTable told name reasons.Store = Unit {0}
+NoTable told name reasons.Memory = Unit {0}
+
+-- why a page has no text, whatever the names of references
+abbrev pub NoTextIn : List ℕ → Unread → Type 0
+NoTextIn page (reasons.Table fault) = ⊥
+NoTextIn page (reasons.Page rule at) = (t : List Entry) → page_outcome t page ≡ refused_by rule at
+NoTextIn page (reasons.Json fault) = ⊥
+NoTextIn page reasons.Store = ⊥
+NoTextIn page reasons.Memory = Unit {0}
+
+-- why a fragment has no tree
+abbrev pub NoFragmentIn : List Entry → List ℕ → Unread → Type 0
+NoFragmentIn t fragment (reasons.Table fault) = ⊥
+NoFragmentIn t fragment (reasons.Page rule at) = fragment_tree t fragment ≡ refused_by rule at
+NoFragmentIn t fragment (reasons.Json fault) = ⊥
+NoFragmentIn t fragment reasons.Store = ⊥
+NoFragmentIn t fragment reasons.Memory = Unit {0}
+
+-- why there is no tree of the fragment in a file
+abbrev pub NoFragment : Option FileMap → List ℕ → List Entry → Unread → Type 0
+NoFragment told name t (reasons.Table fault) = ⊥
+NoFragment told name t (reasons.Page rule at) = IsRefusedFragment told name t rule at
+NoFragment told name t (reasons.Json fault) = ⊥
+NoFragment told name t reasons.Store = Unit {0}
+NoFragment told name t reasons.Memory = Unit {0}
+
+-- why there is no tree in the JSON of a file
+abbrev pub NoWalk : Option FileMap → List ℕ → Unread → Type 0
+NoWalk told name (reasons.Table fault) = ⊥
+NoWalk told name (reasons.Page rule at) = ⊥
+NoWalk told name (reasons.Json fault) = IsRefusedJson told name fault
+NoWalk told name reasons.Store = Unit {0}
+NoWalk told name reasons.Memory = Unit {0}
+
+-- why there is no tree, by what is said of an input
+abbrev pub NoInputWhere : (Input → Type 0) → Unread → Type 0
+NoInputWhere Is (reasons.Table fault) = Is (bad_table fault)
+NoInputWhere Is (reasons.Page rule at) = Is (bad_page rule at)
+NoInputWhere Is (reasons.Json fault) = Is (bad_json fault)
+NoInputWhere Is reasons.Store = Unit {0}
+NoInputWhere Is reasons.Memory = Unit {0}
+
+abbrev pub NoInput : Option FileMap → Origin → TreeOptions → Unread → Type 0
+NoInput told origin o unread = NoInputWhere (IsInput told origin o) unread

@@ -1,7 +1,0 @@
-use Rattle.std.proofs.Common.{◌≡◌, ◌++◌, drop, filter, map}
-use Rattle.std.specs.Fmt.{is_char_start}
-use Rattle.hm_minify.specs.Explanations.{caret_byte}
-use Rattle.hm_minify.proofs.explanation.push_carets.Given as goal
-
-abbrev pub invariant-loop-byte : goal.invariant-loop-byte
-invariant-loop-byte l = l.lines.items ++ map caret_byte (filter is_char_start (drop l.byte-index l.front)) ≡ l.initial.lines.items ++ map caret_byte (filter is_char_start l.front)

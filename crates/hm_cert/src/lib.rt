@@ -17,4 +17,4 @@ pub use kept::{RowPlace, WrittenRows};
 pub use lines::{CertificateFault, Head, Lines, read_head};
 pub use prices::{CLOSED, Prices, add_each, more, price_of};
 pub use reversed::ReversedText;
-pub use text::write_certificate;
+pub use text::{put_head, put_line, write_certificate};

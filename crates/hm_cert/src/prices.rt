@@ -86,6 +86,14 @@ impl Prices {
         }
     }
 
+    /// Takes out all rows.
+    pub fn clear(&mut self)
+        ensures { self.new ≡ [] }
+    {
+        self.numbers.clear();
+        self.ends.clear();
+    }
+
     /// How many rows there are.
     pub fn rows(&self) -> usize
         ensures { result ≡ length self.now }

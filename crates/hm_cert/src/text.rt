@@ -37,8 +37,8 @@ pub fn write_certificate(
     Ok(out)
 }
 
-/// Appends the first two lines.
-fn put_head(out: &mut Vec<u8>, format: Format, rules: SpellRules) -> Result<(), Memory>
+/// Appends the first two lines. Where memory is refused, a part may have been appended.
+pub fn put_head(out: &mut Vec<u8>, format: Format, rules: SpellRules) -> Result<(), Memory>
     ensures { OnOk result (out.new.items ≡ out.old.items ++ head_lines format rules) }
 {
     out.extend_from_slice(format_text(format))?;
@@ -63,8 +63,8 @@ fn put_flag(out: &mut Vec<u8>, is_set: bool, word: &[u8]) -> Result<(), Memory>
     Ok(())
 }
 
-/// Appends the line of a row.
-fn put_line(out: &mut Vec<u8>, row: &[u64]) -> Result<(), Memory>
+/// Appends the line of a row. Where memory is refused, a part may have been appended.
+pub fn put_line(out: &mut Vec<u8>, row: &[u64]) -> Result<(), Memory>
     ensures { OnOk result (out.new.items ≡ out.old.items ++ row_line (map told row.now)) }
 {
     put_row(out, row)?;

@@ -455,7 +455,7 @@ fn go_over_copied(way: &mut Followed, step: &Step, bytes: &[u8]) -> Result<(), S
 impl<'o> Visitor for Followed<'o> {
     type Stop = Stop;
 
-    ghost goes_on = { λ t more steps way. IsWayOn t more steps way };
+    ghost goes_on = { λ _ t more steps way. IsWayOn t more steps way };
 
     #[inline(always)]
     fn take(&mut self, table: &Table, step: &Step, own: Own) -> Result<(), Stop> {

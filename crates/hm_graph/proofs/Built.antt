@@ -106,7 +106,7 @@ adds_one m n numbers last unit k is grows step u stands =
     }
 
 pub added_one : (m n : InternedView) (numbers : List ℕ) (last behind : ℕ) (unit : Unit) (k : ℕ) → IsBuilding m numbers last → Grows m n → IsStepOf n last unit k → IsAdded (building m numbers last) (building n (numbers ++ k ∷ []) behind) 1 k
-added_one m n numbers last behind unit k is grows step = record { table = grows.table; there = step.there; named = step.layer.named; steps = steps_more m n numbers k grows is.numbers_there }
+added_one m n numbers last behind unit k is grows step = record { table = grows.table; there = step.there; named = step.layer.named; low = step.layer.low; steps = steps_more m n numbers k grows is.numbers_there }
 
 -- ---- Adding more and more
 

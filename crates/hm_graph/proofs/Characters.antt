@@ -141,5 +141,6 @@ alike_added m numbers last kind to text count some inside leads =
       table = refl;
       there = first.step.there;
       named = first.step.layer.named;
+      low = first.step.layer.low;
       steps = map-append (λ n. (made_at m n).step) numbers (replicate count to.number) ∙ ap (λ steps. steps_at m numbers ++ steps) (alike_steps m to.number count);
     }

@@ -25,3 +25,4 @@ pub mod Low
 pub mod FewHops
 pub mod StillSteps
 mod StillLengths
+pub mod Joined

@@ -13,7 +13,7 @@ use Rattle.hm_edges.specs.declared.pieces.Piece.{Piece}
 use Rattle.hm_edges.specs.declared.states.State.{State}
 use Rattle.hm_graph.specs.Fits.{StepFits}
 use Rattle.hm_graph.specs.Steps.{Step}
-use Rattle.hm_graph.specs.Graphs.{AreLow, AreNamed, IsNamedStep}
+use Rattle.hm_graph.specs.Graphs.{AreLow, AreNamed, IsLowStep, IsNamedStep}
 use Rattle.hm_graph.specs.Layers.{edges_under, states_of}
 use Rattle.hm_graph.specs.Interned.{InternedView, list_at, made_at, none_made}
 use Rattle.hm_graph.specs.declared.made.MadeStep.{MadeStep}
@@ -75,4 +75,5 @@ pub record IsAdded (old new : BuildingView) (count number : ℕ) : Type 0 where
   pub table : new.table ≡ old.table
   pub there : number < length new.made
   pub named : IsNamedStep new.table.entries (numbered_step new number)
+  pub low : IsLowStep (numbered_step new number)
   pub steps : new.steps ≡ old.steps ++ replicate count (numbered_step new number)

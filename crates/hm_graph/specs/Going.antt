@@ -7,15 +7,16 @@ use Rattle.hm_graph.specs.Building.{AddsSteps}
 use Rattle.hm_graph.specs.declared.along.Along.{Along}
 
 -- The steps of some units were added, and of the units `from` those in `left` remain. C is what it means to go on over
--- units and their steps by the names of a table: what goes on from the new place over what is left goes on from the old one over all.
-pub record Goes {V : Type 0} (C : List Entry → List Unit → List Step → V → Type 0) (from left : List Unit) (old new : Along V) : Type 0 where
+-- units and their steps by the names of a table, to an end: what goes on from the new place over what is left goes on from the old
+-- one over all.
+pub record Goes {V : Type 0} (C : V → List Entry → List Unit → List Step → V → Type 0) (from left : List Unit) (old new : Along V) : Type 0 where
   pub done : List Unit
   pub adds : AddsSteps old.graph new.graph done
   pub whole : done ++ left ≡ from
   pub added : List Step
   pub steps : new.graph.steps ≡ old.graph.steps ++ added
-  pub on : (units : List Unit) (steps : List Step) → C old.graph.table.entries (left ++ units) steps new.by → C old.graph.table.entries (from ++ units) (added ++ steps) old.by
+  pub on : (end : V) (units : List Unit) (steps : List Step) → C end old.graph.table.entries (left ++ units) steps new.by → C end old.graph.table.entries (from ++ units) (added ++ steps) old.by
 
 -- from these characters on up to those that are left of them
-abbrev pub GoesOver : {V : Type 0} → (List Entry → List Unit → List Step → V → Type 0) → TextKind → List ℕ → List ℕ → Along V → Along V → Type 0
+abbrev pub GoesOver : {V : Type 0} → (V → List Entry → List Unit → List Step → V → Type 0) → TextKind → List ℕ → List ℕ → Along V → Along V → Type 0
 GoesOver C kind cs left old new = Goes C (character_units kind cs) (character_units kind left) old new

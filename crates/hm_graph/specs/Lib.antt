@@ -14,3 +14,4 @@ pub mod Going
 pub mod Copied
 pub mod Kept
 pub mod StillRuns
+pub mod Joined

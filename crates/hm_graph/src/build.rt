@@ -41,7 +41,7 @@ impl<'t> Graph<'t> {
         visitor: V,
     ) -> Result<(Graph<'t>, V), V::Stop>
         ensures source { IfOk result (λ made. made.0.source ≡ record { tree = tree.now; table = table.now; rules = rules; format = format }) }
-        ensures goes_on { IfOk result (λ made. V.goes_on table.now.entries [] [] made.1 → V.goes_on table.now.entries (units_of rules tree.now) made.0.steps visitor) }
+        ensures goes_on { IfOk result (λ made. (end : V) → V.goes_on end table.now.entries [] [] made.1 → V.goes_on end table.now.entries (units_of rules tree.now) made.0.steps visitor) }
     {
         let edges = EdgeRules {
             spell: rules,

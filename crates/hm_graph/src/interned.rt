@@ -372,7 +372,7 @@ impl<'t> Interned<'t> {
         )?;
         let behind = self.list_of(behind)?;
         let number = self.made_of(MadeStep {
-            step: Step::new(hops),
+            step: Step::new(self.alloc, hops)?,
             behind,
         })?;
         self.note(front, number)?;

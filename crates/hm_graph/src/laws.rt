@@ -1,5 +1,6 @@
 //! Laws of steps. The functions do nothing.
 ghost use Rattle.hm_graph.specs.FewHops.{StatesHaveFewHops};
+ghost use Rattle.hm_graph.specs.Joined.{KeptRowsAreJoined, PricesAreJoined, WaysAreJoined, WrittenAreKept};
 ghost use Rattle.hm_graph.specs.Laws.{FullRowsAgree, KeepingAgrees, RowsAreLeast, WayIsFirst, WaysAreWays, WrittenRowsAgree};
 
 pub use crate::graph::every_graph;
@@ -37,4 +38,24 @@ pub fn keeping_agrees()
 /// Each state of a graph has at most 71 hops, so a place among them fits into a byte.
 pub fn states_have_few_hops()
     ensures { StatesHaveFewHops }
+{}
+
+/// Before a layer of one state, prices are those up to that state, raised by its own.
+pub fn prices_are_joined()
+    ensures { PricesAreJoined }
+{}
+
+/// Rows that are written before a layer of one state are those up to that state, raised by its price.
+pub fn kept_rows_are_joined()
+    ensures { KeptRowsAreJoined }
+{}
+
+/// The first way over a layer of one state is the one up to that state, and the one after it.
+pub fn ways_are_joined()
+    ensures { WaysAreJoined }
+{}
+
+/// A certificate writes the first row, those that are kept, and the last one.
+pub fn written_are_kept()
+    ensures { WrittenAreKept }
 {}

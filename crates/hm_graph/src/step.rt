@@ -1,5 +1,5 @@
 //! A step between two layers.
-ghost use Rattle.std.specs.Prelude.{◌≡◌, ◌<◌, ◌^◌, [], length, map, slice_index_or, IfSome, IsTrue};
+ghost use Rattle.std.specs.Prelude.{◌≡◌, ◌<◌, ◌^◌, [], length, map, slice_index_or, IfOk, IfSome, IsTrue};
 ghost use Rattle.hm_graph_laws.specs.Layers.{is_single};
 ghost use Rattle.hm_graph.specs.Steps as steps;
 ghost use Rattle.hm_graph.specs.Still.{IsStill};
@@ -7,14 +7,17 @@ ghost use Rattle.hm_graph.specs.Graphs as graphs;
 
 use crate::Hop;
 use crate::still::still_len;
-use hm_base::Format;
+use hm_base::{Format, Memory};
 use hm_edges::Piece;
+use std::alloc::Global;
 use std::marker::Model;
+use std::rc::Rc;
 
 /// The hops (arcs) of each state of a layer, in the order of its edges.
 #[derive(Drop)]
 pub struct Step {
-    lists: Vec<Vec<Hop>>,
+    /// Shared by its copies.
+    lists: Rc<Vec<Vec<Hop>>>,
     forced: bool,
     only: Option<Hop>,
     /// The length of each hop in bytes, where each state has one hop, to its own place.
@@ -30,10 +33,10 @@ impl Model for Step {
 
     ghost Value = { List (List Hop) };
 
-    ghost view = { λ s. map (λ hops. hops.items) s.lists.items };
+    ghost view = { λ s. map (λ hops. hops.items) s.lists.value.items };
 
-    ghost invariant = { λ s. (s.forced ≡ is_forced (map (λ hops. hops.items) s.lists.items)) × (s.only ≡ only_hop (map (λ hops. hops.items) s.lists.items))
-        × IfSome s.still (λ len. IsStill len (map (λ hops. hops.items) s.lists.items)) };
+    ghost invariant = { λ s. (s.forced ≡ is_forced (map (λ hops. hops.items) s.lists.value.items)) × (s.only ≡ only_hop (map (λ hops. hops.items) s.lists.value.items))
+        × IfSome s.still (λ len. IsStill len (map (λ hops. hops.items) s.lists.value.items)) };
 }
 
 fn is_one(hops: &[Hop]) -> bool
@@ -78,19 +81,31 @@ fn only_of(lists: &[Vec<Hop>]) -> Option<Hop>
 
 impl Step {
     /// The step with these hops of each state.
-    pub fn new(lists: Vec<Vec<Hop>>) -> Step
-        ensures { result ≡ map (λ hops. hops.items) lists.items }
+    pub fn new(alloc: Global, lists: Vec<Vec<Hop>>) -> Result<Step, Memory>
+        ensures { IfOk result (λ step. step ≡ map (λ hops. hops.items) lists.items) }
     {
         let forced = are_forced(&lists);
         let only = only_of(&lists);
         let mut step = Step {
-            lists,
+            lists: Rc::new(alloc, lists)?,
             forced,
             only,
             still: None,
         };
         step.still = still_len(&step);
-        step
+        Ok(step)
+    }
+
+    /// The same step again. It shares the hops.
+    pub fn copied(&self) -> Result<Step, Memory>
+        ensures { IfOk result (λ step. step ≡ self.now) }
+    {
+        Ok(Step {
+            lists: self.lists.clone()?,
+            forced: self.forced,
+            only: self.only,
+            still: self.still,
+        })
     }
 
     /// How many states are before it.

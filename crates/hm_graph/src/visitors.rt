@@ -3,7 +3,7 @@ ghost use Rattle.std.specs.Prelude.{◌≡◌, ◌++◌, ◌∷◌, ℕ, List, l
 ghost use Rattle.std.proofs.Math.ListN.{replicate};
 ghost use Rattle.std.specs.Str.{IsAscii};
 ghost use Rattle.hm_edges.specs.Pieces.{own_bytes};
-ghost use Rattle.hm_graph.specs.Graphs.{IsNamedStep};
+ghost use Rattle.hm_graph.specs.Graphs.{IsLowStep, IsNamedStep};
 ghost use Rattle.hm_parts.specs.Own.{own_text};
 ghost use Rattle.hm_refs.specs.Names.{Entry};
 ghost use Rattle.hm_graph.specs.Steps.{Step as Hops};
@@ -20,21 +20,24 @@ pub trait Visitor: Drop {
     /// Why it stops.
     type Stop: From<Memory> + Drop;
 
-    // whether it goes on over these units and their steps up to the last layer, by the names of a table
-    ghost goes_on: { List Entry → List units.Unit → List Hops → Self → Type 0 };
+    // whether it goes on over these units and their steps up to the last layer, by the names of a table, and ends as the first
+    // visitor is
+    ghost goes_on: { Self → List Entry → List units.Unit → List Hops → Self → Type 0 };
 
     /// Takes the step of a unit with these bytes of its own.
     fn take(&mut self, table: &Table, step: &Step, own: Own) -> Result<(), Self::Stop>
         requires named { IsNamedStep table.now.entries step.now }
-        ensures { OnOk result ((u : units.Unit) (more : List units.Unit) (steps : List Hops) → own_bytes u ≡ own_text own.entry
-            → goes_on table.now.entries more steps self.new → goes_on table.now.entries (u ∷ more) (step.now ∷ steps) self.old) };
+        requires low { IsLowStep step.now }
+        ensures { OnOk result ((end : Self) (u : units.Unit) (more : List units.Unit) (steps : List Hops) → own_bytes u ≡ own_text own.entry
+            → goes_on end table.now.entries more steps self.new → goes_on end table.now.entries (u ∷ more) (step.now ∷ steps) self.old) };
 
     /// Takes the same step once for each of these bytes, which are characters of ASCII.
     fn take_alike(&mut self, table: &Table, step: &Step, bytes: &[u8]) -> Result<(), Self::Stop>
         requires named { IsNamedStep table.now.entries step.now }
+        requires low { IsLowStep step.now }
         requires ascii { IsAscii bytes.now }
-        ensures { OnOk result ((kind : units.TextKind) (rest : List ℕ) (more : List units.Unit) (steps : List Hops) → goes_on table.now.entries (character_units kind rest ++ more) steps self.new
-            → goes_on table.now.entries (character_units kind (bytes.now ++ rest) ++ more) (replicate (length bytes.now) step.now ++ steps) self.old) };
+        ensures { OnOk result ((end : Self) (kind : units.TextKind) (rest : List ℕ) (more : List units.Unit) (steps : List Hops) → goes_on end table.now.entries (character_units kind rest ++ more) steps self.new
+            → goes_on end table.now.entries (character_units kind (bytes.now ++ rest) ++ more) (replicate (length bytes.now) step.now ++ steps) self.old) };
 }
 
 /// No visitor.
@@ -44,7 +47,7 @@ pub(crate) struct NoVisitor;
 impl Visitor for NoVisitor {
     type Stop = Memory;
 
-    ghost goes_on = { λ _ _ _ _. Unit {0} };
+    ghost goes_on = { λ _ _ _ _ _. Unit {0} };
 
     #[inline(always)]
     fn take(&mut self, _table: &Table, _step: &Step, _own: Own) -> Result<(), Memory> {

@@ -1,5 +1,10 @@
 -- The shortest text of a tree and its certificate are what the headline asks for.
 use Rattle.std.proofs.Common.{◌≡◌, ◌∙◌, ℕ, List, refl, subst, sym}
+use Rattle.std.specs.declared.result.Result.{Result}
+use Rattle.std.specs.declared.result.Result.TheVariants.{Ok, Err}
+use Rattle.std.specs.Result.{IfOk}
+use Rattle.hm_plan.specs.Minified.{IsMinifiedBy}
+use Rattle.hm_plan.specs.declared.minify.Minified.{Minified}
 use Rattle.hm_base.specs.Walks.{Event}
 use Rattle.hm_base.specs.declared.plain.Format.{Format}
 use Rattle.hm_base.specs.declared.plain.SpellRules.{SpellRules}
@@ -47,6 +52,12 @@ pub made_is_shortest : (t : List Entry) → IsTable t → (r : SpellRules) (form
     → out ≡ shortest_text t r w → cert ≡ certificate_of t r format w → IsShortest t r format w out cert
 made_is_shortest t k r format w s readable out cert is_out is_cert =
     subst (λ o. IsShortest t r format w o cert) (sym is_out) (subst (IsShortest t r format w (shortest_text t r w)) (sym is_cert) (shortest_is_certified t k r format w s readable))
+
+-- where there is an answer, whatever gave it
+pub shown : {E : Type 0} (t : List Entry) → IsTable t → (r : SpellRules) (format : Format) (w : List Event) (result : Result Minified E) → IfOk result (IsMinifiedBy t r format w) → IfOk result (λ made. Settled w → AreRows (certified_rows t r format w))
+    → IfOk result (λ made. Settled w → IsShortest t r format w made.out.items made.certificate.items)
+shown t k r format w (Ok made) is readable = λ s. made_is_shortest t k r format w s (readable s) made.out.items made.certificate.items is.out is.certificate
+shown t k r format w (Err e) is readable = tt
 
 -- whatever made a certificate, its prices show a bound
 pub certificates_show : CertificatesShow

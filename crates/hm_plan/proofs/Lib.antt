@@ -10,3 +10,7 @@ pub mod Headline
 pub mod Graphs
 pub mod Written
 pub mod FewChoices
+pub mod Joined
+pub mod Directly
+pub mod Whole
+pub mod Found

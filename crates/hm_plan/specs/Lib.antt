@@ -4,3 +4,6 @@ pub mod Plans
 pub mod Shortest
 pub mod Minified
 pub mod Laws
+pub mod Owned
+pub mod Stretches
+pub mod Direct

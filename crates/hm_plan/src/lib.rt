@@ -3,11 +3,15 @@
 #![tactic(auto)]
 
 mod copied;
+mod direct;
+mod kept;
 pub mod laws;
 mod least;
 mod minify;
+mod owned;
 mod paths;
 mod plans;
+mod stretches;
 mod turned;
 
 pub use least::least_price;

@@ -60,7 +60,7 @@ fn choice_at(choices: &[u8], place: usize) -> usize
 
 /// The hop at a place.
 #[inline(always)]
-fn hop_at(hops: &[Hop], place: usize) -> Option<Hop>
+pub(crate) fn hop_at(hops: &[Hop], place: usize) -> Option<Hop>
     ensures { result ≡ slice_get hops.now place }
 {
     match hops.get(place) {

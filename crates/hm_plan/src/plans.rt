@@ -34,9 +34,9 @@ pub struct Plan {
 
 /// The least price over some hops, and the place of the first hop over which it comes.
 #[derive(Clone, Copy)]
-struct Best {
-    price: u64,
-    place: usize,
+pub(crate) struct Best {
+    pub(crate) price: u64,
+    pub(crate) place: usize,
 }
 
 /// The price over a hop, by the prices of the next layer.
@@ -52,7 +52,7 @@ fn price_over(hop: Hop, behind: &[u64]) -> u64
 }
 
 /// The least price over these hops, by the prices of the next layer.
-fn find_best(hops: &[Hop], behind: &[u64]) -> Best
+pub(crate) fn find_best(hops: &[Hop], behind: &[u64]) -> Best
     requires below { AreBelow (2 ^ 63 + 2 ^ 62) (map told behind.now) }
     requires low { AreLowHops hops.now }
     ensures price { told result.price ≡ best_price (map told behind.now) hops.now }

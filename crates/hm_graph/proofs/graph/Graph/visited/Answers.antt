@@ -29,8 +29,8 @@ returns-clause-source g c =
     ∙ (λ i. record { tree = c.args.tree.now; table = c.loop-i.invariant.table i; rules = (c.loop-i.invariant.rules i).spell; format = (c.loop-i.invariant.rules i).format })
 
 pub returns-clause-goes_on : goal.returns-clause-goes_on
-returns-clause-goes_on g c = λ h.
+returns-clause-goes_on g c = λ end h.
     let C = g.V.Visitor.goes_on in
     let past : c.loop-i.i ≡ length c.args.tree.now = omega (arith, c.loop-i-test.false, c.loop-i.auto.i-end, c.len-i-end.ensures.len) in
-    subst (λ steps. C c.args.table.now.entries (units_of c.args.rules c.args.tree.now) steps c.args.visitor) (sym c.in_ok-graph.ensures.steps)
-    (events_on C c.args.table.now (record { spell = c.args.rules; format = c.args.format }) c.args.tree.now c.args.visitor c.loop-i.i c.loop-i.along past c.loop-i.invariant h)
+    subst (λ steps. C end c.args.table.now.entries (units_of c.args.rules c.args.tree.now) steps c.args.visitor) (sym c.in_ok-graph.ensures.steps)
+    (events_on C c.args.table.now (record { spell = c.args.rules; format = c.args.format }) c.args.tree.now c.args.visitor c.loop-i.i c.loop-i.along past c.loop-i.invariant end h)

@@ -1,0 +1,33 @@
+use Rattle.std.proofs.Common.{◌≡◌, ◌∙◌, ◌+◌, ◌-◌, ◌<◌, ◌≤◌, ◌^◌, length, map, sym, subst, ap, arith}
+use Rattle.std.proofs.lemmas.List.{length-map}
+use Rattle.hm_cert.specs.Layout.{told}
+use Rattle.hm_graph.specs.Graphs.{IsLowStep}
+use Rattle.hm_graph.specs.Prices.{row_over}
+use Rattle.std.specs.Prelude.{[], slice_index_or}
+use Rattle.hm_plan.proofs.Found.{IsFoundFrom, found_below, found_more}
+use Rattle.hm_plan.proofs.FromLast.{are_below}
+use Rattle.hm_plan.specs.Stretches.{KeptView, steps_in}
+use Rattle.hm_plan.proofs.stretches.find_rows.Goals as goal
+
+pub row_before-requires-clause-below : goal.row_before-requires-clause-below
+row_before-requires-clause-below c =
+    let stretch = c.args.stretch.now in
+    let row = map told c.row.result.now in
+    let few : length (steps_in stretch) < 2 ^ 28 = omega (arith, c.requires, length-map stretch (λ (x : KeptView). x.step)) in
+    are_below (2 ^ 62) (2 ^ 63 + 2 ^ 62) row (omega arith)
+    (found_below c.args.last (steps_in stretch) c.loop-k.k c.loop-k.found row few c.loop-k.invariant (c.row.ensures ∙ ap (λ n. slice_index_or c.loop-k.found (n - 1) []) c.rows.ensures))
+
+pub loop-k-preserved : goal.loop-k-preserved
+loop-k-preserved c =
+    let stretch = c.args.stretch.now in
+    let found = c.loop-k.found in
+    let k = c.loop-k.k in
+    let kept = c.index-stretch-k.result in
+    let row = map told c.row.result.now in
+    let front = map told c.deref-in-loop-k.result.now in
+    let next : k ≡ k - 1 + 1 = omega (arith, c.loop-k-test.true) in
+    let low : IsLowStep kept.step = subst (λ (x : KeptView). IsLowStep x.step) c.kept.view_is c.kept.invariant in
+    let over : front ≡ row_over row kept.step = ap (map told) c.deref-in-loop-k.ensures.value ∙ c.in_ok-row_before.ensures ∙ ap (λ (x : KeptView). row_over row x.step) c.kept.view_is in
+    subst (IsFoundFrom c.args.last (steps_in stretch) (k - 1)) (sym c.in_ok-push_row-2.ensures.ok)
+    (found_more c.args.last stretch (k - 1) kept found row front (omega arith) c.index-stretch-k.is low (subst (λ n. IsFoundFrom c.args.last (steps_in stretch) n found) next c.loop-k.invariant)
+    (c.row.ensures ∙ ap (λ n. slice_index_or found (n - 1) []) c.rows.ensures) over)

@@ -29,14 +29,14 @@ HasBetter R ys x = (y : _) × IsIn y ys × R y x
 abbrev pub AreBettered : {A : Type 0} → (A → A → Type 0) → List A → List A → Type 0
 AreBettered R xs ys = (x : _) → IsIn x xs → HasBetter R ys x
 
-none_bettered : {A : Type 0} (R : A → A → Type 0) (ys : List A) → AreBettered R [] ys
+pub none_bettered : {A : Type 0} (R : A → A → Type 0) (ys : List A) → AreBettered R [] ys
 none_bettered R ys x i = elim i [ ]
 
-one_bettered : {A : Type 0} (R : A → A → Type 0) (x y : A) → R y x → AreBettered R (x ∷ []) (y ∷ [])
+pub one_bettered : {A : Type 0} (R : A → A → Type 0) (x y : A) → R y x → AreBettered R (x ∷ []) (y ∷ [])
 one_bettered R x y r z (first zs) = (y, first [], r)
 one_bettered R x y r z (later w zs i) = elim i [ ]
 
-join_bettered : {A : Type 0} (R : A → A → Type 0) (xs ys vs ws : List A) → AreBettered R xs ys → AreBettered R vs ws → AreBettered R (xs ++ vs) (ys ++ ws)
+pub join_bettered : {A : Type 0} (R : A → A → Type 0) (xs ys vs ws : List A) → AreBettered R xs ys → AreBettered R vs ws → AreBettered R (xs ++ vs) (ys ++ ws)
 join_bettered R xs ys vs ws h k x i = by_part (in_append x xs vs i)
   where
     in_front : HasBetter R ys x → HasBetter R (ys ++ ws) x
@@ -50,7 +50,7 @@ join_bettered R xs ys vs ws h k x i = by_part (in_append x xs vs i)
     by_part (inr j) = in_back (k x j)
 
 -- in lists that a test chooses
-test_bettered : {A : Type 0} (R : A → A → Type 0) (b : Bool) (xs ys vs ws : List A) → AreBettered R xs ys → AreBettered R vs ws → AreBettered R (cond b xs vs) (cond b ys ws)
+pub test_bettered : {A : Type 0} (R : A → A → Type 0) (b : Bool) (xs ys vs ws : List A) → AreBettered R xs ys → AreBettered R vs ws → AreBettered R (cond b xs vs) (cond b ys ws)
 test_bettered R true xs ys vs ws h k = h
 test_bettered R false xs ys vs ws h k = k
 
@@ -171,7 +171,7 @@ choices_bettered t rules spot c next p h =
 
 -- ---- The edges of each unit
 
-may_forget_is : (at : Where) (p : Pending) → is_in_section at ≡ false → half_of p ≡ None → may_forget (state at p) ≡ true
+pub may_forget_is : (at : Where) (p : Pending) → is_in_section at ≡ false → half_of p ≡ None → may_forget (state at p) ≡ true
 may_forget_is at p e h = rw (e, h) refl
 
 none_due : (o : Option (Option (List ℕ))) → not (is_some o) ≡ true → o ≡ None

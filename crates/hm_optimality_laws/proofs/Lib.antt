@@ -19,3 +19,9 @@ pub mod Least
 pub mod Forgetting
 pub mod Shown
 pub mod Formats
+pub mod AfterValues
+pub mod FormChoices
+pub mod FormWays
+pub mod DearCharacters
+pub mod PendingNames
+pub mod FormsBounded

@@ -3,3 +3,5 @@ pub mod Outdone
 pub mod Formats
 pub mod SparseLaws
 pub mod SparseExamples
+pub mod Forms
+pub mod FormExamples

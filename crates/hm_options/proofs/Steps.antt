@@ -1,5 +1,5 @@
 -- The whitespace of a tree collapsed in place, event by event.
-use Rattle.std.proofs.Common.{◌≡◌, ℕ, zero, suc, ◌+◌, ◌-◌, ◌^◌, ◌<◌, ◌≤◌, Bool, true, false, not, ◌&&◌, ◌==◌, List, [], ◌∷◌, ◌++◌, length, take, drop, slice_get, slice_range, Option, Some, None, IsUtf8, IsCharBoundary, if◌then◌else◌, sym, ap, subst, ◌∙◌, refl, arith, append_assoc}
+use Rattle.std.proofs.Common.{◌≡◌, ℕ, zero, suc, ◌+◌, ◌-◌, ◌^◌, ◌<◌, ◌≤◌, Bool, true, false, not, ◌&&◌, ◌==◌, List, [], ◌∷◌, ◌++◌, length, take, drop, slice_get, slice_range, Option, Some, None, IsUtf8, IsCharBoundary, if◌then◌else◌, sym, ap, ◌∙◌, refl, arith, append_assoc}
 use Rattle.std.proofs.lemmas.Bool.{and_parts}
 use Rattle.std.proofs.lemmas.List.{append-nil, drop_all, take_all}
 use Rattle.std.proofs.lemmas.Str.{IsCharBoundary-from_drop, IsCharBoundary-from_rest, IsCharBoundary-from_take}
@@ -9,16 +9,14 @@ use Rattle.hm_options.specs.Fronts.{IsSpacedFront, spaced_text}
 use Rattle.hm_options.specs.Marks.{kept_count}
 use Rattle.hm_options.specs.Rewritten.{first_event, rewritten}
 use Rattle.hm_options.specs.Space.{spaced, is_kept, text_of, without_leading, without_trailing, collapsed_event, collapsed}
-use Rattle.hm_options.specs.Steps.{IsStep, IsSeen, plain_text_first, first_text}
+use Rattle.hm_options.specs.Steps.{IsStep, first_text}
 use Rattle.hm_options.specs.declared.spaces.SpacedFront.{SpacedFront}
-use Rattle.hm_options.specs.declared.walk.Seen.{Seen}
 use Rattle.hm_options.proofs.Collapsing.{collapsed_no_longer, kept_within}
 use Rattle.hm_options.proofs.Rewriting.{path_after-append, ends_match-at}
 use Rattle.hm_options.proofs.Trims.{text_shown}
-use Rattle.hm_tree.specs.Edits.{Edited, last_event, without_first, kept, with_first_cut, with_first_text, IsCut, IsShorter}
+use Rattle.hm_tree.specs.Edits.{Edited, last_event, without_first, kept}
 use Rattle.hm_tree.specs.Trees.{IsWalk, is_apart, are_texts_apart}
 use Rattle.hm_tree.proofs.EditLemmas.{last_event-push, no_text_next}
-use Rattle.hm_tree.proofs.EditedLemmas.{cut_some}
 use Rattle.hm_tree.proofs.RoomLemmas.{HasRoom-take}
 
 -- ---- What an event becomes
@@ -149,9 +147,6 @@ trailing_take edge (c ∷ []) = by_test (edge && c == 32)
     by_test false = refl
 trailing_take edge (c ∷ d ∷ s) = ap (λ x. c ∷ x) (trailing_take edge (d ∷ s))
 
-pub all_seen : (s : List ℕ) → slice_range s 0 (length s) ≡ s
-all_seen s = take_all (length s - 0) s (omega arith)
-
 -- a text without a space at its begin and at its end, as a part of it
 module _ (first second : Bool) (s t u : List ℕ) (front : t ≡ without_leading first s) (both : u ≡ without_trailing second t) (from to : ℕ) (begins : from ≡ length s - length t) (ends : to ≡ from + length u) where
   front_is : drop from s ≡ t
@@ -173,50 +168,10 @@ module _ (first second : Bool) (s t u : List ℕ) (front : t ≡ without_leading
 
 -- ---- A text that comes first
 
-true_not_false : true ≡ false → ⊥
-true_not_false h = absurd (cc)
-
-pub plain_first : (l : List Event) → plain_text_first l ≡ true → l ≡ text (first_text l) false ∷ without_first l
-plain_first [] h = absurd (true_not_false (sym h))
-plain_first (doctype legacy ∷ l) h = absurd (true_not_false (sym h))
-plain_first (start n foreign attributes ∷ l) h = absurd (true_not_false (sym h))
-plain_first (text s true ∷ l) h = absurd (true_not_false (sym h))
-plain_first (text s false ∷ l) h = refl
-plain_first (comment s ∷ l) h = absurd (true_not_false (sym h))
-plain_first (end n foreign ∷ l) h = absurd (true_not_false (sym h))
-
-pub plain_begins : (l : List Event) → plain_text_first l ≡ true → begins_text l ≡ true
-plain_begins l h = rw (plain_first l h) refl
-
-pub plain_some : (l : List Event) → plain_text_first l ≡ true → 0 < length l
-plain_some l h = omega (arith, ap length (plain_first l h))
-
-pub text_of-some : (t : List ℕ) → is_null t ≡ false → text_of t ≡ text t false ∷ []
-text_of-some [] h = absurd (true_not_false h)
-text_of-some (c ∷ t) h = refl
-
 pub none_of : (s : List ℕ) (from to : ℕ) → from ≡ to → text_of (slice_range s from to) ≡ []
 none_of s from to same =
     let none : to - from ≡ 0 = omega (arith, same) in
     rw none refl
-
-pub can_cut : (l : List Event) (seen : Seen) → plain_text_first l ≡ true → IsSeen (first_text l) seen → (seen.from ≡ seen.to → ⊥) → IsCut l seen.from seen.to
-can_cut l seen h is other =
-    subst (λ x. IsCut x seen.from seen.to) (sym (plain_first l h)) (omega (arith, is.ordered, other), is.from_boundary, is.to_boundary)
-
-module _ (v l : List Event) (h : plain_text_first l ≡ true) where
-  pub cut_kept : (from to : ℕ) → from < to → to ≤ length (first_text l) → kept v (with_first_cut from to l) ≡ record { done = v ++ text_of (slice_range (first_text l) from to); left = without_first l }
-  cut_kept from to some within =
-      let first : with_first_cut from to l ≡ text (slice_range (first_text l) from to) false ∷ without_first l = ap (with_first_cut from to) (plain_first l h) in
-      rw (first, text_of-some (slice_range (first_text l) from to) (cut_some (first_text l) from to some within)) refl
-
-  pub put_kept : (t : List ℕ) → is_null t ≡ false → kept v (with_first_text t l) ≡ record { done = v ++ text_of t; left = without_first l }
-  put_kept t some =
-      let first : with_first_text t l ≡ text t false ∷ without_first l = ap (with_first_text t) (plain_first l h) in
-      rw (first, text_of-some t some) refl
-
-  pub can_put : (t : List ℕ) → is_null t ≡ false → length t ≤ length (first_text l) → IsShorter l t
-  can_put t some short = subst (λ x. IsShorter x t) (sym (plain_first l h)) (short, some)
 
 pub steady_same : (s : List ℕ) (front : SpacedFront) → IsSpacedFront s front → front.to ≡ length s → spaced false s ≡ s
 steady_same s front h all =
@@ -225,9 +180,6 @@ steady_same s front h all =
 module _ (conservative : Bool) (old new : Edited) (s : List ℕ) (raw : Bool) (at : slice_get old.left 0 ≡ Some (text s raw)) (plain : raw ≡ false) (shown : is_kept (path_after [] old.done) ≡ false) where
   left_is : old.left ≡ text s false ∷ without_first old.left
   left_is = rw plain at (left_some old.left (text s raw) at)
-
-  pub text_is_first : plain_text_first old.left ≡ true
-  text_is_first = ap plain_text_first left_is
 
   pub first_is : first_text old.left ≡ s
   first_is = ap first_text left_is

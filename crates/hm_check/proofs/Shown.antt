@@ -209,4 +209,4 @@ minified_is_accepted t k r format w s short =
     let best : IsBest t r w out = first_ways_are_best t k r w s in
     ap (λ b. cond b (by_outcome t r w (length out) (least_certificate t r format w) (out_outcome t out)) (No RulesDiffer)) (rules_same r)
     ∙ spelled_verdict t k r w s out (least_certificate t r format w) best.spells short
-    ∙ least_accepted (tree_edges t r format) (follows_by format (tree_edges t r format)) (units_of r w) (length out) (same_first (sparing_plain t r) format (units_of r w) ∙ best.price)
+    ∙ least_accepted (tree_edges t r format) (follows_by format (tree_edges t r format)) (units_of r w) (length out) (same_first t k r format w ∙ best.price)

@@ -1,6 +1,5 @@
 -- A text that follows a tree's graph has the wanted tree, so that its rows decide.
-use Rattle.std.proofs.Common.{◌≡◌, ◌∙◌, ◌≤◌, ℕ, Bool, true, false, cond, ◌||◌, List, [], ◌∷◌, length, refl, sym, ap, subst}
-use Rattle.std.specs.List.{list_any}
+use Rattle.std.proofs.Common.{◌≡◌, ◌∙◌, ◌≤◌, ℕ, Bool, true, false, cond, List, [], ◌∷◌, length, refl, sym, ap, subst}
 use Rattle.hm_base.specs.Walks.{Event}
 use Rattle.hm_base.specs.declared.limits.TheConstants.{OUTPUT_LIMIT}
 use Rattle.hm_base.specs.declared.plain.SpellRules.{SpellRules}
@@ -14,7 +13,7 @@ use Rattle.hm_graph_laws.specs.UnitEdges.{edges_of}
 use Rattle.hm_graph_laws.specs.Ways.{Edges, Way}
 use Rattle.hm_graph.specs.Graphs.{GraphView, IsGraph, source_edges}
 use Rattle.hm_optimality_laws.specs.Formats.{edges_by, kept_by}
-use Rattle.hm_optimality_laws.specs.Outdone.{kept_behind, outdoes_behind, outdoes_in_front}
+use Rattle.hm_optimality_laws.specs.Outdone.{Dominance, dominance, is_outdone, kept_behind}
 use Rattle.hm_refs.specs.Names.{Entry}
 use Rattle.hm_refs.specs.Tables.{IsIn, IsTable, TableView, first, later}
 use Rattle.hm_spelling_spec.specs.Spellings.{Spells, other}
@@ -38,23 +37,23 @@ in_either : (e x : Edge) (ys es : List Edge) → IsIn e (x ∷ ys) → (IsIn e y
 in_either e x ys es (first zs) more = first es
 in_either e x ys es (later y zs i) more = later x es (more i)
 
-kept_in : (e : Edge) (before es : List Edge) → IsIn e (kept_behind before es) → IsIn e es
-kept_in e before [] i = i
-kept_in e before (x ∷ es) i = by_test (list_any (outdoes_in_front x) before || list_any (outdoes_behind x) es) i (kept_in e (x ∷ before) es)
+kept_in : (d : Dominance) (unit : Unit) (e : Edge) (before es : List Edge) → IsIn e (kept_behind d unit before es) → IsIn e es
+kept_in d unit e before [] i = i
+kept_in d unit e before (x ∷ es) i = by_test (is_outdone d unit before x es) i (kept_in d unit e (x ∷ before) es)
   where
-    by_test : (b : Bool) → IsIn e (cond b (kept_behind (x ∷ before) es) (x ∷ kept_behind (x ∷ before) es)) → (IsIn e (kept_behind (x ∷ before) es) → IsIn e es) → IsIn e (x ∷ es)
+    by_test : (b : Bool) → IsIn e (cond b (kept_behind d unit (x ∷ before) es) (x ∷ kept_behind d unit (x ∷ before) es)) → (IsIn e (kept_behind d unit (x ∷ before) es) → IsIn e es) → IsIn e (x ∷ es)
     by_test true j more = later x es (more j)
-    by_test false j more = in_either e x (kept_behind (x ∷ before) es) es j more
+    by_test false j more = in_either e x (kept_behind d unit (x ∷ before) es) es j more
 
-edge_in : (format : Format) (e : Edge) (es : List Edge) → IsIn e (kept_by format es) → IsIn e es
-edge_in One e es i = i
-edge_in Two e es i = i
-edge_in Three e es i = kept_in e [] es i
+edge_in : (format : Format) (t : List Entry) (unit : Unit) (e : Edge) (es : List Edge) → IsIn e (kept_by format t unit es) → IsIn e es
+edge_in One t unit e es i = i
+edge_in Two t unit e es i = i
+edge_in Three t unit e es i = kept_in (dominance t) unit e [] es i
 
 -- a way of a format's graph is a way of the whole one
-way_in : (format : Format) (edges : Edges) (units : List Unit) (s : State) (b : List ℕ) → Way (edges_by format edges) units s b → Way edges units s b
-way_in format edges [] s b way = way
-way_in format edges (unit ∷ units) s b (e, among, (rest, is, more)) = (e, edge_in format e (edges unit s) among, (rest, is, way_in format edges units e.to rest more))
+way_in : (format : Format) (t : List Entry) (edges : Edges) (units : List Unit) (s : State) (b : List ℕ) → Way (edges_by format t edges) units s b → Way edges units s b
+way_in format t edges [] s b way = way
+way_in format t edges (unit ∷ units) s b (e, among, (rest, is, more)) = (e, edge_in format t unit e (edges unit s) among, (rest, is, way_in format t edges units e.to rest more))
 
 -- ---- A way is a spelling
 
@@ -66,7 +65,7 @@ way_spells g k h s b over =
     let t : List Entry = of.table.entries in
     let units : List Unit = units_of of.rules of.tree in
     let way : Way (source_edges of) units first_state b = ways_are_ways (source_edges of) (piece_bytes t) units first_layer g.steps g.last first_state 0 b h.fits refl over in
-    wider (sparing_plain t of.rules) of.tree other [] b (ways_spell_trees (sparing_plain t of.rules) k of.tree s b (way_in of.format (edges_of (sparing_plain t of.rules)) units first_state b way))
+    wider (sparing_plain t of.rules) of.tree other [] b (ways_spell_trees (sparing_plain t of.rules) k of.tree s b (way_in of.format t (edges_of (sparing_plain t of.rules)) units first_state b way))
 
 pub followed_verdict : (v : TableView) → IsTable v.entries → (r : SpellRules) (w : List Event) → Settled w → (out : List ℕ) (c : Certificate) (g : GraphView) → IsGraph g → g.source ≡ record { tree = w; table = v; rules = r; format = c.format }
     → same_rules c.rules r ≡ true → length out ≤ OUTPUT_LIMIT → WayOver (piece_bytes v.entries) (units_of r w) g.steps 0 out → (found : Verdict) → found ≡ by_rows_over g.source.format g.last g.steps (length out) c.prices → found ≡ verdict v.entries r w out c

@@ -14,7 +14,8 @@ use Rattle.hm_edges.specs.Found.{AreEdges, AreFront, AddsEdges}
 use Rattle.hm_graph_laws.specs.ExchangeLaws.{sparing_plain}
 use Rattle.hm_edges.specs.Pieces.{edges_seen, AreOfTable}
 use Rattle.hm_edges.specs.States.{state_of}
-use Rattle.hm_edges.specs.Units.{StandsFor, fixed, start_tag, tag_name, bare_attribute, attribute_name, character, attribute_end, tag_close, end_tag, kind_of, pair_of}
+use Rattle.hm_edges.specs.declared.units.Needs.{Needs}
+use Rattle.hm_edges.specs.Units.{StandsFor, needs_of, fixed, start_tag, tag_name, bare_attribute, attribute_name, character, attribute_end, tag_close, end_tag, kind_of, pair_of}
 
 pub of_fixed : (t : List Entry) (len : ℕ) (P : units.Unit → Type 0) → ((b : List ℕ) → P (units.fixed b)) → (u : units.Unit) → StandsFor t (code.Fixed len) u → P u
 of_fixed t len P f u (fixed b l e) = f b
@@ -28,8 +29,9 @@ of_tag_name t len P f u (tag_name n l e) = f n
 pub of_bare_attribute : (t : List Entry) (len : ℕ) (P : units.Unit → Type 0) → ((n : List ℕ) → P (units.bare_attribute n)) → (u : units.Unit) → StandsFor t (code.BareAttribute len) u → P u
 of_bare_attribute t len P f u (bare_attribute n l e) = f n
 
-pub of_attribute_name : (t : List Entry) (len : ℕ) (P : units.Unit → Type 0) → ((n : List ℕ) → P (units.attribute_name n)) → (u : units.Unit) → StandsFor t (code.AttributeName len) u → P u
-of_attribute_name t len P f u (attribute_name n l e) = f n
+pub of_attribute_name : (t : List Entry) (len : ℕ) (needs : Needs) (P : units.Unit → Type 0) → ((n v : List ℕ) → needs ≡ needs_of t v → P (units.attribute_name n v))
+    → (u : units.Unit) → StandsFor t (code.AttributeName len needs) u → P u
+of_attribute_name t len needs P f u (attribute_name n v l o e h) = f n v h
 
 pub of_character : (t : List Entry) (kind : TextKind) (c : ℕ) (pair : Option ℕ) (more : Bool) (P : units.Unit → Type 0)
     → ((next : Option ℕ) → pair ≡ pair_of t c next → more ≡ is_some next → P (units.character (kind_of kind) c next))

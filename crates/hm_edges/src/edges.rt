@@ -184,8 +184,8 @@ fn add_opening_edges(
     unquote: bool,
     from: State,
 ) -> Result<(), Memory>
-    ensures { (v : TableView) (n : List ℕ)
-        → AddsEdges result v (units.attribute_name n) into.old.items into.new.items (attributes.opening_edges tight unquote n (state_of v from)) }
+    ensures { (v : TableView) (n value : List ℕ)
+        → AddsEdges result v (units.attribute_name n value) into.old.items into.new.items (attributes.opening_edges tight unquote n (state_of v from)) }
 {
     let gap = has_gap(tight, from.at);
     add_if(
@@ -329,7 +329,9 @@ pub fn find_edges(
         } => add_start_edges(into, omits, firm, closes, from),
         Unit::TagName { len: _ } => add(into, Piece::TagName, Where::BehindName, Pending::Nothing),
         Unit::BareAttribute { len: _ } => add_bare_edges(into, rules.tight, from),
-        Unit::AttributeName { len: _ } => add_opening_edges(into, rules.tight, rules.unquote, from),
+        Unit::AttributeName { len: _, needs: _ } => {
+            add_opening_edges(into, rules.tight, rules.unquote, from)
+        }
         Unit::Character {
             kind,
             c,

@@ -26,7 +26,7 @@ fn own_len(unit: Unit) -> u64
         } => u64::from(len),
         Unit::TagName { len } => u64::from(len),
         Unit::BareAttribute { len } => u64::from(len),
-        Unit::AttributeName { len } => u64::from(len),
+        Unit::AttributeName { len, needs: _ } => u64::from(len),
         Unit::Character {
             kind: _,
             c,

@@ -16,4 +16,4 @@ pub use lengths::piece_len;
 pub use pieces::{Edge, Form, Piece};
 pub use states::{Pending, Spot, State, Where};
 pub use steps::{may_end, step};
-pub use units::{TextKind, Unit};
+pub use units::{Need, Needs, TextKind, Unit};

@@ -9,6 +9,28 @@ pub enum TextKind {
     Value,
 }
 
+/// Whether a value has characters of a kind, and whether a reference to one of them is dear.
+#[derive(Clone, Copy, Debug, PartialEq, Eq, Hash)]
+pub enum Need {
+    /// It has none.
+    Absent,
+    /// It has some, and no reference to one is known to be dear.
+    Cheap,
+    /// A reference to one of them is dear: it has at least three bytes more than the character itself.
+    Dear,
+}
+
+/// What a value has that can't stand as itself in each of its forms.
+#[derive(Clone, Copy, Debug, PartialEq, Eq, Hash)]
+pub struct Needs {
+    /// `"`, which can't stand in double quotes.
+    pub double: Need,
+    /// `'`, which can't stand in single quotes.
+    pub single: Need,
+    /// What needs quotes of either kind: whitespace, `<`, `=`, `>` and the grave accent.
+    pub other: Need,
+}
+
 /// A unit. Names and bytes without a choice count by their length in bytes alone.
 #[derive(Clone, Copy, Debug, PartialEq, Eq, Hash)]
 pub enum Unit {
@@ -32,9 +54,10 @@ pub enum Unit {
     BareAttribute {
         len: u32,
     },
-    /// The name of an attribute whose value isn't empty, its `=` and what opens the value.
+    /// The name of an attribute whose value isn't empty, its `=` and what opens the value, by what the value needs.
     AttributeName {
         len: u32,
+        needs: Needs,
     },
     /// A character. `pair` is the next one in the same text where some name stands for the two, else None. `more` says
     /// whether there is a next one.

@@ -102,7 +102,7 @@ edge_open g (start_tag n omits firm closes) s e k h i = by (start_edge_is n omit
     by (tags.slashes c is) = absurd (both_ways closes h c)
 edge_open g (tag_name n) s e k h i = one_open _ e refl i
 edge_open g (bare_attribute n) s e k h i = one_open _ e refl i
-edge_open g (attribute_name n) s e k h i =
+edge_open g (attribute_name n v) s e k h i =
     two_open _ _ e (if_open g.rules.unquote _ e (one_open _ e refl))
     (λ j. two_open (edge (gap_at g.rules.tight s.at ++ (n ++ codes "=\"")) in_double nothing ∷ []) (edge (gap_at g.rules.tight s.at ++ (n ++ codes "='")) in_single nothing ∷ []) e (one_open _ e refl) (one_open _ e refl) j) i
 edge_open g (character kind c next) s e k h i = by_place (is_in_section s.at) i
@@ -138,7 +138,7 @@ first_end (fixed b) us = refl
 first_end (start_tag n omits firm closes) us = refl
 first_end (tag_name n) us = refl
 first_end (bare_attribute n) us = refl
-first_end (attribute_name n) us = refl
+first_end (attribute_name n v) us = refl
 first_end (character kind c next) us = refl
 first_end attribute_end us = refl
 first_end (tag_close closes) us = refl

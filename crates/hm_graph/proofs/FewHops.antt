@@ -1,6 +1,5 @@
 -- A state has as many hops as edges are left of those of its unit, and these are few.
-use Rattle.std.proofs.Common.{◌≡◌, ℕ, suc, ◌≤◌, Bool, true, false, cond, ◌||◌, List, [], ◌∷◌, length, refl, ap, arith}
-use Rattle.std.specs.List.{list_any}
+use Rattle.std.proofs.Common.{◌≡◌, ℕ, suc, ◌≤◌, Bool, true, false, cond, List, [], ◌∷◌, length, refl, ap, arith}
 use Rattle.hm_base.specs.declared.plain.Format.{Format}
 use Rattle.hm_base.specs.declared.plain.Format.TheVariants.{One, Two, Three}
 use Rattle.hm_edges.specs.declared.pieces.Piece.{Piece}
@@ -11,7 +10,9 @@ use Rattle.hm_graph_laws.specs.Layers.{states_behind}
 use Rattle.hm_graph_laws.specs.States.{State}
 use Rattle.hm_graph_laws.specs.UnitEdges.{edges_of}
 use Rattle.hm_optimality_laws.specs.Formats.{kept_by}
-use Rattle.hm_optimality_laws.specs.Outdone.{kept_behind, outdoes_behind, outdoes_in_front}
+use Rattle.hm_optimality_laws.specs.Outdone.{Dominance, dominance, is_outdone, kept_behind}
+use Rattle.hm_graph_laws.specs.Units.{Unit}
+use Rattle.hm_refs.specs.Names.{Entry}
 use Rattle.hm_graph.specs.FewHops.{IsFewStep, StatesHaveFewHops}
 use Rattle.hm_graph.specs.Fits.{HopsFit, StepFits}
 use Rattle.hm_graph.specs.Graphs.{tree_edges}
@@ -20,18 +21,18 @@ use Rattle.hm_graph.specs.declared.hops.Hop.{Hop}
 
 -- ---- Edges that are left
 
-kept_few : (before es : List Edge) → length (kept_behind before es) ≤ length es
-kept_few before [] = omega arith
-kept_few before (e ∷ es) = by_test (list_any (outdoes_in_front e) before || list_any (outdoes_behind e) es) (kept_few (e ∷ before) es)
+kept_few : (d : Dominance) (unit : Unit) (before es : List Edge) → length (kept_behind d unit before es) ≤ length es
+kept_few d unit before [] = omega arith
+kept_few d unit before (e ∷ es) = by_test (is_outdone d unit before e es) (kept_few d unit (e ∷ before) es)
   where
-    by_test : (b : Bool) → length (kept_behind (e ∷ before) es) ≤ length es → length (cond b (kept_behind (e ∷ before) es) (e ∷ kept_behind (e ∷ before) es)) ≤ suc (length es)
+    by_test : (b : Bool) → length (kept_behind d unit (e ∷ before) es) ≤ length es → length (cond b (kept_behind d unit (e ∷ before) es) (e ∷ kept_behind d unit (e ∷ before) es)) ≤ suc (length es)
     by_test true h = omega (arith, h)
     by_test false h = omega (arith, h)
 
-left_few : (format : Format) (es : List Edge) → length (kept_by format es) ≤ length es
-left_few One es = omega arith
-left_few Two es = omega arith
-left_few Three es = kept_few [] es
+left_few : (format : Format) (t : List Entry) (unit : Unit) (es : List Edge) → length (kept_by format t unit es) ≤ length es
+left_few One t unit es = omega arith
+left_few Two t unit es = omega arith
+left_few Three t unit es = kept_few (dominance t) unit [] es
 
 -- ---- Hops
 
@@ -57,4 +58,4 @@ states_have_few_hops t k rules format bytes (unit ∷ units) states (step ∷ st
 )
   where
     few : (s : State) → length (tree_edges t rules format unit s) ≤ 71
-    few s = omega (arith, left_few format (edges_of (sparing_plain t rules) unit s), states_have_few_edges (sparing_plain t rules) k unit s)
+    few s = omega (arith, left_few format t unit (edges_of (sparing_plain t rules) unit s), states_have_few_edges (sparing_plain t rules) k unit s)

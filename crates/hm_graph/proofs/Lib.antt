@@ -26,3 +26,6 @@ pub mod FewHops
 pub mod StillSteps
 mod StillLengths
 pub mod Joined
+pub mod FormChanges
+pub mod ValueNeeds
+pub mod ToldMarks

@@ -93,7 +93,7 @@ AreNamed t (step ∷ steps) = IsNamedStep t step × AreNamed t steps
 
 -- the edges by a table and these rules, as far as a format's graph has them
 abbrev pub tree_edges : List Entry → SpellRules → Format → Edges
-tree_edges t rules format = edges_by format (edges_of (sparing_plain t rules))
+tree_edges t rules format = edges_by format t (edges_of (sparing_plain t rules))
 
 -- the edges of what a graph is of
 abbrev pub source_edges : GraphSource → Edges

@@ -1,6 +1,7 @@
 -- What is interned of a tree's graph: lists of states with numbers, and steps with numbers, each with the number of the list
 -- after it.
-use Rattle.std.specs.Prelude.{◌≡◌, ℕ, ◌<◌, Bool, true, false, List, [], ◌∷◌, None, length, slice_index_or}
+use Rattle.std.specs.Prelude.{◌≡◌, ℕ, ◌<◌, Bool, true, false, ◌&&◌, ◌||◌, nat_lt, List, [], ◌∷◌, None, length, slice_index_or, bytes_eq}
+use Rattle.std.specs.List.{list_any}
 use Rattle.hm_refs.specs.Names.{Entry}
 use Rattle.hm_refs.specs.Tables.{TableView}
 use Rattle.hm_edges.specs.Units.{has_pair}
@@ -16,6 +17,8 @@ use Rattle.hm_graph.specs.declared.made.KnownStep.{KnownStep}
 use Rattle.hm_graph.specs.declared.made.Reached.{Reached}
 use Rattle.hm_graph.specs.declared.plain.PlainRow.{PlainRow}
 use Rattle.hm_graph.specs.declared.rules.EdgeRules.{EdgeRules}
+use Rattle.hm_graph.specs.declared.told.Told.{Told}
+use Rattle.hm_optimality_laws.specs.Forms.{is_second, leaves_open}
 
 -- lists of states, and what was made from them
 pub record InternedView : Type 0 where
@@ -77,6 +80,23 @@ BeginsNoPair t c = (d : ℕ) → has_pair t c d ≡ false
 -- with each code point that is marked none does
 abbrev pub AreLone : List Entry → List Bool → Type 0
 AreLone t lone = (c : ℕ) → slice_index_or lone c false ≡ true → BeginsNoPair t c
+
+-- ---- What names tell of ASCII characters
+
+-- a name by which references to c are cheap, whatever follows
+abbrev pub cheapens : ℕ → Entry → Bool
+cheapens c e = (bytes_eq e.points (c ∷ []) && nat_lt (length e.name) 4) || is_second c e.points
+
+-- for each of them, whether some name passes a test
+abbrev pub AreMarked : (ℕ → Entry → Bool) → List Entry → List Bool → Type 0
+AreMarked test t marks = (c : ℕ) → c < 128 → slice_index_or marks c false ≡ list_any (test c) t
+
+-- whether it is known that no name for two code points begins with them, whether references to them are cheap, and whether a
+-- name without ';' ends with them
+pub record AreTold (t : List Entry) (told : Told) : Type 0 where
+  pub lone : AreLone t told.lone.items
+  pub cheap : AreMarked cheapens t told.cheap
+  pub ends : AreMarked leaves_open t told.ends
 
 -- ---- Rows of plain characters
 

@@ -8,6 +8,9 @@ pub mod Runs
 pub mod Graphs
 pub mod FewHops
 pub mod Layers
+pub mod Told
+pub mod Values
+pub mod Forms
 pub mod Interned
 pub mod Building
 pub mod Going

@@ -1,5 +1,5 @@
 //! The steps of a tree's parts. A visitor is called for each as it is added.
-ghost use Rattle.std.specs.Prelude.{◌≡◌, ◌<◌, ◌≤◌, ◌∷◌, [], length, IfOk, OnOk};
+ghost use Rattle.std.specs.Prelude.{◌≡◌, ◌<◌, ◌≤◌, ◌^◌, ◌∷◌, [], length, IfOk, OnOk};
 ghost use Rattle.std.specs.Str.{IsUtf8, chars};
 ghost use Rattle.hm_edges.specs.Pieces.{own_bytes};
 ghost use Rattle.hm_edges.specs.Units.{StandsFor, kind_of};
@@ -115,6 +115,19 @@ fn add_characters<V: Visitor>(
     Ok(())
 }
 
+/// Adds the step of an attribute's name and of what opens its value.
+#[inline(always)]
+fn add_opening<V: Visitor>(along: &mut Along<'_, V>, name: &str, value: &str) -> Result<(), V::Stop>
+    requires { length name.now < 2 ^ 32 }
+    ensures { OnOk result (Goes V.goes_on (units.attribute_name name.now (chars value.now) ∷ []) [] along.old along.new) }
+{
+    let unit = Unit::AttributeName {
+        len: name.len() as u32,
+        needs: along.graph.needs_of(value),
+    };
+    add(along, &unit, Own::Bytes { text: name })
+}
+
 /// Adds the steps of a part.
 #[inline(always)]
 fn add_part<V: Visitor>(along: &mut Along<'_, V>, part: &Part<'_>) -> Result<(), V::Stop>
@@ -123,6 +136,7 @@ fn add_part<V: Visitor>(along: &mut Along<'_, V>, part: &Part<'_>) -> Result<(),
 {
     match part {
         Part::One { unit, own } => add(along, unit, Own::Bytes { text: own }),
+        Part::Opening { name, value } => add_opening(along, *name, *value),
         Part::Comment { text } => add(
             along,
             &Unit::Fixed {

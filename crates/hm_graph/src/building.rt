@@ -2,7 +2,7 @@
 ghost use Rattle.std.specs.Prelude.{◌≡◌, ◌<◌, ◌≤◌, ◌∷◌, [], None, Some, drop, length, take, IfOk, OnOk};
 ghost use Rattle.std.specs.Str.{IsAscii, chars};
 ghost use Rattle.hm_graph_laws.specs.Units as units;
-ghost use Rattle.hm_edges.specs.Units.{StandsFor, kind_of};
+ghost use Rattle.hm_edges.specs.Units.{StandsFor, kind_of, needs_of};
 ghost use Rattle.hm_graph_laws.specs.Units.{units_of};
 ghost use Rattle.hm_graph.specs.Building.{AddsSteps, AddsFront, IsAdded, IsBuilt, numbered_step};
 
@@ -13,7 +13,7 @@ use crate::plain::Alike;
 use crate::rules::EdgeRules;
 use crate::step::Step;
 use hm_base::Memory;
-use hm_edges::{TextKind, Unit};
+use hm_edges::{Needs, TextKind, Unit};
 use hm_refs::Table;
 use hm_tree::Tree;
 use std::alloc::Global;
@@ -63,6 +63,13 @@ impl<'t> GraphBuilder<'t> {
         ensures { result.now ≡ self.now.table }
     {
         self.interned.table()
+    }
+
+    /// What a value needs.
+    pub(crate) fn needs_of(&self, value: &str) -> Needs
+        ensures { result ≡ needs_of self.now.table.entries (chars value.now) }
+    {
+        self.interned.needs_of(value)
     }
 
     /// The step of this number.

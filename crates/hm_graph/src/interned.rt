@@ -1,6 +1,7 @@
 //! Lists of states and steps that are interned (each made once, and numbered) while a graph is built.
 ghost use Rattle.std.specs.Prelude.{◌≡◌, ◌<◌, ◌≤◌, ◌∷◌, [], false, true, None, Some, length, map, take, IfOk, IfSome, IsTrue};
 ghost use Rattle.std.specs.List.{All, HoldsAt};
+ghost use Rattle.std.specs.Str.{chars};
 ghost use Rattle.hm_edges.specs.Units as units;
 ghost use Rattle.hm_graph.specs.Layers.{HaveNodes};
 ghost use Rattle.hm_edges.specs.declared.units.Unit.TheVariants.{Character};
@@ -8,12 +9,14 @@ ghost use Rattle.hm_graph.specs.Interned.{BeginsNoPair, Grows, IsListOf, Leads, 
 
 use crate::layer::{Layer, States, find_layer, is_state};
 use crate::made::{Front, KnownStep, MadeStep, Reached, equal_made};
-use crate::pairs::{lone_characters, pair_of};
+use crate::pairs::pair_of;
 use crate::plain::{Alike, PlainRow, keep, no_rows, none_alike, row_of};
 use crate::rules::EdgeRules;
 use crate::step::Step;
+use crate::told::{Told, told_of};
+use crate::values::needs_of;
 use hm_base::Memory;
-use hm_edges::{Pending, State, TextKind, Unit, Where};
+use hm_edges::{Need, Needs, Pending, State, TextKind, Unit, Where};
 use hm_refs::Table;
 use smallvec::SmallVec;
 use std::alloc::Global;
@@ -40,8 +43,8 @@ pub(crate) struct Interned<'t> {
     memo_index: HashMap<Front, u32>,
     /// As `memo_index`, for lists and units that have a slot in common.
     hint_slots: Vec<u32>,
-    /// For each ASCII character, whether it is known that no name for two code points begins with it.
-    lone_ascii: Vec<bool>,
+    /// What the names of the table tell of ASCII characters.
+    told: Told,
     /// Where such characters lead that have another one after them.
     text_rows: Vec<PlainRow>,
     /// Where the last characters of texts lead.
@@ -55,19 +58,33 @@ impl<'t> Model for Interned<'t> {
 
     ghost use Rattle.std.specs.Prelude.{false, map, true};
     ghost use Rattle.std.specs.List.{All};
-    ghost use Rattle.hm_graph.specs.Interned.{AreLone, IsInterned, IsRow, IsMemo};
+    ghost use Rattle.hm_graph.specs.Interned.{AreTold, IsInterned, IsRow, IsMemo};
 
     ghost view = { λ m. record { table = m.table.now; rules = m.rules; lists = map (λ l. l.items) m.lists.items; steps = m.steps.items } };
 
     ghost invariant = { λ m. IsInterned (record { table = m.table.now; rules = m.rules; lists = map (λ l. l.items) m.lists.items; steps = m.steps.items })
         × All (IsMemo (record { table = m.table.now; rules = m.rules; lists = map (λ l. l.items) m.lists.items; steps = m.steps.items })) m.memo.items
-        × AreLone m.table.now.entries m.lone_ascii.items
+        × AreTold m.table.now.entries m.told
         × All (IsRow (record { table = m.table.now; rules = m.rules; lists = map (λ l. l.items) m.lists.items; steps = m.steps.items }) true) m.text_rows.items
         × All (IsRow (record { table = m.table.now; rules = m.rules; lists = map (λ l. l.items) m.lists.items; steps = m.steps.items }) false) m.last_rows.items };
 }
 
 /// How many places there are for hints.
 const HINTS: usize = 4096;
+
+/// The need as a number below three.
+fn need_number(need: Need) -> u32 {
+    match need {
+        Need::Absent => 0,
+        Need::Cheap => 1,
+        Need::Dear => 2,
+    }
+}
+
+/// A number of four bits for what a value needs. Few values need both kinds of quotes.
+fn needs_number(needs: Needs) -> u32 {
+    need_number(needs.double) ^ need_number(needs.single) << 1 ^ need_number(needs.other) << 2
+}
 
 /// The place of the hint for a list and a unit.
 fn hint_place(list: u32, unit: &Unit) -> usize {
@@ -81,20 +98,20 @@ fn hint_place(list: u32, unit: &Unit) -> usize {
         Unit::Fixed { len } => len ^ 2048,
         Unit::StartTag {
             len,
-            omits: _,
-            firm: _,
-            closes: _,
-        } => len ^ 2304,
+            omits,
+            firm,
+            closes,
+        } => { len ^ 2304 ^ u32::from(omits) << 5 ^ u32::from(firm) << 6 ^ u32::from(closes) << 7 }
         Unit::TagName { len } => len ^ 2560,
         Unit::BareAttribute { len } => len ^ 2816,
-        Unit::AttributeName { len } => len ^ 3072,
+        Unit::AttributeName { len, needs } => len ^ 3072 ^ needs_number(needs) << 4,
         Unit::AttributeEnd => 3328,
-        Unit::TagClose { closes: _ } => 3329,
+        Unit::TagClose { closes } => 3329 ^ u32::from(closes) << 1,
         Unit::EndTag {
             len,
-            omits: _,
-            loosens: _,
-        } => len ^ 3584,
+            omits,
+            loosens,
+        } => len ^ 3584 ^ u32::from(omits) << 5 ^ u32::from(loosens) << 6,
     };
     (own ^ list.wrapping_mul(131)) as usize % HINTS
 }
@@ -178,7 +195,7 @@ impl<'t> Interned<'t> {
             memo: Vec::new(alloc),
             memo_index: HashMap::new(alloc),
             hint_slots: no_hints(alloc)?,
-            lone_ascii: lone_characters(alloc, table)?,
+            told: told_of(alloc, table)?,
             text_rows: no_rows(alloc)?,
             last_rows: no_rows(alloc)?,
         })
@@ -203,7 +220,7 @@ impl<'t> Interned<'t> {
     fn is_lone(&self, c: char) -> bool
         ensures { IsTrue result → BeginsNoPair self.now.table.entries c }
     {
-        match self.lone_ascii.get(c as usize) {
+        match self.told.lone.get(c as usize) {
             Some(true) => true,
             _ => false,
         }
@@ -213,10 +230,17 @@ impl<'t> Interned<'t> {
     fn pair_of(&self, c: char, next: char) -> Option<char>
         ensures { result ≡ units.pair_of self.now.table.entries c (Some next) }
     {
-        match self.lone_ascii.get(c as usize) {
+        match self.told.lone.get(c as usize) {
             Some(true) => None,
             _ => pair_of(self.table, c, next),
         }
+    }
+
+    /// What a value needs.
+    pub(crate) fn needs_of(&self, value: &str) -> Needs
+        ensures { result ≡ units.needs_of self.now.table.entries (chars value.now) }
+    {
+        needs_of(self.table, &self.told, value)
     }
 
     /// The states of a list.
@@ -258,7 +282,7 @@ impl<'t> Interned<'t> {
             memo: _,
             memo_index: _,
             hint_slots: _,
-            lone_ascii: _,
+            told: _,
             text_rows: _,
             last_rows: _,
         } = self;

@@ -6,6 +6,7 @@ mod along;
 mod build;
 mod building;
 mod copied;
+mod forms;
 mod graph;
 mod hops;
 mod interned;
@@ -19,6 +20,8 @@ mod plain;
 mod rules;
 mod step;
 mod still;
+mod told;
+mod values;
 mod visitors;
 
 pub use graph::{Cursor, Graph, Passed};

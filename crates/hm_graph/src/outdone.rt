@@ -1,16 +1,18 @@
 //! The edges that no other one dominates (outdoes).
-ghost use Rattle.std.specs.Prelude.{◌≡◌, ◌||◌, ◌++◌, ◌∷◌, [], if◌then◌else◌, IfOk, OnOk};
+ghost use Rattle.std.specs.Prelude.{◌≡◌, ◌||◌, ◌++◌, ◌∷◌, ◌<◌, ◌^◌, [], nat_le, nat_lt, if◌then◌else◌, IfOk, IfSome, OnOk};
 ghost use Rattle.std.specs.List.{list_any};
 ghost use Rattle.hm_edges.specs.Pieces.{AreOfTable, IsOfTable, edge_of, edges_seen};
 ghost use Rattle.hm_edges.specs.States.{HasNodes, state_of};
 ghost use Rattle.hm_edges.specs.Units.{StandsFor};
+ghost use Rattle.hm_graph.specs.Forms.{IsFew, by_change};
 ghost use Rattle.hm_optimality_laws.specs.Outdone as outdone;
-ghost use Rattle.hm_optimality_laws.specs.Outdone.{kept_edges};
+ghost use Rattle.hm_optimality_laws.specs.Outdone.{dominance, kept_edges};
 ghost use Rattle.hm_refs.specs.Tables.{TableView};
 ghost use Rattle.hm_optimality_laws.specs.Formats.{kept_by};
 ghost use Rattle.hm_graph_laws.specs.States.{same_state};
 ghost use Rattle.hm_graph_laws.specs.Units as units;
 
+use crate::forms::{Change, change_of};
 use crate::layer::is_state;
 use hm_base::{Format, Memory};
 use hm_edges::{Edge, Pending, State, Unit, Where, piece_len};
@@ -46,31 +48,61 @@ fn serves(one: &State, other: &State) -> bool
     is_same(one, other) || (may_forget(other) && is_same(one, &forgotten))
 }
 
+/// Whether by a change the first length is no more than the second.
+fn is_no_longer(change: Option<Change>, one: u64, other: u64) -> bool
+    requires few { IfSome change IsFew }
+    requires one { one < 2 ^ 34 }
+    requires other { other < 2 ^ 34 }
+    ensures { result ≡ by_change nat_le change one other }
+{
+    match change {
+        Some(change) => one + change.added <= other + change.spared,
+        None => false,
+    }
+}
+
+/// Whether by a change the first length is less than the second.
+fn is_shorter(change: Option<Change>, one: u64, other: u64) -> bool
+    requires few { IfSome change IsFew }
+    requires one { one < 2 ^ 34 }
+    requires other { other < 2 ^ 34 }
+    ensures { result ≡ by_change nat_lt change one other }
+{
+    match change {
+        Some(change) => one + change.added < other + change.spared,
+        None => false,
+    }
+}
+
 /// Whether an edge is outdone by this one before it.
 fn outdoes_in_front(table: &Table, unit: Unit, edge: &Edge, other: &Edge) -> bool
     requires edge { IsOfTable table.now edge.now }
     requires other { IsOfTable table.now other.now }
-    ensures { (u : units.Unit) → StandsFor table.now.entries unit u → result ≡ outdone.outdoes_in_front (edge_of table.now u edge.now) (edge_of table.now u other.now) }
+    ensures { (u : units.Unit) → StandsFor table.now.entries unit u → result ≡ outdone.outdoes_in_front table.now.entries u (edge_of table.now u edge.now) (edge_of table.now u other.now) }
 {
-    serves(&other.to, &edge.to)
-        && piece_len(unit, other.piece, table) <= piece_len(unit, edge.piece, table)
+    let len = piece_len(unit, edge.piece, table);
+    let other_len = piece_len(unit, other.piece, table);
+    (serves(&other.to, &edge.to) && other_len <= len)
+        || is_no_longer(change_of(unit, &edge.to, &other.to), other_len, len)
 }
 
 /// Whether an edge is outdone by this one after it.
 fn outdoes_behind(table: &Table, unit: Unit, edge: &Edge, other: &Edge) -> bool
     requires edge { IsOfTable table.now edge.now }
     requires other { IsOfTable table.now other.now }
-    ensures { (u : units.Unit) → StandsFor table.now.entries unit u → result ≡ outdone.outdoes_behind (edge_of table.now u edge.now) (edge_of table.now u other.now) }
+    ensures { (u : units.Unit) → StandsFor table.now.entries unit u → result ≡ outdone.outdoes_behind table.now.entries u (edge_of table.now u edge.now) (edge_of table.now u other.now) }
 {
-    serves(&other.to, &edge.to)
-        && piece_len(unit, other.piece, table) < piece_len(unit, edge.piece, table)
+    let len = piece_len(unit, edge.piece, table);
+    let other_len = piece_len(unit, other.piece, table);
+    (serves(&other.to, &edge.to) && other_len < len)
+        || is_shorter(change_of(unit, &edge.to, &other.to), other_len, len)
 }
 
 /// Whether an edge is outdone by one of these before it.
 fn some_outdoes_in_front(table: &Table, unit: Unit, edge: &Edge, others: &[Edge]) -> bool
     requires edge { IsOfTable table.now edge.now }
     requires others { AreOfTable table.now others.now }
-    ensures { (u : units.Unit) → StandsFor table.now.entries unit u → result ≡ list_any (outdone.outdoes_in_front (edge_of table.now u edge.now)) (edges_seen table.now u others.now) }
+    ensures { (u : units.Unit) → StandsFor table.now.entries unit u → result ≡ list_any (outdone.outdoes_in_front table.now.entries u (edge_of table.now u edge.now)) (edges_seen table.now u others.now) }
 {
     for other in others {
         if outdoes_in_front(table, unit, edge, other) {
@@ -84,7 +116,7 @@ fn some_outdoes_in_front(table: &Table, unit: Unit, edge: &Edge, others: &[Edge]
 fn some_outdoes_behind(table: &Table, unit: Unit, edge: &Edge, others: &[Edge]) -> bool
     requires edge { IsOfTable table.now edge.now }
     requires others { AreOfTable table.now others.now }
-    ensures { (u : units.Unit) → StandsFor table.now.entries unit u → result ≡ list_any (outdone.outdoes_behind (edge_of table.now u edge.now)) (edges_seen table.now u others.now) }
+    ensures { (u : units.Unit) → StandsFor table.now.entries unit u → result ≡ list_any (outdone.outdoes_behind table.now.entries u (edge_of table.now u edge.now)) (edges_seen table.now u others.now) }
 {
     for other in others {
         if outdoes_behind(table, unit, edge, other) {
@@ -99,8 +131,8 @@ fn is_outdone(table: &Table, unit: Unit, edge: &Edge, front: &[Edge], behind: &[
     requires edge { IsOfTable table.now edge.now }
     requires front { AreOfTable table.now front.now }
     requires behind { AreOfTable table.now behind.now }
-    ensures { (u : units.Unit) → StandsFor table.now.entries unit u → result ≡ (list_any (outdone.outdoes_in_front (edge_of table.now u edge.now)) (edges_seen table.now u front.now)
-        || list_any (outdone.outdoes_behind (edge_of table.now u edge.now)) (edges_seen table.now u behind.now)) }
+    ensures { (u : units.Unit) → StandsFor table.now.entries unit u → result ≡ (list_any (outdone.outdoes_in_front table.now.entries u (edge_of table.now u edge.now)) (edges_seen table.now u front.now)
+        || list_any (outdone.outdoes_behind table.now.entries u (edge_of table.now u edge.now)) (edges_seen table.now u behind.now)) }
 {
     some_outdoes_in_front(table, unit, edge, front)
         || some_outdoes_behind(table, unit, edge, behind)
@@ -126,7 +158,7 @@ fn without_outdone(
     edges: &[Edge],
 ) -> Result<Vec<Edge>, Memory>
     requires { AreOfTable table.now edges.now }
-    ensures edges { IfOk result (λ kept. (u : units.Unit) → StandsFor table.now.entries unit u → edges_seen table.now u kept.items ≡ kept_edges (edges_seen table.now u edges.now)) }
+    ensures edges { IfOk result (λ kept. (u : units.Unit) → StandsFor table.now.entries unit u → edges_seen table.now u kept.items ≡ kept_edges (dominance table.now.entries) u (edges_seen table.now u edges.now)) }
     ensures known { IfOk result (λ kept. AreOfTable table.now kept.items) }
 {
     let mut kept = Vec::new(alloc);
@@ -147,7 +179,7 @@ pub(crate) fn edges_in(
     edges: Vec<Edge>,
 ) -> Result<Vec<Edge>, Memory>
     requires { AreOfTable table.now edges.items }
-    ensures edges { IfOk result (λ kept. (u : units.Unit) → StandsFor table.now.entries unit u → edges_seen table.now u kept.items ≡ kept_by format (edges_seen table.now u edges.items)) }
+    ensures edges { IfOk result (λ kept. (u : units.Unit) → StandsFor table.now.entries unit u → edges_seen table.now u kept.items ≡ kept_by format table.now.entries u (edges_seen table.now u edges.items)) }
     ensures known { IfOk result (λ kept. AreOfTable table.now kept.items) }
 {
     match format {

@@ -18,7 +18,7 @@ fn stands_for(table: &Table, id: NameId, c: char, d: char) -> bool
 }
 
 /// Whether some name stands for these two code points.
-fn has_pair(table: &Table, c: char, d: char) -> bool
+pub(crate) fn has_pair(table: &Table, c: char, d: char) -> bool
     ensures { result ≡ units.has_pair table.now.entries c d }
 {
     for id in table.names_for(c) {

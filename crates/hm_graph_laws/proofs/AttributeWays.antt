@@ -104,7 +104,7 @@ module _ (g : Spelling) (table : IsTable g.table) (es : Edges) (has : HasTagEdge
       → (v : ValueFound inside close (chars (c ∷ s)) m) (rest : List ℕ) (to : State) → WayTo es (attribute_units attributes) close.to rest to
       → WayTo es (attribute_units (record { name = n; value = c ∷ s } ∷ attributes)) (state at nothing) ((opening.bytes ++ (v.bytes ++ close.bytes)) ++ rest) to
   with_value n c s attributes at opening inside close m i leads v rest to w =
-      let j : IsIn opening (es (attribute_name n) (state at nothing)) = subst (λ l. IsIn opening l) (sym (has.openings n (state at nothing))) i in
+      let j : IsIn opening (es (attribute_name n (chars (c ∷ s))) (state at nothing)) = subst (λ l. IsIn opening l) (sym (has.openings n (chars (c ∷ s)) (state at nothing))) i in
       let more = join_ways es (character_units in_value (chars (c ∷ s)) ++ attribute_end ∷ []) (attribute_units attributes) (state inside nothing) close.to to (v.bytes ++ close.bytes) rest v.way w in (
         opening,
         j,

@@ -191,7 +191,7 @@ module _ (g : Spelling) (table : IsTable g.table) (es : Edges) (has : HasTagEdge
         behind = subst (λ x. WayTo es (attribute_units attributes) x.to rest to) here w;
       }
   first_attribute before n (c ∷ s) attributes b to low (e, i, (rest, is, w)) =
-      valued before n c s attributes b to low e rest (opening_is n (behind_form before) e (subst (λ l. IsIn e l) (has.openings n (state (behind_form before) nothing)) i)) is w
+      valued before n c s attributes b to low e rest (opening_is n (behind_form before) e (subst (λ l. IsIn e l) (has.openings n (chars (c ∷ s)) (state (behind_form before) nothing)) i)) is w
 
   record AttributesSpelled (before : Form) (attributes : List Attribute) (b : List ℕ) (to : State) : Type 0 where
     last : Form

@@ -15,7 +15,7 @@ use Rattle.hm_graph_laws.specs.AttributeEdges.{name_edges, bare_edges, opening_e
 pub record HasTagEdges (g : Spelling) (es : Edges) : Type 0 where
   pub names : (n : List ℕ) (s : State) → es (tag_name n) s ≡ name_edges n
   pub bare_ones : (n : List ℕ) (s : State) → es (bare_attribute n) s ≡ bare_edges g.rules.tight n s
-  pub openings : (n : List ℕ) (s : State) → es (attribute_name n) s ≡ opening_edges g.rules.tight g.rules.unquote n s
+  pub openings : (n v : List ℕ) (s : State) → es (attribute_name n v) s ≡ opening_edges g.rules.tight g.rules.unquote n s
   pub characters : HasCharacterEdges g.table (character_rules g) es
   pub closings : (s : State) → es attribute_end s ≡ closing_edges g.table s
   pub ends : (closes : Bool) (s : State) → es (tag_close closes) s ≡ close_edges closes s

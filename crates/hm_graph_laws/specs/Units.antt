@@ -21,7 +21,7 @@ pub data Unit : Type 0 where
   start_tag : List ℕ → Bool → Bool → Bool → Unit  -- name; whether it may be left out; whether not after a loose end; whether it may close itself
   tag_name : List ℕ → Unit  -- '<' and the name of a tag with attributes
   bare_attribute : List ℕ → Unit  -- an attribute with an empty value
-  attribute_name : List ℕ → Unit  -- the name of any other attribute, its '=' and what opens the value
+  attribute_name : List ℕ → List ℕ → Unit  -- the name of any other attribute, its '=' and what opens the value; the value's code points
   character : TextKind → ℕ → Option ℕ → Unit  -- a code point, and the one after it in the same text
   attribute_end : Unit  -- what closes a value
   tag_close : Bool → Unit  -- '>', and whether the tag may close itself
@@ -43,7 +43,7 @@ attribute_units (a ∷ attributes) = value_units a.name a.value ++ attribute_uni
   where
     value_units : List ℕ → List ℕ → List Unit
     value_units n [] = bare_attribute n ∷ []
-    value_units n (c ∷ s) = attribute_name n ∷ (character_units in_value (chars (c ∷ s)) ++ attribute_end ∷ [])
+    value_units n (c ∷ s) = attribute_name n (chars (c ∷ s)) ∷ (character_units in_value (chars (c ∷ s)) ++ attribute_end ∷ [])
 
 -- ---- Tags
 

@@ -56,56 +56,41 @@ pub record Inert (c : ℕ) : Type 0 where
   pub two_digits : length (fmt.decimal c) ≡ 2
   pub decimals : (nat_le 1000000 c && nat_le c 1048575) ≡ false
 
-by_facts : (c : ℕ) → is_alnum c ≡ false → (59 == c) ≡ false → (35 == c) ≡ false → (120 == c || 88 == c) ≡ false → is_digit c ≡ false → is_hex c ≡ false → (c == 38) ≡ false → (c == 13) ≡ false → blocks c ≡ (c == 61)
-    → nat_lt c 128 ≡ true → best_number c ≡ Some c → length (fmt.decimal c) ≡ 2 → (nat_le 1000000 c && nat_le c 1048575) ≡ false → Inert c
-by_facts c alnum semicolon hash_sign x digit hex amp return block low number two decimals = record {
-  special = record { no_alnum = alnum; no_semicolon = semicolon; no_hash = hash_sign; no_x = x };
-  no_digit = digit;
-  no_hex = hex;
-  no_amp = amp;
-  no_return = return;
-  blocks_is = block;
-  low = low;
-  number = number;
-  two_digits = two;
-  decimals = decimals;
-}
-
 at_line_feed : Inert 10
 unfolding is_alnum is_letter is_digit_of best_number point_of digits
-at_line_feed = by_facts 10 refl refl refl refl refl refl refl refl refl refl refl refl refl
+at_line_feed = record { special = record { no_alnum = refl; no_semicolon = refl; no_hash = refl; no_x = refl }; no_digit = refl; no_hex = refl; no_amp = refl; no_return = refl; blocks_is = refl; low = refl; number = refl; two_digits = refl; decimals = refl }
 
 at_form_feed : Inert 12
 unfolding is_alnum is_letter is_digit_of best_number point_of digits
-at_form_feed = by_facts 12 refl refl refl refl refl refl refl refl refl refl refl refl refl
+at_form_feed = record { special = record { no_alnum = refl; no_semicolon = refl; no_hash = refl; no_x = refl }; no_digit = refl; no_hex = refl; no_amp = refl; no_return = refl; blocks_is = refl; low = refl; number = refl; two_digits = refl; decimals = refl }
 
 at_space : Inert 32
 unfolding is_alnum is_letter is_digit_of best_number point_of digits
-at_space = by_facts 32 refl refl refl refl refl refl refl refl refl refl refl refl refl
+at_space = record { special = record { no_alnum = refl; no_semicolon = refl; no_hash = refl; no_x = refl }; no_digit = refl; no_hex = refl; no_amp = refl; no_return = refl; blocks_is = refl; low = refl; number = refl; two_digits = refl; decimals = refl }
 
 at_double : Inert 34
 unfolding is_alnum is_letter is_digit_of best_number point_of digits
-at_double = by_facts 34 refl refl refl refl refl refl refl refl refl refl refl refl refl
+at_double = record { special = record { no_alnum = refl; no_semicolon = refl; no_hash = refl; no_x = refl }; no_digit = refl; no_hex = refl; no_amp = refl; no_return = refl; blocks_is = refl; low = refl; number = refl; two_digits = refl; decimals = refl }
 
 at_single : Inert 39
 unfolding is_alnum is_letter is_digit_of best_number point_of digits
-at_single = by_facts 39 refl refl refl refl refl refl refl refl refl refl refl refl refl
+at_single = record { special = record { no_alnum = refl; no_semicolon = refl; no_hash = refl; no_x = refl }; no_digit = refl; no_hex = refl; no_amp = refl; no_return = refl; blocks_is = refl; low = refl; number = refl; two_digits = refl; decimals = refl }
 
 at_less_than : Inert 60
 unfolding is_alnum is_letter is_digit_of best_number point_of digits
-at_less_than = by_facts 60 refl refl refl refl refl refl refl refl refl refl refl refl refl
+at_less_than = record { special = record { no_alnum = refl; no_semicolon = refl; no_hash = refl; no_x = refl }; no_digit = refl; no_hex = refl; no_amp = refl; no_return = refl; blocks_is = refl; low = refl; number = refl; two_digits = refl; decimals = refl }
 
 at_equals : Inert 61
 unfolding is_alnum is_letter is_digit_of best_number point_of digits
-at_equals = by_facts 61 refl refl refl refl refl refl refl refl refl refl refl refl refl
+at_equals = record { special = record { no_alnum = refl; no_semicolon = refl; no_hash = refl; no_x = refl }; no_digit = refl; no_hex = refl; no_amp = refl; no_return = refl; blocks_is = refl; low = refl; number = refl; two_digits = refl; decimals = refl }
 
 at_greater_than : Inert 62
 unfolding is_alnum is_letter is_digit_of best_number point_of digits
-at_greater_than = by_facts 62 refl refl refl refl refl refl refl refl refl refl refl refl refl
+at_greater_than = record { special = record { no_alnum = refl; no_semicolon = refl; no_hash = refl; no_x = refl }; no_digit = refl; no_hex = refl; no_amp = refl; no_return = refl; blocks_is = refl; low = refl; number = refl; two_digits = refl; decimals = refl }
 
 at_grave : Inert 96
 unfolding is_alnum is_letter is_digit_of best_number point_of digits
-at_grave = by_facts 96 refl refl refl refl refl refl refl refl refl refl refl refl refl
+at_grave = record { special = record { no_alnum = refl; no_semicolon = refl; no_hash = refl; no_x = refl }; no_digit = refl; no_hex = refl; no_amp = refl; no_return = refl; blocks_is = refl; low = refl; number = refl; two_digits = refl; decimals = refl }
 
 one_of : (c n : ℕ) (b : Bool) → Inert n → (b ≡ true → Inert c) → (c == n || b) ≡ true → Inert c
 one_of c n b i more h = by_test (c == n) refl h

@@ -177,7 +177,7 @@ module _ (g : Spelling) where
       let inside = join (character_units in_value (chars (c ∷ s))) (attribute_end ∷ []) (state in_double nothing) (state in_double nothing) (state behind_quoted nothing) (chars_over plain in_value in_double refl (chars (c ∷ s))) closes in
       record {
         to = m.to;
-        over = add (attribute_name n) ((character_units in_value (chars (c ∷ s)) ++ attribute_end ∷ []) ++ attribute_units attributes) from m.to opens
+        over = add (attribute_name n (chars (c ∷ s))) ((character_units in_value (chars (c ∷ s)) ++ attribute_end ∷ []) ++ attribute_units attributes) from m.to opens
             (in_right opens (cond g.rules.unquote (edge (gap_at g.rules.tight from.at ++ (n ++ codes "=")) in_unquoted nothing ∷ []) []) (opens ∷ edge (gap_at g.rules.tight from.at ++ (n ++ codes "='")) in_single nothing ∷ []) (first (edge (gap_at g.rules.tight from.at ++ (n ++ codes "='")) in_single nothing ∷ [])))
             (join (character_units in_value (chars (c ∷ s)) ++ attribute_end ∷ []) (attribute_units attributes) (state in_double nothing) (state behind_quoted nothing) m.to inside m.over);
       }

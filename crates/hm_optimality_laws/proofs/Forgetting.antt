@@ -236,7 +236,7 @@ unit_bettered g (start_tag n omits firm closes) s h =
     (all_bettered _)
 unit_bettered g (tag_name n) s h = all_bettered (edges_of g (tag_name n) s)
 unit_bettered g (bare_attribute n) s h = all_bettered (edges_of g (bare_attribute n) s)
-unit_bettered g (attribute_name n) s h = all_bettered (edges_of g (attribute_name n) s)
+unit_bettered g (attribute_name n v) s h = all_bettered (edges_of g (attribute_name n v) s)
 unit_bettered g (character kind c next) s h = rw (unopened s h) (outside_bettered g.table (character_rules g) (spot_at kind s.at) c next s h)
 unit_bettered g attribute_end s h = closing_bettered (may_end g.table (value_spot s.at) s.pending) (closed_at s.at)
 unit_bettered g (tag_close closes) s h = all_bettered (edges_of g (tag_close closes) s)

@@ -25,3 +25,5 @@ pub mod FormWays
 pub mod DearCharacters
 pub mod PendingNames
 pub mod FormsBounded
+pub mod Dominance
+pub mod Values

@@ -31,7 +31,7 @@ pub has_edges : (g : Spelling) → HasCharacterEdges g.table (character_rules g)
 has_edges g kind c next s = refl
 
 pub tag_edges : (g : Spelling) → HasTagEdges g (edges_of g)
-tag_edges g = record { names = λ n s. refl; bare_ones = λ n s. refl; openings = λ n s. refl; characters = has_edges g; closings = λ s. refl; ends = λ closes s. refl }
+tag_edges g = record { names = λ n s. refl; bare_ones = λ n s. refl; openings = λ n v s. refl; characters = has_edges g; closings = λ s. refl; ends = λ closes s. refl }
 
 -- a text may begin outside of all
 pub may_begin : (t : List Entry) (path : List Element) (p : Pending) → Fits t (spot_of path) p → MayStand t (kind_of path) (state outside p)

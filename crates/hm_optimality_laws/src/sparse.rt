@@ -1,12 +1,22 @@
 //! Laws over the graph of sparse certificates. The functions do nothing.
-ghost use Rattle.hm_optimality_laws.specs.SparseLaws.{ForgettingIsNoLoss, OutdoneEdgesAreNeedless, SparseFirstWayIsFirst, SparseLeastIsLeast, SparsePricesBound, SparsePricesShow};
+ghost use Rattle.hm_optimality_laws.specs.SparseLaws.{DominanceLosesNothing, ForgettingIsNoLoss, OutdoneEdgesAreNeedless, SparseFirstWayIsFirst, SparseLeastIsLeast, SparsePricesBound, SparsePricesShow, TreesHaveValues};
 
 /// Wherever what is pending may be forgotten, nothing pending is no worse.
 pub fn forgetting_is_no_loss()
     ensures { ForgettingIsNoLoss }
 {}
 
-/// Over any edges where forgetting is no loss, those that are dominated (outdone) change neither prices nor the first way.
+/// In the units of every tree the value of an attribute follows its name.
+pub fn trees_have_values()
+    ensures { TreesHaveValues }
+{}
+
+/// An edge that dominates another by a table replaces it, also where it begins another form of the value.
+pub fn dominance_loses_nothing()
+    ensures { DominanceLosesNothing }
+{}
+
+/// Over any edges and by any tests that lose nothing, those that are dominated (outdone) change neither prices nor the first way.
 /// Prices that keep the rules without them bound every way.
 pub fn outdone_edges_are_needless()
     ensures { OutdoneEdgesAreNeedless }

@@ -99,7 +99,7 @@ gap_form gap name tail = length-append gap (name ++ tail) ∙ ap (λ n. length g
 -- the units of an attribute
 abbrev pub units_by : List ℕ → List ℕ → List Unit
 units_by n [] = bare_attribute n ∷ []
-units_by n (c ∷ s) = attribute_name n ∷ value_units (c ∷ s)
+units_by n (c ∷ s) = attribute_name n (chars (c ∷ s)) ∷ value_units (c ∷ s)
 
 -- an attribute in one form
 one_form : (gap name tail : List ℕ) (v k x : Option ℕ) (m : ℕ) → x ≡ plus v (over m k) → over (length (gap ++ (name ++ tail))) x ≡ over (length gap) (plus (over (length name + length tail) (plus v (Some m))) k)

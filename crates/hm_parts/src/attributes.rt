@@ -17,23 +17,16 @@ fn add_attribute<'t>(into: &mut Vec<Part<'t>>, name: &'t str, value: &'t str) ->
     requires { length name.now < 2 ^ 32 }
     ensures { AddsParts result into.old.items into.new.items (attribute_units (record { name = name.now; value = value.now } ∷ [])) }
 {
-    let len = len_of(name);
     if value.is_empty() {
         return add(
             into,
             Part::One {
-                unit: Unit::BareAttribute { len },
+                unit: Unit::BareAttribute { len: len_of(name) },
                 own: name,
             },
         );
     }
-    add(
-        into,
-        Part::One {
-            unit: Unit::AttributeName { len },
-            own: name,
-        },
-    )?;
+    add(into, Part::Opening { name, value })?;
     add(
         into,
         Part::Chars {

@@ -4,8 +4,10 @@ use hm_edges::{TextKind, Unit};
 /// A part of an event: one unit, or the characters of a text or value.
 #[derive(Clone, Copy, Debug)]
 pub enum Part<'t> {
-    /// A unit that is no character, with its own bytes: its name, or its bytes without a choice.
+    /// A unit that is no character and opens no value, with its own bytes: its name, or its bytes without a choice.
     One { unit: Unit, own: &'t str },
+    /// The name of an attribute, its `=` and what opens its value, which isn't empty.
+    Opening { name: &'t str, value: &'t str },
     /// A comment, without the marks around it.
     Comment { text: &'t str },
     /// A unit for each character.

@@ -43,7 +43,7 @@ shortest_is_certified t k r format w s readable =
         prices = least_prices (tree_edges t r format) (units_of r w) first_layer;
         full = full_is_least (tree_edges t r format) (follows_by format (tree_edges t r format)) 0 (units_of r w) first_layer;
         feasible = least_feasible (tree_edges t r format) (units_of r w) first_layer;
-        first = same_first (sparing_plain t r) format (units_of r w) ∙ best.price;
+        first = same_first t k r format w ∙ best.price;
       };
     }
 

@@ -90,7 +90,7 @@ certified_readable g k h few s =
     let bytes : Unit → Piece → List ℕ = piece_bytes of.table.entries in
     let least : rows_of g.last g.steps ≡ least_prices (source_edges of) units first_layer = rows_least (source_edges of) bytes units first_layer g.steps g.last h.fits in
     let best = first_ways_are_best of.table.entries k of.rules of.tree s in
-    let rows : AreRows (rows_of g.last g.steps) = all_rows g.last g.steps h.low few (first_number (rows_of g.last g.steps) _ (ap first_price least ∙ same_first (sparing_plain of.table.entries of.rules) of.format units ∙ best.price)) in
+    let rows : AreRows (rows_of g.last g.steps) = all_rows g.last g.steps h.low few (first_number (rows_of g.last g.steps) _ (ap first_price least ∙ same_first of.table.entries k of.rules of.format of.tree ∙ best.price)) in
     subst AreRows
     (ap (written_rows of.format 0 g.steps) least ∙ written_agrees (source_edges of) bytes units first_layer g.steps g.last of.format 0 _ h.fits)
     (some_rows of.format 0 g.steps (rows_of g.last g.steps) rows)

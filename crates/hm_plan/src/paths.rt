@@ -208,6 +208,7 @@ fn take_part(way: &mut WrittenWay, graph: &Graph, part: Part) -> Result<(), Memo
 {
     match part {
         Part::One { unit: _, own } => take(way, graph, Own::Bytes { text: own }),
+        Part::Opening { name, value: _ } => take(way, graph, Own::Bytes { text: name }),
         Part::Comment { text } => take(way, graph, Own::Comment { text }),
         Part::Chars { kind: _, text } => take_chars(way, graph, text),
     }

@@ -117,6 +117,21 @@ impl Table {
         Ok(Table { trie, index, plain })
     }
 
+    /// How many names it has.
+    pub fn count(&self) -> u32
+        ensures { result ≡ length self.now.entries }
+    {
+        self.trie.count()
+    }
+
+    /// The name at this place in byte order.
+    pub fn id_at(&self, place: u32) -> NameId
+        requires { place < length self.now.entries }
+        ensures { result ≡ place }
+    {
+        NameId::new(place)
+    }
+
     /// The longest name that the text begins with; None where it begins with none.
     pub fn longest(&self, text: &[u8]) -> Option<NameId>
         ensures found { option_map (λ id. found_at self.now.entries id text.now) result

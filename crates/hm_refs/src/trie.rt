@@ -71,6 +71,12 @@ impl Trie {
         })
     }
 
+    pub(crate) fn count(&self) -> u32
+        ensures { result ≡ length self.now.entries }
+    {
+        self.names.len() as u32
+    }
+
     pub(crate) fn root(&self) -> Node
         ensures front { front_at self.now result ≡ 38 ∷ [] }
         ensures node { IsNode self.now result }

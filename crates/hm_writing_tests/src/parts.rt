@@ -100,14 +100,22 @@ fn made(alloc: Global, steps: &[EventCall]) -> Result<Tree, Memory>
     Ok(maker.finish())
 }
 
-/// What a part has.
+/// What a part has. A name with a value has neither a unit nor a kind, as a comment.
 type Shown = (Option<Unit>, Option<TextKind>, &'static str);
+
+/// The name and the value of the only attribute that isn't empty.
+const OPENING: (&str, &str) = ("id", "x");
 
 fn is_shown(part: &Part<'_>, wanted: &Shown) -> bool {
     match part {
         Part::One { unit, own } => wanted.0 == Some(*unit)
             && wanted.1.is_none()
             && *own == wanted.2,
+        Part::Opening { name, value } => wanted.0.is_none()
+            && wanted.1.is_none()
+            && wanted.2 == OPENING.0
+            && *name == OPENING.0
+            && *value == OPENING.1,
         Part::Comment { text } => wanted.0.is_none() && wanted.1.is_none() && *text == wanted.2,
         Part::Chars { kind, text } => wanted.0.is_none()
             && wanted.1 == Some(*kind)
@@ -178,7 +186,7 @@ fn texts_and_attributes(rt: HostRuntime) -> Result<(), Fail> {
     ];
     let wanted = [
         (Some(Unit::TagName { len: 3 }), None, "div"),
-        (Some(Unit::AttributeName { len: 2 }), None, "id"),
+        (None, None, "id"),
         chars(TextKind::Value, "x"),
         (Some(Unit::AttributeEnd), None, ""),
         (Some(Unit::TagClose { closes: false }), None, ""),

@@ -7,13 +7,13 @@ use Rattle.hm_graph_laws.specs.States as states
 use Rattle.hm_edges.proofs.edges.add_opening_edges.Goals as goal
 
 pub returns-in_err-add_if : goal.returns-in_err-add_if
-returns-in_err-add_if c = λ v n.
+returns-in_err-add_if c = λ v n value.
     adds_stopped _ _ _ _ _ _ _ _ _ c.in_err-add_if.was c.from_residual.ensures.0
     (adds_as _ _ _ _ _ _ _ (ap (λ b. cond c.args.unquote (edge b states.in_unquoted states.nothing ∷ []) []) (gap_is c.args.tight _ (where_of c.args.from.at) (n ++ codes "=") c.has_gap-gap.ensures))
     (adds_if _ _ _ _ _ _ _ c.add_if.ensures (λ _. record { name = tt; nodes = tt })))
 
 pub returns-in_err-add : goal.returns-in_err-add
-returns-in_err-add c = λ v n.
+returns-in_err-add c = λ v n value.
     adds_then _ _ _ _ _ _ _ _ _ _ c.in_ok-add_if.was
     (adds_as _ _ _ _ _ _ _ (ap (λ b. cond c.args.unquote (edge b states.in_unquoted states.nothing ∷ []) []) (gap_is c.args.tight _ (where_of c.args.from.at) (n ++ codes "=") c.has_gap-gap.ensures))
     (adds_if _ _ _ _ _ _ _ c.add_if.ensures (λ _. record { name = tt; nodes = tt })))
@@ -22,7 +22,7 @@ returns-in_err-add c = λ v n.
     (adds_one _ _ _ _ _ _ c.add.ensures (record { name = tt; nodes = tt }))))
 
 pub returns : goal.returns
-returns c = λ v n.
+returns c = λ v n value.
     adds_then _ _ _ _ _ _ _ _ _ _ c.in_ok-add_if.was
     (adds_as _ _ _ _ _ _ _ (ap (λ b. cond c.args.unquote (edge b states.in_unquoted states.nothing ∷ []) []) (gap_is c.args.tight _ (where_of c.args.from.at) (n ++ codes "=") c.has_gap-gap.ensures))
     (adds_if _ _ _ _ _ _ _ c.add_if.ensures (λ _. record { name = tt; nodes = tt })))

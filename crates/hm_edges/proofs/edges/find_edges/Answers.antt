@@ -38,9 +38,9 @@ returns-in-BareAttribute c =
 
 pub returns-in-AttributeName : goal.returns-in-AttributeName
 returns-in-AttributeName c =
-    let f = found c.add_opening_edges.result c.args.table.now c.args.rules c.args.unit (code.AttributeName c.in-AttributeName.len) c.args.from c.clear.new.self.items c.add_opening_edges.new.into.items c.in-AttributeName.is c.clear.ensures.items
-    (of_attribute_name c.args.table.now.entries c.in-AttributeName.len (AddsFor c.add_opening_edges.result c.args.table.now c.args.rules (code.AttributeName c.in-AttributeName.len) c.args.from c.clear.new.self.items c.add_opening_edges.new.into.items) (λ n. c.add_opening_edges.ensures c.args.table.now n))
-    ((c.add_opening_edges.ensures c.args.table.now []).known)
+    let f = found c.add_opening_edges.result c.args.table.now c.args.rules c.args.unit (code.AttributeName c.in-AttributeName.len c.in-AttributeName.needs) c.args.from c.clear.new.self.items c.add_opening_edges.new.into.items c.in-AttributeName.is c.clear.ensures.items
+    (of_attribute_name c.args.table.now.entries c.in-AttributeName.len c.in-AttributeName.needs (AddsFor c.add_opening_edges.result c.args.table.now c.args.rules (code.AttributeName c.in-AttributeName.len c.in-AttributeName.needs) c.args.from c.clear.new.self.items c.add_opening_edges.new.into.items) (λ n v needs. c.add_opening_edges.ensures c.args.table.now n v))
+    ((c.add_opening_edges.ensures c.args.table.now [] []).known)
     in record { edges = f.edges; front = f.front; known = f.known }
 
 pub returns-in-Character : goal.returns-in-Character

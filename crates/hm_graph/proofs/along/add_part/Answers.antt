@@ -18,6 +18,13 @@ returns-in-One g c =
     (goes (unit_with c.in-One.unit c.in-One.own.now) (stands_for c.args.along.now.graph.table.entries c.in-One.unit c.in-One.own.now has) (own_bytes_kept c.in-One.unit c.in-One.own.now has)))
     c.add.ensures
 
+pub add_opening-requires : goal.add_opening-requires
+add_opening-requires g c = subst IsPart c.in-Opening.is c.requires
+
+pub returns-in-Opening : goal.returns-in-Opening
+returns-in-Opening g c =
+    on_ok_weaker c.add_opening.result (λ goes. subst (λ p. Goes g.V.Visitor.goes_on (part_units p) [] c.args.along.now c.add_opening.new.along) (sym c.in-Opening.is) goes) c.add_opening.ensures
+
 pub returns-in-Comment : goal.returns-in-Comment
 returns-in-Comment g c =
     let C = g.V.Visitor.goes_on in

@@ -8,4 +8,4 @@ use Rattle.hm_graph.proofs.outdone.some_outdoes_behind.Given as goal
 
 abbrev pub invariant-loop-other : goal.invariant-loop-other
 invariant-loop-other l = (u : units.Unit) → StandsFor l.table.entries l.unit u
-    → list_any (outdoes_behind (edge_of l.table u l.edge)) (edges_seen l.table u (drop l.other-index l.others)) ≡ list_any (outdoes_behind (edge_of l.table u l.edge)) (edges_seen l.table u l.others)
+    → list_any (outdoes_behind l.table.entries u (edge_of l.table u l.edge)) (edges_seen l.table u (drop l.other-index l.others)) ≡ list_any (outdoes_behind l.table.entries u (edge_of l.table u l.edge)) (edges_seen l.table u l.others)

@@ -5,14 +5,14 @@ use Rattle.hm_graph.proofs.outdone.some_outdoes_in_front.Goals as goal
 
 pub returns-then-outdoes_in_front : goal.returns-then-outdoes_in_front
 returns-then-outdoes_in_front c = λ u stands.
-    any_found (outdoes_in_front (edge_of c.args.table.now u c.args.edge.now)) c.args.table.now u c.args.others.now c.loop-other.other-index c.other-item.result c.outdoes_in_front.result _
+    any_found (outdoes_in_front c.args.table.now.entries u (edge_of c.args.table.now u c.args.edge.now)) c.args.table.now u c.args.others.now c.loop-other.other-index c.other-item.result c.outdoes_in_front.result _
     c.loop-other-test.true c.other-item.is (c.outdoes_in_front.ensures u stands) c.if-outdoes_in_front.true (c.loop-other.invariant u stands)
 
 pub loop-other-preserved : goal.loop-other-preserved
 loop-other-preserved c = λ u stands.
-    any_next (outdoes_in_front (edge_of c.args.table.now u c.args.edge.now)) c.args.table.now u c.args.others.now c.loop-other.other-index c.other-item.result c.outdoes_in_front.result _
+    any_next (outdoes_in_front c.args.table.now.entries u (edge_of c.args.table.now u c.args.edge.now)) c.args.table.now u c.args.others.now c.loop-other.other-index c.other-item.result c.outdoes_in_front.result _
     c.loop-other-test.true c.other-item.is (c.outdoes_in_front.ensures u stands) c.if-outdoes_in_front.false (c.loop-other.invariant u stands)
 
 pub returns : goal.returns
 returns c = λ u stands.
-    any_end (outdoes_in_front (edge_of c.args.table.now u c.args.edge.now)) c.args.table.now u c.args.others.now c.loop-other.other-index _ c.loop-other-test.false (c.loop-other.invariant u stands)
+    any_end (outdoes_in_front c.args.table.now.entries u (edge_of c.args.table.now u c.args.edge.now)) c.args.table.now u c.args.others.now c.loop-other.other-index _ c.loop-other-test.false (c.loop-other.invariant u stands)

@@ -1,7 +1,8 @@
 use Rattle.hm_graph_laws.specs.UnitEdges.{edges_of}
-use Rattle.hm_optimality_laws.proofs.Forgetting.{forgetting}
+use Rattle.hm_optimality_laws.proofs.Dominance.{dominance_loses_nothing}
 use Rattle.hm_optimality_laws.proofs.Least.{needless}
+use Rattle.hm_optimality_laws.specs.Outdone.{dominance}
 use Rattle.hm_optimality_laws.proofs.sparse.sparse_least_is_least.Goals as goal
 
 pub returns : goal.returns
-returns c = λ g. (needless (edges_of g) (forgetting g)).0
+returns c = λ g k. (needless (dominance g.table) (edges_of g) (dominance_loses_nothing g k)).0

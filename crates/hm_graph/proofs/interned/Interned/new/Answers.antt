@@ -9,7 +9,7 @@ invariant_of-result c =
     let m : InternedView = interned c.args.table.now c.args.rules (map (λ l. l.items) c.in_ok-first_lists.field-0.items) c.new.result.items in (
       record { nodes = λ k. subst (λ lists. HaveNodes c.args.table.now (get_or lists k [])) (sym c.in_ok-first_lists.ensures) (first_nodes c.args.table.now k) },
       (λ n d within. let none : n < 0 = subst (λ xs. n < length xs) c.new-2.ensures.items within in absurd (omega (arith, none))),
-      c.in_ok-lone_characters.ensures,
+      c.in_ok-told_of.ensures,
       c.in_ok-no_rows.ensures m true,
       c.in_ok-no_rows-2.ensures m false,
     )

@@ -4,7 +4,7 @@ use Rattle.std.specs.List.{list_any}
 use Rattle.hm_refs.specs.Names.{Entry}
 use Rattle.hm_graph_laws.specs.Units as units
 use Rattle.hm_graph_laws.specs.Units.{next_of}
-use Rattle.hm_optimality_laws.specs.Forms.{is_dear}
+use Rattle.hm_graph_laws.specs.Forms.{is_dear}
 use Rattle.hm_spelling_spec.specs.Characters.{is_barred}
 use Rattle.hm_edges.specs.declared.units.TextKind.{TextKind}
 use Rattle.hm_edges.specs.declared.units.TextKind.TheVariants as kinds

@@ -12,7 +12,7 @@ use Rattle.hm_graph_laws.specs.Edges.{edge_length}
 use Rattle.hm_graph.specs.Told.{is_absent, is_dear_need}
 use Rattle.hm_graph_laws.specs.States.{State, Where, outside, loose, self_closed, behind_name, behind_unquoted, behind_quoted, in_unquoted, in_double, in_single, in_section, same_where}
 use Rattle.hm_graph_laws.specs.Units.{Unit, fixed, start_tag, tag_name, bare_attribute, attribute_name, character, attribute_end, tag_close, end_tag, next_of}
-use Rattle.hm_optimality_laws.specs.Forms.{added, covers, gains, gains_after, is_dear, spared, stands}
+use Rattle.hm_graph_laws.specs.Forms.{added, covers, gains, gains_after, is_dear, spared, stands}
 use Rattle.hm_optimality_laws.specs.Outdone.{is_form, is_nothing}
 use Rattle.hm_refs.proofs.Bools.{eq_of}
 use Rattle.hm_refs.specs.Names.{Entry}

@@ -9,7 +9,7 @@ use Rattle.hm_graph.specs.Interned.{cheapens}
 use Rattle.hm_graph.specs.Told.{joined}
 use Rattle.hm_graph.specs.Values.{need_at, need_with, needs_at, needs_with}
 use Rattle.hm_graph_laws.specs.Units.{next_of}
-use Rattle.hm_optimality_laws.specs.Forms.{gives_both, is_dear, is_second, makes_cheap}
+use Rattle.hm_graph_laws.specs.Forms.{gives_both, is_dear, is_second, makes_cheap}
 use Rattle.hm_refs.specs.Names.{Entry}
 
 -- ---- Needs of more characters

@@ -7,7 +7,7 @@ use Rattle.hm_graph_laws.specs.States.{State, Where, in_double, in_single, in_un
 use Rattle.hm_graph_laws.specs.Units.{Unit, attribute_name}
 use Rattle.hm_graph.specs.Told.{is_absent, is_dear_need}
 use Rattle.hm_graph.specs.declared.forms.Change.{Change}
-use Rattle.hm_optimality_laws.specs.Forms.{added, covers, gains, spared}
+use Rattle.hm_graph_laws.specs.Forms.{added, covers, gains, spared}
 use Rattle.hm_optimality_laws.specs.Outdone.{form_outdoes, is_form}
 use Rattle.hm_refs.specs.Names.{Entry}
 

@@ -18,7 +18,7 @@ use Rattle.hm_graph.specs.declared.made.Reached.{Reached}
 use Rattle.hm_graph.specs.declared.plain.PlainRow.{PlainRow}
 use Rattle.hm_graph.specs.declared.rules.EdgeRules.{EdgeRules}
 use Rattle.hm_graph.specs.declared.told.Told.{Told}
-use Rattle.hm_optimality_laws.specs.Forms.{is_second, leaves_open}
+use Rattle.hm_graph_laws.specs.Forms.{is_second, leaves_open}
 
 -- lists of states, and what was made from them
 pub record InternedView : Type 0 where

@@ -5,7 +5,7 @@ use Rattle.hm_edges.specs.Units.{needs_quotes, some_dear}
 use Rattle.hm_edges.specs.declared.units.Need.{Need}
 use Rattle.hm_edges.specs.declared.units.Needs.{Needs}
 use Rattle.hm_graph.specs.Told.{joined}
-use Rattle.hm_optimality_laws.specs.Forms.{is_dear}
+use Rattle.hm_graph_laws.specs.Forms.{is_dear}
 use Rattle.hm_refs.specs.Names.{Entry}
 
 -- the need with that of one more character, between these two

@@ -6,7 +6,7 @@ ghost use Rattle.hm_graph.specs.Forms as forms;
 ghost use Rattle.hm_graph.specs.Forms.{AreNeeds, IsChange, IsFew};
 ghost use Rattle.hm_graph.specs.Told as told;
 ghost use Rattle.hm_graph_laws.specs.Units as units;
-ghost use Rattle.hm_optimality_laws.specs.Forms.{spared};
+ghost use Rattle.hm_graph_laws.specs.Forms.{spared};
 ghost use Rattle.hm_optimality_laws.specs.Outdone.{is_nothing};
 ghost use Rattle.hm_refs.specs.Names.{Entry};
 ghost use Rattle.hm_refs.specs.Tables.{TableView};

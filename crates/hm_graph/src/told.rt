@@ -2,7 +2,7 @@
 ghost use Rattle.std.specs.Prelude.{◌≡◌, ◌<◌, ◌||◌, ℕ, false, IfOk, length, slice_index_or};
 ghost use Rattle.hm_graph.specs.Interned.{AreMarked, AreTold, cheapens};
 ghost use Rattle.hm_graph.specs.Told.{is_target};
-ghost use Rattle.hm_optimality_laws.specs.Forms.{leaves_open};
+ghost use Rattle.hm_graph_laws.specs.Forms.{leaves_open};
 ghost use Rattle.hm_refs.specs.Names.{is_closed};
 ghost use Rattle.hm_refs.specs.Tables.{entry_at};
 

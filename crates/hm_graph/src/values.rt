@@ -6,7 +6,7 @@ ghost use Rattle.hm_edges.specs.Units as units;
 ghost use Rattle.hm_graph.specs.Interned.{AreTold};
 ghost use Rattle.hm_graph.specs.Told.{joined};
 ghost use Rattle.hm_graph.specs.Values.{needs_with};
-ghost use Rattle.hm_optimality_laws.specs.Forms as forms;
+ghost use Rattle.hm_graph_laws.specs.Forms as forms;
 ghost use Rattle.hm_refs.specs.Tables.{entry_at};
 ghost use Rattle.hm_spelling_spec.specs.Characters as spots;
 

@@ -9,6 +9,7 @@ pub mod CharacterEdges
 pub mod CharacterLaws
 pub mod CharacterExamples
 pub mod AttributeEdges
+pub mod Forms
 pub mod AttributeLaws
 pub mod TagEdges
 pub mod ExchangeLaws

@@ -16,7 +16,7 @@ use Rattle.hm_graph_laws.specs.CharacterEdges.{Choice, as_itself, behind_name, b
 use Rattle.hm_graph_laws.specs.States.{Where, Pending, nothing, less_than, hash, hash_x, decimal, hexadecimal, ampersand, named, half, one_bracket, two_brackets, value_spot}
 use Rattle.hm_graph_laws.specs.Steps.{ampersand_in_text, ampersand_in_value, is_root, named_in_value, onto, run, step}
 use Rattle.hm_optimality_laws.proofs.FormChoices.{opens_none, value_is}
-use Rattle.hm_optimality_laws.specs.Forms.{gives_both, is_second, makes_cheap, may_be_dear, stands}
+use Rattle.hm_graph_laws.specs.Forms.{gives_both, is_second, makes_cheap, may_be_dear, stands}
 use Rattle.hm_refs.proofs.Bools.{eq_of}
 use Rattle.hm_refs.specs.Names.{Entry, is_closed, is_name}
 use Rattle.hm_refs.specs.Numbers.{best_number, point_of}

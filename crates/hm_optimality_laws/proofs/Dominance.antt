@@ -9,7 +9,8 @@ use Rattle.hm_graph_laws.specs.Units.{Unit, fixed, start_tag, tag_name, bare_att
 use Rattle.hm_graph_laws.specs.Ways.{Way}
 use Rattle.hm_optimality_laws.proofs.Forgetting.{forgetting}
 use Rattle.hm_optimality_laws.proofs.FormsBounded.{forms_are_bounded}
-use Rattle.hm_optimality_laws.specs.Forms.{HasFormWay, IsForm, added, covers, gains, spared, value_and}
+use Rattle.hm_graph_laws.specs.Forms.{added, covers, gains, spared}
+use Rattle.hm_optimality_laws.specs.Forms.{HasFormWay, IsForm, value_and}
 use Rattle.hm_optimality_laws.specs.Outdone.{begins_form, form_outdoes, form_serves, forgotten, is_form, is_nothing, may_forget, serves}
 use Rattle.hm_optimality_laws.specs.SparseLaws.{DominanceLosesNothing, HasWayInstead, IsFollowed, Replaces}
 use Rattle.hm_refs.specs.Tables.{IsTable}

@@ -8,7 +8,7 @@ use Rattle.hm_graph_laws.specs.Edges.{Edge}
 use Rattle.hm_graph_laws.specs.States.{Where, in_unquoted, in_single, Pending, nothing, less_than, hash, hash_x, decimal, hexadecimal, ampersand, named, half, one_bracket, two_brackets, state, value_spot}
 use Rattle.hm_graph_laws.specs.Steps.{may_end, run, step}
 use Rattle.hm_graph_laws.specs.Units.{in_value}
-use Rattle.hm_optimality_laws.specs.Forms.{stands}
+use Rattle.hm_graph_laws.specs.Forms.{stands}
 use Rattle.hm_refs.specs.Names.{Entry}
 use Rattle.hm_refs.specs.Numbers.{best_number}
 use Rattle.hm_refs.specs.Tables.{IsIn}

@@ -14,7 +14,8 @@ use Rattle.hm_graph_laws.specs.Units.{Unit, attribute_end, character, in_value, 
 use Rattle.hm_graph_laws.specs.Ways.{Way}
 use Rattle.hm_optimality_laws.proofs.AfterValues.{HasWayWithin, quoted_near, unquoted_near, way_near}
 use Rattle.hm_optimality_laws.proofs.FormChoices.{IsChosen, choices_covered, same_end, value_edge, value_is}
-use Rattle.hm_optimality_laws.specs.Forms.{IsForm, added, covers, stands, value_and}
+use Rattle.hm_graph_laws.specs.Forms.{added, covers, stands}
+use Rattle.hm_optimality_laws.specs.Forms.{IsForm, value_and}
 use Rattle.hm_refs.specs.Tables.{IsIn, first}
 use Rattle.hm_spelling_spec.specs.Tags.{Spelling, character_rules}
 

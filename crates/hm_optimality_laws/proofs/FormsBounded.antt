@@ -16,7 +16,8 @@ use Rattle.hm_optimality_laws.proofs.Forgetting.{forgetting, may_forget_is}
 use Rattle.hm_optimality_laws.proofs.FormChoices.{choices_covered, same_step, value_edge, value_is}
 use Rattle.hm_optimality_laws.proofs.FormWays.{Form, form_of, over_value, step_over, unopened}
 use Rattle.hm_optimality_laws.proofs.PendingNames.{Comes, IsDue, choice_comes}
-use Rattle.hm_optimality_laws.specs.Forms.{FormsAreBounded, HasFormWay, added, covers, gains, gains_after, is_dear, is_second, makes_cheap, may_be_dear, may_leave_open, spared, stands, value_and}
+use Rattle.hm_graph_laws.specs.Forms.{added, covers, gains, gains_after, is_dear, is_second, makes_cheap, may_be_dear, may_leave_open, spared, stands}
+use Rattle.hm_optimality_laws.specs.Forms.{FormsAreBounded, HasFormWay, value_and}
 use Rattle.hm_optimality_laws.specs.SparseLaws.{HasWayOver}
 use Rattle.hm_refs.specs.Names.{Entry}
 use Rattle.hm_refs.specs.Tables.{IsIn, IsTable, first}

@@ -11,7 +11,7 @@ use Rattle.hm_graph_laws.specs.States.{Where, Pending, nothing, less_than, hash,
 use Rattle.hm_graph_laws.specs.Steps.{ampersand_in_text, ampersand_in_value, goes_on_decimal, goes_on_hexadecimal, is_hash, is_root, named_in_text, named_in_value, onto, run, step, unless}
 use Rattle.hm_optimality_laws.proofs.DearCharacters.{any_in}
 use Rattle.hm_optimality_laws.proofs.FormChoices.{value_is}
-use Rattle.hm_optimality_laws.specs.Forms.{leaves_open, may_leave_open}
+use Rattle.hm_graph_laws.specs.Forms.{leaves_open, may_leave_open}
 use Rattle.hm_refs.proofs.Found.{null_append}
 use Rattle.hm_refs.specs.Names.{Entry, is_closed, is_front, is_name, last_is}
 use Rattle.hm_refs.specs.Numbers.{best_number}

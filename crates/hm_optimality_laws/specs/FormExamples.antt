@@ -2,7 +2,7 @@
 use Rattle.std.specs.Prelude.{◌≡◌, true, false, List, [], ◌∷◌, codes, refl}
 use Rattle.hm_base.specs.Bytes.{is_space}
 use Rattle.hm_graph_laws.specs.States.{in_unquoted, in_double, in_single}
-use Rattle.hm_optimality_laws.specs.Forms.{covers, gains}
+use Rattle.hm_graph_laws.specs.Forms.{covers, gains}
 use Rattle.hm_refs.specs.Examples.{seven}
 use Rattle.hm_refs.specs.Names.{Entry}
 use Rattle.hm_spelling_spec.specs.Characters.{is_barred}

@@ -8,7 +8,7 @@ use Rattle.hm_graph_laws.specs.Edges.{Edge, edge_length}
 use Rattle.hm_graph_laws.specs.States.{Where, in_unquoted, in_double, in_single, Pending, State, state, nothing, same_state, same_where}
 use Rattle.hm_graph_laws.specs.Units.{Unit, attribute_name}
 use Rattle.hm_refs.specs.Names.{Entry}
-use Rattle.hm_optimality_laws.specs.Forms.{added, covers, gains, spared}
+use Rattle.hm_graph_laws.specs.Forms.{added, covers, gains, spared}
 
 -- ---- Which edges are left, over any tests
 

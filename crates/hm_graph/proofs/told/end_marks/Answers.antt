@@ -1,4 +1,4 @@
-use Rattle.hm_optimality_laws.specs.Forms.{leaves_open}
+use Rattle.hm_graph_laws.specs.Forms.{leaves_open}
 use Rattle.hm_graph.proofs.ToldMarks.{marked_none}
 use Rattle.hm_graph.proofs.told.end_marks.Goals as goal
 

@@ -2,7 +2,7 @@ use Rattle.std.proofs.Common.{◌∙◌, ◌||◌, Some, ap, sym}
 use Rattle.std.specs.List.{list_any}
 use Rattle.hm_edges.specs.Units.{has_pair}
 use Rattle.hm_graph.proofs.ValueNeeds.{cheap_by}
-use Rattle.hm_optimality_laws.specs.Forms.{gives_both, makes_cheap}
+use Rattle.hm_graph_laws.specs.Forms.{gives_both, makes_cheap}
 use Rattle.hm_graph.proofs.values.is_cheap.Goals as goal
 
 pub returns-then-told-c : goal.returns-then-told-c

@@ -128,6 +128,7 @@ class Second:
 
     def __init__(self, folder):
         os.environ.setdefault("HM_SPARSE", "1")
+        os.environ.setdefault("HM_PRUNE", "1")
         sys.path.insert(0, folder)
         from hminify_oracle import build, cert, check, graph, options, run, spec, table, words
         self.build, self.cert, self.check, self.graph, self.options = build, cert, check, graph, options

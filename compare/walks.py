@@ -192,7 +192,7 @@ class Second:
     """The second program."""
 
     def __init__(self, folder):
-        os.environ["HM_SPARSE"] = "1"
+        os.environ["HM_SPARSE"] = os.environ["HM_PRUNE"] = "1"
         sys.path.insert(0, folder)
         from hminify_oracle import run, spec
         self.run, self.spec = run, spec.Spec.of("R20")

@@ -30,8 +30,9 @@ use hm_refs::laws::every_table;
 use hm_tree::Tree;
 use std::alloc::Global;
 
-/// How many steps are too many to keep: memory then counts as refused.
-const FEW: usize = 1 << 28;
+/// How many steps are too many to keep. A graph takes less memory for each, so a tree with so many of them is written by its
+/// graph.
+const FEW: usize = 1 << 13;
 
 /// How many bytes are too many: memory then counts as refused.
 const MOST: u64 = 1 << 62;
@@ -42,7 +43,7 @@ const BASE: u64 = 1 << 62;
 /// Why the text isn't written so.
 #[derive(Debug, Drop)]
 pub(crate) enum Stop {
-    /// There is no way over some steps.
+    /// There is no way over some steps, or they are too many to keep, or have too many bytes.
     Closed,
     /// Memory was refused.
     Memory,
@@ -147,7 +148,7 @@ impl DirectWay {
         ensures total { OnOk result (self.new.total < 2 ^ 63) }
     {
         if self.stretch.len() >= FEW || self.total >= MOST {
-            return Err(Stop::Memory);
+            return Err(Stop::Closed);
         }
         find_rows(&self.stretch, last, &mut self.found, &mut self.spare)?;
         let Some(price) = one_price(self.found.row(self.stretch.len())) else {
@@ -205,6 +206,9 @@ impl DirectWay {
         ensures first { OnOk result (self.new.first ≡ self.old.first) }
         ensures goes { OnOk result ((t : List Entry) → IsOver t step.now (own_text own.entry) self.old self.new) }
     {
+        if self.stretch.len() >= FEW - 1 {
+            return Err(Stop::Closed);
+        }
         push_kept(self.alloc, &mut self.stretch, step, own)?;
         Ok(())
     }

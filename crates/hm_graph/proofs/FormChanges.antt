@@ -1,10 +1,8 @@
 -- Which forms of a value serve in place of which, by what the value needs.
-use Rattle.std.proofs.Common.{◌≡◌, ◌∙◌, ℕ, ◌+◌, Bool, true, false, cond, not, ◌&&◌, ◌||◌, ◌==◌, List, [], ◌∷◌, Option, Some, None, IfSome, refl, sym, ap, ap₂, subst, arith}
+use Rattle.std.proofs.Common.{◌≡◌, ◌∙◌, ℕ, ◌+◌, Bool, true, false, not, ◌&&◌, ◌||◌, ◌==◌, List, [], ◌∷◌, Option, Some, None, IfSome, refl, sym, ap, ap₂, subst, arith}
 use Rattle.std.specs.List.{list_any, list_all}
 use Rattle.hm_base.specs.Bytes.{is_space}
 use Rattle.hm_edges.specs.Units.{need_by, need_for, needs_of, needs_quotes, some_dear}
-use Rattle.hm_edges.specs.declared.units.Need.{Need}
-use Rattle.hm_edges.specs.declared.units.Need.TheVariants as need
 use Rattle.hm_edges.specs.declared.units.Needs.{Needs}
 use Rattle.hm_graph.specs.Forms.{AreNeeds, IsChange, IsFew, IsFormChange, by_change, change, change_where, form_change, takes_place}
 use Rattle.hm_graph.specs.declared.forms.Change.{Change}

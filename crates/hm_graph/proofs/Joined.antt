@@ -1,5 +1,5 @@
 -- Prices, rows and ways over steps between which a layer has one state.
-use Rattle.std.proofs.Common.{◌≡◌, ◌∙◌, ℕ, zero, suc, ◌+◌, ◌==◌, not, ◌&&◌, Bool, true, false, cond, List, [], ◌∷◌, ◌++◌, length, map, get_or, Option, Some, None, refl, sym, ap, subst, arith, append_assoc, append-nil, slice_get, slice_index_or, ⊎_elim}
+use Rattle.std.proofs.Common.{◌≡◌, ◌∙◌, ℕ, zero, suc, ◌+◌, ◌==◌, not, ◌&&◌, Bool, true, false, cond, List, [], ◌∷◌, ◌++◌, map, get_or, Option, Some, None, refl, sym, ap, subst, arith, append_assoc, slice_get, slice_index_or, ⊎_elim}
 use Rattle.std.proofs.Math.ListN as lists
 use Rattle.std.proofs.lemmas.Bool.{cases_lt, false_from_ne_true}
 use Rattle.std.proofs.lemmas.Bool.Decides.{Decides-eqb}
@@ -7,9 +7,8 @@ use Rattle.std.specs.Prelude.{min, nat_eq}
 use Rattle.hm_base.specs.declared.plain.Format.{Format}
 use Rattle.hm_edges.specs.declared.pieces.Piece.{Piece}
 use Rattle.hm_graph_laws.specs.Prices.{Row}
-use Rattle.hm_graph_laws.specs.Units.{Unit}
 use Rattle.hm_graph_laws.specs.Ways.{lesser, over, same_price}
-use Rattle.hm_graph.specs.Joined.{IsOnePrice, KeptRowsAreJoined, PricesAreJoined, WaysAreJoined, WrittenAreKept, kept_rows, raised}
+use Rattle.hm_graph.specs.Joined.{KeptRowsAreJoined, PricesAreJoined, WaysAreJoined, WrittenAreKept, kept_rows, raised}
 use Rattle.hm_graph.specs.Prices.{best_price, first_row, is_left_out, price_over, row_over, rows_of, written_rows, zeros}
 use Rattle.hm_graph.specs.Steps.{Step, leaves_out}
 use Rattle.hm_graph.specs.Ways.{along, choice, hop_taken, place_over, way_from}

@@ -29,3 +29,4 @@ pub mod Joined
 pub mod FormChanges
 pub mod ValueNeeds
 pub mod ToldMarks
+pub mod ValueBytes

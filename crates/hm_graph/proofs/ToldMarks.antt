@@ -1,8 +1,8 @@
 -- Marks of characters, made name after name.
-use Rattle.std.proofs.Common.{◌≡◌, ◌∙◌, ◌⊎◌, inl, inr, ℕ, ◌+◌, ◌<◌, ◌≤◌, Bool, true, false, ◌||◌, ◌==◌, List, [], ◌∷◌, ◌++◌, length, get_or, set, take, drop, replicate, Option, Some, None, refl, sym, ap, subst, arith}
+use Rattle.std.proofs.Common.{◌≡◌, ◌∙◌, ◌⊎◌, inl, inr, ℕ, ◌+◌, ◌<◌, ◌≤◌, Bool, true, false, ◌||◌, ◌==◌, List, [], ◌∷◌, ◌++◌, length, get_or, set, take, replicate, Option, Some, None, refl, sym, ap, arith}
 use Rattle.std.specs.List.{list_any}
 use Rattle.std.proofs.lemmas.Bool.{cases_eq}
-use Rattle.std.proofs.lemmas.List.{take_more, take_all, drop_more, drop_all, get_or-replicate, get_or-set_same, get_or-set_other}
+use Rattle.std.proofs.lemmas.List.{take_more, take_all, get_or-replicate, get_or-set_same, get_or-set_other}
 use Rattle.hm_refs.proofs.Bools.{eq_of}
 use Rattle.hm_refs.specs.Names.{Entry}
 use Rattle.hm_refs.specs.Tables.{entry_at, no_entry}
@@ -69,20 +69,3 @@ marked_more test t place marks new target within marked is same c low = is c low
 
 pub marked_all : (test : ℕ → Entry → Bool) (t : List Entry) (place : ℕ) (marks : List Bool) → length t ≤ place → MarkedTo test t place marks → AreMarked test t marks
 marked_all test t place marks past marked c low = marked c low ∙ ap (list_any (test c)) (take_all place t past)
-
--- ---- One that passes
-
-abbrev pub LeftTo : (Entry → Bool) → List Entry → ℕ → Type 0
-LeftTo p t place = list_any p (drop place t) ≡ list_any p t
-
-left_first : (p : Entry → Bool) (t : List Entry) (place : ℕ) → place < length t → list_any p (drop place t) ≡ (p (entry_at t place) || list_any p (drop (place + 1) t))
-left_first p t place within = ap (list_any p) (drop_more t place no_entry within)
-
-pub left_found : (p : Entry → Bool) (t : List Entry) (place : ℕ) → place < length t → LeftTo p t place → p (entry_at t place) ≡ true → true ≡ list_any p t
-left_found p t place within left holds = sym (ap (λ b. b || list_any p (drop (place + 1) t)) holds) ∙ sym (left_first p t place within) ∙ left
-
-pub left_next : (p : Entry → Bool) (t : List Entry) (place : ℕ) → place < length t → LeftTo p t place → p (entry_at t place) ≡ false → LeftTo p t (place + 1)
-left_next p t place within left fails = sym (ap (λ b. b || list_any p (drop (place + 1) t)) fails) ∙ sym (left_first p t place within) ∙ left
-
-pub left_none : (p : Entry → Bool) (t : List Entry) (place : ℕ) → length t ≤ place → LeftTo p t place → false ≡ list_any p t
-left_none p t place past left = ap (list_any p) (sym (drop_all place t past)) ∙ left

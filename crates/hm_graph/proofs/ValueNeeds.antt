@@ -1,7 +1,7 @@
 -- What a value needs, found along its characters.
-use Rattle.std.proofs.Common.{◌≡◌, ◌∙◌, ℕ, ◌+◌, ◌<◌, Bool, true, false, cond, not, ◌&&◌, ◌||◌, ◌==◌, nat_lt, List, [], ◌∷◌, length, Option, Some, None, refl, sym, ap, bytes_eq}
+use Rattle.std.proofs.Common.{◌≡◌, ◌∙◌, ℕ, Bool, true, false, ◌&&◌, ◌||◌, ◌==◌, nat_lt, List, [], ◌∷◌, length, Option, Some, None, refl, ap, bytes_eq}
 use Rattle.std.specs.List.{list_any}
-use Rattle.hm_edges.specs.Units.{has_pair, need_by, need_for, needs_of, needs_quotes, some_dear}
+use Rattle.hm_edges.specs.Units.{need_by, need_for, needs_of, needs_quotes, some_dear}
 use Rattle.hm_edges.specs.declared.units.Need.{Need}
 use Rattle.hm_edges.specs.declared.units.Need.TheVariants as need
 use Rattle.hm_edges.specs.declared.units.Needs.{Needs}

@@ -1,7 +1,9 @@
 -- What is interned of a tree's graph: lists of states with numbers, and steps with numbers, each with the number of the list
 -- after it.
 use Rattle.std.specs.Prelude.{◌≡◌, ℕ, ◌<◌, Bool, true, false, ◌&&◌, ◌||◌, nat_lt, List, [], ◌∷◌, None, length, slice_index_or, bytes_eq}
+use Rattle.std.specs.BTreeSet.{BTreeSet, contains}
 use Rattle.std.specs.List.{list_any}
+use Rattle.std.specs.Ordering.{nat_cmp}
 use Rattle.hm_refs.specs.Names.{Entry}
 use Rattle.hm_refs.specs.Tables.{TableView}
 use Rattle.hm_edges.specs.Units.{has_pair}
@@ -81,22 +83,26 @@ BeginsNoPair t c = (d : ℕ) → has_pair t c d ≡ false
 abbrev pub AreLone : List Entry → List Bool → Type 0
 AreLone t lone = (c : ℕ) → slice_index_or lone c false ≡ true → BeginsNoPair t c
 
--- ---- What names tell of ASCII characters
+-- ---- What names tell of characters
 
 -- a name by which references to c are cheap, whatever follows
 abbrev pub cheapens : ℕ → Entry → Bool
 cheapens c e = (bytes_eq e.points (c ∷ []) && nat_lt (length e.name) 4) || is_second c e.points
 
--- for each of them, whether some name passes a test
+-- for each character of ASCII, whether some name passes a test
 abbrev pub AreMarked : (ℕ → Entry → Bool) → List Entry → List Bool → Type 0
 AreMarked test t marks = (c : ℕ) → c < 128 → slice_index_or marks c false ≡ list_any (test c) t
 
--- whether it is known that no name for two code points begins with them, whether references to them are cheap, and whether a
--- name without ';' ends with them
+-- just the characters for which some name passes a test
+abbrev pub AreOf : (ℕ → Entry → Bool) → List Entry → BTreeSet ℕ → Type 0
+AreOf test t set = (c : ℕ) → contains nat_cmp set c ≡ list_any (test c) t
+
+-- of ASCII characters, whether it is known that no name for two code points begins with them, and whether references to them
+-- are cheap; and the characters with which names without ';' end
 pub record AreTold (t : List Entry) (told : Told) : Type 0 where
   pub lone : AreLone t told.lone.items
   pub cheap : AreMarked cheapens t told.cheap
-  pub ends : AreMarked leaves_open t told.ends
+  pub ends : AreOf leaves_open t told.ends
 
 -- ---- Rows of plain characters
 

@@ -220,10 +220,7 @@ impl<'t> Interned<'t> {
     fn is_lone(&self, c: char) -> bool
         ensures { IsTrue result → BeginsNoPair self.now.table.entries c }
     {
-        match self.told.lone.get(c as usize) {
-            Some(true) => true,
-            _ => false,
-        }
+        self.told.is_lone(c)
     }
 
     /// The next character, where some name stands for the two.

@@ -1,25 +1,40 @@
-//! What the names of a table tell of ASCII characters.
-ghost use Rattle.std.specs.Prelude.{◌≡◌, ◌<◌, ◌||◌, ℕ, false, IfOk, length, slice_index_or};
-ghost use Rattle.hm_graph.specs.Interned.{AreMarked, AreTold, cheapens};
+//! What the names of a table tell of characters.
+ghost use Rattle.std.specs.Prelude.{◌≡◌, ◌<◌, ◌||◌, List, ℕ, false, IfOk, IsTrue, OnOk, length, slice_index_or};
+ghost use Rattle.std.specs.BTreeSet.{contains};
+ghost use Rattle.std.specs.Ordering.{nat_cmp};
+ghost use Rattle.hm_graph.specs.Interned.{AreMarked, AreOf, AreTold, BeginsNoPair, cheapens};
 ghost use Rattle.hm_graph.specs.Told.{is_target};
 ghost use Rattle.hm_graph_laws.specs.Forms.{leaves_open};
-ghost use Rattle.hm_refs.specs.Names.{is_closed};
+ghost use Rattle.hm_refs.specs.Names.{Entry, is_closed};
 ghost use Rattle.hm_refs.specs.Tables.{entry_at};
 
 use crate::pairs::lone_characters;
 use hm_base::Memory;
 use hm_refs::{NameId, Table};
 use std::alloc::Global;
+use std::collections::BTreeSet;
 
-/// A flag for each ASCII character.
+/// Flags for the ASCII characters, and a set of characters of any kind.
 #[derive(Drop)]
 pub(crate) struct Told {
     /// Whether it is known that no name for two code points begins with it.
     pub(crate) lone: Vec<bool>,
     /// Whether references to it are cheap, whatever follows it.
     pub(crate) cheap: [bool; 128],
-    /// Whether some name without `;` ends with it.
-    pub(crate) ends: [bool; 128],
+    /// Those with which names without `;` end.
+    pub(crate) ends: BTreeSet<char>,
+}
+
+impl Told {
+    /// Whether it is known that no name for two code points begins with the character.
+    pub(crate) fn is_lone(&self, c: char) -> bool
+        ensures { (t : List Entry) → AreTold t self.now → IsTrue result → BeginsNoPair t c }
+    {
+        match self.lone.get(c as usize) {
+            Some(true) => true,
+            _ => false,
+        }
+    }
 }
 
 pub(crate) fn is_closed(name: &[u8]) -> bool
@@ -82,15 +97,25 @@ fn cheap_marks(table: &Table) -> [bool; 128]
     marks
 }
 
-/// The characters with which names without `;` end.
-fn end_marks(table: &Table) -> [bool; 128]
-    ensures { AreMarked leaves_open table.now.entries result }
+/// Adds the character to the set.
+fn put(set: &mut BTreeSet<char>, target: Option<char>) -> Result<(), Memory>
+    ensures { OnOk result ((c : ℕ) → contains nat_cmp set.new c ≡ (contains nat_cmp set.old c || is_target c target)) }
 {
-    let mut marks = [false; 128];
-    for place in 0..table.count() {
-        mark(&mut marks, left_open(table, table.id_at(place)));
+    if let Some(c) = target {
+        set.insert(c)?;
     }
-    marks
+    Ok(())
+}
+
+/// The characters with which names without `;` end.
+fn ends_of(alloc: Global, table: &Table) -> Result<BTreeSet<char>, Memory>
+    ensures { IfOk result (AreOf leaves_open table.now.entries) }
+{
+    let mut ends = BTreeSet::new(alloc);
+    for place in 0..table.count() {
+        put(&mut ends, left_open(table, table.id_at(place)))?;
+    }
+    Ok(ends)
 }
 
 /// What the names of a table tell.
@@ -100,6 +125,6 @@ pub(crate) fn told_of(alloc: Global, table: &Table) -> Result<Told, Memory>
     Ok(Told {
         lone: lone_characters(alloc, table)?,
         cheap: cheap_marks(table),
-        ends: end_marks(table),
+        ends: ends_of(alloc, table)?,
     })
 }

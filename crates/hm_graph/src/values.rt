@@ -1,5 +1,5 @@
 //! What values need, by the names of a table.
-ghost use Rattle.std.specs.Prelude.{◌≡◌, ◌<◌, ◌&&◌, length};
+ghost use Rattle.std.specs.Prelude.{◌≡◌, ◌<◌, ◌&&◌, List};
 ghost use Rattle.std.specs.List.{list_any};
 ghost use Rattle.std.specs.Str.{chars};
 ghost use Rattle.hm_edges.specs.Units as units;
@@ -7,14 +7,15 @@ ghost use Rattle.hm_graph.specs.Interned.{AreTold};
 ghost use Rattle.hm_graph.specs.Told.{joined};
 ghost use Rattle.hm_graph.specs.Values.{needs_with};
 ghost use Rattle.hm_graph_laws.specs.Forms as forms;
-ghost use Rattle.hm_refs.specs.Tables.{entry_at};
+ghost use Rattle.hm_graph_laws.specs.Units.{next_of};
+ghost use Rattle.hm_refs.specs.Names.{Entry};
 ghost use Rattle.hm_spelling_spec.specs.Characters as spots;
 
 use crate::pairs::has_pair;
-use crate::told::{Told, is_closed};
+use crate::told::Told;
 use hm_base::is_space;
 use hm_edges::{Need, Needs};
-use hm_refs::{NameId, Table};
+use hm_refs::Table;
 
 /// Whether references to the character may be dear.
 fn may_be_dear(c: char) -> bool
@@ -31,45 +32,25 @@ fn may_be_dear(c: char) -> bool
         || c == '`'
 }
 
-/// Whether the name has no `;` and ends with the character.
-fn leaves_open(table: &Table, id: NameId, c: char) -> bool
-    requires { id < length table.now.entries }
-    ensures { result ≡ forms.leaves_open c (entry_at table.now.entries id) }
-{
-    if is_closed(table.name(id)) {
-        return false;
-    }
-    let points = table.points(id);
-    match points.second {
-        Some(second) => second == c,
-        None => points.first == c,
-    }
-}
-
-/// Whether some name without `;` ends with the character.
-fn some_leaves_open(table: &Table, c: char) -> bool
-    ensures { result ≡ list_any (forms.leaves_open c) table.now.entries }
-{
-    for place in 0..table.count() {
-        if leaves_open(table, table.id_at(place), c) {
-            return true;
-        }
-    }
-    false
-}
-
 /// Whether some name without `;` ends with the character before.
-fn may_leave_open(table: &Table, told: &Told, previous: Option<char>) -> bool
-    requires { AreTold table.now.entries told.now }
-    ensures { result ≡ forms.may_leave_open table.now.entries previous }
+fn may_leave_open(told: &Told, previous: Option<char>) -> bool
+    ensures { (t : List Entry) → AreTold t told.now → result ≡ forms.may_leave_open t previous }
 {
-    let Some(c) = previous else {
-        return false;
-    };
-    match told.ends.get(c as usize) {
-        Some(flag) => *flag,
-        None => some_leaves_open(table, c),
+    match previous {
+        Some(c) => told.ends.contains(&c),
+        None => false,
     }
+}
+
+/// Whether some name stands for these two code points.
+fn are_paired(table: &Table, told: &Told, c: char, d: char) -> bool
+    requires { AreTold table.now.entries told.now }
+    ensures { result ≡ units.has_pair table.now.entries c d }
+{
+    if told.is_lone(c) {
+        return false;
+    }
+    has_pair(table, c, d)
 }
 
 /// Whether some name makes references to the character cheap before the next one.
@@ -82,7 +63,7 @@ fn is_cheap(table: &Table, told: &Told, c: char, next: Option<char>) -> bool
         return true;
     }
     match next {
-        Some(d) => has_pair(table, c, d),
+        Some(d) => are_paired(table, told, c, d),
         None => false,
     }
 }
@@ -95,7 +76,7 @@ fn is_dear(table: &Table, told: &Told, previous: Option<char>, c: char, next: Op
     if !may_be_dear(c) || is_cheap(table, told, c, next) {
         return false;
     }
-    c != '=' || !may_leave_open(table, told, previous)
+    c != '=' || !may_leave_open(told, previous)
 }
 
 /// Whether the character may not stand without quotes.
@@ -136,18 +117,22 @@ fn need_with(
     }
 }
 
-/// What characters need, with one more between these two.
+/// What characters need, with one more between the previous one and the rest of the value.
 fn needs_with(
     table: &Table,
     told: &Told,
     needs: Needs,
     previous: Option<char>,
     c: char,
-    next: Option<char>,
+    rest: &str,
 ) -> Needs
     requires { AreTold table.now.entries told.now }
-    ensures { result ≡ needs_with table.now.entries needs previous c next }
+    ensures { result ≡ needs_with table.now.entries needs previous c (next_of (chars rest.now)) }
 {
+    if !is_barred(c) {
+        return needs;
+    }
+    let next = rest.chars().next();
     Needs {
         double: need_with(table, told, needs.double, c == '"', previous, c, next),
         single: need_with(table, told, needs.single, c == '\'', previous, c, next),
@@ -155,16 +140,31 @@ fn needs_with(
     }
 }
 
-/// What the characters of a value need.
-pub(crate) fn needs_of(table: &Table, told: &Told, value: &str) -> Needs
+/// Whether some byte is that of a character that may not stand without quotes.
+fn has_barred(bytes: &[u8]) -> bool
+    ensures { result ≡ list_any spots.is_barred bytes.now }
+{
+    for byte in bytes {
+        if is_barred(*byte as char) {
+            return true;
+        }
+    }
+    false
+}
+
+/// What characters need that need nothing.
+const NO_NEEDS: Needs = Needs {
+    double: Need::Absent,
+    single: Need::Absent,
+    other: Need::Absent,
+};
+
+/// What the characters of a value need, one after the other.
+fn needs_along(table: &Table, told: &Told, value: &str) -> Needs
     requires { AreTold table.now.entries told.now }
     ensures { result ≡ units.needs_of table.now.entries (chars value.now) }
 {
-    let mut needs = Needs {
-        double: Need::Absent,
-        single: Need::Absent,
-        other: Need::Absent,
-    };
+    let mut needs = NO_NEEDS;
     let mut previous = None;
     let mut rest = value;
     while !rest.is_empty() {
@@ -172,9 +172,21 @@ pub(crate) fn needs_of(table: &Table, told: &Told, value: &str) -> Needs
         let first = characters.next();
         rest = characters.as_str();
         if let Some(c) = first {
-            needs = needs_with(table, told, needs, previous, c, characters.next());
+            needs = needs_with(table, told, needs, previous, c, rest);
             previous = first;
         }
     }
     needs
+}
+
+/// What the characters of a value need. Most need nothing, as one look at the bytes tells.
+pub(crate) fn needs_of(table: &Table, told: &Told, value: &str) -> Needs
+    requires { AreTold table.now.entries told.now }
+    ensures { result ≡ units.needs_of table.now.entries (chars value.now) }
+{
+    if has_barred(value.as_bytes()) {
+        needs_along(table, told, value)
+    } else {
+        NO_NEEDS
+    }
 }

@@ -13,5 +13,5 @@ returns-then-told-c c =
 pub returns-in-Some : goal.returns-in-Some
 returns-in-Some c =
     let t = c.args.table.now.entries in
-    c.has_pair.ensures
+    c.are_paired.ensures
     ∙ sym (ap (λ n. list_any (makes_cheap c.args.c n) t) c.in-Some.is ∙ cheap_by t c.args.c (Some c.in-Some.d) ∙ ap (λ x. x || has_pair t c.args.c c.in-Some.d) (sym (c.requires.told.cheap c.args.c c.requires.ascii) ∙ c.if-told-c.false))

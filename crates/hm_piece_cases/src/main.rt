@@ -53,9 +53,9 @@ impl Counts {
 }
 
 /// Cuts a page into pieces, and the page with one byte changed after another.
-fn cut_page(alloc: Global, table: &Table, page: &mut [u8], counts: &mut Counts) {
+fn cut_page(alloc: Global, table: &Table, page: &mut [u8], number: u32, counts: &mut Counts) {
     counts.take(agrees_in_pieces(alloc, table, page));
-    let mut chance = page.len() as u32;
+    let mut chance = number;
     for _change in 0..CHANGES {
         chance = pieces::next(chance);
         let at = (chance >> 8) as usize % page.len().max(1);
@@ -81,7 +81,7 @@ fn main(rt: HostRuntime) -> io::Result<()> {
     for number in 0..MADE_PAGES {
         let page = kept(page_of(alloc, number, number % 8))?;
         let mut bytes = Vec::from_slice(alloc, page.as_bytes())?;
-        cut_page(alloc, &table, bytes.as_mut_slice(), &mut counts);
+        cut_page(alloc, &table, bytes.as_mut_slice(), number, &mut counts);
         if number < CUT_IN_TWO {
             counts.take(agrees_in_two(alloc, &table, bytes.as_slice()));
         }

@@ -1,11 +1,13 @@
 //! A page in pieces beside the whole page.
+ghost use Rattle.std.specs.Prelude.{◌≤◌};
+
 use hm_base::{Memory, PAGE_LIMIT, Refused, SourceText};
 use hm_load::{Builder, parse};
 use hm_refs::Table;
 use hm_tree::Tree;
 use std::alloc::Global;
 
-/// How a page is cut.
+/// How a page is cut. No page has more pieces than bytes and one more.
 #[derive(Clone, Copy)]
 enum Cutting {
     /// Into single bytes.
@@ -21,14 +23,17 @@ pub fn next(chance: u32) -> u32 {
     chance.wrapping_mul(1_664_525).wrapping_add(1_013_904_223)
 }
 
-/// Where the piece ends that begins at this byte of the page.
-fn end_of(cutting: Cutting, at: usize, chance: u32) -> usize {
-    match cutting {
-        Cutting::Bytes => at.saturating_add(1),
-        Cutting::Once(cut) if at < cut => cut,
-        Cutting::Once(_) => usize::MAX,
-        Cutting::Chance => at.saturating_add(1 + (chance >> 26) as usize),
-    }
+/// How many bytes the next piece has, where so many are left.
+fn size_of(cutting: Cutting, is_first: bool, chance: u32, left: usize) -> usize
+    ensures { result ≤ left }
+{
+    let size = match cutting {
+        Cutting::Bytes => 1,
+        Cutting::Once(cut) if is_first => cut,
+        Cutting::Once(_) => left,
+        Cutting::Chance => 1 + (chance >> 26) as usize,
+    };
+    size.min(left)
 }
 
 /// What a page gives as a whole.
@@ -45,15 +50,18 @@ fn of_pieces(alloc: Global, table: &Table, page: &[u8], cutting: Cutting) -> Res
         Ok(builder) => builder,
         Err(Memory) => return Err(Refused::Memory),
     };
-    let mut chance = page.len() as u32;
-    let mut at = 0;
-    while at < page.len() {
-        let end = end_of(cutting, at, chance).min(page.len());
-        if let Err(Memory) = builder.feed(&page[at..end]) {
+    let mut chance = 1;
+    let mut left = page;
+    for piece in 0..=page.len() {
+        if left.is_empty() {
+            break;
+        }
+        let size = size_of(cutting, piece == 0, chance, left.len());
+        if let Err(Memory) = builder.feed(&left[..size]) {
             return Err(Refused::Memory);
         }
+        left = &left[size..];
         chance = next(chance);
-        at = end;
     }
     builder.end()
 }

@@ -62,7 +62,7 @@ example
 ";
 
 /// The version of the program, and the line of the toolchain that it was proved with.
-pub const VERSION: &[u8] = b"hminify 0.1.0\nrattle-kit-13b logic dac8208d650f15bf\n";
+pub const VERSION: &[u8] = b"hminify 0.1.0\nrattle-kit-13f logic dac8208d650f15bf\n";
 
 /// The text of a notice.
 pub fn notice_text(notice: Notice) -> &'static [u8]

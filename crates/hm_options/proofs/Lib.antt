@@ -1,6 +1,5 @@
-pub mod Apart
 pub mod Becoming
-pub mod Behind
+pub mod Fates
 pub mod Better
 pub mod Collapsed
 pub mod Collapsing
@@ -12,7 +11,6 @@ pub mod Runs
 pub mod Trims
 pub mod AtOnce
 pub mod InOrder
-pub mod Joined
 pub mod Kept
 pub mod OneByOne
 pub mod Passing

@@ -1,9 +1,9 @@
 -- Attributes that are changed or left out one by one.
-use Rattle.std.proofs.Common.{◌≡◌, ℕ, ◌+◌, ◌≤◌, Bool, true, false, List, [], ◌∷◌, ◌++◌, length, take, slice_get, flat_map, bytes_eq, Some, if◌then◌else◌, sym, ◌∙◌, refl, ap, arith, length-append}
+use Rattle.std.proofs.Common.{◌≡◌, ℕ, ◌+◌, ◌≤◌, Bool, true, false, List, [], ◌∷◌, ◌++◌, length, take, slice_get, flat_map, bytes_eq, Some, if◌then◌else◌, sym, ◌∙◌, refl, arith, length-append}
 use Rattle.std.proofs.lemmas.Grind.{flat_map-append}
 use Rattle.std.proofs.lemmas.List.{append-nil}
-use Rattle.hm_base.specs.Walks.{Attribute, has_name, has_distinct_names, attributes_size}
-use Rattle.hm_options.proofs.Distinct.{take_push, new_name}
+use Rattle.hm_base.specs.Walks.{Attribute, has_name}
+use Rattle.hm_options.proofs.Distinct.{take_push}
 
 has_first : (n m : List ℕ) (b : Bool) (a : Attribute) (rest : List Attribute) → a.name ≡ m → bytes_eq m n ≡ false → has_name n rest ≡ false → has_name n ((if b then [] else a ∷ []) ++ rest) ≡ false
 has_first n m true a rest is other h = h
@@ -16,14 +16,6 @@ first_otherwise false has h = (refl, h)
 one_most : (b : Bool) (a : Attribute) → length (if b then [] else a ∷ []) ≤ 1
 one_most true a = omega arith
 one_most false a = omega arith
-
-attributes_size-append : (xs ys : List Attribute) → attributes_size (xs ++ ys) ≡ attributes_size xs + attributes_size ys
-attributes_size-append [] ys = omega arith
-attributes_size-append (a ∷ xs) ys = omega (arith, attributes_size-append xs ys)
-
-one_size : (b : Bool) (a : Attribute) → attributes_size (if b then [] else a ∷ []) ≤ length a.name + length a.value
-one_size true a = omega arith
-one_size false a = omega arith
 
 -- the attributes of which some are dropped, and the others have a value
 module _ (dropped : Attribute → Bool) (valued : Attribute → Attribute) where
@@ -46,12 +38,3 @@ module _ (dropped : Attribute → Bool) (valued : Attribute → Attribute) where
     each_fresh name (a ∷ attributes) h =
         let parts = first_otherwise (bytes_eq a.name name) (has_name name attributes) h in
         has_first name a.name (dropped a) (valued a) (flat_map each attributes) (named a) parts.0 (each_fresh name attributes parts.1)
-
-    pub next_fresh : (attributes : List Attribute) (i : ℕ) (a : Attribute) → has_distinct_names attributes ≡ true → slice_get attributes i ≡ Some a → has_name a.name (flat_map each (take i attributes)) ≡ false
-    next_fresh attributes i a distinct at = each_fresh a.name (take i attributes) (new_name attributes i a distinct at)
-
-    -- what is left has no more bytes
-    pub each_size : ((a : Attribute) → length (valued a).value ≤ length a.value) → (attributes : List Attribute) → attributes_size (flat_map each attributes) ≤ attributes_size attributes
-    each_size short [] = omega arith
-    each_size short (a ∷ attributes) =
-        omega (arith, each_size short attributes, one_size (dropped a) (valued a), ap length (named a), short a, attributes_size-append (each a) (flat_map each attributes))

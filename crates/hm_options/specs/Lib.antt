@@ -1,5 +1,4 @@
 pub mod Rewritten
-pub mod Copies
 pub mod Space
 pub mod Steps
 pub mod Marks
@@ -9,6 +8,6 @@ pub mod SpaceExamples
 pub mod Rewrites
 pub mod Rules
 pub mod Passes
-pub mod Joins
+pub mod Passing
 pub mod Laws
 pub mod Examples

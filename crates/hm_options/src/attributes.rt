@@ -1,17 +1,18 @@
 //! Attributes that say nothing.
-ghost use Rattle.std.specs.Prelude.{◌≡◌, [], ◌++◌, ◌∷◌, ◌+◌, ◌<◌, ◌^◌, length, flat_map, false, true, IfOk, OnOk};
+ghost use Rattle.std.specs.Prelude.{◌≡◌, [], ◌∷◌, length, flat_map, false, true};
 ghost use Rattle.hm_base.specs.Bytes.{all_pass};
 ghost use Rattle.hm_base.specs.Bytes as bytes;
-ghost use Rattle.hm_base.specs.Walks.{has_name};
+ghost use Rattle.hm_base.specs.Walks.{begins_start};
 ghost use Rattle.hm_options.specs.Passes as passes;
 ghost use Rattle.hm_options.specs.Passes.{attribute_pass};
+ghost use Rattle.hm_options.specs.Passing.{begins_html_start, first_attributes, IsChanged, IsFate, IsFated, StartStays, with_passed};
 ghost use Rattle.hm_options.specs.Rewrites as rewrites;
+ghost use Rattle.hm_tree.specs.Edits.{HasAttribute};
 ghost use Rattle.hm_tree.specs.Views.{attributes_shown};
 
-use hm_base::{Memory, TreeOptions, is_space};
+use hm_base::{TreeOptions, is_space};
 use hm_elements::{is_boolean, is_redundant, says_nothing_blank};
-use hm_tree::{Attrs, AttrsView};
-use std::alloc::Global;
+use hm_tree::{AttrsView, Editor, EventView};
 
 // Whether each attribute of an HTML element of this name stays as it is. Where the answer is no, one may not.
 pub(crate) fn stay(options: &TreeOptions, element: &str, attrs: &AttrsView<'_>) -> bool
@@ -33,40 +34,94 @@ fn changes(options: &TreeOptions, element: &str, name: &str, value: &str) -> boo
     (options.booleans && is_boolean(name)) || is_dropped(options, element, name, value)
 }
 
-// The attributes of an HTML element of this name, each rewritten or left out.
-pub(crate) fn rewritten_attributes(
-    alloc: Global,
-    options: &TreeOptions,
-    element: &str,
-    attrs: &AttrsView<'_>,
-) -> Result<Attrs, Memory>
-    ensures { IfOk result (λ made. made ≡ flat_map (attribute_pass options.now element.now) (attributes_shown attrs.now)) }
-{
-    let mut made = Attrs::new(alloc);
-    for i in 0..attrs.len() {
-        let (name, value) = attrs.at(i);
-        add_rewritten(&mut made, options, element, name, value)?;
-    }
-    Ok(made)
+// What becomes of an attribute.
+#[derive(Clone, Copy, Debug)]
+enum Fate {
+    Stays,
+    // It loses its value.
+    Emptied,
+    LeftOut,
 }
 
-// Adds what an attribute becomes, whose name isn't there yet.
-fn add_rewritten(
-    made: &mut Attrs,
-    options: &TreeOptions,
-    element: &str,
-    name: &str,
-    value: &str,
-) -> Result<(), Memory>
-    requires room { length made.old + 1 < 2 ^ 32 }
-    requires fresh { has_name name.now made.old ≡ false }
-    ensures { OnOk result (made.new ≡ made.old ++ attribute_pass options.now element.now (record { name = name.now; value = value.now })) }
+// What becomes of attribute `at` of the next event, the start of an HTML element.
+fn fate_of(editor: &Editor, options: &TreeOptions, at: u32) -> Fate
+    requires { HasAttribute editor.now.left at }
+    ensures { IsFate options.now editor.now.left at result }
 {
-    let value = left_value(options, name, value);
-    if !is_dropped(options, element, name, value) {
-        made.put(name, value)?;
+    let EventView::Start { name, attrs, .. } = editor.next() else {
+        return Fate::Stays;
+    };
+    let (attribute, value) = attrs.at(at);
+    let left = left_value(options, attribute, value);
+    if is_dropped(options, name, attribute, left) {
+        Fate::LeftOut
+    } else if left.len() < value.len() {
+        Fate::Emptied
+    } else {
+        Fate::Stays
     }
-    Ok(())
+}
+
+// Makes of attribute `at` of the next event, the start of an HTML element, what it becomes.
+fn change_attribute(editor: &mut Editor, options: &TreeOptions, at: u32)
+    requires { HasAttribute editor.old.left at }
+    ensures done { editor.new.done ≡ editor.old.done }
+    ensures left { IsFated options.now at editor.old.left editor.new.left }
+{
+    match fate_of(editor, options, at) {
+        Fate::Stays => {}
+        Fate::Emptied => editor.leave_out_value(at),
+        Fate::LeftOut => editor.leave_out_attribute(at),
+    }
+}
+
+// Whether the next event is the start of an HTML element of which an attribute may change.
+fn may_change(editor: &Editor, options: &TreeOptions) -> bool
+    requires { begins_start editor.now.left ≡ true }
+    ensures html { result ≡ true → begins_html_start editor.now.left ≡ true }
+    ensures stays { result ≡ false → StartStays options.now editor.now.left }
+{
+    match editor.next() {
+        EventView::Start {
+            name,
+            foreign,
+            attrs,
+        } => !foreign && !stay(options, name, &attrs),
+        _ => false,
+    }
+}
+
+// How many attributes the next event has.
+fn attribute_count(editor: &Editor) -> u32
+    requires { begins_start editor.now.left ≡ true }
+    ensures { result ≡ length (first_attributes editor.now.left) }
+{
+    match editor.next() {
+        EventView::Start { attrs, .. } => attrs.len(),
+        _ => 0,
+    }
+}
+
+// Changes the attributes of the next event, the start of an HTML element, from the last one to the first.
+fn change_attributes(editor: &mut Editor, options: &TreeOptions)
+    requires { begins_start editor.old.left ≡ true }
+    ensures done { editor.new.done ≡ editor.old.done }
+    ensures left { editor.new.left ≡ with_passed options.now 0 editor.old.left }
+{
+    for at in (0..attribute_count(editor)).rev() {
+        change_attribute(editor, options, at);
+    }
+}
+
+// Changes the next event, a start.
+pub(crate) fn change_start(editor: &mut Editor, options: &TreeOptions)
+    requires { begins_start editor.old.left ≡ true }
+    ensures done { editor.new.done ≡ editor.old.done }
+    ensures left { IsChanged options.now editor.old.left editor.new.left }
+{
+    if may_change(editor, options) {
+        change_attributes(editor, options);
+    }
 }
 
 fn is_dropped(options: &TreeOptions, element: &str, name: &str, value: &str) -> bool

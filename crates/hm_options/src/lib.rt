@@ -1,8 +1,8 @@
-//! The tree that the options ask for: six rewrites in their order. That of whitespace makes a pass of its own.
+//! The tree that the options ask for: six rewrites in their order, in place. That of whitespace makes a pass of its own.
 #![tactic(auto)]
 
 mod attributes;
-mod copy;
+mod joining;
 pub mod laws;
 mod names;
 mod rules;
@@ -11,6 +11,5 @@ mod spaces;
 mod top;
 mod walk;
 
-pub use copy::put;
 pub use top::rewrite;
 pub use walk::collapse;

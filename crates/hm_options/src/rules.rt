@@ -1,88 +1,101 @@
-//! The rewrites that change single events or leave them out, in one pass.
-ghost use Rattle.std.specs.Prelude.{◌≡◌, [], ◌∷◌, ◌++◌, true, None, List, IfOk, OnOk};
-ghost use Rattle.hm_base.specs.Walks.{Event, doctype, pushes, start};
-ghost use Rattle.hm_options.specs.Joins.{may_join, IsLast};
-ghost use Rattle.hm_options.specs.Passes.{attributes_pass, changed, event_pass, passed};
-ghost use Rattle.hm_tree.specs.Trees.{HasRoom};
-ghost use Rattle.hm_tree.specs.Views.{event_of, attributes_shown};
+//! The rewrites that change single events or leave them out, in one pass and in place.
+ghost use Rattle.std.specs.Prelude.{◌≡◌, ◌<◌, [], ◌∷◌, ◌++◌, ◌&&◌, false, true, length, IfOk, OnOk};
+ghost use Rattle.hm_base.specs.Walks.{begins_comment, begins_text};
+ghost use Rattle.hm_options.specs.Passes.{passed};
+ghost use Rattle.hm_options.specs.Passing.{IsCalm, IsChanged, IsPassing};
+ghost use Rattle.hm_tree.specs.Edits.{begins_doctype};
+ghost use Rattle.hm_tree.specs.Trees.{IsWalk};
+ghost use Rattle.hm_tree.specs.Views.{event_of};
 
-use crate::attributes::{rewritten_attributes, stay};
-use crate::put;
+use crate::attributes::change_start;
+use crate::joining::join_next;
 use hm_base::{Memory, TreeOptions};
-use hm_tree::{AttrsView, EventView, Maker, Tree};
+use hm_tree::{Editor, EventView, Tree};
 use std::alloc::Global;
 
 // The tree with each event rewritten, where texts that then touch are joined.
-pub(crate) fn rewritten(alloc: Global, tree: &Tree, options: &TreeOptions) -> Result<Tree, Memory>
-    ensures { IfOk result (λ made. made ≡ passed options.now tree.now) }
+pub(crate) fn rewritten(alloc: Global, tree: Tree, options: &TreeOptions) -> Result<Tree, Memory>
+    ensures { IfOk result (λ made. made ≡ passed options.now tree) }
 {
-    let mut maker = Tree::maker(alloc);
-    let mut last = None;
-    for i in 0..tree.len() {
-        last = put_rewritten(alloc, &mut maker, options, &tree.event(i), last)?;
-    }
-    Ok(maker.finish())
-}
-
-// Puts what an event becomes. `last` says whether a text stands last, and whether it is raw.
-fn put_rewritten(
-    alloc: Global,
-    maker: &mut Maker,
-    options: &TreeOptions,
-    event: &EventView<'_>,
-    last: Option<bool>,
-) -> Result<Option<bool>, Memory>
-    requires room { HasRoom (maker.old ++ event_of event.now ∷ []) }
-    requires follows { may_join maker.old (event_of event.now) ≡ true }
-    requires last { IsLast maker.old last }
-    ensures put { OnOk result ((v : List Event) → maker.old ≡ pushes v [] → maker.new ≡ pushes (v ++ event_pass options.now [] None (event_of event.now) None) []) }
-    ensures last { IfOk result (λ next. IsLast maker.new next) }
-{
-    match event {
-        EventView::Text { text, raw } => {
-            let raw = last.unwrap_or(*raw);
-            maker.text(text, raw)?;
-            return Ok(Some(raw));
+    let mut editor = tree.edit();
+    let mut scratch = String::new(alloc);
+    for _ in 0..editor.left() {
+        // With what is done, what is left is a walk.
+        if editor.left() > 0 {
+            edit_next(&mut editor, &mut scratch, options)?;
         }
-        EventView::Comment { text } => {
-            if options.comments {
-                return Ok(last);
-            }
-            maker.comment(text)?;
-        }
-        EventView::Doctype { legacy } => maker.doctype(stays_legacy(options, *legacy))?,
-        EventView::Start {
-            name,
-            foreign,
-            attrs,
-        } => put_start(alloc, maker, options, name, *foreign, attrs)?,
-        EventView::End { .. } => put(maker, event)?,
     }
-    Ok(None)
+    // What is done is a walk now.
+    editor.left();
+    Ok(editor.finish())
 }
 
-// Whether a doctype is the legacy one after the rewrite.
-fn stays_legacy(options: &TreeOptions, legacy: bool) -> bool
-    ensures { changed options.now (doctype legacy) ≡ doctype result }
+// Makes of the next event what it becomes.
+fn edit_next(editor: &mut Editor, scratch: &mut String, options: &TreeOptions) -> Result<(), Memory>
+    requires some { 0 < length editor.old.left }
+    requires walk { IsWalk (editor.old.done ++ editor.old.left) }
+    requires calm { IsCalm options.now editor.old }
+    ensures { OnOk result (IsPassing options.now editor.old editor.new) }
 {
-    !options.doctype && legacy
+    if options.comments && is_comment(&editor.next()) {
+        editor.leave_out_comment();
+        return Ok(());
+    }
+    change_next(editor, scratch, options)?;
+    editor.keep();
+    Ok(())
 }
 
-// Puts the start of an element.
-fn put_start(
-    alloc: Global,
-    maker: &mut Maker,
+fn is_comment(event: &EventView<'_>) -> bool
+    ensures { result ≡ begins_comment (event_of event.now ∷ []) }
+{
+    matches!(event, EventView::Comment { .. })
+}
+
+// Changes the next event, which stays.
+fn change_next(
+    editor: &mut Editor,
+    scratch: &mut String,
     options: &TreeOptions,
-    name: &str,
-    foreign: bool,
-    attrs: &AttrsView<'_>,
 ) -> Result<(), Memory>
-    requires { HasRoom (maker.old ++ start name.now foreign (attributes_shown attrs.now) ∷ []) }
-    ensures { OnOk result (maker.new ≡ maker.old ++ start name.now foreign (attributes_pass options.now name.now foreign (attributes_shown attrs.now)) ∷ []) }
+    requires some { 0 < length editor.old.left }
+    requires walk { IsWalk (editor.old.done ++ editor.old.left) }
+    requires stays { options.now.comments && begins_comment editor.old.left ≡ false }
+    ensures done { OnOk result (editor.new.done ≡ editor.old.done) }
+    ensures left { OnOk result (IsChanged options.now editor.old.left editor.new.left) }
 {
-    if foreign || stay(options, name, attrs) {
-        return maker.start_as(name, foreign, attrs);
+    match editor.next() {
+        EventView::Doctype { .. } => change_doctype(editor, options),
+        EventView::Start { .. } => change_start(editor, options),
+        EventView::Text { .. } => change_text(editor, scratch, options)?,
+        EventView::Comment { .. } => {}
+        EventView::End { .. } => {}
     }
-    let made = rewritten_attributes(alloc, options, name, attrs)?;
-    maker.start_from(name, foreign, &made)
+    Ok(())
+}
+
+fn change_doctype(editor: &mut Editor, options: &TreeOptions)
+    requires { begins_doctype editor.old.left ≡ true }
+    ensures done { editor.new.done ≡ editor.old.done }
+    ensures left { IsChanged options.now editor.old.left editor.new.left }
+{
+    if options.doctype {
+        editor.make_plain();
+    }
+}
+
+fn change_text(
+    editor: &mut Editor,
+    scratch: &mut String,
+    options: &TreeOptions,
+) -> Result<(), Memory>
+    requires text { begins_text editor.old.left ≡ true }
+    requires walk { IsWalk (editor.old.done ++ editor.old.left) }
+    ensures done { OnOk result (editor.new.done ≡ editor.old.done) }
+    ensures left { OnOk result (IsChanged options.now editor.old.left editor.new.left) }
+{
+    if options.comments {
+        join_next(editor, scratch)?;
+    }
+    Ok(())
 }

@@ -32,8 +32,9 @@ fn by_events(alloc: Global, tree: Tree, options: &TreeOptions) -> Result<Tree, M
         || options.empty
         || options.redundant
     {
-        let made = rewritten(alloc, &tree, options)?;
-        tree.release();
+        // Its texts don't touch.
+        tree.len();
+        let made = rewritten(alloc, tree, options)?;
         Ok(made)
     } else {
         Ok(tree)

@@ -82,7 +82,7 @@ fn is_edge_behind(editor: &Editor) -> bool
     requires { 0 < length editor.now.left }
     ensures { result ≡ space.is_edge (slice_get editor.now.left 1) }
 {
-    match editor.after_next() {
+    match editor.ahead(1) {
         Some(event) => is_edge(&event),
         None => false,
     }

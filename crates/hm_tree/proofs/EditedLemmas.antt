@@ -45,7 +45,7 @@ module _ (q r : EventRow) (same : q.part ≡ r.part) where
   events_same s pieces [] rest = ap (λ part. event_at s pieces part ∷ events_of s pieces rest) same
   events_same s pieces (p ∷ front) rest = ap (λ w. event_at s pieces p.part ∷ w) (events_same s pieces front rest)
 
-AreInside-front : (s : List ℕ) (n : ℕ) (front rest : List EventRow) → AreInside s n (front ++ rest) → AreInside s n front × AreInside s n rest
+pub AreInside-front : (s : List ℕ) (n : ℕ) (front rest : List EventRow) → AreInside s n (front ++ rest) → AreInside s n front × AreInside s n rest
 AreInside-front s n [] rest h = (tt, h)
 AreInside-front s n (r ∷ front) rest h = let more = AreInside-front s n front rest h.1 in ((h.0, more.0), more.1)
 
@@ -90,7 +90,7 @@ event_in s pieces [] i r there = absurd (cc)
 event_in s pieces (q ∷ rows) zero r there = let is : q ≡ r = cc in ap (λ x. Some (event_at s pieces x.part)) is
 event_in s pieces (q ∷ rows) (suc i) r there = event_in s pieces rows i r there
 
-get_or-other : (rows : List EventRow) (i : ℕ) (d : EventRow) → i < length rows → get_or rows i d ≡ get_or rows i (get_or rows i d)
+pub get_or-other : (rows : List EventRow) (i : ℕ) (d : EventRow) → i < length rows → get_or rows i d ≡ get_or rows i (get_or rows i d)
 get_or-other rows i d within =
     let one = slice_get-get_or rows i d within in
     let other = slice_get-get_or rows i (get_or rows i d) within in
@@ -155,11 +155,11 @@ own_without : (n : ℕ) (front rest : List EventRow) (r : EventRow) (p : TextRan
 own_without n [] rest r p raw is h = subst (λ k. HaveOwn k rest) (ap (own_end n) is) h.1
 own_without n (x ∷ front) rest r p raw is h = (h.0, own_without (own_end n x.part) front rest r p raw is h.1)
 
-inside_without : (s : List ℕ) (n : ℕ) (front rest : List EventRow) (r : EventRow) → AreInside s n (front ++ r ∷ rest) → AreInside s n (front ++ rest)
+pub inside_without : (s : List ℕ) (n : ℕ) (front rest : List EventRow) (r : EventRow) → AreInside s n (front ++ r ∷ rest) → AreInside s n (front ++ rest)
 inside_without s n [] rest r h = h.1
 inside_without s n (x ∷ front) rest r h = (h.0, inside_without s n front rest r h.1)
 
-inside_longer : (s more : List ℕ) (n : ℕ) (rows : List EventRow) → IsUtf8 more → AreInside s n rows → AreInside (s ++ more) n rows
+pub inside_longer : (s more : List ℕ) (n : ℕ) (rows : List EventRow) → IsUtf8 more → AreInside s n rows → AreInside (s ++ more) n rows
 inside_longer s more n [] utf8 h = tt
 inside_longer s more n (x ∷ rows) utf8 h = (inside_stays s more n n x.part utf8 (omega arith) h.0, inside_longer s more n rows utf8 h.1)
 

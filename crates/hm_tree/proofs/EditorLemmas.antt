@@ -90,7 +90,7 @@ module _ (s : List ℕ) (pieces : List AttributePieces) (rows : List EventRow) (
     next_first : drop next rows ≡ r ∷ drop (next + 1) rows
     next_first = drop_more rows next r there ∙ ap (λ q. q ∷ drop (next + 1) rows) (sym is)
 
-    edited : IsEdited s pieces (take done rows) (r ∷ drop (next + 1) rows) parent
+    pub edited : IsEdited s pieces (take done rows) (r ∷ drop (next + 1) rows) parent
     edited = subst (λ rest. IsEdited s pieces (take done rows) rest parent) next_first h.edited
 
     pub left_first : events_of s pieces (drop next rows) ≡ event_at s pieces r.part ∷ events_of s pieces (drop (next + 1) rows)

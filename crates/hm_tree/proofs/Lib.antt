@@ -3,8 +3,12 @@ pub mod AttributeLemmas
 pub mod EditLemmas
 pub mod EditedLemmas
 pub mod EditorLemmas
+pub mod ChangedLemmas
 pub mod EndLemmas
+pub mod FewerLemmas
 pub mod LastLemmas
+pub mod LikeLemmas
+pub mod LooseLemmas
 pub mod MakingLemmas
 pub mod MovedLemmas
 pub mod OwnLemmas

@@ -15,14 +15,15 @@ use Rattle.hm_tree.specs.declared.rows.RowPart.{RowPart}
 use Rattle.hm_tree.specs.declared.rows.RowPart.TheVariants as parts
 use Rattle.hm_tree.specs.declared.rows.EventRow.{EventRow}
 use Rattle.hm_tree.proofs.MovedLemmas.{All-moved, length-moved, map-moved, moved_past, put_last-same, parents_from-put_last, IsTold-put_last}
-use Rattle.hm_tree.proofs.TableLemmas.{part_event, part_inside, row_within}
+use Rattle.hm_tree.proofs.TableLemmas.{part_event, row_within}
+use Rattle.hm_tree.proofs.TableLemmas as tables
 
 -- the bytes, attributes and rows are a table for these events
 abbrev pub Shows : List ℕ → List AttributePieces → List EventRow → List Event → Type 0
 Shows s pieces rows w = IsTable s pieces rows × (events_of s pieces rows ≡ w)
 
 -- rows whose attributes are none of the first n begin no earlier
-grows : (n : ℕ) (part : RowPart) → IsAfter n part → n ≤ own_end n part
+pub grows : (n : ℕ) (part : RowPart) → IsAfter n part → n ≤ own_end n part
 grows n (parts.Doctype legacy) h = omega arith
 grows n (parts.Start foreign count name first) h = omega (arith, h)
 grows n (parts.Text p raw) h = omega arith
@@ -40,8 +41,15 @@ begins_later n (q ∷ rows) (suc i) r foreign count name first own at is =
     let later = begins_later (own_end n q.part) rows i r foreign count name first own.1 at is in
     omega (arith, later, grows n q.part own.0)
 
-module _ (s : List ℕ) (old new : List AttributePieces) (first count at : ℕ) (below : (from to : ℕ) → to ≤ first → slice_range new from to ≡ slice_range old from to)
-    (above : (from to : ℕ) → first + count ≤ from → slice_range new from to ≡ slice_range old from to) (own : slice_range new first (first + count) ≡ moved at (slice_range old first (first + count))) where
+begins_there : (n : ℕ) (rows rest : List EventRow) (r : EventRow) (foreign : Bool) (count : ℕ) (name : TextRange) (first : ℕ) → HaveOwn n (rows ++ r ∷ rest) → r.part ≡ parts.Start foreign count name first → n ≤ first
+begins_there n [] rest r foreign count name first own is = let h : IsAfter n (parts.Start foreign count name first) = subst (IsAfter n) is own.0 in h
+begins_there n (q ∷ rows) rest r foreign count name first own is =
+    let later = begins_there (own_end n q.part) rows rest r foreign count name first own.1 is in
+    omega (arith, later, grows n q.part own.0)
+
+-- attributes that differ from others only in those of one row
+module _ (s : List ℕ) (old new : List AttributePieces) (first count : ℕ) (below : (from to : ℕ) → to ≤ first → slice_range new from to ≡ slice_range old from to)
+    (above : (from to : ℕ) → first + count ≤ from → slice_range new from to ≡ slice_range old from to) where
   stays_above : (n : ℕ) (part : RowPart) → first + count ≤ n → IsAfter n part → event_at s new part ≡ event_at s old part
   stays_above n (parts.Doctype legacy) le h = refl
   stays_above n (parts.Start foreign c name from) le h = ap (λ x. start (bytes_of s name) foreign (attributes_in s x)) (above from (from + c) (omega (arith, le, h)))
@@ -49,7 +57,7 @@ module _ (s : List ℕ) (old new : List AttributePieces) (first count at : ℕ) 
   stays_above n (parts.Comment p) le h = refl
   stays_above n (parts.End name foreign) le h = refl
 
-  all_above : (n : ℕ) (rows : List EventRow) → first + count ≤ n → HaveOwn n rows → events_of s new rows ≡ events_of s old rows
+  pub all_above : (n : ℕ) (rows : List EventRow) → first + count ≤ n → HaveOwn n rows → events_of s new rows ≡ events_of s old rows
   all_above n [] le h = refl
   all_above n (r ∷ rows) le h = ap₂ (λ e w. e ∷ w) (stays_above n r.part le h.0) (all_above (own_end n r.part) rows (let more = grows n r.part h.0 in omega (arith, le, more)) h.1)
 
@@ -60,6 +68,15 @@ module _ (s : List ℕ) (old new : List AttributePieces) (first count at : ℕ) 
   stays_below n (parts.Comment p) le = refl
   stays_below n (parts.End name foreign) le = refl
 
+  -- the rows before that row
+  pub all_below : (n : ℕ) (rows rest : List EventRow) (r : EventRow) (foreign : Bool) (name : TextRange) → r.part ≡ parts.Start foreign count name first → HaveOwn n (rows ++ r ∷ rest) → events_of s new rows ≡ events_of s old rows
+  all_below n [] rest r foreign name is own = refl
+  all_below n (q ∷ rows) rest r foreign name is own =
+      let later = begins_there (own_end n q.part) rows rest r foreign count name first own.1 is in
+      ap₂ (λ e w. e ∷ w) (stays_below n q.part later) (all_below (own_end n q.part) rows rest r foreign name is own.1)
+
+module _ (s : List ℕ) (old new : List AttributePieces) (first count at : ℕ) (below : (from to : ℕ) → to ≤ first → slice_range new from to ≡ slice_range old from to)
+    (above : (from to : ℕ) → first + count ≤ from → slice_range new from to ≡ slice_range old from to) (own : slice_range new first (first + count) ≡ moved at (slice_range old first (first + count))) where
   -- the one row
   moves : (part : RowPart) (foreign : Bool) (name : TextRange) → part ≡ parts.Start foreign count name first → event_at s new part ≡ with_moved at (event_at s old part)
   moves part foreign name is = rw is (ap (λ x. start (bytes_of s name) foreign x) (ap (attributes_in s) own ∙ map-moved (attribute_in s) at (slice_range old first (first + count))))
@@ -72,10 +89,10 @@ module _ (s : List ℕ) (old new : List AttributePieces) (first count at : ℕ) 
   events_moved n (q ∷ rows) zero r foreign name h there is =
       let same : q ≡ r = cc in
       let part : q.part ≡ parts.Start foreign count name first = ap (λ x. x.part) same ∙ is in
-      ap₂ (λ e w. e ∷ w) (moves q.part foreign name part) (all_above (own_end n q.part) rows (ends_there n q.part foreign name part) h.1)
+      ap₂ (λ e w. e ∷ w) (moves q.part foreign name part) (all_above s old new first count below above (own_end n q.part) rows (ends_there n q.part foreign name part) h.1)
   events_moved n (q ∷ rows) (suc i) r foreign name h there is =
       let later = begins_later (own_end n q.part) rows i r foreign count name first h.1 there is in
-      ap₂ (λ e w. e ∷ w) (stays_below n q.part later) (events_moved (own_end n q.part) rows i r foreign name h.1 there is)
+      ap₂ (λ e w. e ∷ w) (stays_below s old new first count below above n q.part later) (events_moved (own_end n q.part) rows i r foreign name h.1 there is)
 
   -- the table stays one
   table_moved : (rows : List EventRow) (i : ℕ) (r : EventRow) (foreign : Bool) (name : TextRange) → slice_get rows i ≡ Some r → r.part ≡ parts.Start foreign count name first → length new ≡ length old → All (HasPieces s) new → IsTable s old rows
@@ -94,42 +111,52 @@ module _ (s : List ℕ) (old new : List AttributePieces) (first count at : ℕ) 
         view,
       )
 
--- a part of the attributes, in which one goes after the others
-module _ (s : List ℕ) (old : List AttributePieces) (first count at : ℕ) (range : first + count ≤ length old) where
-  abbrev own : List AttributePieces
-  own = moved at (slice_range old first (first + count))
-
+-- a part of the attributes with others, as many, in its place
+module _ (old own : List AttributePieces) (first count : ℕ) (as_many_own : length own ≡ count) (range : first + count ≤ length old) where
   abbrev new : List AttributePieces
   new = with_part first count old own
 
   begins : first ≤ length old
   begins = omega (arith, range)
 
-  as_many_own : length own ≡ count
-  as_many_own = length-moved at (slice_range old first (first + count)) ∙ omega (arith, length-take (first + count - first) (drop first old), length-drop first old, range)
+  pub part_count : length new ≡ length old
+  part_count = omega (arith, length-append (take first old) (own ++ drop count (drop first old)), length-append own (drop count (drop first old)), length-take first old, length-drop first old, length-drop count (drop first old), as_many_own, range)
 
-  as_many_all : length new ≡ length old
-  as_many_all = omega (arith, length-append (take first old) (own ++ drop count (drop first old)), length-append own (drop count (drop first old)), length-take first old, length-drop first old, length-drop count (drop first old), as_many_own, range)
+  pub part_below : (from to : ℕ) → to ≤ first → slice_range new from to ≡ slice_range old from to
+  part_below from to le = between_is new from to ∙ ap (drop from) (take-put_mid_below first count old own to le begins) ∙ sym (between_is old from to)
 
-  new_below : (from to : ℕ) → to ≤ first → slice_range new from to ≡ slice_range old from to
-  new_below from to le = between_is new from to ∙ ap (drop from) (take-put_mid_below first count old own to le begins) ∙ sym (between_is old from to)
+  pub part_above : (from to : ℕ) → first + count ≤ from → slice_range new from to ≡ slice_range old from to
+  part_above from to le = ap (take (to - from)) (drop-put_mid first count old own from le begins as_many_own)
 
-  new_above : (from to : ℕ) → first + count ≤ from → slice_range new from to ≡ slice_range old from to
-  new_above from to le = ap (take (to - from)) (drop-put_mid first count old own from le begins as_many_own)
+  pub part_own : slice_range new first (first + count) ≡ own
+  part_own = between-put_mid first count old own (first + count) begins (omega (arith, as_many_own))
 
-  new_own : slice_range new first (first + count) ≡ moved at (slice_range old first (first + count))
-  new_own = between-put_mid first count old own (first + count) begins (omega (arith, as_many_own))
-
-  inside_all : All (HasPieces s) old → All (HasPieces s) new
-  inside_all h =
+  pub part_inside : (s : List ℕ) → All (HasPieces s) old → All (HasPieces s) own → All (HasPieces s) new
+  part_inside s h mine =
       All-append (HasPieces s) (take first old) (own ++ drop count (drop first old)) (All-take (HasPieces s) first old h)
-      (All-append (HasPieces s) own (drop count (drop first old)) (All-moved (HasPieces s) at (slice_range old first (first + count)) (All-take (HasPieces s) (first + count - first) (drop first old) (All-drop (HasPieces s) first old h)))
-      (All-drop (HasPieces s) count (drop first old) (All-drop (HasPieces s) first old h)))
+      (All-append (HasPieces s) own (drop count (drop first old)) mine (All-drop (HasPieces s) count (drop first old) (All-drop (HasPieces s) first old h)))
+
+pub own_count : (old : List AttributePieces) (first count : ℕ) → first + count ≤ length old → length (slice_range old first (first + count)) ≡ count
+own_count old first count range = omega (arith, length-take (first + count - first) (drop first old), length-drop first old, range)
+
+pub own_inside : (s : List ℕ) (old : List AttributePieces) (first count : ℕ) → All (HasPieces s) old → All (HasPieces s) (slice_range old first (first + count))
+own_inside s old first count h = All-take (HasPieces s) (first + count - first) (drop first old) (All-drop (HasPieces s) first old h)
+
+-- a part of the attributes, in which one goes after the others
+module _ (s : List ℕ) (old : List AttributePieces) (first count at : ℕ) (range : first + count ≤ length old) where
+  abbrev own : List AttributePieces
+  own = moved at (slice_range old first (first + count))
+
+  as_many : length own ≡ count
+  as_many = length-moved at (slice_range old first (first + count)) ∙ own_count old first count range
 
   pub Shows-moved : (rows : List EventRow) (w : List Event) (i : ℕ) (r : EventRow) (foreign : Bool) (name : TextRange) → events_of s old rows ≡ w → slice_get rows i ≡ Some r → r.part ≡ parts.Start foreign count name first → IsTable s old rows
       → Shows s (with_part first count old (moved at (slice_range old first (first + count)))) rows (put_last w i at)
   Shows-moved rows w i r foreign name view there part table =
-      subst (λ v. Shows s new rows (put_last v i at)) view (table_moved s old new first count at new_below new_above new_own rows i r foreign name there part as_many_all (inside_all table.attributes) table)
+      subst (λ v. Shows s (with_part first count old own) rows (put_last v i at)) view
+      (table_moved s old (with_part first count old own) first count at (part_below old own first count as_many range) (part_above old own first count as_many range) (part_own old own first count as_many range) rows i r foreign name there part
+      (part_count old own first count as_many range)
+      (part_inside old own first count as_many range s table.attributes (All-moved (HasPieces s) at (slice_range old first (first + count)) (own_inside s old first count table.attributes))) table)
 
 -- ---- A row of a table whose events are w
 
@@ -141,14 +168,14 @@ module _ (s : List ℕ) (pieces : List AttributePieces) (rows : List EventRow) (
   pub row_moved : (foreign : Bool) (count : ℕ) (name : TextRange) (first : ℕ) → r.part ≡ parts.Start foreign count name first → (after : List AttributePieces) → after ≡ with_part first count pieces (moved at (slice_range pieces first (first + count)))
       → Shows s after rows (put_last w i at)
   row_moved foreign count name first part after e =
-      let range : first + count ≤ length pieces = (part_inside s pieces rows w view i within table r is (parts.Start foreign count name first) part).1 in
+      let range : first + count ≤ length pieces = (tables.part_inside s pieces rows w view i within table r is (parts.Start foreign count name first) part).1 in
       subst (λ x. Shows s x rows (put_last w i at)) (sym e) (Shows-moved s pieces first count at range rows w i r foreign name view there part table)
 
   -- there is no such attribute
   pub row_past : (foreign : Bool) (count : ℕ) (name : TextRange) (first : ℕ) → r.part ≡ parts.Start foreign count name first → count ≤ at → put_last w i at ≡ w
   row_past foreign count name first part past =
       let own = slice_range pieces first (first + count) in
-      let range : first + count ≤ length pieces = (part_inside s pieces rows w view i within table r is (parts.Start foreign count name first) part).1 in
+      let range : first + count ≤ length pieces = (tables.part_inside s pieces rows w view i within table r is (parts.Start foreign count name first) part).1 in
       let as_many : length (attributes_in s own) ≡ count = length-map own (attribute_in s) ∙ omega (arith, length-take (first + count - first) (drop first pieces), length-drop first pieces, range) in
       put_last-same w i at (start (bytes_of s name) foreign (attributes_in s own)) (part_event s pieces rows w view i within table r is (parts.Start foreign count name first) part)
       (ap (start (bytes_of s name) foreign) (moved_past at (attributes_in s own) (omega (arith, as_many, past))))

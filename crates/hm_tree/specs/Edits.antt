@@ -1,7 +1,7 @@
 -- A tree whose events are gone through from the first to the last, each kept, changed or left out.
-use Rattle.std.specs.Prelude.{◌≡◌, ℕ, ◌^◌, ◌<◌, ◌≤◌, false, List, [], ◌∷◌, ◌++◌, length, map, take, drop, slice_get, slice_range, All, Option, Some, None, IsCharBoundary}
+use Rattle.std.specs.Prelude.{◌≡◌, ℕ, zero, suc, ◌+◌, ◌^◌, ◌<◌, ◌≤◌, ◌&&◌, Bool, true, false, List, [], ◌∷◌, ◌++◌, length, map, take, drop, slice_get, slice_range, All, Option, Some, None, IsCharBoundary}
 use Rattle.hm_base.specs.Bytes.{is_null}
-use Rattle.hm_base.specs.Walks.{Event, text}
+use Rattle.hm_base.specs.Walks.{Attribute, Event, doctype, start, text, comment, begins_text, walk_size}
 use Rattle.hm_tree.specs.Trees.{IsMade, IsTold, innermost}
 use Rattle.hm_tree.specs.Pieces.{HasPieces}
 use Rattle.hm_tree.specs.Rows.{AreInside, HaveOwn, events_of, parents_from}
@@ -50,6 +50,53 @@ IsCut w from to = ⊥
 abbrev pub IsShorter : List Event → List ℕ → Type 0
 IsShorter (text s raw ∷ w) t = (length t ≤ length s) × (is_null t ≡ false)
 IsShorter w t = ⊥
+
+-- a doctype is first
+abbrev pub begins_doctype : List Event → Bool
+begins_doctype (doctype legacy ∷ w) = true
+begins_doctype w = false
+
+-- the plain doctype in place of the doctype that is first
+abbrev pub with_plain_doctype : List Event → List Event
+with_plain_doctype (doctype legacy ∷ w) = doctype false ∷ w
+with_plain_doctype w = w
+
+-- the start that is first has an attribute at this place
+abbrev pub HasAttribute : List Event → ℕ → Type 0
+HasAttribute (start n foreign attributes ∷ w) at = at < length attributes
+HasAttribute w at = ⊥
+
+-- the start that is first with its attributes changed
+abbrev pub with_attributes : (List Attribute → List Attribute) → List Event → List Event
+with_attributes f (start n foreign attributes ∷ w) = start n foreign (f attributes) ∷ w
+with_attributes f w = w
+
+-- attributes of which the one at a place has no value
+abbrev pub without_value : ℕ → List Attribute → List Attribute
+without_value at [] = []
+without_value zero (a ∷ attributes) = record { name = a.name; value = [] } ∷ attributes
+without_value (suc at) (a ∷ attributes) = a ∷ without_value at attributes
+
+-- a text or a comment
+abbrev pub is_loose : Event → Bool
+is_loose (text s raw) = true
+is_loose (comment s) = true
+is_loose e = false
+
+abbrev pub are_loose : List Event → Bool
+are_loose [] = true
+are_loose (e ∷ w) = is_loose e && are_loose w
+
+-- The first event is a text, and after it stand n texts and comments, and no further text. t has no more bytes than all of them, and
+-- isn't empty.
+abbrev pub IsJoined : List Event → ℕ → List ℕ → Type 0
+IsJoined (text s raw ∷ w) n t = (n ≤ length w) × (are_loose (take n w) ≡ true) × (begins_text (drop n w) ≡ false) × (length t ≤ length s + walk_size (take n w)) × (is_null t ≡ false)
+IsJoined w n t = ⊥
+
+-- t in place of the text that is first and of the n events after it
+abbrev pub with_joined : ℕ → List ℕ → List Event → List Event
+with_joined n t (text s raw ∷ w) = text t raw ∷ drop n w
+with_joined n t w = w
 
 -- The rows `front` are done and the rows `rest` are left, of which only those that are done have their parents.
 pub record IsEdited (s : List ℕ) (pieces : List AttributePieces) (front rest : List EventRow) (parent : Option ℕ) : Type 0 where

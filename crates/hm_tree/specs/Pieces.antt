@@ -1,5 +1,5 @@
 -- Pieces of a text, and the attributes whose names and values are such pieces.
-use Rattle.std.specs.Prelude.{◌≡◌, ℕ, ◌-◌, ◌^◌, ◌<◌, ◌≤◌, true, List, take, drop, length, map, flat_map, All, ◌++◌, IsCharBoundary}
+use Rattle.std.specs.Prelude.{◌≡◌, ℕ, zero, suc, ◌-◌, ◌^◌, ◌<◌, ◌≤◌, true, List, [], ◌∷◌, take, drop, length, map, flat_map, All, ◌++◌, IsCharBoundary}
 use Rattle.hm_base.specs.Walks.{Attribute, has_distinct_names}
 use Rattle.hm_tree.specs.Attributes.{are_texts}
 use Rattle.hm_tree.specs.declared.pieces.TextRange.{TextRange}
@@ -32,6 +32,12 @@ attributes_in s pieces = map (attribute_in s) pieces
 
 abbrev pub HasPieces : List ℕ → AttributePieces → Type 0
 HasPieces s a = IsPiece s (name_of a) × IsPiece s (value_of a)
+
+-- pieces of attributes, of which the one at a place has no value
+abbrev pub emptied : ℕ → List AttributePieces → List AttributePieces
+emptied at [] = []
+emptied zero (a ∷ pieces) = record { from = a.from; middle = a.middle; to = a.middle } ∷ pieces
+emptied (suc at) (a ∷ pieces) = a ∷ emptied at pieces
 
 -- these pieces are the attributes of an element
 pub record ArePiecesShown (s : List ℕ) (pieces : List AttributePieces) : Type 0 where

@@ -1,8 +1,10 @@
 //! A tree gone through from its first event to its last, and changed in place.
-ghost use Rattle.std.specs.Prelude.{◌≡◌, ◌<◌, ◌≤◌, [], ◌++◌, length, slice_get, take, true, Some, option_map, MatchOption, IfSome, OnOk, OnErr};
-ghost use Rattle.hm_base.specs.Walks.{begins_text, path_after};
+ghost use Rattle.std.specs.Prelude.{◌≡◌, ◌<◌, ◌≤◌, [], ◌++◌, length, slice_get, take, false, true, Some, option_map, MatchOption, IfSome, OnOk, OnErr};
+ghost use Rattle.hm_base.specs.Walks.{begins_comment, begins_text, path_after};
 ghost use Rattle.hm_tree.specs.Edits as edits;
-ghost use Rattle.hm_tree.specs.Edits.{IsCut, IsShorter, kept, last_event, with_first_cut, with_first_text, without_first};
+ghost use Rattle.std.specs.List.{remove};
+ghost use Rattle.hm_tree.specs.Edits.{begins_doctype, HasAttribute, IsCut, IsJoined, IsShorter, kept, last_event, with_attributes, with_first_cut, with_first_text, with_joined, with_plain_doctype, without_first, without_value};
+ghost use Rattle.hm_tree.specs.Rows.{ends_in_text};
 ghost use Rattle.hm_tree.specs.Trees.{IsMade, IsStartAt, IsWalk, parent_of};
 ghost use Rattle.hm_tree.specs.Views.{event_of};
 
@@ -10,7 +12,7 @@ use crate::parent::Parent;
 use crate::pieces::{AttributePieces, TextRange};
 use crate::rows::{EventRow, RowPart};
 use crate::shown::show;
-use crate::table::Table;
+use crate::table::{Table, empty_in_part, move_in_part};
 use crate::{EventView, Tree};
 use hm_base::Memory;
 use std::marker::Model;
@@ -87,12 +89,12 @@ impl Editor {
         show(self.text.as_str(), self.attributes.as_slice(), row.part)
     }
 
-    /// The event after the next one.
-    pub fn after_next(&self) -> Option<EventView<'_>>
+    /// The event that stands `count` events after the next one.
+    pub fn ahead(&self, count: u32) -> Option<EventView<'_>>
         requires { 0 < length self.now.left }
-        ensures { option_map event_of result ≡ slice_get self.now.left 1 }
+        ensures { option_map event_of result ≡ slice_get self.now.left count }
     {
-        let at = self.next as usize + 1;
+        let at = self.next as usize + count as usize;
         if at < self.rows.len() {
             let row = self.rows[at];
             Some(show(self.text.as_str(), self.attributes.as_slice(), row.part))
@@ -149,6 +151,89 @@ impl Editor {
         ensures { self.new ≡ record { done = self.old.done; left = without_first self.old.left } }
     {
         self.next += 1;
+    }
+
+    /// Leaves out the next event, a comment. No text stands directly before it.
+    pub fn leave_out_comment(&mut self)
+        requires comment { begins_comment self.old.left ≡ true }
+        requires apart { ends_in_text self.old.done ≡ false }
+        ensures { self.new ≡ record { done = self.old.done; left = without_first self.old.left } }
+    {
+        self.next += 1;
+    }
+
+    /// Makes the next event, a doctype, the plain one.
+    pub fn make_plain(&mut self)
+        requires { begins_doctype self.old.left ≡ true }
+        ensures { self.new ≡ record { done = self.old.done; left = with_plain_doctype self.old.left } }
+    {
+        let at = self.next as usize;
+        self.rows[at] = EventRow {
+            part: RowPart::Doctype { legacy: false },
+            parent: self.rows[at].parent,
+        };
+    }
+
+    /// Leaves out attribute `at` of the next event, a start.
+    pub fn leave_out_attribute(&mut self, at: u32)
+        requires { HasAttribute self.old.left at }
+        ensures { self.new ≡ record { done = self.old.done; left = with_attributes (λ attributes. remove attributes at) self.old.left } }
+    {
+        let next = self.next as usize;
+        let row = self.rows[next];
+        if let RowPart::Start {
+            foreign,
+            count,
+            name,
+            first,
+        } = row.part
+        {
+            move_in_part(&mut self.attributes, first, count, at);
+            self.rows[next] = EventRow {
+                part: RowPart::Start {
+                    foreign,
+                    count: count - 1,
+                    name,
+                    first,
+                },
+                parent: row.parent,
+            };
+        }
+    }
+
+    /// Leaves out the value of attribute `at` of the next event, a start.
+    pub fn leave_out_value(&mut self, at: u32)
+        requires { HasAttribute self.old.left at }
+        ensures { self.new ≡ record { done = self.old.done; left = with_attributes (without_value at) self.old.left } }
+    {
+        let row = self.rows[self.next as usize];
+        if let RowPart::Start { count, first, .. } = row.part {
+            empty_in_part(&mut self.attributes, first, count, at);
+        }
+    }
+
+    /// Puts a text in place of the next event, a text, and of the `count` texts and comments after it.
+    pub fn join(&mut self, count: u32, text: &str) -> Result<(), Memory>
+        requires { IsJoined self.old.left count text.now }
+        ensures ok { OnOk result (self.new ≡ record { done = self.old.done; left = with_joined count text.now self.old.left }) }
+        ensures err { OnErr result (self.new ≡ self.old) }
+    {
+        let row = self.rows[self.next as usize];
+        let RowPart::Text { raw, .. } = row.part else {
+            return Err(Memory);
+        };
+        let Ok(to) = u32::try_from(self.text.len() + text.len()) else {
+            return Err(Memory);
+        };
+        let from = self.text.len() as u32;
+        self.text.push_str(text)?;
+        let text = TextRange { from, to };
+        self.next += count;
+        self.rows[self.next as usize] = EventRow {
+            part: RowPart::Text { text, raw },
+            parent: row.parent,
+        };
+        Ok(())
     }
 
     /// Of the next event, a text, only the bytes from `from` up to `to` are left.

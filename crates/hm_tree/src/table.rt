@@ -1,6 +1,7 @@
 //! The events of a tree in a table: a row for each event, and the bytes and attributes that the rows point into.
 ghost use Rattle.std.specs.Prelude.{◌≡◌, ◌+◌, ◌<◌, ◌≤◌, length, slice_get, slice_range, string_bytes, Some};
 ghost use Rattle.hm_tree.specs.Moved.{moved, put_last, with_part};
+ghost use Rattle.hm_tree.specs.Pieces.{emptied};
 ghost use Rattle.hm_tree.specs.Rows.{IsTable, events_of};
 ghost use Rattle.hm_tree.specs.Trees.{IsTold, parent_of};
 ghost use Rattle.hm_tree.specs.Views.{event_of};
@@ -104,7 +105,7 @@ fn move_last(attributes: &mut [AttributePieces], at: usize)
 }
 
 // Does so with one of `count` of the attributes, from the index `first` on.
-fn move_in_part(attributes: &mut Vec<AttributePieces>, first: u32, count: u16, at: u32)
+pub(crate) fn move_in_part(attributes: &mut Vec<AttributePieces>, first: u32, count: u16, at: u32)
     requires inside { first + count ≤ length attributes.old.items }
     requires there { at < count }
     ensures { attributes.new.items ≡ with_part first count attributes.old.items (moved at (slice_range attributes.old.items first (first + count))) }
@@ -114,4 +115,23 @@ fn move_in_part(attributes: &mut Vec<AttributePieces>, first: u32, count: u16, a
         &mut attributes[from..from + usize::from(count)],
         at as usize,
     );
+}
+
+// Leaves out the value of the attribute at a place.
+fn empty_at(attributes: &mut [AttributePieces], at: usize)
+    requires { at < length attributes.old }
+    ensures { attributes.new ≡ emptied at attributes.old }
+{
+    attributes[at].to = attributes[at].middle;
+}
+
+// Does so with one of `count` of the attributes, from the index `first` on.
+pub(crate) fn empty_in_part(attributes: &mut Vec<AttributePieces>, first: u32, count: u16, at: u32)
+    requires inside { first + count ≤ length attributes.old.items }
+    requires there { at < count }
+    ensures { attributes.new.items ≡ with_part first count attributes.old.items (emptied at (slice_range attributes.old.items first (first + count))) }
+{
+    let from = first as usize;
+    let to = from + usize::from(count);
+    empty_at(&mut attributes[from..to], at as usize);
 }

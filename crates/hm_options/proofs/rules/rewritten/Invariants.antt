@@ -1,5 +1,6 @@
+use Rattle.std.proofs.Common.{◌≤◌, ◌-◌, length}
 use Rattle.hm_options.proofs.Passing.{IsPassed}
 use Rattle.hm_options.proofs.rules.rewritten.Given as goal
 
-abbrev pub invariant-loop-i : goal.invariant-loop-i
-invariant-loop-i l = IsPassed l.options l.tree l.i l.maker l.last
+abbrev pub invariant-loop : goal.invariant-loop
+invariant-loop l = IsPassed l.options l.fn.tree l.editor × (length l.editor.left ≤ l.end - l.counter)

@@ -1,0 +1,18 @@
+use Rattle.std.proofs.Common.{string_bytes}
+use Rattle.hm_tree.proofs.ChangedLemmas.{leaves_value, range, row_there}
+use Rattle.hm_tree.proofs.editor.Editor.leave_out_value.Goals as goal
+
+pub empty_in_part-requires-clause-inside : goal.empty_in_part-requires-clause-inside
+empty_in_part-requires-clause-inside c =
+    let i = c.self.inside in
+    range (string_bytes i.text) i.attributes.items i.rows.items i.done i.next i.parent c.self.invariant c.args.self.now c.self.view_is c.index-row.result.now c.index-row.ensures (row_there (string_bytes i.text) i.attributes.items i.rows.items i.done i.next i.parent c.self.invariant c.args.self.now c.self.view_is c.args.at c.requires) c.in-Start.foreign c.in-Start.count c.in-Start.name c.in-Start.first c.in-Start.is
+
+pub invariant_of-self : goal.invariant_of-self
+invariant_of-self c =
+    let i = c.self.inside in
+    (leaves_value (string_bytes i.text) i.attributes.items i.rows.items i.done i.next i.parent c.self.invariant c.args.self.now c.self.view_is c.index-row.result.now c.index-row.ensures (row_there (string_bytes i.text) i.attributes.items i.rows.items i.done i.next i.parent c.self.invariant c.args.self.now c.self.view_is c.args.at c.requires) c.in-Start.foreign c.in-Start.count c.in-Start.name c.in-Start.first c.in-Start.is c.args.at c.requires c.empty_in_part.new.attributes.items c.empty_in_part.ensures).0
+
+pub returns-in-Start : goal.returns-in-Start
+returns-in-Start c =
+    let i = c.self.inside in
+    (leaves_value (string_bytes i.text) i.attributes.items i.rows.items i.done i.next i.parent c.self.invariant c.args.self.now c.self.view_is c.index-row.result.now c.index-row.ensures (row_there (string_bytes i.text) i.attributes.items i.rows.items i.done i.next i.parent c.self.invariant c.args.self.now c.self.view_is c.args.at c.requires) c.in-Start.foreign c.in-Start.count c.in-Start.name c.in-Start.first c.in-Start.is c.args.at c.requires c.empty_in_part.new.attributes.items c.empty_in_part.ensures).1

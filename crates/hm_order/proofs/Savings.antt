@@ -1,5 +1,5 @@
 -- No attribute saves more than one byte as the last one of its tag, so the first that saves one goes last.
-use Rattle.std.proofs.Common.{◌≡◌, ◌+◌, ◌<◌, ◌≤◌, ℕ, zero, suc, Bool, true, false, cond, ◌&&◌, List, [], ◌∷◌, ◌++◌, length, slice_get, take, Option, Some, None, refl, sym, ap, ◌∙◌, subst, arith}
+use Rattle.std.proofs.Common.{◌≡◌, ◌+◌, ◌<◌, ◌≤◌, ℕ, zero, suc, Bool, true, false, cond, ◌&&◌, List, [], ◌∷◌, length, slice_get, take, Option, Some, None, sym, ◌∙◌, subst, arith}
 use Rattle.std.proofs.lemmas.List.Elements.{All-head, All-tail}
 use Rattle.std.proofs.lemmas.Option.{slice_get_within}
 use Rattle.std.specs.List.{All}
@@ -17,7 +17,7 @@ use Rattle.hm_spelling_spec.specs.Tags.{Spelling}
 use Rattle.hm_tree.specs.Moved.{moved}
 use Rattle.hm_order.specs.Costs.{plus, value_cost, cost_of, inner_cost, last_cost}
 use Rattle.hm_order.specs.Orders.{ordered}
-use Rattle.hm_order.specs.Places.{AreCosts, cost_at, IsFirstBest}
+use Rattle.hm_order.specs.Places.{AreCosts, cost_at}
 use Rattle.hm_order.specs.declared.costs.AttrCost.{AttrCost}
 use Rattle.hm_order.proofs.Numbers.{inner_of, last_of, numbers}
 use Rattle.hm_order.proofs.Places.{costs_at, costs_count, ordered_is_moved}

@@ -1,12 +1,16 @@
 -- Easy characters, one after the other.
-use Rattle.std.proofs.Common.{Option, Some, ◌&&◌, ◌≡◌, ◌<◌, ◌+◌, ◌≤◌, ℕ, Bool, true, false, ◌||◌, ◌==◌, nat_lt, List, [], ◌∷◌, ◌++◌, length, slice_index_or, take, refl, sym, ap, ◌∙◌, subst, inl, inr, ◌⊎◌, append_assoc, append-nil, chars, encode_utf8, arith}
+use Rattle.std.proofs.Common.{Option, Some, ◌&&◌, ◌≡◌, ◌<◌, ◌+◌, ◌≤◌, ℕ, Bool, true, false, not, ◌||◌, ◌==◌, nat_lt, List, [], ◌∷◌, ◌++◌, length, slice_index_or, take, refl, sym, ap, ◌∙◌, subst, inl, inr, ◌⊎◌, append_assoc, append-nil, chars, encode_utf8, arith}
 use Rattle.std.proofs.lemmas.Bool.Decides.{nat_tests}
 use Rattle.std.proofs.lemmas.List.{nil_from_length, take_more}
 use Rattle.std.proofs.lemmas.Str.{chars_from_encodes, encodes-append}
 use Rattle.std.specs.Prelude.{encode_utf8_all}
+use Rattle.std.specs.List.{list_all}
 use Rattle.std.specs.Str.{IsUtf8}
 use Rattle.hm_refs.specs.Names.{Entry}
-use Rattle.hm_refs.specs.Plain.{is_plain}
+use Rattle.hm_refs.specs.Plain.{is_plain, is_plain_byte, plain_bytes, allows}
+use Rattle.hm_base.specs.Bytes.{all_pass, is_space}
+use Rattle.hm_refs.proofs.Bools.{and_left}
+use Rattle.hm_refs.proofs.FlagLaws.{plain_passes}
 use Rattle.hm_refs.specs.Tables.{entry_at}
 use Rattle.hm_graph_laws.specs.States.{nothing, Pending}
 use Rattle.hm_spelling_spec.specs.Characters.{double, is_barred, is_writable}
@@ -24,7 +28,7 @@ pub easy_push : (t : List Entry) (ascii low : Bool) (cs : List ℕ) (c : ℕ) �
 easy_push t ascii low [] c h k = (k, tt)
 easy_push t ascii low (x ∷ cs) c h k = (h.0, easy_push t ascii low cs c h.1 k)
 
-or_false : (x : Bool) → (x || false) ≡ x
+pub or_false : (x : Bool) → (x || false) ≡ x
 or_false true = refl
 or_false false = refl
 
@@ -79,3 +83,55 @@ and_false false = refl
 
 pub nothing_stays : (t : List Entry) (c : ℕ) → (c ≡ 38 → ⊥) → literal t double (Some nothing) c ≡ Some nothing
 nothing_stays t c other = rw (run_nothing t double (encode_utf8 c), unequal c 38 other, and_false (c == 60)) refl
+
+all_ascii : all_pass (λ d. nat_lt d 128) plain_bytes ≡ true
+all_ascii = refl
+
+no_quotes : all_pass (λ d. not (d == 34)) plain_bytes ≡ true
+no_quotes = refl
+
+no_returns : all_pass (λ d. not (d == 13)) plain_bytes ≡ true
+no_returns = refl
+
+no_ampersands : all_pass (λ d. not (d == 38)) plain_bytes ≡ true
+no_ampersands = refl
+
+none_barred : all_pass (λ d. not (is_barred d)) plain_bytes ≡ true
+unfolding is_barred is_space
+none_barred = refl
+
+is_off : (b : Bool) → not b ≡ true → b ≡ false
+is_off true h = absurd (cc)
+is_off false h = refl
+
+-- a plain character is one of ASCII that can stand everywhere
+pub record IsClear (c : ℕ) : Type 0 where
+  pub low : c < 128
+  pub no_quote : c ≡ 34 → ⊥
+  pub no_return : c ≡ 13 → ⊥
+  pub no_ampersand : c ≡ 38 → ⊥
+  pub stands : is_barred c ≡ false
+
+other : (d : ℕ) → all_pass (λ x. not (x == d)) plain_bytes ≡ true → (d == d) ≡ true → (c : ℕ) → is_plain_byte c ≡ true → c ≡ d → ⊥
+other d all same c plain is = absurd (let h = subst (λ x. not (x == d) ≡ true) is (plain_passes (λ x. not (x == d)) c all plain) in let k = is_off (d == d) h in let both = sym same ∙ k in cc)
+
+pub clear : (t : List Entry) (c : ℕ) → is_plain t c ≡ true → IsClear c
+clear t c h =
+    let plain = and_left (is_plain_byte c) (list_all (allows c) t) h in
+    let few = plain_passes (λ d. nat_lt d 128) c all_ascii plain in
+    record {
+      low = grind (arith, nat_tests, few);
+      no_quote = other 34 no_quotes refl c plain;
+      no_return = other 13 no_returns refl c plain;
+      no_ampersand = other 38 no_ampersands refl c plain;
+      stands = is_off (is_barred c) (plain_passes (λ d. not (is_barred d)) c none_barred plain);
+    }
+
+pub plain_is_easy : (t : List Entry) (ascii low : Bool) (c : ℕ) → is_plain t c ≡ true → IsEasy t ascii low c
+plain_is_easy t ascii low c h =
+    let k = clear t c h in
+    easy_from t ascii low c (either low k.low) k.no_quote k.no_return (either ascii k.low) (λ off. absurd (let both = sym h ∙ off in cc))
+  where
+    either : (b : Bool) → c < 128 → ((b ≡ true) × (c < 128)) ⊎ (b ≡ false)
+    either true less = inl (refl, less)
+    either false less = inr refl

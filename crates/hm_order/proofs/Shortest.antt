@@ -9,7 +9,6 @@ use Rattle.hm_graph_laws.specs.Ways.{Edges, first_way, least}
 use Rattle.hm_graph_laws.proofs.LeastPrices.{first_least}
 use Rattle.hm_refs.specs.Names.{Entry}
 use Rattle.hm_refs.specs.Tables.{IsTable}
-use Rattle.hm_spelling_spec.specs.Spellings.{Shortest}
 use Rattle.hm_spelling_spec.specs.Tags.{Spelling}
 use Rattle.hm_graph_laws.specs.States.{first_state}
 use Rattle.hm_graph_laws.specs.Units.{units_of, may_close_itself}

@@ -1,5 +1,5 @@
 //! Values whose fewest bytes a scan of their characters tells.
-ghost use Rattle.std.specs.Prelude.{◌≡◌, ◌≤◌, ◌<◌, true, length, Some, IfSome};
+ghost use Rattle.std.specs.Prelude.{◌≡◌, ◌≤◌, ◌<◌, ◌||◌, true, length, Some, IfSome};
 ghost use Rattle.std.specs.Option.{option_map};
 ghost use Rattle.std.specs.Str.{chars};
 ghost use Rattle.hm_edges.specs.States.{HasNodes, pending_of};
@@ -115,27 +115,36 @@ fn literal_behind(table: &Table, pending: Pending, c: char) -> Option<Pending>
     }
 }
 
-// What is pending after the characters of a text as themselves in a value.
-fn literals(table: &Table, pending: Pending, text: &str) -> Option<Pending>
-    requires { HasNodes table.now pending }
-    ensures literals { IfSome result (λ behind. weights.literals table.now.entries double (Some (pending_of table.now pending)) (chars text.now) ≡ Some (pending_of table.now behind)) }
-    ensures nodes { IfSome result (HasNodes table.now) }
-{
-    let mut behind = pending;
-    for c in text.chars() {
-        behind = literal_behind(table, behind, c)?;
-    }
-    Some(behind)
+// What is known of a value whose characters are gone through.
+#[derive(Clone, Copy, Debug)]
+struct Seen {
+    // One of them can't stand without quotes.
+    barred: bool,
+    // What is pending after them as themselves.
+    pending: Pending,
 }
 
-// Whether a value is read as its characters where each stands as itself. Where the answer is no, it may be too.
-fn is_literal(table: &Table, value: &str) -> bool
-    ensures { result ≡ true → are_literal table.now.entries (chars value.now) ≡ true }
+// What is known with one more character. None where it isn't easy, or makes something else of what is pending.
+fn seen_with(table: &Table, ascii: bool, low: bool, seen: Seen, c: char) -> Option<Seen>
+    requires { HasNodes table.now seen.pending }
+    ensures easy { IfSome result (λ more. IsEasy table.now.entries ascii low c) }
+    ensures barred { IfSome result (λ more. more.barred ≡ (seen.barred || characters.is_barred c)) }
+    ensures literal { IfSome result (λ more. weights.literal table.now.entries double (Some (pending_of table.now seen.pending)) c ≡ Some (pending_of table.now more.pending)) }
+    ensures nodes { IfSome result (λ more. HasNodes table.now more.pending) }
 {
-    match literals(table, Pending::Nothing, value) {
-        Some(pending) => may_end(pending, table, Spot::Double),
-        None => false,
+    if table.is_plain(c) {
+        if let Pending::Nothing = seen.pending {
+            return Some(seen);
+        }
     }
+    if !is_easy(table, ascii, low, c) {
+        return None;
+    }
+    let pending = literal_behind(table, seen.pending, c)?;
+    Some(Seen {
+        barred: seen.barred || is_barred(c),
+        pending,
+    })
 }
 
 /// Whether a value has a character that can't stand without quotes, where all its characters are easy and stand as themselves. None
@@ -145,15 +154,15 @@ pub(crate) fn scan(table: &Table, ascii: bool, low: bool, value: &str) -> Option
     ensures literal { IfSome result (λ barred. are_literal table.now.entries (chars value.now) ≡ true) }
     ensures barred { IfSome result (λ barred. barred ≡ some_barred (chars value.now)) }
 {
-    let mut barred = false;
+    let mut seen = Seen {
+        barred: false,
+        pending: Pending::Nothing,
+    };
     for c in value.chars() {
-        if !is_easy(table, ascii, low, c) {
-            return None;
-        }
-        barred = barred || is_barred(c);
+        seen = seen_with(table, ascii, low, seen, c)?;
     }
-    if is_literal(table, value) {
-        Some(barred)
+    if may_end(seen.pending, table, Spot::Double) {
+        Some(seen.barred)
     } else {
         None
     }

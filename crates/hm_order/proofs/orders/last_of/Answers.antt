@@ -1,5 +1,4 @@
-use Rattle.std.proofs.Common.{◌≡◌, slice_get, Some, ap, ◌∙◌, arith}
-use Rattle.hm_base.specs.Walks.{start}
+use Rattle.std.proofs.Common.{Some, ap, ◌∙◌, arith}
 use Rattle.hm_graph_laws.specs.ExchangeLaws.{sparing_plain}
 use Rattle.hm_tree.specs.Views.{attributes_shown, event_of}
 use Rattle.hm_order.proofs.InOrder.{few_stay_so, other_view_stays, tag_is_ordered}

@@ -7,7 +7,7 @@ use Rattle.serde_json.specs.View.{view, items_view}
 use Rattle.serde_json.specs.declared.value.Value.{Value}
 use Rattle.hm_base.specs.Walks.{Attribute, start, Element}
 use Rattle.hm_json_tree.specs.Reading.{doctype_in, start_in, text_in, comment_in, end_in, attribute_in, attributes_in, is_svg_here}
-use Rattle.hm_json_tree.specs.Forms.{attributes_at}
+use Rattle.hm_json_tree.specs.Pairs.{attributes_at}
 
 -- ---- Too few or too many items
 

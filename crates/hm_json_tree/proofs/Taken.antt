@@ -13,11 +13,10 @@ use Rattle.hm_tree.specs.Trees.{HasRoom, last_agrees}
 use Rattle.hm_tree.proofs.WalkLemmas.{path_after-push, walk_size-push}
 use Rattle.hm_tree.proofs.LastLemmas.{ends_in_text-push}
 use Rattle.hm_tree.proofs.TextLemmas.{with_text-push}
-use Rattle.serde_json.specs.declared.value.Value.{Value}
 use denote.Ref.{Bor}
 use Rattle.hm_json_tree.specs.Breaks.{Break, Past, past_behind, is_behind_text, point_at, at_event, first_break_from, first_break}
 use Rattle.hm_json_tree.specs.Reading.{Listed, listed, bad_event, left_open, put_event, at_end, of_listed, unless_broken, walk, some_open, not_settled}
-use Rattle.hm_json_tree.specs.Forms.{told, HasAttributes, may_join, are_in_form, attributes_at}
+use Rattle.hm_json_tree.specs.Forms.{told, HasAttributes, may_join, are_in_form}
 use Rattle.hm_json_tree.specs.Progress.{IsAt, put_events}
 use Rattle.hm_json_tree.specs.Seen.{IsSeen}
 use Rattle.hm_json_tree.specs.declared.reader.Reader.{Reader}
@@ -135,7 +134,7 @@ module _ (old : Reader) (e : Event) (at : IsAt old) where
 pub joins : (path : List Element) (f : Form) (p : Past) (w : List Event) → point_at p (told path f) ≡ None → p.path ≡ path → is_behind_text p.before ≡ ends_in_text w → may_join f w ≡ true
 unfolding is_text_in_place
 joins path (Doctype legacy) p w h q l = refl
-joins path (Start n vs) p w h q l = refl
+joins path (Start n attributes) p w h q l = refl
 joins path (Text s) p w h q l =
     let s' = passes p (told path (Text s)) h in
     let two = and_parts _ _ s'.texts in
@@ -180,7 +179,7 @@ module _ (path : List Element) where
   pub raw_other : (f : Form) → ((s : Bor (List ℕ)) → f ≡ Text s → ⊥) → true ≡ is_raw_text path (told path f) []
   unfolding is_raw_text
   raw_other (Doctype legacy) other = refl
-  raw_other (Start n vs) other = refl
+  raw_other (Start n attributes) other = refl
   raw_other (Text s) other = absurd (other s refl)
   raw_other (Comment s) other = refl
   raw_other End other = refl
@@ -189,21 +188,21 @@ module _ (path : List Element) where
   unfolding is_raw_text
   not_raw s raw h = rw h refl
 
-  pub attributes_other : (f : Form) → ((n : Bor (List ℕ)) (vs : Bor (List Value)) → f ≡ Start n vs → ⊥) → true ≡ has_attributes_in_form path (told path f) []
+  pub attributes_other : (f : Form) → ((n : Bor (List ℕ)) (attributes : List Attribute) → f ≡ Start n attributes → ⊥) → true ≡ has_attributes_in_form path (told path f) []
   unfolding has_attributes_in_form
   attributes_other (Doctype legacy) other = refl
-  attributes_other (Start n vs) other = absurd (other n vs refl)
+  attributes_other (Start n attributes) other = absurd (other n attributes refl)
   attributes_other (Text s) other = refl
   attributes_other (Comment s) other = refl
   attributes_other End other = refl
 
-  pub start_in_form : (n : Bor (List ℕ)) (vs : Bor (List Value)) → has_attributes_in_form path (told path (Start n vs)) [] ≡ are_in_form (attributes_at vs.now)
+  pub start_in_form : (n : Bor (List ℕ)) (attributes : List Attribute) → has_attributes_in_form path (told path (Start n attributes)) [] ≡ are_in_form attributes
   unfolding has_attributes_in_form
-  start_in_form n vs = refl
+  start_in_form n attributes = refl
 
-pub none_asked : (f : Form) (attributes : List Attribute) → ((n : Bor (List ℕ)) (vs : Bor (List Value)) → f ≡ Start n vs → ⊥) → HasAttributes f attributes
+pub none_asked : (f : Form) (attributes : List Attribute) → ((n : Bor (List ℕ)) (own : List Attribute) → f ≡ Start n own → ⊥) → HasAttributes f attributes
 none_asked (Doctype legacy) attributes other = tt
-none_asked (Start n vs) attributes other = absurd (other n vs refl)
+none_asked (Start n own) attributes other = absurd (other n own refl)
 none_asked (Text s) attributes other = tt
 none_asked (Comment s) attributes other = tt
 none_asked End attributes other = tt

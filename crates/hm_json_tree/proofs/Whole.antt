@@ -107,7 +107,7 @@ pub ends_closed : (path : List Element) (w : List Event) → length path ≡ 0 �
 ends_closed [] w l = put_events-listed w []
 ends_closed (m ∷ path) w l = absurd (omega (arith, l))
 
-open_left : (path : List Element) (w v : List Event) → 0 < length path → of_listed (put_events w (put_events v (at_end path))) ≡ some_open (length path)
+pub open_left : (path : List Element) (w v : List Event) → 0 < length path → of_listed (put_events w (put_events v (at_end path))) ≡ some_open (length path)
 open_left [] w v l = absurd (omega (arith, l))
 open_left (m ∷ path) w v l = ap of_listed (ap (put_events w) (put_events-open v (suc (length path))) ∙ put_events-open w (suc (length path)))
 

@@ -3,21 +3,21 @@ ghost use Rattle.std.specs.Prelude.{◌≡◌, ◌&&◌, false, true, not, lengt
 ghost use Rattle.hm_base.specs.Walks.{has_distinct_names};
 ghost use Rattle.hm_base.specs.declared.limits.TheConstants.{ATTRIBUTE_LIMIT};
 ghost use Rattle.hm_elements.specs.Settled.{all_names_in_form, no_zero_in_values};
-ghost use Rattle.hm_json_tree.specs.Forms.{are_in_form, attributes_at};
+ghost use Rattle.hm_json_tree.specs.Forms.{are_in_form};
 
-use crate::form::pair_of;
+use crate::pairs::Pairs;
 use crate::texts::{has_byte, is_attribute_name};
 use hm_base::{ATTRIBUTE_LIMIT, Memory};
 use hm_tree::Attrs;
-use serde_json::Value;
 use std::alloc::Global;
 
 /// Whether a value has a zero byte.
-pub(crate) fn have_zero(items: &[Value]) -> bool
-    ensures { result ≡ not (no_zero_in_values (attributes_at items.now)) }
+pub(crate) fn have_zero(pairs: &Pairs<'_>) -> bool
+    ensures { result ≡ not (no_zero_in_values pairs.now) }
 {
-    for item in items {
-        if has_byte(pair_of(item).1.as_bytes(), 0) {
+    for i in 0..pairs.len() {
+        let (_, value) = pairs.at(i);
+        if has_byte(value.as_bytes(), 0) {
             return true;
         }
     }
@@ -25,16 +25,16 @@ pub(crate) fn have_zero(items: &[Value]) -> bool
 }
 
 /// The attributes, unless they are more than may be written in a tag, or a name is repeated or can't be written.
-pub(crate) fn attributes_of(alloc: Global, items: &[Value]) -> Result<Option<Attrs>, Memory>
-    ensures { IfOk result (λ made. MatchOption made (are_in_form (attributes_at items.now) ≡ false)
-        (λ attrs. (attrs ≡ attributes_at items.now) × (are_in_form (attributes_at items.now) ≡ true))) }
+pub(crate) fn attributes_of(alloc: Global, pairs: &Pairs<'_>) -> Result<Option<Attrs>, Memory>
+    ensures { IfOk result (λ made. MatchOption made (are_in_form pairs.now ≡ false)
+        (λ attrs. (attrs ≡ pairs.now) × (are_in_form pairs.now ≡ true))) }
 {
     let mut attrs = Attrs::new(alloc);
-    if items.len() > ATTRIBUTE_LIMIT as usize {
+    if pairs.len() > ATTRIBUTE_LIMIT as usize {
         return Ok(None);
     }
-    for item in items {
-        let (name, value) = pair_of(item);
+    for i in 0..pairs.len() {
+        let (name, value) = pairs.at(i);
         if !is_attribute_name(name.as_bytes()) {
             return Ok(None);
         }

@@ -1,17 +1,20 @@
 //! Items of the array as events, before the open elements are asked.
-ghost use Rattle.std.specs.Prelude.{◌≡◌, ◌∷◌, List, Some, None, IfSome, is_some, option_map, option_and_then};
+ghost use Rattle.std.specs.Prelude.{◌≡◌, ◌∷◌, length, List, Some, None, IfOk, IfSome, MatchOption, is_some, option_map, option_and_then};
 ghost use Rattle.serde_json.specs.View.{items_view, view};
-ghost use Rattle.hm_base.specs.Walks.{Element};
-ghost use Rattle.hm_json_tree.specs.Forms.{attribute_at, event_told};
+ghost use Rattle.hm_base.specs.Walks.{Element, Event, path_behind};
+ghost use Rattle.hm_json_tree.specs.Forms.{event_told};
+ghost use Rattle.hm_json_tree.specs.Pairs.{attribute_at};
 ghost use Rattle.hm_json_tree.specs.Reading as reading;
 
+use crate::pairs::Pairs;
+use hm_base::Memory;
 use serde_json::Value;
 
 /// What an item says of an event.
-#[derive(Clone, Copy)]
+#[derive(Drop)]
 pub(crate) enum Form<'v> {
     Doctype { legacy: bool },
-    Start { name: &'v str, attrs: &'v [Value] },
+    Start { name: &'v str, attrs: Pairs<'v> },
     Text { text: &'v str },
     Comment { text: &'v str },
     End,
@@ -63,7 +66,10 @@ fn start_in(rest: &[Value]) -> Option<Form<'_>>
             let name = name.as_str()?;
             let attrs = attrs.as_array()?.as_slice();
             if are_pairs(attrs) {
-                Some(Form::Start { name, attrs })
+                Some(Form::Start {
+                    name,
+                    attrs: Pairs::of_items(attrs),
+                })
             } else {
                 None
             }
@@ -138,5 +144,27 @@ pub(crate) fn pair_of(item: &Value) -> (&str, &str)
     match as_pair(item) {
         Some(pair) => pair,
         None => ("", ""),
+    }
+}
+
+/// How many elements are open after an event. Where none is open, there is no end.
+pub(crate) fn depth_after(form: &Form<'_>, depth: u32) -> Result<Option<u32>, Memory>
+    ensures { IfOk result (λ next. (path : List Element) → length path ≡ depth → MatchOption next (event_told path form.now ≡ None)
+        (λ n. (e : Event) × (event_told path form.now ≡ Some e) × (length (path_behind path e) ≡ n))) }
+{
+    match form {
+        Form::Start { .. } => if depth == u32::MAX {
+            Err(Memory)
+        } else {
+            Ok(Some(depth + 1))
+        },
+        Form::End => if depth == 0 {
+            Ok(None)
+        } else {
+            Ok(Some(depth - 1))
+        },
+        Form::Doctype { .. } => Ok(Some(depth)),
+        Form::Text { .. } => Ok(Some(depth)),
+        Form::Comment { .. } => Ok(Some(depth)),
     }
 }

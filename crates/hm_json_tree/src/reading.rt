@@ -3,14 +3,16 @@ ghost use Rattle.std.specs.Prelude.{◌≡◌, ◌≢◌, ◌+◌, ◌^◌, ◌<
 ghost use Rattle.serde_json.specs.View.{items_view, view};
 ghost use Rattle.hm_base.specs.Walks.{Element, Event, path_behind};
 ghost use Rattle.hm_elements.specs.Settled.{Settled};
+ghost use Rattle.hm_json_tree.specs.declared.limits.TheConstants as limits;
 ghost use Rattle.hm_json_tree.specs.Progress.{fault_walk, put_events};
 ghost use Rattle.hm_json_tree.specs.Reading.{event_in, events_in, json_walk, listed, of_listed, walk};
 ghost use Rattle.hm_refs.specs.Json as json;
 
 use crate::JsonFault;
-use crate::form::{Form, form_of};
+use crate::form::{depth_after, form_of};
 use crate::limits::JSON_LIMIT;
 use crate::reader::Reader;
+use crate::streamed::read_tokens;
 use hm_base::Memory;
 use hm_tree::Tree;
 use serde_json::Value;
@@ -26,6 +28,19 @@ pub fn read_tree(alloc: Global, bytes: &[u8]) -> Result<Tree, JsonFault>
     if bytes.len() > JSON_LIMIT as usize {
         return Err(JsonFault::TooLong);
     }
+    match read_tokens(alloc, bytes)? {
+        Some(tree) => Ok(tree),
+        None => read_value(alloc, bytes),
+    }
+}
+
+/// The same of bytes that aren't too many, by their whole value.
+fn read_value(alloc: Global, bytes: &[u8]) -> Result<Tree, JsonFault>
+    requires { length bytes.now ≤ limits.JSON_LIMIT }
+    ensures tree { IfOk result (λ tree. json_walk bytes.now ≡ walk tree) }
+    ensures settled { IfOk result (λ tree. Settled tree) }
+    ensures fault { IfErr result (λ fault. fault ≢ JsonFault.Memory → json_walk bytes.now ≡ fault_walk fault) }
+{
     let value = parse(alloc, bytes)?;
     match value.as_array() {
         Some(items) => {
@@ -99,21 +114,7 @@ fn next_depth(item: &Value, depth: u32) -> Result<Option<u32>, Memory>
     let Some(form) = form_of(item) else {
         return Ok(None);
     };
-    match form {
-        Form::Start { .. } => if depth == u32::MAX {
-            Err(Memory)
-        } else {
-            Ok(Some(depth + 1))
-        },
-        Form::End => if depth == 0 {
-            Ok(None)
-        } else {
-            Ok(Some(depth - 1))
-        },
-        Form::Doctype { .. } => Ok(Some(depth)),
-        Form::Text { .. } => Ok(Some(depth)),
-        Form::Comment { .. } => Ok(Some(depth)),
-    }
+    depth_after(&form, depth)
 }
 
 /// The item that is no event, by its number.

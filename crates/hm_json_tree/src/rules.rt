@@ -6,7 +6,7 @@ ghost use Rattle.hm_elements.specs.Paths.{is_in_raw};
 ghost use Rattle.hm_elements.specs.Settled as settled;
 ghost use Rattle.hm_json_tree.specs.Breaks as breaks;
 ghost use Rattle.hm_json_tree.specs.Breaks.{Past, is_behind_text, is_behind_void, is_end, is_text, point_at};
-ghost use Rattle.hm_json_tree.specs.Forms.{attributes_at, told};
+ghost use Rattle.hm_json_tree.specs.Forms.{told};
 ghost use Rattle.hm_json_tree.specs.Reading.{is_svg_here};
 ghost use Rattle.hm_json_tree.specs.Seen.{IsSeen};
 

@@ -10,7 +10,7 @@ returns-then-are_pairs c = λ path.
     let vs = c.args.rest.now in
     let name = c.in_ok-name-in-len2.ensures in
     let us = rw (← c.as_slice-attrs.ensures.value) at c.in_ok-as_array-in-len2.ensures in
-    start_of_two path vs c.as_slice-attrs.result.now c.name-item.result c.attrs-item.result c.in_ok-name-in-len2.name.now c.in-len2.len_at_least c.in-len2.len_below c.name-item.is c.attrs-item.is name us (sym c.if-are_pairs.ensures)
+    rw c.of_items.ensures (start_of_two path vs c.as_slice-attrs.result.now c.name-item.result c.attrs-item.result c.in_ok-name-in-len2.name.now c.in-len2.len_at_least c.in-len2.len_below c.name-item.is c.attrs-item.is name us (sym c.if-are_pairs.ensures))
 
 pub returns-in-len3-up : goal.returns-in-len3-up
 returns-in-len3-up c = λ path. no_start path c.args.rest.now c.in-len3-up.len_at_least

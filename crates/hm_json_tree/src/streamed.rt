@@ -1,0 +1,120 @@
+//! Trees whose events are read one after the other, each item when the one before it was judged.
+ghost use Rattle.std.specs.Prelude.{◌≡◌, ◌≢◌, ◌<◌, ◌≤◌, List, length, true, IfOk, IfErr, IfSome};
+ghost use Rattle.hm_elements.specs.Settled.{Settled};
+ghost use Rattle.hm_json_tree.specs.declared.limits.TheConstants.{JSON_LIMIT};
+ghost use Rattle.json.specs.Token as json;
+ghost use Rattle.hm_json_tree.specs.Progress.{IsAt, fault_walk};
+ghost use Rattle.hm_json_tree.specs.Reading.{json_walk, walk};
+ghost use Rattle.hm_json_tree.specs.Tokens.{IsRead, Passes, PassesAs, PassesOne, Whole};
+
+use crate::JsonFault;
+use crate::form::depth_after;
+use crate::reader::Reader;
+use crate::tokens::{is_at_end, next_form};
+use hm_base::Memory;
+use hm_tree::Tree;
+use json::{Scratch, Token};
+use std::alloc::Global;
+
+/// The tree of an array of events, or why it is none. Nothing is said of what isn't JSON, or has an item that is no event.
+pub(crate) fn read_tokens(alloc: Global, bytes: &[u8]) -> Result<Option<Tree>, JsonFault>
+    requires { length bytes.now ≤ JSON_LIMIT }
+    ensures tree { IfOk result (λ read. IfSome read (λ tree. json_walk bytes.now ≡ walk tree)) }
+    ensures settled { IfOk result (λ read. IfSome read (λ tree. Settled tree)) }
+    ensures fault { IfErr result (λ fault. fault ≢ JsonFault.Memory → json_walk bytes.now ≡ fault_walk fault) }
+{
+    let Ok(text) = str::from_utf8(bytes) else {
+        return Ok(None);
+    };
+    let mut scratch = Scratch::new(alloc);
+    let mut tokens = json::Reader::new(text, &mut scratch)?;
+    let Some(Token::BeginArray) = tokens.next() else {
+        return Ok(None);
+    };
+    let Some(tree) = read_events(alloc, &mut tokens)? else {
+        return Ok(None);
+    };
+    // What is true of every tree comes with its length.
+    let _len = tree.len();
+    Ok(Some(tree))
+}
+
+/// The tree of the items that follow, up to the end of the text.
+fn read_events(alloc: Global, tokens: &mut json::Reader<'_>) -> Result<Option<Tree>, JsonFault>
+    ensures tree { IfOk result (λ read. IfSome read (λ tree. Whole tokens.old (walk tree))) }
+    ensures fault { IfErr result (λ fault. fault ≢ JsonFault.Memory → Whole tokens.old (fault_walk fault)) }
+{
+    let mut reader = Reader::new(alloc);
+    while !tokens.take_end_array() {
+        if !read_event(alloc, tokens, &mut reader)? {
+            return Ok(None);
+        }
+    }
+    if !is_at_end(tokens) {
+        return Ok(None);
+    }
+    Ok(Some(reader.finish()?))
+}
+
+/// Whether the next item is an event, which is then taken. Where it breaks a rule, the rest of the text is read too.
+fn read_event(
+    alloc: Global,
+    tokens: &mut json::Reader<'_>,
+    reader: &mut Reader,
+) -> Result<bool, JsonFault>
+    requires { IsAt reader.old }
+    ensures at { IfOk result (λ taken. taken ≡ true → IsAt reader.new) }
+    ensures read { IfOk result (λ taken. taken ≡ true → (all : List json.Token) → IsRead all reader.old.maker reader.old.path tokens.old → IsRead all reader.new.maker reader.new.path tokens.new) }
+    ensures shorter { IfOk result (λ taken. taken ≡ true → length tokens.new < length tokens.old) }
+    ensures fault { IfErr result (λ fault. fault ≢ JsonFault.Memory → (all : List json.Token) → IsRead all reader.old.maker reader.old.path tokens.old → Whole all (fault_walk fault)) }
+{
+    let Some(form) = next_form(alloc, tokens) else {
+        return Ok(false);
+    };
+    let event = reader.events;
+    let Some(opened) = depth_after(&form, reader.path.len() as u32)? else {
+        return Ok(false);
+    };
+    let Some(point) = reader.take(alloc, &form)? else {
+        return Ok(true);
+    };
+    if pass_events(alloc, tokens, opened)? {
+        return Err(JsonFault::NotSettled { event, point });
+    }
+    Ok(false)
+}
+
+/// Whether events follow up to the end of the text, before which so many elements are open, and all elements are closed.
+fn pass_events(alloc: Global, tokens: &mut json::Reader<'_>, opened: u32) -> Result<bool, JsonFault>
+    ensures ok { IfOk result (λ passed. passed ≡ true → Passes tokens.old opened) }
+    ensures fault { IfErr result (λ fault. fault ≢ JsonFault.Memory → PassesAs tokens.old opened (fault_walk fault)) }
+{
+    let mut depth = opened;
+    while !tokens.take_end_array() {
+        match next_depth(alloc, tokens, depth)? {
+            Some(next) => depth = next,
+            None => return Ok(false),
+        }
+    }
+    if !is_at_end(tokens) {
+        return Ok(false);
+    }
+    if depth > 0 {
+        return Err(JsonFault::Open { count: depth });
+    }
+    Ok(true)
+}
+
+/// How many elements are open after the next item, if it is an event.
+fn next_depth(
+    alloc: Global,
+    tokens: &mut json::Reader<'_>,
+    depth: u32,
+) -> Result<Option<u32>, Memory>
+    ensures { IfOk result (λ next. IfSome next (λ n. PassesOne tokens.old depth n tokens.new)) }
+{
+    let Some(form) = next_form(alloc, tokens) else {
+        return Ok(None);
+    };
+    depth_after(&form, depth)
+}

@@ -1,0 +1,109 @@
+//! Items of the array that are read token by token. Where an item has another form than an event's, none is said.
+ghost use Rattle.std.specs.Prelude.{◌≡◌, [], true, IfSome, codes, map};
+ghost use Rattle.hm_json_tree.specs.Pairs.{text_attribute};
+ghost use Rattle.hm_json_tree.specs.Tokens.{ArePairs, IsItem, IsPair, IsText, Says};
+
+use crate::form::Form;
+use crate::pairs::Pairs;
+use json::{Reader, Token};
+use std::alloc::Global;
+
+/// The next item, if it says an event. None is said too where memory for its attributes is refused.
+pub(crate) fn next_form<'a>(alloc: Global, tokens: &mut Reader<'a>) -> Option<Form<'a>>
+    ensures { IfSome result (λ form. IsItem tokens.old form tokens.new) }
+{
+    let Token::BeginArray = tokens.next()? else {
+        return None;
+    };
+    let kind = text(tokens)?;
+    let form = form_of_kind(alloc, kind, tokens)?;
+    if !tokens.take_end_array() {
+        return None;
+    }
+    Some(form)
+}
+
+/// The event of a kind that the next tokens say more of.
+fn form_of_kind<'a>(alloc: Global, kind: &str, tokens: &mut Reader<'a>) -> Option<Form<'a>>
+    ensures { IfSome result (λ form. Says kind.now tokens.old form tokens.new) }
+{
+    match kind {
+        "start" => start(alloc, tokens),
+        "end" => Some(Form::End),
+        "text" => Some(Form::Text {
+            text: text(tokens)?,
+        }),
+        "comment" => Some(Form::Comment {
+            text: text(tokens)?,
+        }),
+        "doctype" => doctype(tokens),
+        _ => None,
+    }
+}
+
+fn start<'a>(alloc: Global, tokens: &mut Reader<'a>) -> Option<Form<'a>>
+    ensures { IfSome result (λ form. Says (codes "start") tokens.old form tokens.new) }
+{
+    let name = text(tokens)?;
+    let texts = pairs(alloc, tokens)?;
+    Some(Form::Start {
+        name,
+        attrs: Pairs::of_texts(texts),
+    })
+}
+
+fn doctype<'a>(tokens: &mut Reader<'a>) -> Option<Form<'a>>
+    ensures { IfSome result (λ form. Says (codes "doctype") tokens.old form tokens.new) }
+{
+    let word = text(tokens)?;
+    match word {
+        "plain" => Some(Form::Doctype { legacy: false }),
+        "legacy" => Some(Form::Doctype { legacy: true }),
+        _ => None,
+    }
+}
+
+/// The names and values of an array of pairs.
+fn pairs<'a>(alloc: Global, tokens: &mut Reader<'a>) -> Option<Vec<(&'a str, &'a str)>>
+    ensures { IfSome result (λ found. ArePairs tokens.old (map text_attribute found.items) tokens.new) }
+{
+    let Token::BeginArray = tokens.next()? else {
+        return None;
+    };
+    let mut found = Vec::new(alloc);
+    while !tokens.take_end_array() {
+        let read = pair(tokens)?;
+        found.push(read).ok()?;
+    }
+    Some(found)
+}
+
+fn pair<'a>(tokens: &mut Reader<'a>) -> Option<(&'a str, &'a str)>
+    ensures { IfSome result (λ read. IsPair tokens.old (text_attribute read) tokens.new) }
+{
+    let Token::BeginArray = tokens.next()? else {
+        return None;
+    };
+    let name = text(tokens)?;
+    let value = text(tokens)?;
+    if !tokens.take_end_array() {
+        return None;
+    }
+    Some((name, value))
+}
+
+fn text<'a>(tokens: &mut Reader<'a>) -> Option<&'a str>
+    ensures { IfSome result (λ text. IsText tokens.old text.now tokens.new) }
+{
+    match tokens.next()? {
+        Token::String(text) => Some(text),
+        _ => None,
+    }
+}
+
+/// Whether no token is left.
+pub(crate) fn is_at_end(tokens: &mut Reader<'_>) -> bool
+    ensures { result ≡ true → tokens.old ≡ [] }
+{
+    tokens.next().is_none()
+}

@@ -26,6 +26,7 @@ pub mod PlainNames
 pub mod Kept
 pub mod TagBodies
 pub mod Faults
+pub mod BareTags
 pub mod TagStarts
 pub mod Ends
 pub mod Pieces

@@ -1,5 +1,5 @@
 //! The tag at a place of a text.
-ghost use Rattle.std.specs.Prelude.{◌≡◌, ◌≢◌, ℕ, ◌^◌, ◌<◌, ◌≤◌, List, drop, length, slice_index, slice_range, true, false, Some, IfOk, IfErr, IsCharBoundary};
+ghost use Rattle.std.specs.Prelude.{◌≡◌, ◌≢◌, ℕ, ◌^◌, ◌<◌, ◌≤◌, Bool, List, drop, length, slice_index, slice_range, true, false, Some, IfOk, IfErr, IsCharBoundary};
 ghost use Rattle.hm_base.specs.Walks.{Attribute};
 ghost use Rattle.hm_refs.specs.Names.{Entry};
 ghost use Rattle.hm_tree.specs.Lexemes.{token_of};
@@ -95,6 +95,35 @@ fn name_end(text: &str, from: usize) -> NameEnd
     }
 }
 
+/// Whether a tag ends directly after its name, which is read as it is written.
+fn is_bare(bytes: &[u8], end: NameEnd) -> bool
+    ensures plain { result ≡ true → end.plain ≡ true }
+    ensures inside { result ≡ true → end.to < length bytes.now }
+    ensures ends { result ≡ true → slice_index bytes.now end.to ≡ 62 }
+{
+    end.plain && end.to < bytes.len() && bytes[end.to] == b'>'
+}
+
+/// Reads the tag whose name begins at `from` and ends at `to`, where its `>` stands. No attribute is in it.
+fn read_bare(text: &str, from: usize, to: usize, tag: &mut Tag) -> Result<Whole, ScanFault>
+    requires size { length text.now < 2 ^ 32 }
+    requires starts { IsCharBoundary text.now from }
+    requires ends { IsCharBoundary text.now to }
+    requires name { IsEndOf is_name_byte text.now from to }
+    requires plain { IsPlainName (slice_range text.now from to) }
+    requires inside { to < length text.now }
+    requires greater { slice_index text.now to ≡ 62 }
+    ensures ok { IfOk result (λ whole. (t : List Entry) → (keeps : Bool) → IsWhole t keeps text.now from tag.new whole) }
+    ensures err { IfErr result (λ fault. fault ≡ ScanFault.Memory) }
+{
+    tag.attrs.clear();
+    put_name(&mut tag.name, &text[from..to], true)?;
+    Ok(Whole {
+        slash: false,
+        behind: to as u32 + 1,
+    })
+}
+
 /// Reads the tag whose name begins at `from`, and puts its name, in lowercase letters, and its attributes into `tag`;
 /// `keeps` says whether its attributes are wanted.
 fn read_whole(
@@ -112,6 +141,9 @@ fn read_whole(
         (λ fault. fault ≢ ScanFault.Memory → fault_at (drop from text.now) ≡ Some fault) }
 {
     let end = name_end(text, from);
+    if is_bare(text.as_bytes(), end) {
+        return read_bare(text, from, end.to, tag);
+    }
     let body = read_body(alloc, text, end.to, table, keeps, &mut tag.attrs)?;
     put_name(&mut tag.name, &text[from..end.to], end.plain)?;
     match fault_of(&tag.name, end.plain, &body.collected) {

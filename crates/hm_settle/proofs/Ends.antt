@@ -55,6 +55,17 @@ ends_there os n left o at path reached same other =
       least = is_inner os (left - 1) o at path (omega (arith, reached.least)) (omega (arith, reached.least, reached.closes)) (λ e. other (sym (same_bytes (name_of o.name) n same) ∙ e));
     }
 
+-- the innermost element ends by a tag of its name
+pub ends_innermost : (os : List OpenElement) (n : List ℕ) (o : OpenElement) → o ≡ get_or os (length os - 1) o → IsPath os → bytes_eq (name_of o.name) n ≡ true → (n ≡ body → ⊥) → IsEndPlan os n (length os - 1)
+ends_innermost os n o at path same other = ends_there os n (length os) o at path (by o.foreign refl) same other
+  where
+    none_falls : behind (falls_to n) (path_of os) ≡ path_of os
+    none_falls = rw (path_of-all os (length os - 1) o at (omega (arith, path.least)), same) refl
+
+    by : (b : Bool) → o.foreign ≡ b → IsReached os n (length os)
+    by true e = reached_in_svg os n (in_svg_by os o at path ∙ e) path
+    by false e = reached_in_html os n (length os) (in_svg_by os o at path ∙ e) path.least (omega arith) (all_stay os ∙ sym none_falls)
+
 ends_none : (os : List OpenElement) (n : List ℕ) (left : ℕ) (o : OpenElement) → o ≡ get_or os (left - 1) o → IsReached os n left → bytes_eq (name_of o.name) n ≡ false → end_moves n (path_of os) ≡ ends_nothing (is_open n (path_of os))
 ends_none os n left o at reached same =
     let all : path_of (take left os) ≡ element_of o ∷ path_of (take (left - 1) os) = path_of-last os left (left - 1) o at (omega (arith, reached.least)) (omega (arith, reached.least, reached.closes)) in

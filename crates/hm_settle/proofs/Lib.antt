@@ -1,3 +1,5 @@
+pub mod Yields
+pub mod Blank
 pub mod Elements
 pub mod Fronts
 pub mod Starts

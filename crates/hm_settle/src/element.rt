@@ -84,8 +84,8 @@ impl Marks {
 
     /// The marks at an element that opens where these are.
     #[tactic(auto, unfolding(hm_elements::specs::Tables::is_unnested, hm_elements::specs::Tables::unnested_names, hm_elements::specs::Names::is_among))]
-    pub(crate) fn at(self, name: Named<'_>, foreign: bool) -> Marks
-        ensures { (path : List Element) → self ≡ marks_of path → result ≡ marks_of (record { name = name.entry.name.now; foreign = foreign } ∷ path) }
+    pub(crate) fn at(&self, name: Named<'_>, foreign: bool) -> Marks
+        ensures { (path : List Element) → self.now ≡ marks_of path → result ≡ marks_of (record { name = name.entry.name.now; foreign = foreign } ∷ path) }
     {
         let kind = name.kind();
         Marks {
@@ -102,15 +102,15 @@ impl Marks {
 
     /// Whether a start tag of this name would close a paragraph that isn't the innermost element.
     #[tactic(auto, unfolding(hm_elements::specs::Paths::is_block_in_p))]
-    pub(crate) fn is_block_in_p(self, name: Named<'_>) -> bool
-        ensures { (path : List Element) → self ≡ marks_of path → result ≡ paths.is_block_in_p name.entry.name.now path }
+    pub(crate) fn is_block_in_p(&self, name: Named<'_>) -> bool
+        ensures { (path : List Element) → self.now ≡ marks_of path → result ≡ paths.is_block_in_p name.entry.name.now path }
     {
         self.paragraph && name.kind().closes_p
     }
 
     /// Whether an element of this name would stand in one of its own name that it may not stand in, or a heading in a heading.
-    pub(crate) fn is_nested(self, name: Named<'_>) -> bool
-        ensures { (path : List Element) → self ≡ marks_of path → result ≡ paths.is_nested name.entry.name.now path }
+    pub(crate) fn is_nested(&self, name: Named<'_>) -> bool
+        ensures { (path : List Element) → self.now ≡ marks_of path → result ≡ paths.is_nested name.entry.name.now path }
     {
         let kind = name.kind();
         if kind.unnested {
@@ -121,9 +121,9 @@ impl Marks {
     }
 
     /// Whether an element of this name is open, which may not stand in one of its own name.
-    fn is_unnested_open(self, name: &str) -> bool
+    fn is_unnested_open(&self, name: &str) -> bool
         requires { tables.is_unnested name.now ≡ true }
-        ensures { (path : List Element) → self ≡ marks_of path → result ≡ paths.is_open name.now path }
+        ensures { (path : List Element) → self.now ≡ marks_of path → result ≡ paths.is_open name.now path }
     {
         match name {
             "a" => self.a,

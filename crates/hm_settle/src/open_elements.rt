@@ -1,15 +1,15 @@
 //! The open elements of any tree.
 ghost use Rattle.std.specs.Prelude.{◌≡◌, ◌-◌, ◌||◌, [], ◌∷◌, length, take, MatchOption, IfSome, OnOk, OnErr};
-ghost use Rattle.hm_elements.specs.Names.{head};
+ghost use Rattle.hm_elements.specs.Names.{head, is_among};
 ghost use Rattle.hm_elements.specs.Nesting.{is_name};
 ghost use Rattle.hm_elements.specs.Paths as paths;
-ghost use Rattle.hm_elements.specs.Paths.{current_name, head_yields, is_block_in_p, is_nested, outer, stands_on};
+ghost use Rattle.hm_elements.specs.Paths.{blank_parents, current_name, head_yields, is_block_in_p, is_nested, outer, stands_on};
 ghost use Rattle.hm_elements.specs.Texts.{text_of};
 ghost use Rattle.hm_settle.specs.Elements.{AreMarked, KeepsKind, element_of, path_of};
 ghost use Rattle.hm_settle.specs.Moves.{element};
 
 use crate::element::{ElementName, OpenElement};
-use crate::plan::marks;
+use crate::plan::{marks, marks_on};
 use hm_base::Memory;
 use hm_elements::{Named, is_blank_parent, is_raw, may_stand, same_name, yields};
 use std::alloc::Global;
@@ -89,19 +89,10 @@ impl OpenElements {
     }
 
     /// Whether a text directly in the innermost element is only whitespace.
-    #[tactic(auto, unfolding(hm_elements::specs::Paths::is_in_blank))]
     pub fn is_in_blank(&self) -> bool
         ensures { result ≡ paths.is_in_blank self.now }
     {
-        match innermost(&self.elements) {
-            Some(last) => {
-                let name = last.name.as_str();
-                !last.foreign
-                    && (is_blank_parent(name)
-                        || (same_name(name, "noscript") && is_head(parent(&self.elements))))
-            }
-            None => false,
-        }
+        is_in_blank(&self.elements)
     }
 
     /// Whether an HTML element of this name may stand in the innermost element.
@@ -138,7 +129,7 @@ impl OpenElements {
         ensures ok { OnOk result (self.new ≡ element tag.entry.name.now foreign ∷ self.old) }
         ensures err { OnErr result (self.new ≡ self.old) }
     {
-        let marks = marks(&self.elements).at(tag, foreign);
+        let marks = marks_on(&self.elements, tag, foreign);
         let name = ElementName::given(alloc, tag)?;
         self.elements.push(OpenElement {
             name,
@@ -154,6 +145,31 @@ impl OpenElements {
     {
         let _closed = self.elements.pop();
     }
+}
+
+/// Whether a text directly in the innermost of these is only whitespace.
+#[tactic(auto, unfolding(hm_elements::specs::Paths::is_in_blank))]
+pub(crate) fn is_in_blank(elements: &[OpenElement]) -> bool
+    requires { AreMarked [] elements.now }
+    ensures { result ≡ paths.is_in_blank (path_of elements.now) }
+{
+    match innermost(elements) {
+        Some(last) => {
+            !last.foreign
+                && (takes_only_blank(last.named())
+                    || (same_name(last.name.as_str(), "noscript") && is_head(parent(elements))))
+        }
+        None => false,
+    }
+}
+
+/// Whether a text directly in the HTML element is only whitespace. A name is compared only where it is one of an element that
+/// takes only children of certain names.
+#[tactic(auto, using(crate::proofs::Blank::never_blank))]
+fn takes_only_blank(tag: Named<'_>) -> bool
+    ensures { result ≡ is_among tag.entry.name.now blank_parents }
+{
+    tag.kind().has_children && is_blank_parent(tag.name())
 }
 
 /// The innermost of these.

@@ -12,7 +12,8 @@ ghost use Rattle.hm_settle.specs.Moves.{element, refuses, start_moves, end_moves
 ghost use Rattle.hm_settle.specs.Plans.{IsKindOf, IsPushed, opened_by};
 
 use crate::element::{ElementName, OpenElement};
-use crate::plan::{DEEPEST, MovePlan, left_by_end, marks, plan_start};
+use crate::open_elements::is_in_blank;
+use crate::plan::{DEEPEST, MovePlan, left_by_end, marks_on, plan_start};
 use crate::{Made, Moves, SettleFault};
 use hm_base::Memory;
 use hm_elements::{Kind, Named, kind_of};
@@ -95,6 +96,13 @@ impl Path {
         ensures { result ≡ paths.is_in_text self.now }
     {
         self.elements[self.elements.len() - 1].marks.text
+    }
+
+    /// Whether a text directly in the innermost element is only whitespace.
+    pub fn is_in_blank(&self) -> bool
+        ensures { result ≡ paths.is_in_blank self.now }
+    {
+        is_in_blank(&self.elements)
     }
 
     /// Takes a start tag of this name (HTML Standard, #parsing-main-inbody and following, #parsing-main-inforeign):
@@ -221,7 +229,7 @@ fn push(elements: &mut Vec<OpenElement>, name: ElementName, kind: &Kind, foreign
     ensures capacity { vec_capacity elements.old ≤ vec_capacity elements.new }
 {
     let named = Named::known(name.as_str(), kind);
-    let marks = marks(elements).at(named, foreign);
+    let marks = marks_on(elements, named, foreign);
     let element = OpenElement {
         name,
         foreign,

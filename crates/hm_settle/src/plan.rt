@@ -1,8 +1,9 @@
 //! What a tag does to open elements, or why it is refused, before anything changes.
-ghost use Rattle.std.specs.Prelude.{◌≡◌, ◌≢◌, ◌+◌, ◌<◌, ◌≤◌, List, [], ◌++◌, length, take, IfOk, IfErr, Bool, true, false};
+ghost use Rattle.std.specs.Prelude.{◌≡◌, ◌≢◌, ◌+◌, ◌<◌, ◌≤◌, List, [], ◌∷◌, ◌++◌, length, take, IfOk, IfErr, Bool, true, false};
 ghost use Rattle.hm_base.specs.Walks.{Element};
 ghost use Rattle.hm_base.specs.declared.limits.TheConstants.{DEPTH_LIMIT};
 ghost use Rattle.hm_elements.specs.Names.{body};
+ghost use Rattle.hm_elements.specs.Nesting as nesting;
 ghost use Rattle.hm_elements.specs.Paths as paths;
 ghost use Rattle.hm_elements.specs.Paths.{behind, yields_to, falls_to, stands_on};
 ghost use Rattle.hm_settle.specs.Answers.{elements_of};
@@ -13,7 +14,9 @@ ghost use Rattle.hm_settle.specs.Plans.{IsStartPlan, IsReached, IsEndPlan, opene
 use crate::Made;
 use crate::element::{Marks, OpenElement};
 use hm_base::{DEPTH_LIMIT, Rule};
-use hm_elements::{Class, Named, ends_with, is_boundary, may_stand, same_name, svg_name, yields};
+use hm_elements::{
+    Class, Named, ends_with, is_boundary, is_cell, may_stand, same_name, svg_name, yields,
+};
 
 /// How many elements may be open.
 pub(crate) const DEEPEST: usize = DEPTH_LIMIT as usize;
@@ -36,6 +39,17 @@ pub(crate) fn marks(elements: &[OpenElement]) -> Marks
     match elements.last() {
         Some(innermost) => innermost.marks,
         None => Marks::none(),
+    }
+}
+
+/// What is open at an element of this name that opens on these.
+pub(crate) fn marks_on(elements: &[OpenElement], name: Named<'_>, foreign: bool) -> Marks
+    requires { AreMarked [] elements.now }
+    ensures { result ≡ marks_of (record { name = name.entry.name.now; foreign = foreign } ∷ path_of elements.now) }
+{
+    match elements.last() {
+        Some(innermost) => innermost.marks.at(name, foreign),
+        None => Marks::none().at(name, foreign),
     }
 }
 
@@ -108,10 +122,28 @@ fn left_by_start(elements: &[OpenElement], tag: Named<'_>) -> usize
     ensures left { path_of (take result elements.now) ≡ behind (yields_to tag.entry.name.now) (path_of elements.now) }
 {
     let mut left = elements.len();
-    while yields(elements[left - 1].named(), tag) {
+    while closes_before(elements[left - 1].named(), tag) {
         left -= 1;
     }
     left
+}
+
+/// Whether the open element `current` closes before the start tag of an HTML element `next`. Of the parts of a table only
+/// `colgroup` closes before what isn't one, and a row doesn't close before its cells: that is told before rows are looked up.
+#[tactic(auto, using(crate::proofs::Yields::bound_yields, crate::proofs::Yields::row_stays))]
+fn closes_before(current: Named<'_>, next: Named<'_>) -> bool
+    ensures { result ≡ nesting.yields current.entry.name.now next.entry.name.now }
+{
+    if !current.kind().bound {
+        return yields(current, next);
+    }
+    if !next.kind().bound {
+        return same_name(current.name(), "colgroup");
+    }
+    if same_name(current.name(), "tr") && is_cell(next.name()) {
+        return false;
+    }
+    yields(current, next)
 }
 
 /// What is made where the start tag's element opens on these, or why it doesn't.
@@ -120,14 +152,14 @@ fn made_before(elements: &[OpenElement], tag: Named<'_>) -> Result<Made, Rule>
     ensures opens { (closed : List Element) → start_on tag.entry.name.now closed (path_of elements.now) ≡ opened tag.entry.name.now closed (path_of elements.now) result }
     ensures room { IfOk result (λ made. length elements.now + length (elements_of made) < DEPTH_LIMIT) }
 {
-    let marks = marks(elements);
-    if marks.is_block_in_p(tag) {
+    let innermost = &elements[elements.len() - 1];
+    if innermost.marks.is_block_in_p(tag) {
         return Err(Rule::BlockInParagraph);
     }
-    if marks.is_nested(tag) {
+    if innermost.marks.is_nested(tag) {
         return Err(Rule::Nested);
     }
-    let made = Made::under(elements[elements.len() - 1].name.as_str(), tag.name());
+    let made = Made::under(innermost.name.as_str(), tag.name());
     let depth = elements.len() + made.count();
     if depth > DEEPEST {
         return Err(Rule::TooDeep);
@@ -167,6 +199,10 @@ pub(crate) fn left_by_end(elements: &[OpenElement], name: &str) -> Result<usize,
     ensures ok { IfOk result (λ left. IsEndPlan elements.now name.now left) }
     ensures rule { IfErr result (λ rule. end_moves name.now (path_of elements.now) ≡ refuses rule) }
 {
+    let innermost = &elements[elements.len() - 1];
+    if same_name(innermost.name.as_str(), name) {
+        return Ok(elements.len() - 1);
+    }
     let reached = reached_by_end(elements, name);
     if same_name(elements[reached - 1].name.as_str(), name) {
         return Ok(reached - 1);

@@ -7,7 +7,7 @@ use Rattle.hm_settle.proofs.element.Marks.at.Goals.{then-kind, else-kind}
 pub returns : goal.returns
 returns c =
     let known : c.kind-kind.result.now.heading ≡ is_heading c.args.name.name.now = ap (λ (k : Kind). k.heading) c.kind-kind.ensures in
-    let heading : c.if-kind.result ≡ is_heading c.args.name.name.now || c.args.self.heading =
+    let heading : c.if-kind.result ≡ is_heading c.args.name.name.now || c.args.self.now.heading =
     elim c.if-kind.branch [
       | then-kind w ↦ w.result-is ∙ w.if-kind.true ∙ rw (sym known ∙ w.if-kind.true) refl
       | else-kind w ↦ w.result-is ∙ rw (sym known ∙ w.if-kind.false) refl

@@ -14,10 +14,10 @@ pub returns-then-self : goal.returns-then-self
 returns-then-self c =
     let n = c.args.name.name.now in
     let other : is_unnested n ≡ false = sym (ap (λ (k : Kind). k.unnested) c.kind-kind.ensures) ∙ c.if-kind.false in
-    λ path h. ap (λ (k : Kind). k.heading) c.kind-kind.ensures ∙ rw c.if-self.true at (nested_heading n c.args.self path other h)
+    λ path h. ap (λ (k : Kind). k.heading) c.kind-kind.ensures ∙ rw c.if-self.true at (nested_heading n c.args.self.now path other h)
 
 pub returns-else-self : goal.returns-else-self
 returns-else-self c =
     let n = c.args.name.name.now in
     let other : is_unnested n ≡ false = sym (ap (λ (k : Kind). k.unnested) c.kind-kind.ensures) ∙ c.if-kind.false in
-    λ path h. c.if-self.false ∙ rw c.if-self.false at (nested_heading n c.args.self path other h)
+    λ path h. c.if-self.false ∙ rw c.if-self.false at (nested_heading n c.args.self.now path other h)

@@ -4,6 +4,7 @@ ghost use Rattle.hm_base.specs.RawText.{raw_end};
 ghost use Rattle.hm_base.specs.Source.{place_in};
 ghost use Rattle.hm_tree.specs.Lexemes.{next_of, token_of};
 ghost use Rattle.hm_tree.specs.Tokens.{BeginsAt, Reads, refused};
+ghost use Rattle.hm_tree.specs.declared.tokens.Tag as places;
 ghost use Rattle.hm_scan.specs.Reading as tags;
 ghost use Rattle.hm_scan.specs.Texts as texts;
 ghost use Rattle.hm_token_laws.specs.First as tokens;
@@ -195,7 +196,7 @@ impl<'a> Lexer<'a> {
         if begins_markup(text, begin) {
             return self.whole_part(alloc, mode, tag);
         }
-        Ok(self.part_of_text(mode, begin, tag))
+        Ok(self.part_of_text(mode, begin))
     }
 
     // Reads the next token, where no piece of it is taken.
@@ -255,16 +256,15 @@ impl<'a> Lexer<'a> {
     }
 
     // Reads the piece of ordinary text that begins at `from`.
-    fn part_of_text(&mut self, mode: Mode, from: u32, tag: &mut Tag) -> Option<Placed>
+    fn part_of_text(&mut self, mode: Mode, from: u32) -> Option<Placed>
         requires markup { has_markup (mode_of mode) ≡ true }
         requires start { IsBehind (mode_of mode) (text_of self.old) self.old.at from }
         requires inside { from < length (text_of self.old) }
         requires begins { texts.begins_markup (drop from (text_of self.old)) ≡ false }
-        ensures { GivesPart self.old (mode_of mode) (next_of result tag.new) self.new }
+        ensures { (tag : places.Tag) → GivesPart self.old (mode_of mode) (next_of result tag) self.new }
     {
         match scan_part(self.source.text(), from, self.table) {
-            Some((token, to)) => {
-                let lexeme = Lexeme::of(token, tag);
+            Some((lexeme, to)) => {
                 self.advance(to);
                 Some(Placed { lexeme, from, to })
             }

@@ -2,7 +2,9 @@
 ghost use Rattle.std.specs.Prelude.{◌≡◌, ◌^◌, ◌<◌, ◌≤◌, drop, false, length, true, MatchOption, IsCharBoundary};
 ghost use Rattle.hm_base.specs.Bytes.{some_passes};
 ghost use Rattle.hm_scan.specs.Texts as texts;
+ghost use Rattle.hm_tree.specs.Lexemes.{token_of};
 ghost use Rattle.hm_tree.specs.Tokens.{Reads};
+ghost use Rattle.hm_tree.specs.declared.tokens.Tag.{Tag};
 ghost use Rattle.hm_lexer.specs.Ready as specs;
 ghost use Rattle.hm_lexer.specs.Ready.{text_part};
 ghost use Rattle.hm_lexer.specs.Parts as parts;
@@ -10,7 +12,7 @@ ghost use Rattle.hm_lexer.specs.Parts.{IsPieceTo};
 
 use hm_refs::{Table, read_reference};
 use hm_scan::begins_markup;
-use hm_tree::Token;
+use hm_tree::Lexeme;
 use memchr::memchr2;
 
 /// Whether the bytes after a '<' tell whether markup begins.
@@ -89,13 +91,13 @@ fn piece_end(table: &Table, text: &str, from: usize) -> usize
 
 /// Reads what is ready of the ordinary text at `from`, where no markup begins: one reference, or a piece of text. None where
 /// what is there doesn't tell whether markup or a reference begins.
-pub fn scan_part(text: &str, from: u32, table: &Table) -> Option<(Token, u32)>
+pub fn scan_part(text: &str, from: u32, table: &Table) -> Option<(Lexeme, u32)>
     requires inside { from < length text.now }
     requires boundary { IsCharBoundary text.now from }
     requires size { length text.now < 2 ^ 32 }
     requires markup { texts.begins_markup (drop from text.now) ≡ false }
     ensures { MatchOption result (parts.is_told_here (drop from text.now) ≡ false)
-        (λ r. (parts.is_told_here (drop from text.now) ≡ true) × (from < r.1) × Reads (text_part table.now.entries (drop from text.now)) text.now r.0 r.1) }
+        (λ r. (parts.is_told_here (drop from text.now) ≡ true) × (from < r.1) × IsCharBoundary text.now r.1 × ((tag : Tag) → Reads (text_part table.now.entries (drop from text.now)) text.now (token_of r.0 tag) r.1)) }
 {
     let at = from as usize;
     let bytes = &text.as_bytes()[at..];
@@ -105,9 +107,9 @@ pub fn scan_part(text: &str, from: u32, table: &Table) -> Option<(Token, u32)>
     if bytes[0] == b'&' {
         if let Some(reference) = read_reference(table, bytes, false) {
             let points = reference.points;
-            return Some((Token::Points { points }, (at + reference.len) as u32));
+            return Some((Lexeme::Points { points }, (at + reference.len) as u32));
         }
     }
     let to = piece_end(table, text, at + 1) as u32;
-    Some((Token::Slice { from, to }, to))
+    Some((Lexeme::Slice { from, to }, to))
 }

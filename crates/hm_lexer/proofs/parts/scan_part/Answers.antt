@@ -16,7 +16,8 @@ returns-in-Some c =
     let amp : get_or (drop c.args.from text) 0 0 ≡ 38 = rw (c.as_bytes.ensures.value, take_rest text c.args.from) at c.if-bytes-eq38.true in
     let read = rw (c.as_bytes.ensures.value, take_rest text c.args.from) at c.in-Some.ensures in
     let found : IsReadReference (reference_here t (drop c.args.from text)) (drop c.args.from text) c.in-Some.reference = subst (λ o. IsReadReference o (drop c.args.from text) c.in-Some.reference) (sym (here_amp t s some amp)) read in
-    (sym (rw (c.as_bytes.ensures.value, take_rest text c.args.from) at c.if-not-is_told.ensures), omega (arith, found.some), part_points t text c.args.from c.in-Some.reference c.utf8.text c.requires.inside found)
+    let reads = part_points t text c.args.from c.in-Some.reference c.utf8.text c.requires.inside found in
+    (sym (rw (c.as_bytes.ensures.value, take_rest text c.args.from) at c.if-not-is_told.ensures), omega (arith, found.some), reads.boundary, λ _. reads)
 
 pub returns : goal.returns
 returns c =
@@ -29,4 +30,5 @@ returns c =
       | else-bytes-eq38 w ↦ here_other t (drop c.args.from text) (rw (c.as_bytes.ensures.value, take_rest text c.args.from) at w.if-bytes-eq38.false)
     ] in
     let to = c.piece_end-to.ensures in
-    (sym (rw (c.as_bytes.ensures.value, take_rest text c.args.from) at c.if-not-is_told.ensures), omega (arith, to.forward), part_slice t text c.args.from c.piece_end-to.result c.requires.inside c.requires.boundary none to)
+    let reads = part_slice t text c.args.from c.piece_end-to.result c.requires.inside c.requires.boundary none to in
+    (sym (rw (c.as_bytes.ensures.value, take_rest text c.args.from) at c.if-not-is_told.ensures), omega (arith, to.forward), reads.boundary, λ _. reads)

@@ -2,7 +2,6 @@ pub mod Events
 pub mod Texts
 pub mod Open
 pub mod TextWalks
-pub mod Blank
 pub mod PlainTexts
 pub mod Dropped
 pub mod Others

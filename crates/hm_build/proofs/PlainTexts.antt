@@ -6,7 +6,7 @@ use Rattle.std.proofs.lemmas.Str.{IsCharBoundary-after_ascii}
 use Rattle.hm_base.specs.Bytes.{is_space, all_pass}
 use Rattle.hm_base.specs.Walks.{Event, with_text}
 use Rattle.hm_base.specs.declared.rules.Rule.{Rule}
-use Rattle.hm_elements.specs.Paths.{is_in_raw, is_in_text}
+use Rattle.hm_elements.specs.Paths.{is_in_raw, is_in_text, is_in_blank}
 use Rattle.hm_tree.specs.Trees.{HasRoom}
 use Rattle.hm_construction_laws.specs.Steps.{Construction, Stepped, went, stops, step_bytes, behind_bytes}
 use Rattle.hm_build.specs.Building.{Fits, IsStepped, grown}
@@ -14,8 +14,8 @@ use Rattle.hm_build.specs.Inside.{insertion_mode_of, open_path, state_of, buildi
 use Rattle.hm_build.specs.declared.insertion.BuilderMode.TheVariants.{InBody}
 use Rattle.hm_build.specs.declared.parts.Parts.{Parts}
 use Rattle.hm_build.proofs.Events.{grown_text, walk_text}
-use Rattle.hm_build.proofs.Texts.{not_raw, text_bytes, only_blank_bytes, mixed_bytes, mixed_means}
-use Rattle.hm_build.proofs.TextWalks.{grown_blank, walk_blank, all_pass-push}
+use Rattle.hm_build.proofs.Texts.{not_raw, text_bytes, only_blank_bytes, body_bytes, mixed_bytes, mixed_means}
+use Rattle.hm_build.proofs.TextWalks.{grown_blank, walk_blank, walk_plain, all_pass-push}
 
 pub plain_state : (p : Parts) → p.drops_line_feed ≡ false → state_of p ≡ at_state p.insertion_mode (open_path p.insertion_mode p.path) p.behind_body.items p.behind_html.items
 plain_state p e = ap (λ b. let st : Construction = record { insertion_mode = insertion_mode_of p.insertion_mode; path = open_path p.insertion_mode p.path; drops_line_feed = b; behind_body = p.behind_body.items; behind_html = p.behind_html.items } in st) e
@@ -30,6 +30,13 @@ module _ (p : Parts) (all : p.drops_line_feed ≡ false) where
   pub text_step : (s : List ℕ) → is_in_text (open_path p.insertion_mode p.path) ≡ true → step_bytes s (state_of p) ≡ went (each_byte s (is_in_raw (open_path p.insertion_mode p.path))) (state_of p)
   text_step s h =
       subst (λ st. step_bytes s st ≡ went (each_byte s (is_in_raw (open_path p.insertion_mode p.path))) st) (sym (plain_state p all)) (text_bytes (open_path p.insertion_mode p.path) p.behind_body.items p.behind_html.items p.insertion_mode s h)
+
+  pub body_step : (s : List ℕ) → p.insertion_mode ≡ InBody → is_in_text (open_path p.insertion_mode p.path) ≡ false → is_in_blank p.path ≡ false → step_bytes s (state_of p) ≡ went (each_byte s false) (state_of p)
+  body_step s body h plain =
+      let here : is_in_text p.path ≡ false = subst (λ m. is_in_text (open_path m p.path) ≡ false) body h in
+      let st : state_of p ≡ at_state InBody p.path p.behind_body.items p.behind_html.items = plain_state p all ∙ ap (λ m. at_state m (open_path m p.path) p.behind_body.items p.behind_html.items) body in
+      subst (λ st. step_bytes s st ≡ went (each_byte s false) st) (sym st)
+      (body_bytes p.path p.behind_body.items p.behind_html.items s here plain ∙ ap (λ raw. went (each_byte s raw) (at_state InBody p.path p.behind_body.items p.behind_html.items)) (not_raw p.path here))
 
   pub blank_step : (s : List ℕ) → is_in_text (open_path p.insertion_mode p.path) ≡ false → all_pass is_space s ≡ true → step_bytes s (state_of p) ≡ went (kept_bytes (keeps_space p.insertion_mode) s false) (state_of p)
   blank_step s h spaces =
@@ -62,6 +69,13 @@ text_done p new s all h kept is =
     rw is
     (done_by (step_bytes s (state_of p)) (each_byte s (is_in_raw (open_path p.insertion_mode p.path))) (state_of p) p (record p { maker = with_text p.maker s (is_in_raw (open_path p.insertion_mode p.path)) })
     (text_step p all s h) (record { walk = walk_text p.maker (open_path p.insertion_mode p.path) s kept.walk; fresh = kept.fresh }) refl (sym (grown_text p.maker s (is_in_raw (open_path p.insertion_mode p.path)) kept.walk.apart)))
+
+-- a text in the body, where any may stand
+pub body_done : (p new : Parts) (s : List ℕ) → p.drops_line_feed ≡ false → p.insertion_mode ≡ InBody → is_in_text (open_path p.insertion_mode p.path) ≡ false → is_in_blank p.path ≡ false → IsKept p → new ≡ record p { maker = with_text p.maker s false } → IsDone (step_bytes s (state_of p)) p new
+body_done p new s all body h plain kept is =
+    rw is
+    (done_by (step_bytes s (state_of p)) (each_byte s false) (state_of p) p (record p { maker = with_text p.maker s false })
+    (body_step p all s body h plain) (record { walk = walk_plain p.maker (open_path p.insertion_mode p.path) s (not_raw (open_path p.insertion_mode p.path) h) kept.walk; fresh = kept.fresh }) refl (sym (grown_text p.maker s false kept.walk.apart)))
 
 -- whitespace
 pub blank_done : (p new : Parts) (s : List ℕ) → p.drops_line_feed ≡ false → is_in_text (open_path p.insertion_mode p.path) ≡ false → all_pass is_space s ≡ true → IsKept p → new ≡ record p { maker = with_blank p.insertion_mode p.maker s } → IsDone (step_bytes s (state_of p)) p new

@@ -1,18 +1,17 @@
 -- How the parts of a builder stand for a state and a walk.
-use Rattle.std.specs.Prelude.{◌≡◌, ℕ, Bool, true, false, not, ◌&&◌, List, [], ◌∷◌, ◌++◌, bytes_eq, map, codes, Option, Some, None, Result, Ok, Err, if◌then◌else◌}
+use Rattle.std.specs.Prelude.{◌≡◌, ℕ, Bool, true, false, not, ◌&&◌, List, [], ◌∷◌, ◌++◌, map, codes, Option, Some, None, Result, Ok, Err, if◌then◌else◌}
 use Rattle.hm_base.specs.Bytes.{is_space, all_pass, head_is}
 use Rattle.hm_base.specs.Walks.{with_text, Event, doctype, start, text, comment, end, Element, path_after, begins_text}
 use Rattle.hm_base.specs.declared.rules.Rule.{Rule}
 use Rattle.hm_base.specs.declared.rules.Rule.TheVariants.{NoDoctype, AfterBody, TextHere, Unclosed}
 use Rattle.hm_elements.specs.Names.{html, head, body, noscript}
-use Rattle.hm_elements.specs.Paths.{html_element, is_in_raw, is_in_blank, outer, current, current_name}
+use Rattle.hm_elements.specs.Paths.{html_element, is_in_raw, is_in_blank, outer}
 use Rattle.hm_settle.specs.Moves.{without_void}
 use Rattle.hm_tree.specs.Trees.{last_agrees, end_of}
 use Rattle.hm_tree.specs.Rows.{is_text}
 use Rattle.hm_construction_laws.specs.Steps as steps
 use Rattle.hm_construction_laws.specs.Steps.{Construction, Stepped, under_html, under_head, under_body}
 use Rattle.hm_elements.specs.Tables.{is_root}
-use Rattle.hm_elements.specs.Nesting.{is_name}
 use Rattle.hm_build.specs.Building.{Building, IsStepped, IsRefused, grown}
 use Rattle.hm_build.specs.declared.fault.BuildFault.{BuildFault}
 use Rattle.hm_build.specs.declared.insertion.HeadText.{HeadText}
@@ -155,10 +154,6 @@ body_path insertion_mode path = under_body
 -- a state in which no line feed is dropped
 abbrev pub at_state : BuilderMode → List Element → List (List ℕ) → List (List ℕ) → Construction
 at_state insertion_mode path inner last = record { insertion_mode = insertion_mode_of insertion_mode; path = path; drops_line_feed = false; behind_body = inner; behind_html = last }
-
--- noscript in head is the innermost element
-abbrev pub is_noscript_in_head : List Element → Bool
-is_noscript_in_head path = bytes_eq (current path) noscript && is_name head (current_name (outer path))
 
 -- a text cut where its first byte stands that isn't whitespace
 pub record IsCut (s blank rest : List ℕ) : Type 0 where

@@ -1,12 +1,11 @@
 //! The parts of a builder, and which elements are open.
 ghost use Rattle.std.specs.Prelude.{◌≡◌, length};
 ghost use Rattle.hm_elements.specs.Paths as paths;
-ghost use Rattle.hm_build.specs.Inside as inside;
 ghost use Rattle.hm_build.specs.Inside.{inside_head, open_path, text_name};
 
 use crate::insertion::{BuilderMode, HeadText};
 use hm_base::Word;
-use hm_elements::{is_blank_parent, is_raw, same_name};
+use hm_elements::is_raw;
 use hm_settle::Path;
 use hm_tree::Maker;
 
@@ -109,17 +108,4 @@ pub(crate) fn is_in_raw(insertion_mode: BuilderMode, path: &Path) -> bool
     ensures { result ≡ paths.is_in_raw (open_path insertion_mode path.now) }
 {
     is_in_text(insertion_mode, path) && is_raw(current(insertion_mode, path))
-}
-
-/// Whether a text is only whitespace in the innermost element of a body.
-pub(crate) fn is_in_blank(path: &Path) -> bool
-    ensures { result ≡ paths.is_in_blank path.now }
-{
-    !path.is_in_svg() && (is_blank_parent(path.current()) || is_noscript_in_head(path))
-}
-
-fn is_noscript_in_head(path: &Path) -> bool
-    ensures { result ≡ inside.is_noscript_in_head path.now }
-{
-    same_name(path.current(), "noscript") && path.name(path.len() - 2) == "head"
 }

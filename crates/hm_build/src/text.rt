@@ -12,7 +12,7 @@ ghost use Rattle.hm_build.specs.Inside.{IsCut, IsKept, IsPutBehind, Takes, mixed
 use crate::BuildFault;
 use crate::insertion::BuilderMode;
 use crate::make::make_missing;
-use crate::parts::{Parts, is_in_blank, is_in_raw, is_in_text};
+use crate::parts::{Parts, is_in_raw, is_in_text};
 use hm_base::{Memory, Points, Rule, is_space};
 use hm_tree::Maker;
 use std::alloc::Global;
@@ -39,9 +39,20 @@ fn text_rule(insertion_mode: BuilderMode, path: &hm_settle::Path) -> Option<Rule
             noscript: true,
             text: None,
         } => Some(Rule::TextHere),
-        BuilderMode::InBody => is_in_blank(path).then_some(Rule::TextHere),
+        BuilderMode::InBody => path.is_in_blank().then_some(Rule::TextHere),
         BuilderMode::AfterBody | BuilderMode::AfterHtml => Some(Rule::AfterBody),
         _ => None,
+    }
+}
+
+/// Whether any text stands as it is: in the body, where a text isn't only whitespace (#parsing-main-inbody).
+fn holds_any_text(insertion_mode: BuilderMode, path: &hm_settle::Path) -> bool
+    ensures body { result ≡ true → insertion_mode ≡ BuilderMode.InBody }
+    ensures plain { result ≡ true → paths.is_in_blank path.now ≡ false }
+{
+    match insertion_mode {
+        BuilderMode::InBody => !path.is_in_blank(),
+        _ => false,
     }
 }
 
@@ -107,6 +118,10 @@ impl Parts {
         if is_in_text(self.insertion_mode, &self.path) {
             let raw = is_in_raw(self.insertion_mode, &self.path);
             self.maker.text(text, raw)?;
+            return Ok(());
+        }
+        if holds_any_text(self.insertion_mode, &self.path) {
+            self.maker.text(text, false)?;
             return Ok(());
         }
         let (blank, rest) = split_blank(text);

@@ -8,7 +8,7 @@ use Rattle.hm_build.specs.declared.insertion.BuilderMode.TheVariants.{InBody}
 use Rattle.hm_build.proofs.Dropped.{done_ahead}
 use Rattle.hm_build.proofs.Texts.{not_raw}
 use Rattle.hm_build.proofs.TextWalks.{HasRoom-text, HasRoom-only_blank}
-use Rattle.hm_build.proofs.PlainTexts.{fits_by, is_zero, is_some, only_blank, text_step, blank_step, mixed_step, mixed_refused, mixed_went, text_done, blank_done, mixed_done}
+use Rattle.hm_build.proofs.PlainTexts.{fits_by, is_zero, is_some, only_blank, text_step, body_step, blank_step, mixed_step, mixed_refused, mixed_went, text_done, body_done, blank_done, mixed_done}
 use Rattle.hm_build.proofs.parts.Parts.plain_text.Goals as goal
 
 pub text-requires-clause-room : goal.text-requires-clause-room
@@ -26,6 +26,29 @@ returns-then-is_in_text c =
     done_ahead c.args.before (step_bytes s (state_of p)) p _
     (text_done p _ s c.requires.all (sym c.is_in_text.ensures ∙ c.if-is_in_text.true) c.requires.kept
     (ap (λ m. record p { maker = m }) (c.in_ok-text.ensures.ok ∙ ap (with_text p.maker s) c.is_in_raw-raw.ensures)))
+
+pub text-requires-then-holds_any_text-clause-room : goal.text-requires-then-holds_any_text-clause-room
+text-requires-then-holds_any_text-clause-room c =
+    let p = c.args.self.now in
+    let s = c.args.text.now in
+    let held = c.if-holds_any_text.true in
+    HasRoom-text p.maker s false
+    (fits_by _ (each_byte s false) (state_of p) p.maker (body_step p c.requires.all s (c.holds_any_text.ensures.body held) (sym c.is_in_text.ensures ∙ c.if-is_in_text.false) (c.holds_any_text.ensures.plain held)) c.requires.room)
+
+pub text-requires-then-holds_any_text-clause-same_raw : goal.text-requires-then-holds_any_text-clause-same_raw
+text-requires-then-holds_any_text-clause-same_raw c =
+    let p = c.args.self.now in
+    let plain = sym c.is_in_text.ensures ∙ c.if-is_in_text.false in
+    subst (λ raw. last_agrees p.maker raw ≡ true) (not_raw (open_path p.insertion_mode p.path) plain) c.requires.kept.walk.same_raw
+
+pub returns-then-holds_any_text : goal.returns-then-holds_any_text
+returns-then-holds_any_text c =
+    let p = c.args.self.now in
+    let s = c.args.text.now in
+    let held = c.if-holds_any_text.true in
+    done_ahead c.args.before (step_bytes s (state_of p)) p _
+    (body_done p _ s c.requires.all (c.holds_any_text.ensures.body held) (sym c.is_in_text.ensures ∙ c.if-is_in_text.false) (c.holds_any_text.ensures.plain held) c.requires.kept
+    (ap (λ m. record p { maker = m }) c.in_ok-text-2.ensures.ok))
 
 pub keep_blank-requires-clause-room : goal.keep_blank-requires-clause-room
 keep_blank-requires-clause-room c =

@@ -23,6 +23,7 @@ pub mod TagParts
 pub mod ValueReads
 pub mod NameReads
 pub mod PlainNames
+pub mod Letters
 pub mod Kept
 pub mod TagBodies
 pub mod Faults

@@ -93,7 +93,7 @@ no_capital : (c : ℕ) → is_tag_byte c ≡ true → is_capital c ≡ false
 unfolding is_capital
 no_capital c h = for_each_kind is_capital false small_no_capital (λ d k. ascii_no_capital d (digit_is d ∙ k)) refl refl refl refl c h
 
-small_stays : (c : ℕ) → is_small c ≡ true → is_tag_byte c ≡ true
+pub small_stays : (c : ℕ) → is_small c ≡ true → is_tag_byte c ≡ true
 unfolding is_tag_byte
 small_stays c h = rw h refl
 

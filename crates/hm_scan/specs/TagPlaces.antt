@@ -1,13 +1,13 @@
 -- Places in a text at which parts of it end.
 use Rattle.std.specs.Prelude.{◌≡◌, ℕ, ◌+◌, ◌≤◌, ◌<◌, Bool, ◌||◌, true, false, ◌==◌, List, map, drop, slice_index, slice_range, IsCharBoundary}
 use Rattle.hm_base.specs.Bytes.{Cut, is_space, lower}
-use Rattle.hm_base.specs.Forms.{is_tag_byte, is_tag_name}
+use Rattle.hm_base.specs.Forms.{is_small, is_tag_name}
 use Rattle.hm_scan.specs.Tags.{is_name_byte, is_later_byte, is_unquoted_byte, attribute_at}
 use Rattle.hm_scan.specs.Reading.{is_bad_name}
 use Rattle.hm_scan.specs.declared.attribute.WrittenAttribute.{WrittenAttribute}
 use Rattle.hm_scan.specs.declared.attribute.Value.{Value}
 use Rattle.hm_scan.specs.declared.tag_runs.ByteRun.{ByteRun}
-use Rattle.hm_scan.specs.declared.tag_runs.ByteRun.TheVariants.{Space, Gap, TagName, PlainName, AttributeName, Unquoted}
+use Rattle.hm_scan.specs.declared.tag_runs.ByteRun.TheVariants.{Space, Gap, TagName, Letter, AttributeName, Unquoted}
 
 -- whitespace or '/'
 unfoldable pub is_gap_byte : ℕ → Bool
@@ -18,7 +18,7 @@ abbrev pub test_of : ByteRun → ℕ → Bool
 test_of Space = is_space
 test_of Gap = is_gap_byte
 test_of TagName = is_name_byte
-test_of PlainName = is_tag_byte
+test_of Letter = is_small
 test_of AttributeName = is_later_byte
 test_of Unquoted = is_unquoted_byte
 

@@ -7,7 +7,7 @@ ghost use Rattle.hm_scan.specs.TagPlaces.{IsAttributeAt, IsCutAt, IsOrdinaryName
 ghost use Rattle.hm_refs.specs.Reads.{IsEndOf};
 
 use crate::names::is_tag_byte;
-use crate::tag_runs::{ByteRun, run_end};
+use crate::tag_runs::{ByteRun, plain_run_end, run_end};
 use memchr::memchr;
 
 /// A value from `from` up to `to`. What follows it and its quote begins at `behind`.
@@ -126,7 +126,7 @@ fn name_part(bytes: &[u8], at: usize) -> NamePart
     ensures end { IsEndOf tags.is_later_byte bytes.now (at + 1) result.to }
     ensures plain { result.plain ≡ true → IsOrdinaryName (slice_range bytes.now at result.to) }
 {
-    let to = run_end(bytes, at + 1, ByteRun::PlainName);
+    let to = plain_run_end(bytes, at + 1);
     if is_tag_byte(bytes[at]) && ends_name(bytes, to) {
         return NamePart { to, plain: true };
     }

@@ -1,5 +1,5 @@
 //! The tag at a place of a text.
-ghost use Rattle.std.specs.Prelude.{◌≡◌, ◌≢◌, ℕ, ◌^◌, ◌<◌, ◌≤◌, Bool, List, drop, length, slice_index, slice_range, true, false, Some, IfOk, IfErr, IsCharBoundary};
+ghost use Rattle.std.specs.Prelude.{◌≡◌, ◌≢◌, ℕ, ◌^◌, ◌<◌, ◌≤◌, Bool, List, [], drop, length, slice_index, slice_range, true, false, Some, IfOk, IfErr, IsCharBoundary};
 ghost use Rattle.hm_base.specs.Walks.{Attribute};
 ghost use Rattle.hm_refs.specs.Names.{Entry};
 ghost use Rattle.hm_tree.specs.Lexemes.{token_of};
@@ -15,10 +15,10 @@ ghost use Rattle.hm_scan.specs.Reading.{begins_tag, read_end, read_start, read_t
 use crate::collected::Collected;
 use crate::names::{is_small, is_tag_name, put_name};
 use crate::tag_body::read_body;
-use crate::tag_runs::{ByteRun, run_end};
+use crate::tag_runs::{ByteRun, plain_run_end, run_end};
 use hm_base::ATTRIBUTE_LIMIT;
 use hm_refs::Table;
-use hm_tree::{Lexeme, ScanFault, Tag, Token};
+use hm_tree::{Attrs, Lexeme, ScanFault, Tag, Token};
 use std::alloc::Global;
 
 /// What is known of a tag beside its name and its attributes: whether a `/` stands directly before its `>`. What
@@ -85,7 +85,7 @@ fn name_end(text: &str, from: usize) -> NameEnd
     ensures plain { result.plain ≡ true → IsPlainName (slice_range text.now from result.to) }
 {
     let bytes = text.as_bytes();
-    let to = run_end(bytes, from, ByteRun::PlainName);
+    let to = plain_run_end(bytes, from);
     if is_plain_between(bytes, from, to) {
         return NameEnd { to, plain: true };
     }
@@ -104,6 +104,15 @@ fn is_bare(bytes: &[u8], end: NameEnd) -> bool
     end.plain && end.to < bytes.len() && bytes[end.to] == b'>'
 }
 
+/// Takes the attributes of an earlier tag away, if it had any.
+fn clear(attrs: &mut Attrs)
+    ensures { attrs.new ≡ [] }
+{
+    if attrs.len() > 0 {
+        attrs.clear();
+    }
+}
+
 /// Reads the tag whose name begins at `from` and ends at `to`, where its `>` stands. No attribute is in it.
 fn read_bare(text: &str, from: usize, to: usize, tag: &mut Tag) -> Result<Whole, ScanFault>
     requires size { length text.now < 2 ^ 32 }
@@ -116,7 +125,7 @@ fn read_bare(text: &str, from: usize, to: usize, tag: &mut Tag) -> Result<Whole,
     ensures ok { IfOk result (λ whole. (t : List Entry) → (keeps : Bool) → IsWhole t keeps text.now from tag.new whole) }
     ensures err { IfErr result (λ fault. fault ≡ ScanFault.Memory) }
 {
-    tag.attrs.clear();
+    clear(&mut tag.attrs);
     put_name(&mut tag.name, &text[from..to], true)?;
     Ok(Whole {
         slash: false,

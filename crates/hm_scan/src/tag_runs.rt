@@ -1,10 +1,11 @@
 //! Runs of bytes of one kind.
 ghost use Rattle.std.specs.Prelude.{◌≡◌, ◌≤◌, length};
 ghost use Rattle.hm_base.specs.Bytes as bytes;
+ghost use Rattle.hm_base.specs.Forms as forms;
 ghost use Rattle.hm_refs.specs.Reads.{IsEndOf};
 ghost use Rattle.hm_scan.specs.TagPlaces.{test_of};
 
-use crate::names::is_tag_byte;
+use crate::names::{is_small, is_tag_byte};
 
 /// The bytes that a run is made of.
 #[derive(Clone, Copy)]
@@ -15,8 +16,8 @@ pub(crate) enum ByteRun {
     Gap,
     /// Neither whitespace nor `/` nor `>`.
     TagName,
-    /// Small letters, digits, `.`, `_`, `:` and `-`.
-    PlainName,
+    /// Small letters.
+    Letter,
     /// Neither whitespace nor `/`, `>` or `=`.
     AttributeName,
     /// Neither whitespace nor `>`.
@@ -32,7 +33,7 @@ impl ByteRun {
             ByteRun::Space => is_space(byte),
             ByteRun::Gap => is_space(byte) || byte == b'/',
             ByteRun::TagName => !(is_space(byte) || byte == b'/' || byte == b'>'),
-            ByteRun::PlainName => is_tag_byte(byte),
+            ByteRun::Letter => is_small(byte),
             ByteRun::AttributeName => {
                 !(is_space(byte) || byte == b'/' || byte == b'>' || byte == b'=')
             }
@@ -54,6 +55,19 @@ pub(crate) fn run_end(bytes: &[u8], from: usize, run: ByteRun) -> usize
 {
     let mut at = from;
     while at < bytes.len() && run.has(bytes[at]) {
+        at += 1;
+    }
+    at
+}
+
+/// Where the run of small letters, digits, `.`, `_`, `:` and `-` ends that begins at `from`. Most of it are letters, which are
+/// passed first.
+pub(crate) fn plain_run_end(bytes: &[u8], from: usize) -> usize
+    requires { from ≤ length bytes.now }
+    ensures { IsEndOf forms.is_tag_byte bytes.now from result }
+{
+    let mut at = run_end(bytes, from, ByteRun::Letter);
+    while at < bytes.len() && is_tag_byte(bytes[at]) {
         at += 1;
     }
     at

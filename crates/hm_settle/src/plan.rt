@@ -47,10 +47,7 @@ pub(crate) fn marks_on(elements: &[OpenElement], name: Named<'_>, foreign: bool)
     requires { AreMarked [] elements.now }
     ensures { result ≡ marks_of (record { name = name.entry.name.now; foreign = foreign } ∷ path_of elements.now) }
 {
-    match elements.last() {
-        Some(innermost) => innermost.marks.at(name, foreign),
-        None => Marks::none().at(name, foreign),
-    }
+    marks(elements).at(name, foreign)
 }
 
 /// What a start tag of this name does.

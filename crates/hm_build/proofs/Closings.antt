@@ -21,7 +21,7 @@ use Rattle.hm_build.specs.Parsing.{ClosesAt, GoesOn, IsParsing, IsTurned, StaysO
 use Rattle.hm_build.specs.declared.page.Taken.TheVariants as turns
 
 -- the bytes to skip are skipped
-skipped : (t : List Entry) (place : ℕ → ℕ) (k at : ℕ) (st : Construction) (s : List ℕ) → k ≤ length s → closed_from t place k at st s ≡ closed_from t place 0 (at + k) st (drop k s)
+pub skipped : (t : List Entry) (place : ℕ → ℕ) (k at : ℕ) (st : Construction) (s : List ℕ) → k ≤ length s → closed_from t place k at st s ≡ closed_from t place 0 (at + k) st (drop k s)
 skipped t place zero at st [] h = refl
 skipped t place zero at st (c ∷ s) h = ap (λ i. closed_from t place 0 i st (c ∷ s)) (omega arith)
 skipped t place (suc k) at st [] h = absurd (none k h)
@@ -33,7 +33,7 @@ skipped t place (suc k) at st (c ∷ s) h =
     more ∙ ap (λ i. closed_from t place 0 i st (drop k s)) (omega arith)
 
 -- it is closed by a token, which ends at `to`, or behind it
-goes_on : (t : List Entry) (place : ℕ → ℕ) (at n to : ℕ) (st : Construction) (token : Seen) (s : List ℕ) → at < to → to ≤ at + length s
+pub goes_on : (t : List Entry) (place : ℕ → ℕ) (at n to : ℕ) (st : Construction) (token : Seen) (s : List ℕ) → at < to → to ≤ at + length s
     → first t (mode_of st.path) s ≡ behind_bytes n (taken token (drop (to - at) s))
     → closed_from t place 0 at st s ≡ closed_step place (at + n) (step st token) (λ next. closed_from t place 0 to next (drop (to - at) s))
 goes_on t place at n to st token [] h k e = absurd (none at to h k)
@@ -68,40 +68,26 @@ ends_here t place at st (c ∷ s) e = rw e refl
 pub stays_open : (r : Reading) (b : Building) (m : Mode) → m ≡ mode_of b.state.path → next_of r m ≡ at_end → closed_left r b ≡ None
 stays_open r b m e f = ends_here r.names (place_of r.source) r.at b.state (drop r.at (text_of r)) (subst (λ k. first r.names k (drop r.at (text_of r)) ≡ at_end) e f)
 
-pub token_closes : (r : Reading) (b : Building) (m : Mode) (token : Spanned) (new : Reading) (s : List ℕ) (after : Building) → IsParsing r b → m ≡ mode_of b.state.path → IsTaken r m token new → text_of r ≡ s
-    → IsStepped (step b.state (seen s token.token)) b after → ClosesAt r b token.from new after
-token_closes r b m token new s after p e k t done = by (step b.state (seen (text_of r) token.token)) refl (subst (λ x. IsStepped (step b.state (seen x token.token)) b after) (sym t) done)
+further : (i j : ℕ) (s : List ℕ) → i ≤ j → drop j s ≡ drop (j - i) (drop i s)
+further i j s h = ap (λ x. drop x s) (omega arith) ∙ sym (drop-drop (j - i) i s)
+
+-- body is closed by the next token, or behind it
+pub closed_by_next : (r : Reading) (b : Building) (token : Spanned) (passed : ℕ) → r.at ≤ length (text_of r) → token.from ≡ r.at + passed → token.from < token.to → token.to ≤ length (text_of r)
+    → first r.names (mode_of b.state.path) (drop r.at (text_of r)) ≡ behind_bytes passed (taken (seen (text_of r) token.token) (drop token.to (text_of r)))
+    → closed_left r b ≡ closed_step (place_of r.source) token.from (step b.state (seen (text_of r) token.token)) (λ next. closed_from r.names (place_of r.source) 0 token.to next (drop token.to (text_of r)))
+closed_by_next r b token passed before from forward inside e =
+    let left : length (drop r.at (text_of r)) ≡ length (text_of r) - r.at = length-drop r.at (text_of r) in
+    let rest : drop token.to (text_of r) ≡ drop (token.to - r.at) (drop r.at (text_of r)) = further r.at token.to (text_of r) (omega arith) in
+    goes_on r.names (place_of r.source) r.at passed token.to b.state (seen (text_of r) token.token) (drop r.at (text_of r)) (omega arith) (omega arith) (e ∙ ap (λ x. behind_bytes passed (taken (seen (text_of r) token.token) x)) rest)
+    ∙ ap (λ i. closed_step (place_of r.source) i (step b.state (seen (text_of r) token.token)) (λ next. closed_from r.names (place_of r.source) 0 token.to next (drop (token.to - r.at) (drop r.at (text_of r))))) (sym from)
+    ∙ ap (λ x. closed_step (place_of r.source) token.from (step b.state (seen (text_of r) token.token)) (λ next. closed_from r.names (place_of r.source) 0 token.to next x)) (sym rest)
+
+-- so it is where the token was stepped
+pub closes_with : (r : Reading) (b : Building) (token : Spanned) (new : Reading) (after : Building) → token.from < token.to → token.to ≤ length (text_of r) → new ≡ record r { at = token.to }
+    → closed_left r b ≡ closed_step (place_of r.source) token.from (step b.state (seen (text_of r) token.token)) (λ next. closed_from r.names (place_of r.source) 0 token.to next (drop token.to (text_of r)))
+    → IsStepped (step b.state (seen (text_of r) token.token)) b after → ClosesAt r b token.from new after
+closes_with r b token new after forward inside moved all done = by (step b.state (seen (text_of r) token.token)) refl done
   where
-    left : length (drop r.at (text_of r)) ≡ length (text_of r) - r.at
-    left = length-drop r.at (text_of r)
-
-    inside : token.to ≤ length (text_of r)
-    inside = k.inside
-
-    before : r.at ≤ length (text_of r)
-    before = p.inside
-
-    from : token.from ≡ r.at + k.passed
-    from = k.from
-
-    forward : token.from < token.to
-    forward = k.forward
-
-    further : (i j : ℕ) (s : List ℕ) → i ≤ j → drop j s ≡ drop (j - i) (drop i s)
-    further i j s h = ap (λ x. drop x s) (omega arith) ∙ sym (drop-drop (j - i) i s)
-
-    rest : drop token.to (text_of r) ≡ drop (token.to - r.at) (drop r.at (text_of r))
-    rest = further r.at token.to (text_of r) (omega (arith, from, forward))
-
-    here : first r.names (mode_of b.state.path) (drop r.at (text_of r)) ≡ behind_bytes k.passed (taken (seen (text_of r) token.token) (drop (token.to - r.at) (drop r.at (text_of r))))
-    here = subst (λ x. first r.names x (drop r.at (text_of r)) ≡ behind_bytes k.passed (taken (seen (text_of r) token.token) (drop token.to (text_of r)))) e k.is ∙ ap (λ x. behind_bytes k.passed (taken (seen (text_of r) token.token) x)) rest
-
-    all : closed_left r b ≡ closed_step (place_of r.source) token.from (step b.state (seen (text_of r) token.token)) (λ next. closed_from r.names (place_of r.source) 0 token.to next (drop token.to (text_of r)))
-    all =
-        goes_on r.names (place_of r.source) r.at k.passed token.to b.state (seen (text_of r) token.token) (drop r.at (text_of r)) (omega (arith, from, forward)) (omega (arith, left, inside, before)) here
-        ∙ ap (λ i. closed_step (place_of r.source) i (step b.state (seen (text_of r) token.token)) (λ next. closed_from r.names (place_of r.source) 0 token.to next (drop (token.to - r.at) (drop r.at (text_of r))))) (sym from)
-        ∙ ap (λ x. closed_step (place_of r.source) token.from (step b.state (seen (text_of r) token.token)) (λ next. closed_from r.names (place_of r.source) 0 token.to next x)) (sym rest)
-
     at_to : Reading
     at_to = record r { at = token.to }
 
@@ -119,7 +105,14 @@ token_closes r b m token new s after p e k t done = by (step b.state (seen (text
         all ∙ ap (λ x. closed_step (place_of r.source) token.from x (λ next. closed_from r.names (place_of r.source) 0 token.to next (drop token.to (text_of r)))) q
         ∙ ap (λ z. cond (is_behind_body z.insertion_mode) (Some (place_of r.source token.from)) (closed_from r.names (place_of r.source) 0 token.to z (drop token.to (text_of r)))) (sym i.0) ∙ either (is_behind_body after.state.insertion_mode)
         in
-        subst (λ n. ClosesAt r b token.from n after) (sym k.moved) (record { inside = there; is = is })
+        subst (λ n. ClosesAt r b token.from n after) (sym moved) (record { inside = there; is = is })
+
+pub token_closes : (r : Reading) (b : Building) (m : Mode) (token : Spanned) (new : Reading) (s : List ℕ) (after : Building) → IsParsing r b → m ≡ mode_of b.state.path → IsTaken r m token new → text_of r ≡ s
+    → IsStepped (step b.state (seen s token.token)) b after → ClosesAt r b token.from new after
+token_closes r b m token new s after p e k t done =
+    closes_with r b token new after k.forward k.inside k.moved
+    (closed_by_next r b token k.passed p.inside k.from k.forward k.inside (subst (λ x. first r.names x (drop r.at (text_of r)) ≡ behind_bytes k.passed (taken (seen (text_of r) token.token) (drop token.to (text_of r)))) e k.is))
+    (subst (λ x. IsStepped (step b.state (seen x token.token)) b after) (sym t) done)
 
 -- only an end tag closes body
 pub stays_here : (r : Reading) (b : Building) (token : Spanned) (new : Reading) (s : List ℕ) (after : Building) → is_end_tag (seen s token.token) ≡ false → IsStepped (step b.state (seen s token.token)) b after → ClosesAt r b token.from new after → is_behind_body b.state.insertion_mode ≡ false → StaysOpen r b new after

@@ -23,5 +23,7 @@ mod PageEnds
 pub mod Coming
 pub mod Growth
 pub mod PartTurns
+mod PartClosings
+mod PartRests
 pub mod Builders
 pub mod Whole

@@ -1,5 +1,5 @@
 -- A turn of the reader of a page that comes in pieces: the next token, or the piece of text that is ready, is taken into the tree.
-use Rattle.std.proofs.Common.{◌≡◌, ℕ, zero, suc, ◌+◌, ◌-◌, ◌*◌, ◌≤◌, ◌<◌, Bool, true, false, cond, not, ◌&&◌, List, [], ◌∷◌, length, drop, map, Option, Some, None, refl, sym, ap, ◌∙◌, subst, arith, zero-add}
+use Rattle.std.proofs.Common.{◌≡◌, ℕ, zero, suc, ◌+◌, ◌-◌, ◌*◌, ◌≤◌, ◌<◌, Bool, true, false, cond, not, ◌&&◌, ◌||◌, List, [], ◌∷◌, length, drop, map, Option, Some, None, is_some, refl, sym, ap, ap₂, ◌∙◌, subst, arith, zero-add}
 use Rattle.std.specs.Str.{IsCharBoundary, IsUtf8}
 use Rattle.std.proofs.lemmas.List.{length-drop, drop-drop}
 use Rattle.std.proofs.lemmas.Str.{IsUtf8-drop, is_utf8-from_IsUtf8}
@@ -21,7 +21,7 @@ use Rattle.hm_tree.specs.declared.tokens.Placed.{Placed}
 use Rattle.hm_tree.specs.declared.tokens.Spanned.{Spanned}
 use Rattle.hm_tree.specs.declared.tokens.Tag.{Tag}
 use Rattle.hm_token_laws.specs.First.{Mode, ordinary, in_svg, rcdata, raw, script, Next, at_end, behind_bytes, behind_empty_tags, first, next_here, read_markup, rule_of}
-use Rattle.hm_token_laws.specs.Laws.{IsPlain, SoundNames, TakesBytes, token_size, least_size, growth}
+use Rattle.hm_token_laws.specs.Laws.{IsPlain, SoundNames, TakesBytes, token_size, least_size, growth, reads_markup}
 use Rattle.hm_token_laws.proofs.Firsts.{tokens_are_small, tokens_are_sound}
 use Rattle.hm_construction_laws.specs.Steps.{Construction, Stepped, went, stops, step, step_bytes}
 use Rattle.hm_construction_laws.specs.Trees.{mode_of}
@@ -44,9 +44,20 @@ use Rattle.hm_build.proofs.Turns.{IsCounted, IsText, read_under, text_long}
 
 -- ---- what a part is
 
+-- these bytes are as much of ordinary text as is decided, after n bytes of `</>`
+pub record IsPieceOf (t : List Entry) (mode : Mode) (s : List ℕ) (n : ℕ) (x rest : List ℕ) : Type 0 where
+  pub head : ℕ
+  pub more : List ℕ
+  pub markup : reads_markup mode ≡ true
+  pub behind : (behind_empty_tags s).rest ≡ head ∷ more
+  pub count : n ≡ (behind_empty_tags s).count
+  pub plain : ends_plain t false head more ≡ false
+  pub bytes : x ≡ head ∷ plain_piece t more
+  pub left : rest ≡ drop (length (plain_piece t more)) more
+
 pub data PartKind (t : List Entry) (mode : Mode) (s : List ℕ) (n : ℕ) (token : Seen) (rest : List ℕ) : Type 0 where
   whole : first t mode s ≡ behind_bytes n (taken token rest) → PartKind t mode s n token rest
-  piece : (x : List ℕ) → token ≡ slice x → length s ≡ n + length x + length rest → 0 < length x → PartKind t mode s n token rest
+  piece : (x : List ℕ) → token ≡ slice x → length s ≡ n + length x + length rest → 0 < length x → IsPieceOf t mode s n x rest → PartKind t mode s n token rest
 
 abbrev is_end : Next → Bool
 is_end at_end = true
@@ -77,28 +88,31 @@ rest_in at_end = []
 rest_in (behind_bytes n (refused fault)) = []
 rest_in (behind_bytes n (taken token rest)) = rest
 
-kind_behind : (t : List Entry) (foreign : Bool) (mode : Mode) (s : List ℕ) (count : ℕ) (behind : List ℕ) (n : ℕ) (token : Seen) (rest : List ℕ) → length s ≡ count + length behind
+kind_behind : (t : List Entry) (foreign : Bool) (mode : Mode) (s : List ℕ) (count : ℕ) (behind : List ℕ) (n : ℕ) (token : Seen) (rest : List ℕ) → length s ≡ count + length behind → reads_markup mode ≡ true → (behind_empty_tags s).rest ≡ behind → count ≡ (behind_empty_tags s).count
     → first t mode s ≡ next_here t foreign (record { count = count; rest = behind }) → part_behind t foreign (record { count = count; rest = behind }) ≡ behind_bytes n (taken token rest) → PartKind t mode s n token rest
 unfolding read_text
-kind_behind t foreign mode s count [] n token rest l f e = absurd (no refl (ap is_end e))
-kind_behind t foreign mode s count (c ∷ r) n token rest l f e = by (begins_markup (c ∷ r)) f e
+kind_behind t foreign mode s count [] n token rest l m is here f e = absurd (no refl (ap is_end e))
+kind_behind t foreign mode s count (c ∷ r) n token rest l m is here f e = by (begins_markup (c ∷ r)) refl f e
   where
-    text : (o : Option Reference) → first t mode s ≡ behind_bytes count (read_by o t false (c ∷ r)) → behind_bytes count (piece_by o t c r) ≡ behind_bytes n (taken token rest) → PartKind t mode s n token rest
-    text (Some found) g h = whole (g ∙ h)
-    text None g h =
+    text : begins_markup (c ∷ r) ≡ false → (o : Option Reference) → reference_in t c r ≡ o → first t mode s ≡ behind_bytes count (read_by o t false (c ∷ r)) → behind_bytes count (piece_by o t c r) ≡ behind_bytes n (taken token rest) → PartKind t mode s n token rest
+    text b (Some found) k g h = whole (g ∙ h)
+    text b None k g h =
         let short = piece_short t r in
         let left = length-drop (length (plain_piece t r)) r in
         let rest_is : drop (length (plain_piece t r)) r ≡ rest = ap rest_in h in
-        piece (c ∷ plain_piece t r) (sym (ap token_in h)) (omega (arith, ap length rest_is, ap count_of h)) (omega arith)
+        let counted_is : count ≡ n = ap count_of h in
+        let plain : ends_plain t false c r ≡ false = ap₂ (λ p o. p || is_some o) b k in
+        piece (c ∷ plain_piece t r) (sym (ap token_in h)) (omega (arith, ap length rest_is, counted_is)) (omega arith)
+        (record { head = c; more = r; markup = m; behind = is; count = sym counted_is ∙ here; plain = plain; bytes = refl; left = sym rest_is })
 
-    by : (b : Bool) → first t mode s ≡ behind_bytes count (cond b (read_markup t foreign (c ∷ r)) (read_text t false (c ∷ r))) → behind_bytes count (cond b (read_markup t foreign (c ∷ r)) (text_part t (c ∷ r))) ≡ behind_bytes n (taken token rest) → PartKind t mode s n token rest
-    by true g h = whole (g ∙ h)
-    by false g h = text (reference_in t c r) g h
+    by : (b : Bool) → begins_markup (c ∷ r) ≡ b → first t mode s ≡ behind_bytes count (cond b (read_markup t foreign (c ∷ r)) (read_text t false (c ∷ r))) → behind_bytes count (cond b (read_markup t foreign (c ∷ r)) (text_part t (c ∷ r))) ≡ behind_bytes n (taken token rest) → PartKind t mode s n token rest
+    by true b g h = whole (g ∙ h)
+    by false b g h = text b (reference_in t c r) refl g h
 
 pub part_kind : (t : List Entry) (mode : Mode) (s : List ℕ) (n : ℕ) (token : Seen) (rest : List ℕ) → part t mode s ≡ behind_bytes n (taken token rest) → PartKind t mode s n token rest
 unfolding part first
-part_kind t ordinary s n token rest e = kind_behind t false ordinary s (behind_empty_tags s).count (behind_empty_tags s).rest n token rest (tags_counted s) refl e
-part_kind t in_svg s n token rest e = kind_behind t true in_svg s (behind_empty_tags s).count (behind_empty_tags s).rest n token rest (tags_counted s) refl e
+part_kind t ordinary s n token rest e = kind_behind t false ordinary s (behind_empty_tags s).count (behind_empty_tags s).rest n token rest (tags_counted s) refl refl refl refl e
+part_kind t in_svg s n token rest e = kind_behind t true in_svg s (behind_empty_tags s).count (behind_empty_tags s).rest n token rest (tags_counted s) refl refl refl refl e
 part_kind t (rcdata name) s n token rest e = whole e
 part_kind t (raw name) s n token rest e = whole e
 part_kind t script s n token rest e = whole e
@@ -115,19 +129,19 @@ plain_left s at plain utf8 starts = record { bytes = plain_behind at s plain; ut
 
 -- ---- a part
 
-in_mode : (r : Reading) (m n : Mode) (token : Spanned) (new : Reading) → m ≡ n → IsPart r m token new → IsPart r n token new
+pub in_mode : (r : Reading) (m n : Mode) (token : Spanned) (new : Reading) → m ≡ n → IsPart r m token new → IsPart r n token new
 in_mode r m n token new e k = subst (λ x. IsPart r x token new) e k
 
-kind : (r : Reading) (b : Building) (token : Spanned) (new : Reading) → (k : IsPart r (mode_of b.state.path) token new) → PartKind r.names (mode_of b.state.path) (left_of r) k.passed (seen (text_of r) token.token) (drop token.to (text_of r))
+pub kind : (r : Reading) (b : Building) (token : Spanned) (new : Reading) → (k : IsPart r (mode_of b.state.path) token new) → PartKind r.names (mode_of b.state.path) (left_of r) k.passed (seen (text_of r) token.token) (drop token.to (text_of r))
 kind r b token new k = part_kind r.names (mode_of b.state.path) (left_of r) k.passed (seen (text_of r) token.token) (drop token.to (text_of r)) k.is
 
 under : (t : List Entry) (b : Building) (s : List ℕ) (n : ℕ) (token : Seen) (rest : List ℕ) → SoundNames t → IsPlain s → PartKind t (mode_of b.state.path) s n token rest → IsReadUnder b.state.path token
 under t b s n token rest names plain (whole e) = read_under b.state.path token (tokens_are_sound t (mode_of b.state.path) s n token rest names (is_mode b.state.path) plain e).0
-under t b s n token rest names plain (piece x e l some) = subst (IsReadUnder b.state.path) (sym e) tt
+under t b s n token rest names plain (piece x e l some is) = subst (IsReadUnder b.state.path) (sym e) tt
 
 takes : (t : List Entry) (b : Building) (s : List ℕ) (n : ℕ) (token : Seen) (rest : List ℕ) → SoundNames t → PartKind t (mode_of b.state.path) s n token rest → TakesBytes s n token rest
 takes t b s n token rest names (whole e) = tokens_are_small t (mode_of b.state.path) s n token rest names (is_mode b.state.path) e
-takes t b s n token rest names (piece x e l some) = subst (λ k. TakesBytes s n k rest) (sym e) (record { count = length x; whole = l; size = omega arith; least = omega arith })
+takes t b s n token rest names (piece x e l some is) = subst (λ k. TakesBytes s n k rest) (sym e) (record { count = length x; whole = l; size = omega arith; least = omega arith })
 
 counted : (r : Reading) (b : Building) (token : Spanned) (new : Reading) → SoundNames r.names → IsPartway r b → IsPart r (mode_of b.state.path) token new → IsCounted r token
 counted r b token new names p k =
@@ -167,7 +181,7 @@ cut_left r to h = drop-drop (to - r.at) r.at r.source.placed ∙ ap (λ n. drop 
 cut_bytes : (r : Reading) (to : ℕ) → r.at ≤ to → drop (to - r.at) (map byte_of (left r)) ≡ drop to (text_of r)
 cut_bytes r to h = drop-map byte_of (to - r.at) (left r) ∙ ap (map byte_of) (cut_left r to h) ∙ sym (drop-map byte_of to r.source.placed)
 
-left_bytes : (r : Reading) → left_of r ≡ map byte_of (left r)
+pub left_bytes : (r : Reading) → left_of r ≡ map byte_of (left r)
 left_bytes r = drop-map byte_of r.at r.source.placed
 
 part_here : (r : Reading) (b : Building) (token : Spanned) (new : Reading) → (k : IsPart r (mode_of b.state.path) token new) → r.at ≤ token.to

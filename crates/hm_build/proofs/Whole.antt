@@ -16,7 +16,7 @@ use Rattle.hm_pieces.specs.Pieces.{HasFed, HasPage, Pieces, fault_of_page, told_
 use Rattle.hm_pieces.proofs.Feeding.{fault_within}
 use Rattle.hm_pieces.proofs.Texts.{whole_texts_follow}
 use Rattle.hm_build.specs.Building.{first_building}
-use Rattle.hm_build.specs.Feeding.{Feeding, HasBuilt, HasRead, IsBuiltSoFar, IsStopped, page_outcome_within, whole_tree}
+use Rattle.hm_build.specs.Feeding.{Comes, Feeding, HasCome, IsBuiltFrom, IsStopped, page_outcome_within, whole_tree}
 use Rattle.hm_build.specs.Parsing.{IsRefusedAs, left_tree, reads}
 use Rattle.hm_build.proofs.Growth.{page_grows, sound_page}
 use Rattle.hm_build.proofs.PageEnds.{first_tree, sound_names}
@@ -63,29 +63,29 @@ sound_before p q gone page h k same e =
 -- ---- the three answers
 
 -- the text of the page has a fault
-pub ends_faulty : (f : Feeding) (q : Pieces) (page : List ℕ) (rule : Rule) (at : ℕ) → HasRead f page → Ends f.pieces q → q.limit ≡ f.pieces.limit → q.fault ≡ Some (rule, at) → page_outcome_within f.pieces.limit f.names page ≡ refused_by rule at
+pub ends_faulty : (f : Feeding) (q : Pieces) (page : List ℕ) (rule : Rule) (at : ℕ) → HasCome f page → Ends f.pieces q → q.limit ≡ f.pieces.limit → q.fault ≡ Some (rule, at) → page_outcome_within f.pieces.limit f.names page ≡ refused_by rule at
 ends_faulty f q page rule at h ends same some =
     faulty_page f.pieces.limit f.names page (rule, at) (ap (λ n. fault_of_page n page) (sym same) ∙ sym (ends h.gone page h.came).fault ∙ some)
 
 -- a token was refused
-pub ends_stopped : (f : Feeding) (q : Pieces) (page : List ℕ) (rule : Rule) (at : ℕ) → HasRead f page → Ends f.pieces q → q.limit ≡ f.pieces.limit → q.fault ≡ None → f.refused ≡ Some (rule, at) → page_outcome_within f.pieces.limit f.names page ≡ refused_by rule at
+pub ends_stopped : (f : Feeding) (q : Pieces) (page : List ℕ) (rule : Rule) (at : ℕ) → HasCome f page → Ends f.pieces q → q.limit ≡ f.pieces.limit → q.fault ≡ None → f.refused ≡ Some (rule, at) → page_outcome_within f.pieces.limit f.names page ≡ refused_by rule at
 ends_stopped f q page rule at h ends same none some =
     let ended = ends h.gone page h.came in
     let before = sound_before f.pieces q h.gone page h.came ended same none in
-    let stopped : IsStopped f.names first_building (decided page).placed rule at = subst (λ o. HasBuilt o f.names (decided page).placed f.building f.pieces.source.placed) some (h.built before) in
+    let stopped : IsStopped f.names first_building (decided page).placed rule at = subst (λ o. IsBuiltFrom o f.names (decided page).placed f.building f.pieces.source.placed) some (h.built before) in
     let grown_so = page_grows f.pieces q h.gone page h.came ended before none in
     sound_tree f.pieces.limit f.names page (ap (λ n. fault_of_page n page) (sym same) ∙ sym ended.fault ∙ none)
     ∙ sym (first_tree f.names (source_of page)) ∙ ap (λ l. whole_tree f.names first_building l (length page)) grown_so.text_is ∙ stopped.tree grown_so.new (length page)
 
 -- what was built goes on with what is left of the text
-pub ends_sound : (f : Feeding) (q : Pieces) (page : List ℕ) → HasRead f page → Ends f.pieces q → q.limit ≡ f.pieces.limit → q.fault ≡ None → f.refused ≡ None → page_outcome_within f.pieces.limit f.names page ≡ left_tree (reads f.names q.source) f.building
+pub ends_sound : (f : Feeding) (q : Pieces) (page : List ℕ) → HasCome f page → Ends f.pieces q → q.limit ≡ f.pieces.limit → q.fault ≡ None → f.refused ≡ None → page_outcome_within f.pieces.limit f.names page ≡ left_tree (reads f.names q.source) f.building
 ends_sound f q page h ends same none sound =
     let ended = ends h.gone page h.came in
     let before = sound_before f.pieces q h.gone page h.came ended same none in
-    let so_far : IsBuiltSoFar f.names (decided page).placed f.building f.pieces.source.placed = subst (λ o. HasBuilt o f.names (decided page).placed f.building f.pieces.source.placed) sound (h.built before) in
+    let so_far : Comes f.names first_building (decided page).placed f.building f.pieces.source.placed = subst (λ o. IsBuiltFrom o f.names (decided page).placed f.building f.pieces.source.placed) sound (h.built before) in
     let grown_so = page_grows f.pieces q h.gone page h.came ended before none in
     sound_tree f.pieces.limit f.names page (ap (λ n. fault_of_page n page) (sym same) ∙ sym ended.fault ∙ none)
-    ∙ sym (first_tree f.names (source_of page)) ∙ ap (λ l. whole_tree f.names first_building l (length page)) grown_so.text_is ∙ so_far.comes.tree grown_so.new (length page)
+    ∙ sym (first_tree f.names (source_of page)) ∙ ap (λ l. whole_tree f.names first_building l (length page)) grown_so.text_is ∙ so_far.tree grown_so.new (length page)
     ∙ ap₂ (whole_tree f.names f.building) (sym grown_so.kept_is) (sym (ended.end none))
 
 -- what is built of a page is settled

@@ -70,25 +70,26 @@ pub record IsFeeding (f : Feeding) : Type 0 where
   pub sound : f.is_broken ≡ false → f.pieces.is_broken ≡ false
   pub within : f.is_broken ≡ false → f.refused ≡ None → IsWithin (before_text f.pieces.source) f.building.walk f.building.state
 
--- what is built of this text; nothing that is left of it is ready
-pub record IsBuiltSoFar (t : List Entry) (text : List PlacedByte) (b : Building) (left : List PlacedByte) : Type 0 where
-  pub comes : Comes t first_building text b left
-  pub waits : ready t (mode_of b.state.path) (map byte_of left) ≡ false
-
-abbrev pub HasBuilt : Option (Rule × ℕ) → List Entry → List PlacedByte → Building → List PlacedByte → Type 0
-HasBuilt None t text b left = IsBuiltSoFar t text b left
-HasBuilt (Some r) t text b left = IsStopped t first_building text r.0 r.1
-
 -- the page is refused already
 abbrev pub is_refused : Feeding → Bool
 is_refused f = is_some f.refused || is_some f.pieces.fault
 
--- These bytes came. No text is kept of a page that is refused.
-pub record HasRead (f : Feeding) (fed : List ℕ) : Type 0 where
+-- what is built of this text, and that left of it; or it is refused
+abbrev pub IsBuiltFrom : Option (Rule × ℕ) → List Entry → List PlacedByte → Building → List PlacedByte → Type 0
+IsBuiltFrom None t text b left = Comes t first_building text b left
+IsBuiltFrom (Some r) t text b left = IsStopped t first_building text r.0 r.1
+
+-- These bytes came; what is built and the text that is kept are theirs. No text is kept of a page that is refused.
+pub record HasCome (f : Feeding) (fed : List ℕ) : Type 0 where
   pub gone : List PlacedByte
   pub came : HasFed f.pieces gone fed
   pub empty : is_refused f ≡ true → f.pieces.source.placed ≡ []
-  pub built : f.pieces.fault ≡ None → HasBuilt f.refused f.names (decided fed).placed f.building f.pieces.source.placed
+  pub built : f.pieces.fault ≡ None → IsBuiltFrom f.refused f.names (decided fed).placed f.building f.pieces.source.placed
+
+-- They came, and all of them that is ready was taken.
+pub record HasRead (f : Feeding) (fed : List ℕ) : Type 0 where
+  pub come : HasCome f fed
+  pub waits : f.pieces.fault ≡ None → f.refused ≡ None → ready f.names (mode_of f.building.state.path) (map byte_of f.pieces.source.placed) ≡ false
 
 -- ---- what is asked
 

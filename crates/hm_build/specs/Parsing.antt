@@ -96,6 +96,15 @@ pub record StaysOpen (old : Reading) (b : Building) (new : Reading) (after : Bui
   pub open_still : is_behind_body after.state.insertion_mode ≡ false
   pub is : closed_left old b ≡ closed_left new after
 
+-- where no place is known at which body is closed, it is open still
+abbrev pub KnowsClosed : Option ℕ → Building → Type 0
+KnowsClosed closed b = closed ≡ None → is_behind_body b.state.insertion_mode ≡ false
+
+-- The place where body is closed is known by now, or it is closed in what is left.
+pub record ClosesOn (before : Option ℕ) (old : Reading) (b : Building) (by_now : Option ℕ) (new : Reading) (after : Building) : Type 0 where
+  pub is : first_of before (closed_left old b) ≡ first_of by_now (closed_left new after)
+  pub open_still : KnowsClosed by_now after
+
 -- what a turn takes with a token
 abbrev pub taken_by : Lexeme → ℕ → Taken
 taken_by lexemes.EndTag from = turns.EndTag from

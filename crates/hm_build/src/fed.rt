@@ -1,19 +1,18 @@
 //! The tree of a page that comes in pieces.
-ghost use Rattle.std.specs.Prelude.{◌≡◌, ◌≤◌, ◌<◌, ◌+◌, ◌++◌, ℕ, List, [], Ok, Err, true, false, length, drop, map, Option, Some, None, IfOk, IfErr, OnOk, OnErr, IsCharBoundary};
+ghost use Rattle.std.specs.Prelude.{◌≡◌, ◌≤◌, ◌+◌, ◌++◌, ℕ, List, [], Err, true, false, length, drop, map, IfOk, IfErr, OnOk, OnErr, IsCharBoundary};
 ghost use Rattle.hm_base.specs.Source.{byte_of};
 ghost use Rattle.hm_elements.specs.Settled.{Settled};
-ghost use Rattle.hm_refs.specs.Tables.{IsTable};
 ghost use Rattle.hm_construction_laws.specs.Trees.{built, mode_of};
 ghost use Rattle.hm_pieces.specs.Pieces.{HasFed, before_text};
 ghost use Rattle.hm_lexer.specs.Ready.{ready};
 ghost use Rattle.hm_base.specs.Source.{PlacedByte};
 ghost use Rattle.hm_build.specs.Feeding as feeding;
-ghost use Rattle.hm_build.specs.Feeding.{Comes, HasRead, IsPartway, IsWaiting, StopsAs, left, page_outcome_within};
-ghost use Rattle.hm_build.specs.Parsing.{IsFurther, IsRefusedAs, IsWithin};
+ghost use Rattle.hm_build.specs.Feeding.{Comes, HasCome, HasRead, StopsAs, page_outcome_within};
+ghost use Rattle.hm_build.specs.Parsing.{IsRefusedAs, IsWithin};
 
 use crate::TreeBuilder;
-use crate::page::{parse_rest, refusal};
-use crate::tokens::{mode, take};
+use crate::page::parse_rest;
+use crate::ready::part_turns;
 use hm_base::{Memory, OUTPUT_LIMIT, Refused, Rule, SourceText};
 use hm_lexer::Lexer;
 use hm_pieces::TextPieces;
@@ -22,59 +21,6 @@ use hm_refs::laws::every_table;
 use hm_tree::{Tag, Tree};
 use std::alloc::Global;
 use std::marker::Model;
-
-/// Takes the next token or piece of text, where one is ready. A tag is read into `tag`.
-fn part_turn<'a>(
-    alloc: Global,
-    text: &SourceText,
-    lexer: &mut Lexer<'a>,
-    builder: &mut TreeBuilder,
-    tag: &mut Tag,
-) -> Result<bool, Refused>
-    requires names { IsTable lexer.old.names }
-    requires source { lexer.old.source ≡ text.now }
-    requires partway { IsPartway lexer.old builder.old }
-    ensures partway { result ≡ Ok true → IsPartway lexer.new builder.new × IsFurther lexer.old lexer.new }
-    ensures more { result ≡ Ok true → Comes lexer.old.names builder.old (left lexer.old) builder.new (left lexer.new) }
-    ensures done { result ≡ Ok false → IsWaiting lexer.old builder.old × (lexer.new ≡ lexer.old) × (builder.new ≡ builder.old) }
-    ensures err { IfErr result (StopsAs lexer.old.names builder.old (left lexer.old)) }
-{
-    match lexer.part_into(alloc, mode(builder), tag) {
-        Ok(None) => Ok(false),
-        Ok(Some(placed)) => match take(alloc, builder, text.text(), placed.lexeme, tag) {
-            Ok(()) => Ok(true),
-            Err(fault) => Err(refusal(text, fault, placed.from)),
-        },
-        Err(refused) => Err(refused),
-    }
-}
-
-/// Takes all that is ready.
-fn part_turns<'a>(
-    alloc: Global,
-    text: &SourceText,
-    lexer: &mut Lexer<'a>,
-    builder: &mut TreeBuilder,
-    tag: &mut Tag,
-) -> Result<(), Refused>
-    requires names { IsTable lexer.old.names }
-    requires source { lexer.old.source ≡ text.now }
-    requires partway { IsPartway lexer.old builder.old }
-    ensures partway { OnOk result (IsPartway lexer.new builder.new) }
-    ensures names { OnOk result (lexer.new.names ≡ lexer.old.names) }
-    ensures same { OnOk result (lexer.new.source ≡ lexer.old.source) }
-    ensures more { OnOk result (Comes lexer.old.names builder.old (left lexer.old) builder.new (left lexer.new)) }
-    ensures waits { OnOk result (IsWaiting lexer.new builder.new) }
-    ensures err { IfErr result (StopsAs lexer.old.names builder.old (left lexer.old)) }
-{
-    loop {
-        match part_turn(alloc, text, lexer, builder, tag) {
-            Ok(true) => {}
-            Ok(false) => return Ok(()),
-            Err(refused) => return Err(refused),
-        }
-    }
-}
 
 /// Takes all that is ready of a text: how many bytes that is.
 fn take_ready(
@@ -96,7 +42,8 @@ fn take_ready(
     every_table(table);
     let _text = text.text();
     let mut lexer = Lexer::new(text, table);
-    match part_turns(alloc, text, &mut lexer, tree, tag) {
+    let mut closed = None;
+    match part_turns(alloc, text, &mut lexer, tree, tag, &mut closed) {
         Ok(()) => Ok(lexer.at()),
         Err(refused) => Err(refused),
     }
@@ -118,7 +65,8 @@ fn drop_all(text: &mut TextPieces)
 /// A tree that is built of a page as it comes, piece by piece.
 ///
 /// Contracts see the names of references, what is known of the page, what is built, and the first refusal of a token. What
-/// is ready of the page is taken before `feed` returns, and its text is let go.
+/// is ready of the page is taken before `feed` and `scan` return, and its text is let go. `gather` looks for no token, so that
+/// a long one which comes in many pieces can be looked at less often.
 #[derive(Drop)]
 pub struct Builder<'t> {
     text: TextPieces,
@@ -167,11 +115,13 @@ impl<'t> Builder<'t> {
         })
     }
 
-    /// Takes the next bytes of the page, and all that is ready of them.
+    /// Takes the next bytes of the page. What is ready of them is taken by `scan`.
     ///
     /// Where memory is refused, each later call is refused too.
-    pub fn feed(&mut self, piece: &[u8]) -> Result<(), Memory>
-        ensures read { OnOk result ((fed : List ℕ) → HasRead self.old fed → HasRead self.new (fed ++ piece.now)) }
+    pub fn gather(&mut self, piece: &[u8]) -> Result<(), Memory>
+        ensures come { OnOk result ((fed : List ℕ) → HasCome self.old fed → HasCome self.new (fed ++ piece.now)) }
+        ensures building { self.new.building ≡ self.old.building }
+        ensures refused { self.new.refused ≡ self.old.refused }
         ensures names { self.new.names ≡ self.old.names }
         ensures limit { self.new.pieces.limit ≡ self.old.pieces.limit }
         ensures sound { OnOk result ((self.old.is_broken ≡ false) × (self.new.is_broken ≡ false)) }
@@ -187,6 +137,27 @@ impl<'t> Builder<'t> {
             self.is_broken = false;
             return Ok(());
         }
+        self.is_broken = false;
+        Ok(())
+    }
+
+    /// Takes all that is ready of the bytes that came, and lets its text go.
+    ///
+    /// Where memory is refused, each later call is refused too.
+    pub fn scan(&mut self) -> Result<(), Memory>
+        ensures read { OnOk result ((fed : List ℕ) → HasCome self.old fed → HasRead self.new fed) }
+        ensures names { self.new.names ≡ self.old.names }
+        ensures limit { self.new.pieces.limit ≡ self.old.pieces.limit }
+        ensures sound { OnOk result ((self.old.is_broken ≡ false) × (self.new.is_broken ≡ false)) }
+        ensures err { OnErr result (self.new.is_broken ≡ true) }
+    {
+        if self.is_broken {
+            return Err(Memory);
+        }
+        if self.refused.is_some() || self.text.fault().is_some() {
+            return Ok(());
+        }
+        self.is_broken = true;
         match take_ready(
             self.alloc,
             self.text.source(),
@@ -209,13 +180,29 @@ impl<'t> Builder<'t> {
         }
     }
 
+    /// Takes the next bytes of the page, and all that is ready of those that came.
+    ///
+    /// Where memory is refused, each later call is refused too.
+    pub fn feed(&mut self, piece: &[u8]) -> Result<(), Memory>
+        ensures read { OnOk result ((fed : List ℕ) → HasCome self.old fed → HasRead self.new (fed ++ piece.now)) }
+        ensures names { self.new.names ≡ self.old.names }
+        ensures limit { self.new.pieces.limit ≡ self.old.pieces.limit }
+        ensures sound { OnOk result ((self.old.is_broken ≡ false) × (self.new.is_broken ≡ false)) }
+        ensures err { OnErr result (self.new.is_broken ≡ true) }
+    {
+        match self.gather(piece) {
+            Ok(()) => self.scan(),
+            Err(Memory) => Err(Memory),
+        }
+    }
+
     /// The tree of the page, of which all bytes have come, or its first refusal, with its rule and its byte of the page.
     ///
     /// A page that is too long, isn't UTF-8 or has a zero byte is refused for that, whatever its tokens are.
     pub fn end(self) -> Result<Tree, Refused>
-        ensures built { IfOk result (λ tree. (page : List ℕ) → HasRead self.entry page → page_outcome_within self.entry.pieces.limit self.entry.names page ≡ built tree) }
-        ensures settled { IfOk result (λ tree. (page : List ℕ) → HasRead self.entry page → Settled tree) }
-        ensures refused { IfErr result (λ refused. (page : List ℕ) → HasRead self.entry page → IsRefusedAs (page_outcome_within self.entry.pieces.limit self.entry.names page) refused) }
+        ensures built { IfOk result (λ tree. (page : List ℕ) → HasCome self.entry page → page_outcome_within self.entry.pieces.limit self.entry.names page ≡ built tree) }
+        ensures settled { IfOk result (λ tree. (page : List ℕ) → HasCome self.entry page → Settled tree) }
+        ensures refused { IfErr result (λ refused. (page : List ℕ) → HasCome self.entry page → IsRefusedAs (page_outcome_within self.entry.pieces.limit self.entry.names page) refused) }
         ensures broken { self.entry.is_broken ≡ true → result ≡ Err Refused.Memory }
     {
         every_table(self.table);
@@ -242,7 +229,9 @@ impl<'t> Builder<'t> {
         if let Some((rule, at)) = refused {
             return Err(Refused::Page { rule, at });
         }
-        match parse_rest(alloc, text.source(), table, tree, tag) {
+        let parsed = parse_rest(alloc, text.source(), table, tree, tag);
+        text.release();
+        match parsed {
             Ok((tree, _closed)) => Ok(tree),
             Err(refused) => Err(refused),
         }

@@ -13,6 +13,8 @@ mod moves;
 mod other;
 mod page;
 mod parts;
+mod places;
+mod ready;
 mod start_tag;
 mod text;
 mod tokens;

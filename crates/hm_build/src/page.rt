@@ -1,35 +1,22 @@
 //! The tree of a page.
-ghost use Rattle.std.specs.Prelude.{◌≡◌, ◌≤◌, ◌<◌, ◌+◌, false, length, IfOk, OnOk, IfErr};
+ghost use Rattle.std.specs.Prelude.{◌≡◌, false, IfOk, OnOk, IfErr};
 ghost use Rattle.hm_elements.specs.Settled.{Settled};
 ghost use Rattle.hm_token_laws.specs.Laws.{SoundNames};
 ghost use Rattle.hm_construction_laws.specs.Closing.{closed_of_source, is_behind_body};
 ghost use Rattle.hm_construction_laws.specs.Trees.{built, tree_of_source};
 ghost use Rattle.hm_pieces.specs.Pieces.{before_text};
-ghost use Rattle.hm_build.specs.Parsing.{IsParsing, IsRead, IsRefusedAs, IsTurned, IsWithin, answer_of, closed_here, closed_left, first_of, left_tree, place_of, reads, span_of, taken_by};
+ghost use Rattle.hm_build.specs.Parsing.{IsParsing, IsRead, IsRefusedAs, IsTurned, IsWithin, closed_left, left_tree, reads, taken_by};
 
+use crate::TreeBuilder;
+use crate::places::{closed_by, first_closed, refusal};
+use crate::ready::part_turns;
 use crate::tokens::{mode, take};
-use crate::{BuildFault, TreeBuilder};
 use hm_base::{Memory, Refused, SourceText};
 use hm_lexer::Lexer;
 use hm_refs::Table;
 use hm_refs::laws::every_table;
 use hm_tree::{Lexeme, Tag, Tree};
 use std::alloc::Global;
-
-/// The refusal that a fault gives, for a token that begins at byte `at` of the text.
-pub(crate) fn refusal(text: &SourceText, fault: BuildFault, at: u32) -> Refused
-    requires { at + span_of fault ≤ length text.now.placed }
-    ensures { result ≡ answer_of fault (place_of text.now (at + span_of fault)) }
-{
-    let _text = text.text();
-    match fault {
-        BuildFault::Rule { rule, behind } => Refused::Page {
-            rule,
-            at: text.place_of(at + behind),
-        },
-        BuildFault::Memory => Refused::Memory,
-    }
-}
 
 /// What a turn of the reader took.
 enum Taken {
@@ -72,24 +59,6 @@ fn turn<'a>(
             Err(fault) => Err(refusal(text, fault, placed.from)),
         },
         Err(refused) => Err(refused),
-    }
-}
-
-/// The byte of the page where the tag stands that closes body, once the end tag at byte `from` of the text was taken: the
-/// place that was found before, or that of this tag.
-fn closed_by(
-    text: &SourceText,
-    builder: &TreeBuilder,
-    closed: Option<u32>,
-    from: u32,
-) -> Option<u32>
-    requires { from ≤ length text.now.placed }
-    ensures { result ≡ first_of closed (closed_here builder.now text.now from) }
-{
-    if builder.is_behind_body() && closed.is_none() {
-        Some(text.place_of(from))
-    } else {
-        closed
     }
 }
 
@@ -143,6 +112,8 @@ fn finish<'a>(
 }
 
 /// The tree of what was built so far and of the text that is left, and where that text closes body.
+///
+/// What is ready of the text is taken first, as where a page comes in pieces: nearly all of it.
 pub(crate) fn parse_rest(
     alloc: Global,
     text: &SourceText,
@@ -160,9 +131,14 @@ pub(crate) fn parse_rest(
     let mut lexer = Lexer::new(text, table);
     let mut builder = builder;
     let mut tag = tag;
+    let mut closed = None;
+    match part_turns(alloc, text, &mut lexer, &mut builder, &mut tag, &mut closed) {
+        Ok(()) => {}
+        Err(refused) => return Err(refused),
+    }
     match turns(alloc, text, &mut lexer, &mut builder, &mut tag) {
-        Ok(closed) => match finish(alloc, text, &lexer, builder) {
-            Ok(tree) => Ok((tree, closed)),
+        Ok(later) => match finish(alloc, text, &lexer, builder) {
+            Ok(tree) => Ok((tree, first_closed(closed, later))),
             Err(refused) => Err(refused),
         },
         Err(refused) => Err(refused),

@@ -230,6 +230,11 @@ impl TextPieces {
         &self.source
     }
 
+    /// Frees the memory, that of a long text where it stands (`SourceText::release`).
+    pub fn release(self) {
+        self.source.release();
+    }
+
     /// Drops the first `n` bytes of the text. The others keep their places in the page. No memory is asked for.
     pub fn drop_front(&mut self, n: u32)
         requires inside { n ≤ length self.old.source.placed }

@@ -1,5 +1,5 @@
-use Rattle.std.proofs.Common.{◌∙◌, arith}
-use Rattle.hm_load.proofs.Loaded.{more_taken, taken_at_end}
+use Rattle.std.proofs.Common.{◌∙◌, inr, arith}
+use Rattle.hm_load.proofs.Loaded.{more_taken, taken_all, taken_at_end}
 use Rattle.hm_load.proofs.page.pull_all.Goals as goal
 
 pub loop-bytes-preserved : goal.loop-bytes-preserved
@@ -24,3 +24,8 @@ returns-then-count-eq0-clause-taken g c =
     let i = c.loop-bytes.invariant in
     taken_at_end c.loop-bytes.builder c.pull_more.new.builder (g.S.Store.rest c.args.store.now) (g.S.Store.rest c.loop-bytes.store) (g.S.Store.rest c.pull_more.new.store) c.args.limit c.loop-bytes.bytes c.in_ok-count.count
     i.under_way c.in_ok-count.ensures.taken c.if-count-eq0.true i.within
+
+pub returns-after-loop-bytes-clause-taken : goal.returns-after-loop-bytes-clause-taken
+returns-after-loop-bytes-clause-taken g c =
+    let i = c.loop-bytes.invariant in
+    taken_all c.loop-bytes.builder (g.S.Store.rest c.args.store.now) (g.S.Store.rest c.loop-bytes.store) c.args.limit c.loop-bytes.bytes i.under_way i.within (inr (omega (arith, i.within, c.loop-bytes-test.false)))

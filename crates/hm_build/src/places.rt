@@ -1,0 +1,49 @@
+//! Places in the page: of a refusal, and of the end of body.
+ghost use Rattle.std.specs.Prelude.{◌≡◌, ◌≤◌, ◌+◌, length};
+ghost use Rattle.hm_build.specs.Parsing.{answer_of, closed_here, first_of, place_of, span_of};
+
+use crate::{BuildFault, TreeBuilder};
+use hm_base::{Refused, SourceText};
+
+/// The refusal that a fault gives, for a token that begins at byte `at` of the text.
+pub(crate) fn refusal(text: &SourceText, fault: BuildFault, at: u32) -> Refused
+    requires { at + span_of fault ≤ length text.now.placed }
+    ensures { result ≡ answer_of fault (place_of text.now (at + span_of fault)) }
+{
+    let _text = text.text();
+    match fault {
+        BuildFault::Rule { rule, behind } => Refused::Page {
+            rule,
+            at: text.place_of(at + behind),
+        },
+        BuildFault::Memory => Refused::Memory,
+    }
+}
+
+/// The byte of the page where the tag stands that closes body, once the token at byte `from` of the text was taken: the
+/// place that was found before, or that of this token.
+pub(crate) fn closed_by(
+    text: &SourceText,
+    builder: &TreeBuilder,
+    closed: Option<u32>,
+    from: u32,
+) -> Option<u32>
+    requires { from ≤ length text.now.placed }
+    ensures { result ≡ first_of closed (closed_here builder.now text.now from) }
+{
+    if builder.is_behind_body() && closed.is_none() {
+        Some(text.place_of(from))
+    } else {
+        closed
+    }
+}
+
+/// The first of two places, where there is one.
+pub(crate) fn first_closed(closed: Option<u32>, later: Option<u32>) -> Option<u32>
+    ensures { result ≡ first_of closed later }
+{
+    match closed {
+        Some(at) => Some(at),
+        None => later,
+    }
+}

@@ -6,7 +6,7 @@ use Rattle.hm_edges.specs.declared.units.Need.{Need}
 use Rattle.hm_edges.specs.declared.units.Need.TheVariants as need
 use Rattle.hm_edges.specs.declared.units.Needs.{Needs}
 use Rattle.hm_graph.specs.Interned.{cheapens}
-use Rattle.hm_graph.specs.Told.{joined}
+use Rattle.hm_graph.specs.Told.{is_dear_need, joined}
 use Rattle.hm_graph.specs.Values.{need_at, need_with, needs_at, needs_with}
 use Rattle.hm_graph_laws.specs.Units.{next_of}
 use Rattle.hm_graph_laws.specs.Forms.{gives_both, is_dear, is_second, makes_cheap}
@@ -34,7 +34,7 @@ join_once need.Dear true false false false = refl
 join_once n false false k true = refl
 join_once n false false k false = refl
 
-need_more : (t : List Entry) (kind : ℕ → Bool) (n : Need) (previous : Option ℕ) (c : ℕ) (v : List ℕ) → need_at t kind (need_with t kind n previous c (next_of v)) (Some c) v ≡ need_at t kind n previous (c ∷ v)
+pub need_more : (t : List Entry) (kind : ℕ → Bool) (n : Need) (previous : Option ℕ) (c : ℕ) (v : List ℕ) → need_at t kind (need_with t kind n previous c (next_of v)) (Some c) v ≡ need_at t kind n previous (c ∷ v)
 need_more t kind n previous c v = join_once n (kind c) (kind c && is_dear t previous c (next_of v)) (list_any kind v) (some_dear t kind (Some c) v)
 
 pub needs_more : (t : List Entry) (n : Needs) (previous : Option ℕ) (c : ℕ) (v : List ℕ) → needs_at t (needs_with t n previous c (next_of v)) (Some c) v ≡ needs_at t n previous (c ∷ v)
@@ -44,10 +44,22 @@ needs_more t n previous c v = λ i. record {
   other = need_more t needs_quotes n.other previous c v i;
 }
 
-first_need : (t : List Entry) (kind : ℕ → Bool) (v : List ℕ) → need_at t kind need.Absent None v ≡ need_for t kind v
+pub first_need : (t : List Entry) (kind : ℕ → Bool) (v : List ℕ) → need_at t kind need.Absent None v ≡ need_for t kind v
 first_need t kind v = by (list_any kind v) (some_dear t kind None v)
   where
     by : (has dear : Bool) → joined need.Absent has dear ≡ need_by has dear
+    by true true = refl
+    by true false = refl
+    by false true = refl
+    by false false = refl
+
+-- a need for dear references stays one, whatever follows
+pub dear_stays : (t : List Entry) (kind : ℕ → Bool) (n : Need) (previous : Option ℕ) (v : List ℕ) → is_dear_need n ≡ true → need_at t kind n previous v ≡ n
+dear_stays t kind need.Absent previous v dear = absurd (cc)
+dear_stays t kind need.Cheap previous v dear = absurd (cc)
+dear_stays t kind need.Dear previous v dear = by (list_any kind v) (some_dear t kind previous v)
+  where
+    by : (has dear : Bool) → joined need.Dear has dear ≡ need.Dear
     by true true = refl
     by true false = refl
     by false true = refl

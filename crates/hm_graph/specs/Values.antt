@@ -1,5 +1,5 @@
 -- What a value needs, as the code finds it: by its characters so far, and by those that are left.
-use Rattle.std.specs.Prelude.{ℕ, Bool, ◌&&◌, ◌==◌, List, Option}
+use Rattle.std.specs.Prelude.{ℕ, Bool, ◌&&◌, ◌||◌, ◌==◌, List, Option}
 use Rattle.std.specs.List.{list_any}
 use Rattle.hm_edges.specs.Units.{needs_quotes, some_dear}
 use Rattle.hm_edges.specs.declared.units.Need.{Need}
@@ -7,6 +7,9 @@ use Rattle.hm_edges.specs.declared.units.Needs.{Needs}
 use Rattle.hm_graph.specs.Told.{joined}
 use Rattle.hm_graph_laws.specs.Forms.{is_dear}
 use Rattle.hm_refs.specs.Names.{Entry}
+
+abbrev pub is_quote : ℕ → Bool
+is_quote c = c == 34 || c == 39
 
 -- the need with that of one more character, between these two
 abbrev pub need_with : List Entry → (ℕ → Bool) → Need → Option ℕ → ℕ → Option ℕ → Need

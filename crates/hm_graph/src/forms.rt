@@ -27,7 +27,7 @@ fn is_absent(need: Need) -> bool
     matches!(need, Need::Absent)
 }
 
-fn is_dear(need: Need) -> bool
+pub(crate) fn is_dear_need(need: Need) -> bool
     ensures { result ≡ told.is_dear_need need }
 {
     matches!(need, Need::Dear)
@@ -37,7 +37,11 @@ fn is_dear(need: Need) -> bool
 fn spared_by(one: Need, other: Need) -> u64
     ensures { result ≡ spared (told.is_dear_need one || told.is_dear_need other) }
 {
-    if is_dear(one) || is_dear(other) { 3 } else { 0 }
+    if is_dear_need(one) || is_dear_need(other) {
+        3
+    } else {
+        0
+    }
 }
 
 /// What is spared where the form serves.

@@ -1,21 +1,23 @@
 //! What values need, by the names of a table.
-ghost use Rattle.std.specs.Prelude.{◌≡◌, ◌<◌, ◌&&◌, List};
+ghost use Rattle.std.specs.Prelude.{◌≡◌, ◌<◌, ◌&&◌, List, false};
 ghost use Rattle.std.specs.List.{list_any};
 ghost use Rattle.std.specs.Str.{chars};
 ghost use Rattle.hm_edges.specs.Units as units;
 ghost use Rattle.hm_graph.specs.Interned.{AreTold};
 ghost use Rattle.hm_graph.specs.Told.{joined};
-ghost use Rattle.hm_graph.specs.Values.{needs_with};
+ghost use Rattle.hm_graph.specs.Values.{is_quote, need_with, needs_with};
 ghost use Rattle.hm_graph_laws.specs.Forms as forms;
 ghost use Rattle.hm_graph_laws.specs.Units.{next_of};
 ghost use Rattle.hm_refs.specs.Names.{Entry};
 ghost use Rattle.hm_spelling_spec.specs.Characters as spots;
 
+use crate::forms::is_dear_need;
 use crate::pairs::has_pair;
 use crate::told::Told;
 use hm_base::is_space;
 use hm_edges::{Need, Needs};
 use hm_refs::Table;
+use memchr::memchr2;
 
 /// Whether references to the character may be dear.
 fn may_be_dear(c: char) -> bool
@@ -140,6 +142,32 @@ fn needs_with(
     }
 }
 
+/// The need for quotes of either kind, with that of a character between the previous one and the rest of the value.
+fn other_with(
+    table: &Table,
+    told: &Told,
+    need: Need,
+    previous: Option<char>,
+    c: char,
+    rest: &str,
+) -> Need
+    requires { AreTold table.now.entries told.now }
+    ensures { result ≡ need_with table.now.entries units.needs_quotes need previous c (next_of (chars rest.now)) }
+{
+    if !needs_quotes(c) {
+        return need;
+    }
+    let next = rest.chars().next();
+    need_with(table, told, need, true, previous, c, next)
+}
+
+/// Whether some byte is a quote.
+fn has_quotes(bytes: &[u8]) -> bool
+    ensures { result ≡ false → list_any is_quote bytes.now ≡ false }
+{
+    memchr2(b'"', b'\'', bytes).is_some()
+}
+
 /// Whether some byte is that of a character that may not stand without quotes.
 fn has_barred(bytes: &[u8]) -> bool
     ensures { result ≡ list_any spots.is_barred bytes.now }
@@ -179,14 +207,53 @@ fn needs_along(table: &Table, told: &Told, value: &str) -> Needs
     needs
 }
 
-/// What the characters of a value need. Most need nothing, as one look at the bytes tells.
+/// What the characters of a value need that stand as themselves in quotes of either kind. Most often the first one that needs quotes
+/// has dear references, and the rest isn't looked at.
+fn other_along(table: &Table, told: &Told, value: &str) -> Need
+    requires { AreTold table.now.entries told.now }
+    ensures { result ≡ units.need_for table.now.entries units.needs_quotes (chars value.now) }
+{
+    let mut need = Need::Absent;
+    let mut previous = None;
+    let mut rest = value;
+    while !rest.is_empty() {
+        let mut characters = rest.chars();
+        let first = characters.next();
+        rest = characters.as_str();
+        if let Some(c) = first {
+            need = other_with(table, told, need, previous, c, rest);
+            if is_dear_need(need) {
+                return need;
+            }
+            previous = first;
+        }
+    }
+    need
+}
+
+/// What the characters of a value need of which none is a quote.
+fn needs_without_quotes(table: &Table, told: &Told, value: &str) -> Needs
+    requires told { AreTold table.now.entries told.now }
+    requires none { list_any is_quote value.now ≡ false }
+    ensures { result ≡ units.needs_of table.now.entries (chars value.now) }
+{
+    Needs {
+        double: Need::Absent,
+        single: Need::Absent,
+        other: other_along(table, told, value),
+    }
+}
+
+/// What the characters of a value need. Most need nothing, as one look at the bytes tells, and few have quotes.
 pub(crate) fn needs_of(table: &Table, told: &Told, value: &str) -> Needs
     requires { AreTold table.now.entries told.now }
     ensures { result ≡ units.needs_of table.now.entries (chars value.now) }
 {
-    if has_barred(value.as_bytes()) {
+    if !has_barred(value.as_bytes()) {
+        NO_NEEDS
+    } else if has_quotes(value.as_bytes()) {
         needs_along(table, told, value)
     } else {
-        NO_NEEDS
+        needs_without_quotes(table, told, value)
     }
 }

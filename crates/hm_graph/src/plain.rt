@@ -8,6 +8,9 @@ use hm_base::Memory;
 use hm_edges::TextKind;
 use std::alloc::Global;
 
+/// How many places a row has: one for each byte, so that none is asked whether it is of ASCII. The others stay unknown.
+const WIDTH: usize = 256;
+
 /// Where characters of ASCII lead from a list in such a text, each at its place, as far as it is known.
 #[derive(Drop)]
 pub(crate) struct PlainRow {
@@ -51,15 +54,18 @@ fn step_at(steps: &[Reached], byte: u8) -> Reached
 }
 
 /// Whether a character leads there. One step leads to one list, so its number alone is looked at.
+#[inline(always)]
 fn is_toward(steps: &[Reached], to: Reached, byte: u8) -> bool
+    requires { 256 ≤ length steps.now }
     ensures { IsTrue result → IsToward steps.now to byte }
 {
-    step_at(steps, byte).number == to.number
+    steps[byte as usize].number == to.number
 }
 
 /// How many characters at the start of a text lead where the first one does, each with another one after it.
 #[inline(always)]
 fn alike_run(steps: &[Reached], to: Reached, text: &[u8]) -> usize
+    requires wide { 256 ≤ length steps.now }
     requires some { 1 < length text.now }
     requires first { IsToward steps.now to (slice_index_or text.now 0 0) }
     ensures some { 0 < result }
@@ -93,7 +99,7 @@ impl PlainRow {
         Ok(PlainRow {
             list,
             kind,
-            steps: vec![in alloc; no_step(); 128]?,
+            steps: vec![in alloc; no_step(); WIDTH]?,
         })
     }
 
@@ -131,7 +137,7 @@ impl PlainRow {
         ensures back { 1 < result.count → result.to.behind ≡ self.now.list }
         ensures leads { (m : InternedView) (more : Bool) → IsRow m more self.now → All (Leads m self.now.list self.now.kind more result.to) (take result.count text.now) }
     {
-        if text.len() < 2 {
+        if text.len() < 2 || self.steps.len() < WIDTH {
             return none_alike();
         }
         let to = step_at(self.steps.as_slice(), text[0]);

@@ -1,9 +1,10 @@
 -- Steps that are added one after the other lead on, unit by unit.
-use Rattle.std.proofs.Common.{◌≡◌, ◌∙◌, ℕ, zero, suc, ◌-◌, ◌<◌, ◌^◌, List, [], ◌∷◌, ◌++◌, length, get_or, refl, sym, ap, subst, arith, append_assoc, append-nil, length-append}
-use Rattle.std.proofs.lemmas.List.{map-append}
+use Rattle.std.proofs.Common.{◌≡◌, ◌∙◌, ℕ, suc, zero, ◌+◌, ◌<◌, ◌^◌, List, [], ◌∷◌, ◌++◌, length, get_or, Option, Some, None, refl, sym, ap, subst, arith, append_assoc, append-nil, length-append}
+use Rattle.std.proofs.Math.ListN.{replicate}
+use Rattle.std.proofs.lemmas.List.{map-append, get_or-replicate, length-replicate}
 use Rattle.std.proofs.lemmas.List.Elements.{All-append}
 use Rattle.std.specs.List.{All}
-use Rattle.hm_graph_laws.specs.Layers.{first_layer, states_behind}
+use Rattle.hm_graph_laws.specs.Layers.{states_behind}
 use Rattle.hm_graph_laws.specs.Ways.{Edges}
 use Rattle.hm_refs.specs.Names.{Entry}
 use Rattle.hm_graph_laws.specs.States as graph
@@ -14,21 +15,23 @@ use Rattle.hm_edges.specs.declared.pieces.Piece.{Piece}
 use Rattle.hm_edges.specs.declared.units.Unit.{Unit}
 use Rattle.hm_graph.specs.Fits.{StepFits, StepsFit}
 use Rattle.hm_graph.specs.Steps.{Step}
-use Rattle.hm_graph.specs.Graphs.{IsLowStep, AreLow, IsNamedStep, AreNamed}
+use Rattle.hm_graph.specs.Graphs.{AreLow, IsNamedStep, AreNamed}
 use Rattle.hm_graph.specs.Layers.{edges_under, states_of}
 use Rattle.hm_graph.specs.Interned.{InternedView, list_at, made_at, Grows, IsStepOf, IsListOf}
-use Rattle.hm_graph.specs.Building.{BuildingView, steps_at, building, IsBuilding, Lead, IsBuilt, AddsSteps, IsAdded}
+use Rattle.hm_graph.specs.Building.{AddsSteps, AreThere, BuildingView, IsBuilding, IsFew, IsMade, Lead, building, more_numbers, more_steps, recorded_at, steps_at}
 
 -- ---- Leading on
 
-lead_more : (edges : Edges) (bytes : units.Unit → Piece → List ℕ) (us : List units.Unit) (u : units.Unit) (states : List graph.State) (steps : List Step) (step : Step) (mid now : List graph.State)
-    → Lead edges bytes us states steps mid → StepFits (bytes u) (edges u) now mid step → now ≡ states_behind edges u mid → Lead edges bytes (us ++ u ∷ []) states (steps ++ step ∷ []) now
-lead_more edges bytes [] u states [] step mid now lead fits behind =
-    subst (λ s. StepFits (bytes u) (edges u) (states_behind edges u s) s step × (states_behind edges u s ≡ now)) (sym lead) (subst (λ b. StepFits (bytes u) (edges u) b mid step) behind fits, sym behind)
-lead_more edges bytes [] u states (x ∷ steps) step mid now lead fits behind = absurd lead
-lead_more edges bytes (v ∷ us) u states [] step mid now lead fits behind = absurd lead
-lead_more edges bytes (v ∷ us) u states (x ∷ steps) step mid now lead fits behind =
-    (lead.0, lead_more edges bytes us u (states_behind edges v states) steps step mid now lead.1 fits behind)
+lead_one : (edges : Edges) (bytes : units.Unit → Piece → List ℕ) (u : units.Unit) (states : List graph.State) (step : Step) (now : List graph.State)
+    → StepFits (bytes u) (edges u) now states step → now ≡ states_behind edges u states → Lead edges bytes (u ∷ []) states (step ∷ []) now
+lead_one edges bytes u states step now fits behind = (subst (λ b. StepFits (bytes u) (edges u) b states step) behind fits, sym behind)
+
+lead_on : (edges : Edges) (bytes : units.Unit → Piece → List ℕ) (us vs : List units.Unit) (states : List graph.State) (steps more : List Step) (mid behind : List graph.State)
+    → Lead edges bytes us states steps mid → Lead edges bytes vs mid more behind → Lead edges bytes (us ++ vs) states (steps ++ more) behind
+lead_on edges bytes [] vs states [] more mid behind lead on = subst (λ s. Lead edges bytes vs s more behind) (sym lead) on
+lead_on edges bytes [] vs states (x ∷ steps) more mid behind lead on = absurd lead
+lead_on edges bytes (u ∷ us) vs states [] more mid behind lead on = absurd lead
+lead_on edges bytes (u ∷ us) vs states (x ∷ steps) more mid behind lead on = (lead.0, lead_on edges bytes us vs (states_behind edges u states) steps more mid behind lead.1 on)
 
 pub lead_fits : (edges : Edges) (bytes : units.Unit → Piece → List ℕ) (us : List units.Unit) (states : List graph.State) (steps : List Step) (behind : List graph.State)
     → Lead edges bytes us states steps behind → StepsFit edges bytes us states steps (length behind)
@@ -36,6 +39,14 @@ lead_fits edges bytes [] states [] behind lead = sym (ap length lead)
 lead_fits edges bytes [] states (x ∷ steps) behind lead = absurd lead
 lead_fits edges bytes (v ∷ us) states [] behind lead = absurd lead
 lead_fits edges bytes (v ∷ us) states (x ∷ steps) behind lead = (lead.0, lead_fits edges bytes us (states_behind edges v states) steps behind lead.1)
+
+low_on : (steps more : List Step) → AreLow steps → AreLow more → AreLow (steps ++ more)
+low_on [] more low on = on
+low_on (x ∷ steps) more low on = (low.0, low_on steps more low.1 on)
+
+named_on : (t : List Entry) (steps more : List Step) → AreNamed t steps → AreNamed t more → AreNamed t (steps ++ more)
+named_on t [] more named on = on
+named_on t (x ∷ steps) more named on = (named.0, named_on t steps more named.1 on)
 
 -- ---- Steps of numbers
 
@@ -48,71 +59,95 @@ steps_kept m n (k ∷ numbers) grows are =
 numbers_kept : (m n : InternedView) (numbers : List ℕ) → Grows m n → All (λ k. k < length m.steps) numbers → All (λ k. k < length n.steps) numbers
 numbers_kept m n numbers grows are = λ j d within. (grows.steps (get_or numbers j d) (are j d within)).0
 
-low_more : (steps : List Step) (step : Step) → AreLow steps → IsLowStep step → AreLow (steps ++ step ∷ [])
-low_more [] step low own = (own, tt)
-low_more (x ∷ steps) step low own = (low.0, low_more steps step low.1 own)
+alike_steps : (m : InternedView) (n count : ℕ) → steps_at m (replicate count n) ≡ replicate count (made_at m n).step
+alike_steps m n zero = refl
+alike_steps m n (suc count) = ap (λ steps. (made_at m n).step ∷ steps) (alike_steps m n count)
 
-named_more : (t : List Entry) (steps : List Step) (step : Step) → AreNamed t steps → IsNamedStep t step → AreNamed t (steps ++ step ∷ [])
-named_more t [] step named own = (own, tt)
-named_more t (x ∷ steps) step named own = (named.0, named_more t steps step named.1 own)
+steps_more : (m n : InternedView) (numbers : List ℕ) (count k : ℕ) → Grows m n → All (λ j. j < length m.steps) numbers → steps_at n (numbers ++ replicate count k) ≡ steps_at m numbers ++ replicate count (made_at n k).step
+steps_more m n numbers count k grows are =
+    map-append (λ j. (made_at n j).step) numbers (replicate count k)
+    ∙ ap (λ steps. steps ++ steps_at n (replicate count k)) (steps_kept m n numbers grows are)
+    ∙ ap (λ steps. steps_at m numbers ++ steps) (alike_steps n k count)
 
-steps_more : (m n : InternedView) (numbers : List ℕ) (k : ℕ) → Grows m n → All (λ j. j < length m.steps) numbers → steps_at n (numbers ++ k ∷ []) ≡ steps_at m numbers ++ (made_at n k).step ∷ []
-steps_more m n numbers k grows are = map-append (λ j. (made_at n j).step) numbers (k ∷ []) ∙ ap (λ steps. steps ++ (made_at n k).step ∷ []) (steps_kept m n numbers grows are)
+recorded_more : (m n : InternedView) (numbers : Option (List ℕ)) (len count k : ℕ) → Grows m n → AreThere m numbers len → recorded_at n (more_numbers numbers count k) ≡ more_steps (recorded_at m numbers) (replicate count (made_at n k).step)
+recorded_more m n None len count k grows are = refl
+recorded_more m n (Some numbers) len count k grows are = ap Some (steps_more m n numbers count k grows are.0)
+
+alike_there : (bound k count : ℕ) → k < bound → All (λ n. n < bound) (replicate count k)
+alike_there bound k count low = λ j d within. subst (λ n. n < bound) (sym (get_or-replicate count j k d (omega (arith, within, length-replicate count k)))) low
 
 -- ---- What is built stays built when more steps are made
 
-pub building_kept : (m n : InternedView) (numbers : List ℕ) (last : ℕ) → IsBuilding m numbers last → Grows m n → IsBuilding n numbers last
-building_kept m n numbers last is grows =
-    let same : steps_at n numbers ≡ steps_at m numbers = steps_kept m n numbers grows is.numbers_there in
-    record {
-      numbers_there = numbers_kept m n numbers grows is.numbers_there;
-      last_there = (grows.lists last is.last_there).there;
-      few = is.few;
-      low = subst AreLow (sym same) is.low;
-      named = subst (λ A. A) (λ i. AreNamed (sym grows.table i).entries (sym same i)) is.named;
-    }
+there_kept : (m n : InternedView) (numbers : Option (List ℕ)) (len : ℕ) → Grows m n → AreThere m numbers len → AreThere n numbers len
+there_kept m n None len grows are = tt
+there_kept m n (Some numbers) len grows are = (numbers_kept m n numbers grows are.0, are.1)
 
-pub building_more : (m n : InternedView) (numbers : List ℕ) (last : ℕ) (unit : Unit) (k : ℕ) → IsBuilding m numbers last → Grows m n → IsStepOf n last unit k → length numbers < 2 ^ 29 - 1
-    → IsBuilding n (numbers ++ k ∷ []) (made_at n k).behind
-building_more m n numbers last unit k is grows step few =
-    let same : steps_at n (numbers ++ k ∷ []) ≡ steps_at m numbers ++ (made_at n k).step ∷ [] = steps_more m n numbers k grows is.numbers_there in
-    record {
-      numbers_there = All-append (λ j. j < length n.steps) numbers (k ∷ []) (numbers_kept m n numbers grows is.numbers_there) (λ j d within. only j d within);
-      last_there = step.behind;
-      few = omega (arith, length-append numbers (k ∷ []));
-      low = subst AreLow (sym same) (low_more (steps_at m numbers) (made_at n k).step is.low step.layer.low);
-      named = subst (AreNamed n.table.entries) (sym same) (named_more n.table.entries (steps_at m numbers) (made_at n k).step (subst (λ v. AreNamed v.entries (steps_at m numbers)) (sym grows.table) is.named) step.layer.named);
-    }
-  where
-    only : (j d : ℕ) → j < 1 → get_or (k ∷ []) j d < length n.steps
-    only zero d within = step.there
-    only (suc j) d within = absurd (omega arith)
+there_more : (m n : InternedView) (numbers : Option (List ℕ)) (len count k : ℕ) → Grows m n → k < length n.steps → AreThere m numbers len → AreThere n (more_numbers numbers count k) (len + count)
+there_more m n None len count k grows there are = tt
+there_more m n (Some numbers) len count k grows there are = (
+  All-append (λ j. j < length n.steps) numbers (replicate count k) (numbers_kept m n numbers grows are.0) (alike_there (length n.steps) k count there),
+  omega (arith, length-append numbers (replicate count k), length-replicate count k, are.1),
+)
 
-pub adds_one : (m n : InternedView) (numbers : List ℕ) (last : ℕ) (unit : Unit) (k : ℕ) → IsBuilding m numbers last → Grows m n → IsStepOf n last unit k
-    → (u : units.Unit) → StandsFor m.table.entries unit u → AddsSteps (building m numbers last) (building n (numbers ++ k ∷ []) (made_at n k).behind) (u ∷ [])
-adds_one m n numbers last unit k is grows step u stands =
+pub building_kept : (m n : InternedView) (numbers : Option (List ℕ)) (len last : ℕ) → IsBuilding m numbers len last → Grows m n → IsBuilding n numbers len last
+building_kept m n numbers len last is grows = record { numbers_there = there_kept m n numbers len grows is.numbers_there; last_there = (grows.lists last is.last_there).there; few = is.few }
+
+pub building_more : (m n : InternedView) (numbers : Option (List ℕ)) (len count last k behind : ℕ) → IsBuilding m numbers len last → Grows m n → k < length n.steps → behind < length n.lists → len + count < 2 ^ 29
+    → IsBuilding n (more_numbers numbers count k) (len + count) behind
+building_more m n numbers len count last k behind is grows there list few = record { numbers_there = there_more m n numbers len count k grows there is.numbers_there; last_there = list; few = few }
+
+-- as many numbers are recorded as there are steps
+pub recorded_few : (m : InternedView) (numbers : Option (List ℕ)) (len last count : ℕ) → IsBuilding m numbers len last → len + count < 2 ^ 29 → IsFew numbers count
+recorded_few m None len last count is few = tt
+recorded_few m (Some numbers) len last count is few = omega (arith, is.numbers_there.1, few)
+
+pub adds_one : (m n : InternedView) (numbers : Option (List ℕ)) (len last : ℕ) (unit : Unit) (k : ℕ) → IsBuilding m numbers len last → Grows m n → IsStepOf n last unit k → (u : units.Unit) → StandsFor m.table.entries unit u
+    → AddsSteps (building m numbers len last) (building n (more_numbers numbers 1 k) (len + 1) (made_at n k).behind) (u ∷ []) ((made_at n k).step ∷ [])
+adds_one m n numbers len last unit k is grows step u stands =
     let edges : Edges = edges_under n.table.entries n.rules in
     let bytes : units.Unit → Piece → List ℕ = piece_bytes n.table.entries in
     let list : IsListOf n (list_at m last) last = grows.lists last is.last_there in
     let own : StandsFor n.table.entries unit u = subst (λ v. StandsFor v.entries unit u) (sym grows.table) stands in
+    let one : Lead edges bytes (u ∷ []) (states_of n.table (list_at n last)) ((made_at n k).step ∷ []) (states_of n.table (list_at n (made_at n k).behind)) =
+    lead_one edges bytes u (states_of n.table (list_at n last)) (made_at n k).step (states_of n.table (list_at n (made_at n k).behind)) (step.layer.fits u own) (step.layer.states u own) in
     record {
       table = grows.table;
       rules = grows.rules;
-      units = λ us built.
-          let lead : Lead edges bytes us first_layer (steps_at m numbers) (states_of n.table (list_at n last)) =
-          subst (λ A. A) (λ i. Lead (edges_under (sym grows.table i).entries (sym grows.rules i)) (piece_bytes (sym grows.table i).entries) us first_layer (steps_at m numbers) (states_of (sym grows.table i) (sym list.list i))) built in
-          subst (λ steps. Lead edges bytes (us ++ u ∷ []) first_layer steps (states_of n.table (list_at n (made_at n k).behind))) (sym (steps_more m n numbers k grows is.numbers_there))
-          (lead_more edges bytes us u first_layer (steps_at m numbers) (made_at n k).step (states_of n.table (list_at n last)) (states_of n.table (list_at n (made_at n k).behind)) lead (step.layer.fits u own) (step.layer.states u own));
+      lead = subst (λ A. A)
+          (λ i. Lead (edges_under (grows.table i).entries (grows.rules i)) (piece_bytes (grows.table i).entries) (u ∷ []) (states_of (grows.table i) (list.list i)) ((made_at n k).step ∷ []) (states_of (grows.table i) (list_at n (made_at n k).behind)))
+          one;
+      named = (subst (λ v. IsNamedStep v.entries (made_at n k).step) grows.table step.layer.named, tt);
+      low = (step.layer.low, tt);
+      recorded = recorded_more m n numbers len 1 k grows is.numbers_there;
+      len = refl;
     }
 
-pub added_one : (m n : InternedView) (numbers : List ℕ) (last behind : ℕ) (unit : Unit) (k : ℕ) → IsBuilding m numbers last → Grows m n → IsStepOf n last unit k → IsAdded (building m numbers last) (building n (numbers ++ k ∷ []) behind) 1 k
-added_one m n numbers last behind unit k is grows step = record { table = grows.table; there = step.there; named = step.layer.named; low = step.layer.low; steps = steps_more m n numbers k grows is.numbers_there }
+pub made_one : (n : InternedView) (numbers : Option (List ℕ)) (len last behind : ℕ) (unit : Unit) (k : ℕ) → IsStepOf n last unit k → IsMade (building n numbers len behind) k
+made_one n numbers len last behind unit k step = record { there = step.there; named = step.layer.named; low = step.layer.low }
 
 -- ---- Adding more and more
 
-pub adds_none : (a : BuildingView) → AddsSteps a a []
-adds_none a = record { table = refl; rules = refl; units = λ us built. subst (IsBuilt a) (sym (append-nil us)) built }
+none_more : (recorded : Option (List Step)) → recorded ≡ more_steps recorded []
+none_more None = refl
+none_more (Some steps) = ap Some (sym (append-nil steps))
 
-pub adds_on : (a b c : BuildingView) (xs ys : List units.Unit) → AddsSteps a b xs → AddsSteps b c ys → AddsSteps a c (xs ++ ys)
-adds_on a b c xs ys ab bc =
-    record { table = bc.table ∙ ab.table; rules = bc.rules ∙ ab.rules; units = λ us built. subst (IsBuilt c) (append_assoc us xs ys) (bc.units (us ++ xs) (ab.units us built)) }
+more_twice : (recorded : Option (List Step)) (steps more : List Step) → more_steps (more_steps recorded steps) more ≡ more_steps recorded (steps ++ more)
+more_twice None steps more = refl
+more_twice (Some all) steps more = ap Some (append_assoc all steps more)
+
+pub adds_none : (a : BuildingView) → AddsSteps a a [] []
+adds_none a = record { table = refl; rules = refl; lead = refl; named = tt; low = tt; recorded = none_more a.recorded; len = omega arith }
+
+pub adds_on : (a b c : BuildingView) (xs ys : List units.Unit) (steps more : List Step) → AddsSteps a b xs steps → AddsSteps b c ys more → AddsSteps a c (xs ++ ys) (steps ++ more)
+adds_on a b c xs ys steps more ab bc =
+    let on : Lead (edges_under a.table.entries a.rules) (piece_bytes a.table.entries) ys (states_of a.table b.last) more (states_of a.table c.last) =
+    subst (λ A. A) (λ i. Lead (edges_under (ab.table i).entries (ab.rules i)) (piece_bytes (ab.table i).entries) ys (states_of (ab.table i) b.last) more (states_of (ab.table i) c.last)) bc.lead in
+    record {
+      table = bc.table ∙ ab.table;
+      rules = bc.rules ∙ ab.rules;
+      lead = lead_on (edges_under a.table.entries a.rules) (piece_bytes a.table.entries) xs ys (states_of a.table a.last) steps more (states_of a.table b.last) (states_of a.table c.last) ab.lead on;
+      named = named_on a.table.entries steps more ab.named (subst (λ v. AreNamed v.entries more) ab.table bc.named);
+      low = low_on steps more ab.low bc.low;
+      recorded = bc.recorded ∙ ap (λ r. more_steps r more) ab.recorded ∙ more_twice a.recorded steps more;
+      len = omega (arith, ab.len, bc.len, length-append steps more);
+    }

@@ -1,10 +1,10 @@
 -- The steps of a run of characters of which it is known where they lead.
-use Rattle.std.proofs.Common.{◌≡◌, ◌∙◌, ℕ, zero, suc, ◌+◌, ◌-◌, ◌<◌, ◌≤◌, ◌^◌, true, List, [], ◌∷◌, ◌++◌, length, take, drop, chars, Some, None, refl, sym, ap, subst, arith, append_assoc, length-append}
+use Rattle.std.proofs.Common.{◌≡◌, ◌∙◌, ℕ, suc, ◌+◌, ◌<◌, ◌≤◌, ◌^◌, true, List, [], ◌∷◌, ◌++◌, length, take, drop, chars, Option, Some, None, refl, sym, ap, subst, arith, append_assoc, length-append}
 use Rattle.std.specs.List.{All}
 use Rattle.std.specs.Prelude.{encode_utf8_all, slice_get}
 use Rattle.std.specs.Str.{IsAscii, IsCharBoundary, IsUtf8}
 use Rattle.std.proofs.Math.ListN.{replicate}
-use Rattle.std.proofs.lemmas.List.{length-take-le, map-append, take-append-drop}
+use Rattle.std.proofs.lemmas.List.{length-take-le, take-append-drop}
 use Rattle.std.proofs.lemmas.Str.Ascii.{IsAscii-from_all}
 use Rattle.std.proofs.lemmas.Str.{IsCharBoundary-from_take, IsUtf8-drop, IsUtf8-from_ascii, chars-IsAscii, chars-append, encodes-chars}
 use Rattle.hm_edges.specs.Units as edges
@@ -14,7 +14,8 @@ use Rattle.hm_edges.specs.declared.units.Unit.{Unit}
 use Rattle.hm_edges.specs.declared.units.Unit.TheVariants.{Character}
 use Rattle.hm_graph_laws.specs.Units as units
 use Rattle.hm_graph_laws.specs.Units.{TextKind, character_units, next_of}
-use Rattle.hm_graph.specs.Building.{BuildingView, AddsSteps, AddsFront, IsAdded, IsBuilding, building, steps_at}
+use Rattle.hm_graph.specs.Building.{BuildingView, AddsSteps, AddsFront, IsBuilding, IsMade, building, more_numbers}
+use Rattle.hm_graph.specs.Steps.{Step}
 use Rattle.hm_graph.specs.Interned.{InternedView, Grows, Leads, made_at}
 use Rattle.hm_graph.specs.declared.made.Reached.{Reached}
 use Rattle.hm_graph.proofs.Built.{adds_on, adds_one, building_more}
@@ -44,16 +45,16 @@ length_characters kind (c ∷ cs) = omega (arith, length_characters kind cs)
 
 -- ---- Prefixes
 
-pub front_on : (a b d : BuildingView) (kind : TextKind) (cs mid rest : List ℕ) → AddsFront a b kind cs mid → AddsFront b d kind mid rest → AddsFront a d kind cs rest
-front_on a b d kind cs mid rest one more =
+pub front_on : (a b d : BuildingView) (kind : TextKind) (cs mid rest : List ℕ) (steps more : List Step) → AddsFront a b kind cs mid steps → AddsFront b d kind mid rest more → AddsFront a d kind cs rest (steps ++ more)
+front_on a b d kind cs mid rest steps more one on =
     record {
-      done = one.done ++ more.done;
-      adds = adds_on a b d one.done more.done one.adds more.adds;
-      whole = append_assoc one.done more.done (character_units kind rest) ∙ ap (λ us. one.done ++ us) more.whole ∙ one.whole;
+      done = one.done ++ on.done;
+      adds = adds_on a b d one.done on.done steps more one.adds on.adds;
+      whole = append_assoc one.done on.done (character_units kind rest) ∙ ap (λ us. one.done ++ us) on.whole ∙ one.whole;
     }
 
-pub front_one : (a b : BuildingView) (kind : TextKind) (c : ℕ) (rest : List ℕ) → AddsSteps a b (units.character kind c (next_of rest) ∷ []) → AddsFront a b kind (c ∷ rest) rest
-front_one a b kind c rest one = record { done = units.character kind c (next_of rest) ∷ []; adds = one; whole = refl }
+pub front_one : (a b : BuildingView) (kind : TextKind) (c : ℕ) (rest : List ℕ) (step : Step) → AddsSteps a b (units.character kind c (next_of rest) ∷ []) (step ∷ []) → AddsFront a b kind (c ∷ rest) rest (step ∷ [])
+front_one a b kind c rest step one = record { done = units.character kind c (next_of rest) ∷ []; adds = one; whole = refl }
 
 pub first_of : (cs : List ℕ) → slice_get cs 0 ≡ next_of cs
 first_of [] = refl
@@ -61,45 +62,57 @@ first_of (c ∷ cs) = refl
 
 -- ---- Characters of which it is known where they lead
 
-grows_self : (m : InternedView) → Grows m m
+pub grows_self : (m : InternedView) → Grows m m
 grows_self m = record { table = refl; rules = refl; lists = λ k within. record { there = within; list = refl }; steps = λ n within. (within, refl) }
 
 -- the step was added `count` times, and leads to the list `behind`
-pub record RunAdded (m : InternedView) (numbers : List ℕ) (last behind : ℕ) (kind : TextKind) (n count : ℕ) (cs rest : List ℕ) : Type 0 where
-  pub is : IsBuilding m (numbers ++ replicate count n) behind
-  pub front : AddsFront (building m numbers last) (building m (numbers ++ replicate count n) behind) kind cs rest
+pub record RunAdded (m : InternedView) (numbers : Option (List ℕ)) (len last behind : ℕ) (kind : TextKind) (n count : ℕ) (cs rest : List ℕ) : Type 0 where
+  pub is : IsBuilding m (more_numbers numbers count n) (len + count) behind
+  pub front : AddsFront (building m numbers len last) (building m (more_numbers numbers count n) (len + count) behind) kind cs rest (replicate count (made_at m n).step)
 
-one_added : (m : InternedView) (numbers : List ℕ) (last : ℕ) (kind : code.TextKind) (to : Reached) (c next : ℕ) (rest : List ℕ) → next_of rest ≡ Some next → IsBuilding m numbers last → Leads m last kind true to c → length numbers < 2 ^ 29 - 1
-    → RunAdded m numbers last to.behind (kind_of kind) to.number 1 (c ∷ rest) rest
-one_added m numbers last kind to c next rest is_next is own few =
+one_added : (m : InternedView) (numbers : Option (List ℕ)) (len last : ℕ) (kind : code.TextKind) (to : Reached) (c next : ℕ) (rest : List ℕ) → next_of rest ≡ Some next → IsBuilding m numbers len last → Leads m last kind true to c → len + 1 < 2 ^ 29
+    → RunAdded m numbers len last to.behind (kind_of kind) to.number 1 (c ∷ rest) rest
+one_added m numbers len last kind to c next rest is_next is own few =
     let unit : Unit = Character kind c None true in
+    let n : ℕ = to.number in
+    let step : Step = (made_at m n).step in
     let u : units.Unit = units.character (kind_of kind) c (next_of rest) in
     let lone : None ≡ edges.pair_of m.table.entries c (Some next) = rw (own.lone refl next) refl in
     let stands : StandsFor m.table.entries unit u = subst (λ x. StandsFor m.table.entries unit (units.character (kind_of kind) c x)) (sym is_next) (edges.character kind c None (Some next) true lone refl) in
-    let adds : AddsSteps (building m numbers last) (building m (numbers ++ to.number ∷ []) to.behind) (u ∷ []) =
-    subst (λ b. AddsSteps (building m numbers last) (building m (numbers ++ to.number ∷ []) b) (u ∷ [])) (sym own.behind) (adds_one m m numbers last unit to.number is (grows_self m) own.step u stands) in
+    let adds : AddsSteps (building m numbers len last) (building m (more_numbers numbers 1 n) (len + 1) to.behind) (u ∷ []) (step ∷ []) =
+    subst (λ b. AddsSteps (building m numbers len last) (building m (more_numbers numbers 1 n) (len + 1) b) (u ∷ []) (step ∷ [])) (sym own.behind) (adds_one m m numbers len last unit n is (grows_self m) own.step u stands) in
     record {
-      is = subst (IsBuilding m (numbers ++ to.number ∷ [])) (sym own.behind) (building_more m m numbers last unit to.number is (grows_self m) own.step few);
-      front = front_one (building m numbers last) (building m (numbers ++ to.number ∷ []) to.behind) (kind_of kind) c rest adds;
+      is = building_more m m numbers len 1 last n to.behind is (grows_self m) own.step.there (subst (λ b. b < length m.lists) (sym own.behind) own.step.behind) few;
+      front = front_one (building m numbers len last) (building m (more_numbers numbers 1 n) (len + 1) to.behind) (kind_of kind) c rest step adds;
     }
 
-run_added : (m : InternedView) (numbers : List ℕ) (last : ℕ) (kind : code.TextKind) (to : Reached) (c : ℕ) (front : List ℕ) (d : ℕ) (ds : List ℕ) → IsBuilding m numbers last → All (Leads m last kind true to) (c ∷ front)
-    → (0 < length front → to.behind ≡ last) → length numbers + suc (length front) < 2 ^ 29 → RunAdded m numbers last to.behind (kind_of kind) to.number (suc (length front)) (c ∷ front ++ d ∷ ds) (d ∷ ds)
-run_added m numbers last kind to c [] d ds is leads back few = one_added m numbers last kind to c d (d ∷ ds) refl is (leads 0 0 (omega arith)) (omega (arith, few))
-run_added m numbers last kind to c (e ∷ front) d ds is leads back few =
+numbers_twice : (numbers : Option (List ℕ)) (k n : ℕ) → more_numbers (more_numbers numbers 1 n) (suc k) n ≡ more_numbers numbers (suc (suc k)) n
+numbers_twice None k n = refl
+numbers_twice (Some numbers) k n = ap Some (append_assoc numbers (n ∷ []) (replicate (suc k) n))
+
+run_added : (m : InternedView) (numbers : Option (List ℕ)) (len last : ℕ) (kind : code.TextKind) (to : Reached) (c : ℕ) (front : List ℕ) (d : ℕ) (ds : List ℕ) → IsBuilding m numbers len last → All (Leads m last kind true to) (c ∷ front)
+    → (0 < length front → to.behind ≡ last) → len + suc (length front) < 2 ^ 29 → RunAdded m numbers len last to.behind (kind_of kind) to.number (suc (length front)) (c ∷ front ++ d ∷ ds) (d ∷ ds)
+run_added m numbers len last kind to c [] d ds is leads back few = one_added m numbers len last kind to c d (d ∷ ds) refl is (leads 0 0 (omega arith)) (omega (arith, few))
+run_added m numbers len last kind to c (e ∷ front) d ds is leads back few =
     let n : ℕ = to.number in
+    let step : Step = (made_at m n).step in
+    let k : ℕ = length front in
+    let one_more : Option (List ℕ) = more_numbers numbers 1 n in
     let same_list : to.behind ≡ last = back (omega arith) in
-    let one : RunAdded m numbers last to.behind (kind_of kind) n 1 (c ∷ e ∷ front ++ d ∷ ds) (e ∷ front ++ d ∷ ds) = one_added m numbers last kind to c e (e ∷ front ++ d ∷ ds) refl is (leads 0 0 (omega arith)) (omega (arith, few)) in
-    let own : IsBuilding m (numbers ++ n ∷ []) last = subst (IsBuilding m (numbers ++ n ∷ [])) same_list one.is in
-    let more : RunAdded m (numbers ++ n ∷ []) last to.behind (kind_of kind) n (suc (length front)) (e ∷ front ++ d ∷ ds) (d ∷ ds) =
-    run_added m (numbers ++ n ∷ []) last kind to e front d ds own (λ k f within. leads (suc k) f (omega (arith, within))) (λ some. same_list) (omega (arith, few, length-append numbers (n ∷ []))) in
-    let first : AddsFront (building m numbers last) (building m (numbers ++ n ∷ []) last) (kind_of kind) (c ∷ e ∷ front ++ d ∷ ds) (e ∷ front ++ d ∷ ds) =
-    subst (λ b. AddsFront (building m numbers last) (building m (numbers ++ n ∷ []) b) (kind_of kind) (c ∷ e ∷ front ++ d ∷ ds) (e ∷ front ++ d ∷ ds)) same_list one.front in
-    let same : (numbers ++ n ∷ []) ++ replicate (suc (length front)) n ≡ numbers ++ replicate (suc (suc (length front))) n = append_assoc numbers (n ∷ []) (replicate (suc (length front)) n) in
+    let one : RunAdded m numbers len last to.behind (kind_of kind) n 1 (c ∷ e ∷ front ++ d ∷ ds) (e ∷ front ++ d ∷ ds) = one_added m numbers len last kind to c e (e ∷ front ++ d ∷ ds) refl is (leads 0 0 (omega arith)) (omega (arith, few)) in
+    let own : IsBuilding m one_more (len + 1) last = subst (IsBuilding m one_more (len + 1)) same_list one.is in
+    let more : RunAdded m one_more (len + 1) last to.behind (kind_of kind) n (suc k) (e ∷ front ++ d ∷ ds) (d ∷ ds) =
+    run_added m one_more (len + 1) last kind to e front d ds own (λ j f within. leads (suc j) f (omega (arith, within))) (λ some. same_list) (omega (arith, few)) in
+    let first : AddsFront (building m numbers len last) (building m one_more (len + 1) last) (kind_of kind) (c ∷ e ∷ front ++ d ∷ ds) (e ∷ front ++ d ∷ ds) (step ∷ []) =
+    subst (λ b. AddsFront (building m numbers len last) (building m one_more (len + 1) b) (kind_of kind) (c ∷ e ∷ front ++ d ∷ ds) (e ∷ front ++ d ∷ ds) (step ∷ [])) same_list one.front in
+    let same : more_numbers one_more (suc k) n ≡ more_numbers numbers (suc (suc k)) n = numbers_twice numbers k n in
+    let count : (len + 1) + suc k ≡ len + suc (suc k) = omega arith in
+    let whole : AddsFront (building m numbers len last) (building m (more_numbers one_more (suc k) n) ((len + 1) + suc k) to.behind) (kind_of kind) (c ∷ e ∷ front ++ d ∷ ds) (d ∷ ds) (replicate (suc (suc k)) step) =
+    front_on (building m numbers len last) (building m one_more (len + 1) last) (building m (more_numbers one_more (suc k) n) ((len + 1) + suc k) to.behind) (kind_of kind) (c ∷ e ∷ front ++ d ∷ ds) (e ∷ front ++ d ∷ ds) (d ∷ ds) (step ∷ []) (replicate (suc k) step) first
+    more.front in
     record {
-      is = subst (λ ns. IsBuilding m ns to.behind) same more.is;
-      front = subst (λ ns. AddsFront (building m numbers last) (building m ns to.behind) (kind_of kind) (c ∷ e ∷ front ++ d ∷ ds) (d ∷ ds)) same
-          (front_on (building m numbers last) (building m (numbers ++ n ∷ []) last) (building m ((numbers ++ n ∷ []) ++ replicate (suc (length front)) n) to.behind) (kind_of kind) (c ∷ e ∷ front ++ d ∷ ds) (e ∷ front ++ d ∷ ds) (d ∷ ds) first more.front);
+      is = subst (λ A. A) (λ i. IsBuilding m (same i) (count i) to.behind) more.is;
+      front = subst (λ A. A) (λ i. AddsFront (building m numbers len last) (building m (same i) (count i) to.behind) (kind_of kind) (c ∷ e ∷ front ++ d ∷ ds) (d ∷ ds) (replicate (suc (suc k)) step)) whole;
     }
 
 all_ascii : (m : InternedView) (last : ℕ) (kind : code.TextKind) (to : Reached) (front : List ℕ) → All (Leads m last kind true to) front → All (λ c. c < 128) front
@@ -109,38 +122,28 @@ all_ascii m last kind to front leads = λ k d within. (leads k d within).ascii
 pub lead_ascii : (m : InternedView) (last : ℕ) (kind : code.TextKind) (to : Reached) (front : List ℕ) → All (Leads m last kind true to) front → IsAscii front
 lead_ascii m last kind to front leads = IsAscii-from_all front (all_ascii m last kind to front leads)
 
-before_more : (m : InternedView) (numbers : List ℕ) (last : ℕ) (kind : code.TextKind) (to : Reached) (front rest : List ℕ) → 0 < length front → 0 < length rest → IsBuilding m numbers last → All (Leads m last kind true to) front
-    → (1 < length front → to.behind ≡ last) → length numbers + length front < 2 ^ 29 → RunAdded m numbers last to.behind (kind_of kind) to.number (length front) (front ++ rest) rest
-before_more m numbers last kind to [] rest some more is leads back few = absurd (omega (arith, some))
-before_more m numbers last kind to (c ∷ front) [] some more is leads back few = absurd (omega (arith, more))
-before_more m numbers last kind to (c ∷ front) (d ∷ ds) some more is leads back few = run_added m numbers last kind to c front d ds is leads (λ others. back (omega (arith, others))) few
+before_more : (m : InternedView) (numbers : Option (List ℕ)) (len last : ℕ) (kind : code.TextKind) (to : Reached) (front rest : List ℕ) → 0 < length front → 0 < length rest → IsBuilding m numbers len last → All (Leads m last kind true to) front
+    → (1 < length front → to.behind ≡ last) → len + length front < 2 ^ 29 → RunAdded m numbers len last to.behind (kind_of kind) to.number (length front) (front ++ rest) rest
+before_more m numbers len last kind to [] rest some more is leads back few = absurd (omega (arith, some))
+before_more m numbers len last kind to (c ∷ front) [] some more is leads back few = absurd (omega (arith, more))
+before_more m numbers len last kind to (c ∷ front) (d ∷ ds) some more is leads back few = run_added m numbers len last kind to c front d ds is leads (λ others. back (omega (arith, others))) few
 
 -- a prefix of a text, with more after it
-pub text_added : (m : InternedView) (numbers : List ℕ) (last : ℕ) (kind : code.TextKind) (to : Reached) (text : List ℕ) (count : ℕ) → IsUtf8 text → 0 < count → count < length text → (1 < count → to.behind ≡ last) → IsBuilding m numbers last
-    → All (Leads m last kind true to) (take count text) → length numbers + count < 2 ^ 29 → RunAdded m numbers last to.behind (kind_of kind) to.number count (chars text) (chars (drop count text))
-text_added m numbers last kind to text count utf8 some short back is leads few =
+pub text_added : (m : InternedView) (numbers : Option (List ℕ)) (len last : ℕ) (kind : code.TextKind) (to : Reached) (text : List ℕ) (count : ℕ) → IsUtf8 text → 0 < count → count < length text → (1 < count → to.behind ≡ last) → IsBuilding m numbers len last
+    → All (Leads m last kind true to) (take count text) → len + count < 2 ^ 29 → RunAdded m numbers len last to.behind (kind_of kind) to.number count (chars text) (chars (drop count text))
+text_added m numbers len last kind to text count utf8 some short back is leads few =
     let ascii : IsAscii (take count text) = lead_ascii m last kind to (take count text) leads in
     let inside : count ≤ length text = omega (arith, short) in
-    let len : length (take count text) ≡ count = length-take-le count text inside in
+    let size : length (take count text) ≡ count = length-take-le count text inside in
     let rest : IsUtf8 (drop count text) = IsUtf8-drop text count utf8 (ascii_boundary text count utf8 inside ascii) in
-    let more : 0 < length (chars (drop count text)) = some_chars (drop count text) rest (omega (arith, short, ap length (take-append-drop count text), length-append (take count text) (drop count text), len)) in
-    subst (λ cs. RunAdded m numbers last to.behind (kind_of kind) to.number count cs (chars (drop count text))) (sym (text_cut text count ascii))
-    (subst (λ i. RunAdded m numbers last to.behind (kind_of kind) to.number i (take count text ++ chars (drop count text)) (chars (drop count text))) len
-    (before_more m numbers last kind to (take count text) (chars (drop count text)) (omega (arith, some, len)) more is leads (λ others. back (omega (arith, others, len))) (omega (arith, few, len))))
+    let more : 0 < length (chars (drop count text)) = some_chars (drop count text) rest (omega (arith, short, ap length (take-append-drop count text), length-append (take count text) (drop count text), size)) in
+    subst (λ cs. RunAdded m numbers len last to.behind (kind_of kind) to.number count cs (chars (drop count text))) (sym (text_cut text count ascii))
+    (subst (λ i. RunAdded m numbers len last to.behind (kind_of kind) to.number i (take count text ++ chars (drop count text)) (chars (drop count text))) size
+    (before_more m numbers len last kind to (take count text) (chars (drop count text)) (omega (arith, some, size)) more is leads (λ others. back (omega (arith, others, size))) (omega (arith, few, size))))
 
-alike_steps : (m : InternedView) (n count : ℕ) → steps_at m (replicate count n) ≡ replicate count (made_at m n).step
-alike_steps m n zero = refl
-alike_steps m n (suc count) = ap (λ steps. (made_at m n).step ∷ steps) (alike_steps m n count)
-
--- their step was added for each of them
-pub alike_added : (m : InternedView) (numbers : List ℕ) (last : ℕ) (kind : code.TextKind) (to : Reached) (text : List ℕ) (count : ℕ) → 0 < count → count ≤ length text → All (Leads m last kind true to) (take count text)
-    → IsAdded (building m numbers last) (building m (numbers ++ replicate count to.number) to.behind) count to.number
-alike_added m numbers last kind to text count some inside leads =
+-- their step was made
+pub alike_made : (m : InternedView) (numbers : Option (List ℕ)) (len last behind : ℕ) (kind : code.TextKind) (to : Reached) (text : List ℕ) (count : ℕ) → 0 < count → count ≤ length text → All (Leads m last kind true to) (take count text)
+    → IsMade (building m numbers len behind) to.number
+alike_made m numbers len last behind kind to text count some inside leads =
     let first : Leads m last kind true to _ = leads 0 0 (omega (arith, some, length-take-le count text inside)) in
-    record {
-      table = refl;
-      there = first.step.there;
-      named = first.step.layer.named;
-      low = first.step.layer.low;
-      steps = map-append (λ n. (made_at m n).step) numbers (replicate count to.number) ∙ ap (λ steps. steps_at m numbers ++ steps) (alike_steps m to.number count);
-    }
+    record { there = first.step.there; named = first.step.layer.named; low = first.step.layer.low }

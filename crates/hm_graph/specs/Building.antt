@@ -1,5 +1,5 @@
--- What is built of a tree's graph: the steps so far, and the states after them.
-use Rattle.std.specs.Prelude.{◌≡◌, ℕ, ◌<◌, ◌^◌, List, [], ◌∷◌, ◌++◌, length, map, slice_index_or}
+-- What is built of a tree's graph: the steps so far, where they are recorded, how many they are, and the states after them.
+use Rattle.std.specs.Prelude.{◌≡◌, ℕ, ◌+◌, ◌<◌, ◌^◌, List, [], ◌∷◌, ◌++◌, Option, Some, None, length, map, slice_index_or}
 use Rattle.std.specs.List.{All}
 use Rattle.std.proofs.Math.ListN.{replicate}
 use Rattle.hm_graph_laws.specs.Layers.{first_layer, states_behind}
@@ -19,28 +19,51 @@ use Rattle.hm_graph.specs.Interned.{InternedView, list_at, made_at, none_made}
 use Rattle.hm_graph.specs.declared.made.MadeStep.{MadeStep}
 use Rattle.hm_graph.specs.declared.rules.EdgeRules.{EdgeRules}
 
--- the steps that were made, the steps so far, and the states of the layer after them
+-- the steps that were made, those so far where they are recorded, how many there were, and the states of the layer after them
 pub record BuildingView : Type 0 where
   pub table : TableView
   pub rules : EdgeRules
   pub made : List MadeStep
-  pub steps : List Step
+  pub recorded : Option (List Step)
+  pub len : ℕ
   pub last : List State
 
 -- the steps of these numbers
 abbrev pub steps_at : InternedView → List ℕ → List Step
 steps_at m numbers = map (λ n. (made_at m n).step) numbers
 
-abbrev pub building : InternedView → List ℕ → ℕ → BuildingView
-building m numbers last = record { table = m.table; rules = m.rules; made = m.steps; steps = steps_at m numbers; last = list_at m last }
+abbrev pub recorded_at : InternedView → Option (List ℕ) → Option (List Step)
+recorded_at m None = None
+recorded_at m (Some numbers) = Some (steps_at m numbers)
+
+abbrev pub building : InternedView → Option (List ℕ) → ℕ → ℕ → BuildingView
+building m numbers len last = record { table = m.table; rules = m.rules; made = m.steps; recorded = recorded_at m numbers; len = len; last = list_at m last }
+
+-- these steps and more, where steps are recorded
+abbrev pub more_steps : Option (List Step) → List Step → Option (List Step)
+more_steps None more = None
+more_steps (Some steps) more = Some (steps ++ more)
+
+-- these numbers, and one of them `count` times, where numbers are recorded
+abbrev pub more_numbers : Option (List ℕ) → ℕ → ℕ → Option (List ℕ)
+more_numbers None count number = None
+more_numbers (Some numbers) count number = Some (numbers ++ replicate count number)
+
+-- where numbers are recorded, so many more are few
+abbrev pub IsFew : Option (List ℕ) → ℕ → Type 0
+IsFew None count = Prim.Unit {0}
+IsFew (Some numbers) count = length numbers + count < 2 ^ 29
+
+-- numbers that are recorded are those of so many steps
+abbrev pub AreThere : InternedView → Option (List ℕ) → ℕ → Type 0
+AreThere m None len = Prim.Unit {0}
+AreThere m (Some numbers) len = All (λ n. n < length m.steps) numbers × (length numbers ≡ len)
 
 -- the numbers are those of steps, and the last list is there
-pub record IsBuilding (m : InternedView) (numbers : List ℕ) (last : ℕ) : Type 0 where
-  pub numbers_there : All (λ n. n < length m.steps) numbers
+pub record IsBuilding (m : InternedView) (numbers : Option (List ℕ)) (len last : ℕ) : Type 0 where
+  pub numbers_there : AreThere m numbers len
   pub last_there : last < length m.lists
-  pub few : length numbers < 2 ^ 29
-  pub low : AreLow (steps_at m numbers)
-  pub named : AreNamed m.table.entries (steps_at m numbers)
+  pub few : len < 2 ^ 29
 
 -- the steps of units lead from a layer with these states to one with the states `behind`
 abbrev pub Lead : Edges → (units.Unit → Piece → List ℕ) → List units.Unit → List graph.State → List Step → List graph.State → Type 0
@@ -50,30 +73,41 @@ Lead edges bytes (u ∷ us) states [] behind = ⊥
 Lead edges bytes (u ∷ us) states (step ∷ steps) behind =
     StepFits (bytes u) (edges u) (states_behind edges u states) states step × Lead edges bytes us (states_behind edges u states) steps behind
 
--- the steps so far are those of these units
-abbrev pub IsBuilt : BuildingView → List units.Unit → Type 0
-IsBuilt b us = Lead (edges_under b.table.entries b.rules) (piece_bytes b.table.entries) us first_layer b.steps (states_of b.table b.last)
+-- no step is there
+pub record IsBegun (b : BuildingView) : Type 0 where
+  pub last : states_of b.table b.last ≡ first_layer
+  pub len : b.len ≡ 0
 
--- the steps of more units are added at the end
-pub record AddsSteps (old new : BuildingView) (more : List units.Unit) : Type 0 where
+-- these steps of more units are added at the end
+pub record AddsSteps (old new : BuildingView) (more : List units.Unit) (added : List Step) : Type 0 where
   pub table : new.table ≡ old.table
   pub rules : new.rules ≡ old.rules
-  pub units : (us : List units.Unit) → IsBuilt old us → IsBuilt new (us ++ more)
+  pub lead : Lead (edges_under old.table.entries old.rules) (piece_bytes old.table.entries) more (states_of old.table old.last) added (states_of old.table new.last)
+  pub named : AreNamed old.table.entries added
+  pub low : AreLow added
+  pub recorded : new.recorded ≡ more_steps old.recorded added
+  pub len : new.len ≡ old.len + length added
 
--- the steps of characters are added, of which the rest is left
-pub record AddsFront (old new : BuildingView) (kind : units.TextKind) (cs rest : List ℕ) : Type 0 where
+-- these steps of characters are added, of which the rest is left
+pub record AddsFront (old new : BuildingView) (kind : units.TextKind) (cs rest : List ℕ) (added : List Step) : Type 0 where
   pub done : List units.Unit
-  pub adds : AddsSteps old new done
+  pub adds : AddsSteps old new done added
   pub whole : done ++ character_units kind rest ≡ character_units kind cs
 
 -- the step of a number
 abbrev pub numbered_step : BuildingView → ℕ → Step
 numbered_step b n = (slice_index_or b.made n none_made).step
 
--- the step of this number is added `count` times at the end
-pub record IsAdded (old new : BuildingView) (count number : ℕ) : Type 0 where
-  pub table : new.table ≡ old.table
-  pub there : number < length new.made
-  pub named : IsNamedStep new.table.entries (numbered_step new number)
-  pub low : IsLowStep (numbered_step new number)
-  pub steps : new.steps ≡ old.steps ++ replicate count (numbered_step new number)
+-- a step of this number was made
+pub record IsMade (b : BuildingView) (number : ℕ) : Type 0 where
+  pub there : number < length b.made
+  pub named : IsNamedStep b.table.entries (numbered_step b number)
+  pub low : IsLowStep (numbered_step b number)
+
+-- all steps of these units are recorded
+pub record IsBuilt (b : BuildingView) (us : List units.Unit) : Type 0 where
+  pub steps : List Step
+  pub lead : Lead (edges_under b.table.entries b.rules) (piece_bytes b.table.entries) us first_layer steps (states_of b.table b.last)
+  pub named : AreNamed b.table.entries steps
+  pub low : AreLow steps
+  pub recorded : b.recorded ≡ Some steps

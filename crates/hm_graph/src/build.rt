@@ -1,5 +1,6 @@
 //! The graph of a tree.
-ghost use Rattle.std.specs.Prelude.{◌≡◌, [], IfOk};
+ghost use Rattle.std.specs.Prelude.{◌≡◌, [], IfOk, OnOk};
+ghost use Rattle.hm_graph.specs.Going.{Goes, IsWalk};
 ghost use Rattle.hm_graph_laws.specs.Units.{units_of};
 
 use crate::along::{Along, add_parts};
@@ -7,11 +8,56 @@ use crate::building::GraphBuilder;
 use crate::graph::Graph;
 use crate::rules::EdgeRules;
 use crate::visitors::{NoVisitor, Visitor};
+use crate::walked::Walked;
 use hm_base::{Format, Memory, SpellRules};
 use hm_parts::find_parts;
 use hm_refs::Table;
 use hm_tree::Tree;
 use std::alloc::Global;
+
+/// Adds the steps of a tree.
+#[inline(always)]
+fn add_tree<V: Visitor>(
+    alloc: Global,
+    along: &mut Along<'_, V>,
+    tree: &Tree,
+    rules: SpellRules,
+) -> Result<(), V::Stop>
+    ensures { OnOk result (Goes V.goes_on (units_of rules tree.now) [] along.old along.new) }
+{
+    let mut parts = Vec::new(alloc);
+    for i in 0..tree.len() {
+        find_parts(tree, rules, i, &mut parts)?;
+        add_parts(along, parts.as_slice())?;
+    }
+    Ok(())
+}
+
+/// Calls a visitor for each step of a tree's graph in a format, and gives it back after the last one. The graph isn't kept.
+///
+/// Memory counts as refused where `Graph::of` counts it as refused.
+pub fn walk<V: Visitor>(
+    alloc: Global,
+    tree: &Tree,
+    table: &Table,
+    rules: SpellRules,
+    format: Format,
+    visitor: V,
+) -> Result<(Walked, V), V::Stop>
+    ensures { IfOk result (λ made. IsWalk V.goes_on (record { tree = tree.now; table = table.now; rules = rules; format = format }) visitor made.0 made.1) }
+{
+    let edges = EdgeRules {
+        spell: rules,
+        format,
+    };
+    let mut along = Along {
+        graph: GraphBuilder::new(alloc, table, edges, false)?,
+        by: visitor,
+    };
+    add_tree(alloc, &mut along, tree, rules)?;
+    let Along { graph, by } = along;
+    Ok((graph.into_walked(), by))
+}
 
 impl<'t> Graph<'t> {
     /// The graph of a tree in a format, by the names of a table and these rules.
@@ -48,14 +94,10 @@ impl<'t> Graph<'t> {
             format,
         };
         let mut along = Along {
-            graph: GraphBuilder::new(alloc, table, edges)?,
+            graph: GraphBuilder::new(alloc, table, edges, true)?,
             by: visitor,
         };
-        let mut parts = Vec::new(alloc);
-        for i in 0..tree.len() {
-            find_parts(tree, rules, i, &mut parts)?;
-            add_parts(&mut along, parts.as_slice())?;
-        }
+        add_tree(alloc, &mut along, tree, rules)?;
         let Along { graph, by } = along;
         let graph = graph.into_graph(tree)?;
         Ok((graph, by))

@@ -1,17 +1,20 @@
 //! A graph while it is built.
-ghost use Rattle.std.specs.Prelude.{◌≡◌, ◌<◌, ◌≤◌, ◌∷◌, [], None, Some, drop, length, take, IfOk, OnOk};
+ghost use Rattle.std.specs.Prelude.{◌≡◌, ◌<◌, ◌≤◌, ◌^◌, ◌∷◌, [], None, Some, drop, length, take, IfOk, IsSome, OnErr, OnOk, if◌then◌else◌};
 ghost use Rattle.std.specs.Str.{IsAscii, chars};
+ghost use Rattle.std.proofs.Math.ListN.{replicate};
 ghost use Rattle.hm_graph_laws.specs.Units as units;
 ghost use Rattle.hm_edges.specs.Units.{StandsFor, kind_of, needs_of};
 ghost use Rattle.hm_graph_laws.specs.Units.{units_of};
-ghost use Rattle.hm_graph.specs.Building.{AddsSteps, AddsFront, IsAdded, IsBuilt, numbered_step};
+ghost use Rattle.hm_graph.specs.Runs.{AreRuns, unroll};
+ghost use Rattle.hm_graph.specs.Building.{AddsSteps, AddsFront, IsBegun, IsBuilt, IsFew, IsMade, more_numbers, numbered_step};
 
 use crate::graph::Graph;
 use crate::interned::{Interned, LIMIT};
-use crate::numbers::Numbers;
+use crate::numbers::{Numbers, Run};
 use crate::plain::Alike;
 use crate::rules::EdgeRules;
 use crate::step::Step;
+use crate::walked::Walked;
 use hm_base::Memory;
 use hm_edges::{Needs, TextKind, Unit};
 use hm_refs::Table;
@@ -19,11 +22,12 @@ use hm_tree::Tree;
 use std::alloc::Global;
 use std::marker::Model;
 
-/// The steps so far, by their numbers, and the number of the list after them.
+/// The numbers of the steps so far, where they are recorded, how many steps there are, and the number of the list after them.
 #[derive(Drop)]
 pub(crate) struct GraphBuilder<'t> {
     interned: Interned<'t>,
-    numbers: Numbers,
+    numbers: Option<Numbers>,
+    len: usize,
     last: u32,
 }
 
@@ -34,25 +38,61 @@ impl<'t> Model for GraphBuilder<'t> {
 
     ghost use Rattle.hm_graph.specs.Building.{IsBuilding, building};
 
-    ghost view = { λ b. building b.interned b.numbers b.last };
+    ghost view = { λ b. building b.interned b.numbers b.len b.last };
 
-    ghost invariant = { λ b. IsBuilding b.interned b.numbers b.last };
+    ghost invariant = { λ b. IsBuilding b.interned b.numbers b.len b.last };
+}
+
+/// Keeps a number `count` times, where numbers are recorded.
+#[inline(always)]
+fn keep_number(numbers: &mut Option<Numbers>, number: u32, count: u32) -> Result<(), Memory>
+    requires { IsFew numbers.old count }
+    ensures ok { OnOk result (numbers.new ≡ more_numbers numbers.old count number) }
+    ensures err { OnErr result (numbers.new ≡ numbers.old) }
+{
+    match numbers {
+        Some(numbers) => numbers.push_alike(number, count),
+        None => Ok(()),
+    }
+}
+
+/// No numbers, where they are recorded.
+fn no_numbers(alloc: Global, recorded: bool) -> Option<Numbers>
+    ensures { result ≡ (if recorded then Some [] else None) }
+{
+    if recorded {
+        Some(Numbers::new(alloc))
+    } else {
+        None
+    }
+}
+
+/// The runs of numbers that are recorded.
+fn runs_of(numbers: Option<Numbers>) -> Result<Vec<Run>, Memory>
+    requires { IsSome numbers }
+    ensures runs { IfOk result (λ runs. AreRuns runs.items) }
+    ensures numbers { IfOk result (λ runs. Some (unroll runs.items) ≡ numbers) }
+{
+    numbers.unwrap().into_runs()
 }
 
 impl<'t> GraphBuilder<'t> {
-    /// Nothing is built but the first layer.
+    /// Nothing is built but the first layer. Steps are recorded where they are to be.
     pub(crate) fn new(
         alloc: Global,
         table: &'t Table,
         rules: EdgeRules,
+        recorded: bool,
     ) -> Result<GraphBuilder<'t>, Memory>
         ensures table { IfOk result (λ building. building.table ≡ table.now) }
         ensures rules { IfOk result (λ building. building.rules ≡ rules) }
-        ensures built { IfOk result (λ building. IsBuilt building []) }
+        ensures begun { IfOk result IsBegun }
+        ensures recorded { IfOk result (λ building. building.recorded ≡ (if recorded then Some [] else None)) }
     {
         Ok(GraphBuilder {
             interned: Interned::new(alloc, table, rules)?,
-            numbers: Numbers::new(alloc),
+            numbers: no_numbers(alloc, recorded),
+            len: 0,
             last: 0,
         })
     }
@@ -84,46 +124,49 @@ impl<'t> GraphBuilder<'t> {
     /// Adds the step of a unit, and gives its number.
     #[inline(always)]
     pub(crate) fn add(&mut self, unit: &Unit) -> Result<u32, Memory>
-        ensures adds { OnOk result ((u : units.Unit) → StandsFor self.old.table.entries unit.now u → AddsSteps self.old self.new (u ∷ [])) }
-        ensures step { IfOk result (IsAdded self.old self.new 1) }
+        ensures adds { IfOk result (λ n. (u : units.Unit) → StandsFor self.old.table.entries unit.now u → AddsSteps self.old self.new (u ∷ []) (numbered_step self.new n ∷ [])) }
+        ensures step { IfOk result (IsMade self.new) }
     {
-        if self.numbers.len() >= LIMIT - 1 {
+        if self.len >= LIMIT - 1 {
             return Err(Memory);
         }
         let number = self.interned.step(self.last, unit)?;
-        self.numbers.push(number)?;
+        keep_number(&mut self.numbers, number, 1)?;
         let last = self.interned.behind(number);
         self.last = last;
+        self.len += 1;
         Ok(number)
     }
 
     /// Adds the step of a character, after which the next one stands in the same text, and gives its number.
     #[inline(always)]
     fn add_in_front(&mut self, kind: TextKind, c: char, next: char) -> Result<u32, Memory>
-        ensures adds { OnOk result (AddsSteps self.old self.new (units.character (kind_of kind) c (Some next) ∷ [])) }
-        ensures step { IfOk result (IsAdded self.old self.new 1) }
+        ensures adds { IfOk result (λ n. AddsSteps self.old self.new (units.character (kind_of kind) c (Some next) ∷ []) (numbered_step self.new n ∷ [])) }
+        ensures step { IfOk result (IsMade self.new) }
     {
-        if self.numbers.len() >= LIMIT - 1 {
+        if self.len >= LIMIT - 1 {
             return Err(Memory);
         }
         let to = self.interned.character_step(self.last, kind, c, next)?;
-        self.numbers.push(to.number)?;
+        keep_number(&mut self.numbers, to.number, 1)?;
         self.last = to.behind;
+        self.len += 1;
         Ok(to.number)
     }
 
     /// Adds the step of the last character of a text, and gives its number.
     #[inline(always)]
     fn add_last(&mut self, kind: TextKind, c: char) -> Result<u32, Memory>
-        ensures adds { OnOk result (AddsSteps self.old self.new (units.character (kind_of kind) c None ∷ [])) }
-        ensures step { IfOk result (IsAdded self.old self.new 1) }
+        ensures adds { IfOk result (λ n. AddsSteps self.old self.new (units.character (kind_of kind) c None ∷ []) (numbered_step self.new n ∷ [])) }
+        ensures step { IfOk result (IsMade self.new) }
     {
-        if self.numbers.len() >= LIMIT - 1 {
+        if self.len >= LIMIT - 1 {
             return Err(Memory);
         }
         let to = self.interned.last_step(self.last, kind, c)?;
-        self.numbers.push(to.number)?;
+        keep_number(&mut self.numbers, to.number, 1)?;
         self.last = to.behind;
+        self.len += 1;
         Ok(to.number)
     }
 
@@ -135,8 +178,8 @@ impl<'t> GraphBuilder<'t> {
         c: char,
         next: Option<char>,
     ) -> Result<u32, Memory>
-        ensures adds { OnOk result (AddsSteps self.old self.new (units.character (kind_of kind) c next ∷ [])) }
-        ensures step { IfOk result (IsAdded self.old self.new 1) }
+        ensures adds { IfOk result (λ n. AddsSteps self.old self.new (units.character (kind_of kind) c next ∷ []) (numbered_step self.new n ∷ [])) }
+        ensures step { IfOk result (IsMade self.new) }
     {
         match next {
             Some(next) => self.add_in_front(kind, c, next),
@@ -148,10 +191,10 @@ impl<'t> GraphBuilder<'t> {
     /// many they are and where they lead. All are of ASCII and have the same step.
     #[inline(always)]
     pub(crate) fn add_alike(&mut self, kind: TextKind, text: &str) -> Result<Alike, Memory>
-        ensures adds { IfOk result (λ alike. AddsFront self.old self.new (kind_of kind) (chars text.now) (chars (drop alike.count text.now))) }
+        ensures adds { IfOk result (λ alike. 0 < alike.count → AddsFront self.old self.new (kind_of kind) (chars text.now) (chars (drop alike.count text.now)) (replicate alike.count (numbered_step self.new alike.to.number))) }
         ensures within { IfOk result (λ alike. alike.count ≤ length text.now) }
         ensures ascii { IfOk result (λ alike. IsAscii (take alike.count text.now)) }
-        ensures step { IfOk result (λ alike. 0 < alike.count → IsAdded self.old self.new alike.count alike.to.number) }
+        ensures step { IfOk result (λ alike. 0 < alike.count → IsMade self.new alike.to.number) }
         ensures none { IfOk result (λ alike. alike.count ≡ 0 → self.new ≡ self.old) }
     {
         let alike = self.interned.alike(self.last, kind, text.as_bytes());
@@ -159,31 +202,50 @@ impl<'t> GraphBuilder<'t> {
         if count == 0 {
             return Ok(alike);
         }
-        if count >= LIMIT || self.numbers.len() >= LIMIT - count {
+        if count >= LIMIT || self.len >= LIMIT - count {
             return Err(Memory);
         }
-        self.numbers.push_alike(to.number, count as u32)?;
+        keep_number(&mut self.numbers, to.number, count as u32)?;
         self.last = to.behind;
+        self.len += count;
         Ok(alike)
     }
 
-    /// The graph of the tree whose steps are built.
+    /// The end of a walk over the steps.
+    pub(crate) fn into_walked(self) -> Walked
+        ensures len { result.len ≡ self.entry.len }
+        ensures last { result.last ≡ length self.entry.last }
+        ensures few { self.entry.len < 2 ^ 29 }
+    {
+        let GraphBuilder {
+            interned,
+            numbers: _,
+            len,
+            last,
+        } = self;
+        Walked {
+            len,
+            last: interned.list(last).len(),
+        }
+    }
+
+    /// The graph of the tree whose steps are recorded.
     pub(crate) fn into_graph(self, tree: &'t Tree) -> Result<Graph<'t>, Memory>
         requires { IsBuilt self (units_of self.rules.spell tree.now) }
         ensures source { IfOk result (λ graph. graph.source ≡ record { tree = tree.now; table = self.entry.table; rules = self.entry.rules.spell; format = self.entry.rules.format }) }
-        ensures steps { IfOk result (λ graph. graph.steps ≡ self.entry.steps) }
+        ensures steps { IfOk result (λ graph. Some graph.steps ≡ self.entry.recorded) }
     {
         let GraphBuilder {
             interned,
             numbers,
+            len,
             last,
         } = self;
         let table = interned.table();
         let EdgeRules { spell, format } = interned.rules();
         let last = interned.list(last).len();
         let steps = interned.into_steps()?;
-        let len = numbers.len();
-        let runs = numbers.into_runs()?;
+        let runs = runs_of(numbers)?;
         Ok(Graph {
             tree,
             table,

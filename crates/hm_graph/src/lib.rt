@@ -23,8 +23,10 @@ mod still;
 mod told;
 mod values;
 mod visitors;
+mod walked;
 
 pub use graph::{Cursor, Graph, Passed};
 pub use hops::Hop;
 pub use step::Step;
 pub use visitors::Visitor;
+pub use walked::Walked;

@@ -1,5 +1,5 @@
 //! Numbers that come in runs of equal ones.
-ghost use Rattle.std.specs.Prelude.{◌≡◌, ◌<◌, ◌+◌, ◌-◌, ◌^◌, ◌++◌, ◌∷◌, [], length, IfOk, OnErr, OnOk};
+ghost use Rattle.std.specs.Prelude.{◌≡◌, ◌<◌, ◌+◌, ◌^◌, ◌++◌, [], length, IfOk, OnErr, OnOk};
 ghost use Rattle.std.proofs.Math.ListN.{replicate};
 ghost use Rattle.hm_graph.specs.Runs.{AreRuns, unroll};
 
@@ -20,11 +20,10 @@ pub(crate) struct Numbers {
     runs: Vec<Run>,
     /// The last run, which may be empty.
     latest: Run,
-    len: usize,
 }
 
 impl Model for Numbers {
-    ghost use Rattle.std.specs.Prelude.{◌≡◌, ◌++◌, ℕ, List, length};
+    ghost use Rattle.std.specs.Prelude.{◌++◌, ℕ, List};
     ghost use Rattle.std.proofs.Math.ListN.{replicate};
     ghost use Rattle.hm_graph.specs.Runs.{AreRuns, unroll};
 
@@ -32,7 +31,7 @@ impl Model for Numbers {
 
     ghost view = { λ n. unroll n.runs.items ++ replicate n.latest.count n.latest.number };
 
-    ghost invariant = { λ n. AreRuns n.runs.items × (n.len ≡ length (unroll n.runs.items ++ replicate n.latest.count n.latest.number)) };
+    ghost invariant = { λ n. AreRuns n.runs.items };
 }
 
 /// Adds a run at the end, where it isn't empty.
@@ -75,24 +74,7 @@ impl Numbers {
                 number: 0,
                 count: 0,
             },
-            len: 0,
         }
-    }
-
-    /// How many numbers there are.
-    pub(crate) fn len(&self) -> usize
-        ensures { result ≡ length self.now }
-    {
-        self.len
-    }
-
-    /// Adds a number at the end.
-    pub(crate) fn push(&mut self, number: u32) -> Result<(), Memory>
-        requires { length self.old < 2 ^ 29 - 1 }
-        ensures ok { OnOk result (self.new ≡ self.old ++ number ∷ []) }
-        ensures err { OnErr result (self.new ≡ self.old) }
-    {
-        self.push_alike(number, 1)
     }
 
     /// Adds a number `count` times at the end.
@@ -103,7 +85,6 @@ impl Numbers {
     {
         begin_run(&mut self.runs, &mut self.latest, number)?;
         self.latest.count += count;
-        self.len += count as usize;
         Ok(())
     }
 
@@ -112,11 +93,7 @@ impl Numbers {
         ensures runs { IfOk result (λ runs. AreRuns runs.items) }
         ensures numbers { IfOk result (λ runs. unroll runs.items ≡ self) }
     {
-        let Numbers {
-            runs,
-            latest,
-            len: _,
-        } = self;
+        let Numbers { runs, latest } = self;
         let mut runs = runs;
         push_run(&mut runs, latest)?;
         Ok(runs)

@@ -1,10 +1,16 @@
-use Rattle.std.proofs.Common.{◌≤◌, length, chars, take, drop, true, arith, sym, ap, subst}
+use Rattle.std.proofs.Common.{◌+◌, ◌≤◌, length, chars, take, drop, true, arith, sym, ap, subst}
+use Rattle.std.proofs.Math.ListN.{replicate}
 use Rattle.std.specs.List.{All}
 use Rattle.hm_edges.specs.Units.{kind_of}
-use Rattle.hm_graph.specs.Building.{AddsFront, IsAdded, IsBuilding, building}
-use Rattle.hm_graph.specs.Interned.{Leads}
-use Rattle.hm_graph.proofs.Characters.{alike_added, text_added}
+use Rattle.hm_graph.specs.Building.{AddsFront, IsBuilding, building}
+use Rattle.hm_graph.specs.Interned.{Leads, made_at}
+use Rattle.hm_graph.proofs.Built.{recorded_few}
+use Rattle.hm_graph.proofs.Characters.{alike_made, text_added}
 use Rattle.hm_graph.proofs.building.GraphBuilder.add_alike.Goals as goal
+
+pub keep_number-requires : goal.keep_number-requires
+keep_number-requires c =
+    recorded_few c.self.inside.interned c.self.inside.numbers c.self.inside.len c.self.inside.last c.alike-alike.result.count c.self.invariant (omega (arith, c.if-count-ge-LIMIT.false, c.if-self-count.false))
 
 pub invariant_of-self-2 : goal.invariant_of-self-2
 invariant_of-self-2 c =
@@ -13,22 +19,23 @@ invariant_of-self-2 c =
     let count = c.alike-alike.result.count in
     let to = c.alike-alike.result.to in
     let leads : All (Leads own.interned own.last c.args.kind true to) (take count text) = subst (λ b. All (Leads own.interned own.last c.args.kind true to) (take count b)) c.as_bytes.ensures.value c.alike-alike.ensures.leads in
-    let added = text_added own.interned own.numbers own.last c.args.kind to text count c.utf8.text (omega (arith, c.if-count-eq0.false)) (omega (arith, c.if-count-eq0.false, c.alike-alike.ensures.short (omega (arith, c.if-count-eq0.false)), ap length c.as_bytes.ensures.value)) c.alike-alike.ensures.back
-    c.self.invariant leads (omega (arith, c.if-count-ge-LIMIT.false, c.if-len-count.false, c.len.ensures)) in
-    subst (λ ns. IsBuilding own.interned ns to.behind) (sym c.in_ok-push_alike.ensures.ok) added.is
+    let added = text_added own.interned own.numbers own.len own.last c.args.kind to text count c.utf8.text (omega (arith, c.if-count-eq0.false)) (omega (arith, c.if-count-eq0.false, c.alike-alike.ensures.short (omega (arith, c.if-count-eq0.false)), ap length c.as_bytes.ensures.value)) c.alike-alike.ensures.back
+    c.self.invariant leads (omega (arith, c.if-count-ge-LIMIT.false, c.if-self-count.false)) in
+    subst (λ ns. IsBuilding own.interned ns (own.len + count) to.behind) (sym c.in_ok-keep_number.ensures.ok) added.is
 
 pub returns-clause-adds : goal.returns-clause-adds
-returns-clause-adds c =
+returns-clause-adds c = λ some.
     let own = c.self.inside in
     let text = c.args.text.now in
     let count = c.alike-alike.result.count in
     let to = c.alike-alike.result.to in
     let leads : All (Leads own.interned own.last c.args.kind true to) (take count text) = subst (λ b. All (Leads own.interned own.last c.args.kind true to) (take count b)) c.as_bytes.ensures.value c.alike-alike.ensures.leads in
-    let added = text_added own.interned own.numbers own.last c.args.kind to text count c.utf8.text (omega (arith, c.if-count-eq0.false)) (omega (arith, c.if-count-eq0.false, c.alike-alike.ensures.short (omega (arith, c.if-count-eq0.false)), ap length c.as_bytes.ensures.value)) c.alike-alike.ensures.back
-    c.self.invariant leads (omega (arith, c.if-count-ge-LIMIT.false, c.if-len-count.false, c.len.ensures)) in
+    let added = text_added own.interned own.numbers own.len own.last c.args.kind to text count c.utf8.text (omega (arith, c.if-count-eq0.false)) (omega (arith, c.if-count-eq0.false, c.alike-alike.ensures.short (omega (arith, c.if-count-eq0.false)), ap length c.as_bytes.ensures.value)) c.alike-alike.ensures.back
+    c.self.invariant leads (omega (arith, c.if-count-ge-LIMIT.false, c.if-self-count.false)) in
     let kind = kind_of c.args.kind in
-    subst (λ old. AddsFront old (building own.interned c.push_alike.new.self to.behind) kind (chars text) (chars (drop count text))) c.self.view_is
-    (subst (λ ns. AddsFront (building own.interned own.numbers own.last) (building own.interned ns to.behind) kind (chars text) (chars (drop count text))) (sym c.in_ok-push_alike.ensures.ok) added.front)
+    let steps = replicate count (made_at own.interned to.number).step in
+    subst (λ old. AddsFront old (building own.interned c.keep_number.new.numbers (own.len + count) to.behind) kind (chars text) (chars (drop count text)) steps) c.self.view_is
+    (subst (λ ns. AddsFront (building own.interned own.numbers own.len own.last) (building own.interned ns (own.len + count) to.behind) kind (chars text) (chars (drop count text)) steps) (sym c.in_ok-keep_number.ensures.ok) added.front)
 
 pub returns-clause-step : goal.returns-clause-step
 returns-clause-step c = λ some.
@@ -38,8 +45,7 @@ returns-clause-step c = λ some.
     let to = c.alike-alike.result.to in
     let leads : All (Leads own.interned own.last c.args.kind true to) (take count text) = subst (λ b. All (Leads own.interned own.last c.args.kind true to) (take count b)) c.as_bytes.ensures.value c.alike-alike.ensures.leads in
     let inside : count ≤ length text = omega (arith, c.alike-alike.ensures.within, ap length c.as_bytes.ensures.value) in
-    subst (λ old. IsAdded old (building own.interned c.push_alike.new.self to.behind) count to.number) c.self.view_is
-    (subst (λ ns. IsAdded (building own.interned own.numbers own.last) (building own.interned ns to.behind) count to.number) (sym c.in_ok-push_alike.ensures.ok) (alike_added own.interned own.numbers own.last c.args.kind to text count some inside leads))
+    alike_made own.interned c.keep_number.new.numbers (own.len + count) own.last to.behind c.args.kind to text count some inside leads
 
 pub returns-clause-none : goal.returns-clause-none
 returns-clause-none c = λ none. absurd (c.if-count-eq0.false none)

@@ -25,6 +25,7 @@ mod values;
 mod visitors;
 mod walked;
 
+pub use build::walk;
 pub use graph::{Cursor, Graph, Passed};
 pub use hops::Hop;
 pub use step::Step;

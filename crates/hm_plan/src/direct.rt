@@ -22,8 +22,7 @@ use crate::stretches::{find_rows, keep_rows, one_price, place_row, write_way, ze
 use hm_base::{Format, Memory, SpellRules};
 use hm_cert::{Prices, put_head, put_line};
 use hm_edges::Piece;
-use hm_graph::laws::every_graph;
-use hm_graph::{Graph, Hop, Step, Visitor};
+use hm_graph::{Hop, Step, Visitor, walk};
 use hm_parts::{Own, put_piece};
 use hm_refs::Table;
 use hm_refs::laws::every_table;
@@ -176,7 +175,7 @@ impl DirectWay {
         ensures first { OnOk result (self.new.first ≡ self.old.first) }
         ensures goes { OnOk result (GoesHere table.now.entries self.old self.new) }
     {
-        if step.width() == 1 && !self.stretch.is_empty() {
+        if !self.stretch.is_empty() && step.width() == 1 {
             self.settle(table, 1)?;
         }
         Ok(())
@@ -363,14 +362,13 @@ pub(crate) fn write_directly(
 {
     every_table(table);
     let start = DirectWay::new(alloc);
-    let (graph, way) = Graph::visited(alloc, tree, table, rules, Format::Three, start)?;
-    every_graph(&graph);
+    let (walked, way) = walk(alloc, tree, table, rules, Format::Three, start)?;
     let mut way = way;
-    way.settle(table, graph.last())?;
+    way.settle(table, walked.last)?;
     let certificate = write_lines(alloc, &way, rules)?;
     Ok(Minified {
         out: way.out,
         certificate,
-        layers: graph.len() + 1,
+        layers: walked.len + 1,
     })
 }

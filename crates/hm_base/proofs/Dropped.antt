@@ -13,11 +13,11 @@ use Rattle.hm_base.specs.Places.{IsSourceText, is_below, pairs_behind, place_at,
 use Rattle.hm_base.proofs.Bytes.{second_true}
 use Rattle.hm_base.proofs.Places.{placed_at, source_from-length}
 
--- a pair in front of n counts for each index from n on
+-- a pair before n counts for each index from n on
 below : (n i j : ℕ) → j < n → is_below (n + i) j ≡ true
 below n i j l = grind (arith, nat_tests)
 
--- a pair behind n counts where its index from n on is below i
+-- a pair after n counts where its index from n on is below i
 behind : (n i j : ℕ) → n ≤ j → is_below (n + i) j ≡ is_below i (j - n)
 behind n i j l = ⊎_elim
     (λ (h : j < n + i). let a : nat_lt j (n + i) ≡ true = grind (arith, nat_tests) in let b : nat_lt (j - n) i ≡ true = grind (arith, nat_tests) in a ∙ sym b)
@@ -62,7 +62,7 @@ length_behind n (j ∷ pairs) = ⊎_elim
     (λ (h : n ≤ j). omega (arith, length_behind n pairs, not_counted n j pairs (not_below n j h), ap length (moved n j pairs h)))
     (cases_lt j n)
 
--- the place where the text behind its first n bytes starts
+-- the place where the text after its first n bytes starts
 abbrev pub start_behind : ℕ → ℕ → List ℕ → ℕ
 start_behind start n pairs = start + n + count_by (is_below n) pairs
 
@@ -83,7 +83,7 @@ drop_placed start (suc n) i pairs (c ∷ t) =
     let next : n + (i + 1) ≡ suc n + i = omega arith in
     drop_placed start n (i + 1) pairs t ∙ ap (λ k. placed_from start pairs k (drop n t)) next
 
--- the bytes behind the first n keep their places
+-- the bytes after the first n keep their places
 pub source_behind : (start n : ℕ) (pairs text : List ℕ) → (source_from (start_behind start n pairs) (pairs_behind n pairs) (drop n text)).placed ≡ drop n (source_from start pairs text).placed
 unfolding source_from
 source_behind start n pairs text =

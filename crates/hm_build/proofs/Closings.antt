@@ -32,7 +32,7 @@ skipped t place (suc k) at st (c ∷ s) h =
     let more : closed_from t place k (at + 1) st s ≡ closed_from t place 0 (at + 1 + k) st (drop k s) = skipped t place k (at + 1) st s (omega arith) in
     more ∙ ap (λ i. closed_from t place 0 i st (drop k s)) (omega arith)
 
--- it is closed by a token, which ends at `to`, or behind it
+-- it is closed by a token, which ends at `to`, or after it
 pub goes_on : (t : List Entry) (place : ℕ → ℕ) (at n to : ℕ) (st : Construction) (token : Seen) (s : List ℕ) → at < to → to ≤ at + length s
     → first t (mode_of st.path) s ≡ behind_bytes n (taken token (drop (to - at) s))
     → closed_from t place 0 at st s ≡ closed_step place (at + n) (step st token) (λ next. closed_from t place 0 to next (drop (to - at) s))
@@ -71,7 +71,7 @@ stays_open r b m e f = ends_here r.names (place_of r.source) r.at b.state (drop 
 further : (i j : ℕ) (s : List ℕ) → i ≤ j → drop j s ≡ drop (j - i) (drop i s)
 further i j s h = ap (λ x. drop x s) (omega arith) ∙ sym (drop-drop (j - i) i s)
 
--- body is closed by the next token, or behind it
+-- body is closed by the next token, or after it
 pub closed_by_next : (r : Reading) (b : Building) (token : Spanned) (passed : ℕ) → r.at ≤ length (text_of r) → token.from ≡ r.at + passed → token.from < token.to → token.to ≤ length (text_of r)
     → first r.names (mode_of b.state.path) (drop r.at (text_of r)) ≡ behind_bytes passed (taken (seen (text_of r) token.token) (drop token.to (text_of r)))
     → closed_left r b ≡ closed_step (place_of r.source) token.from (step b.state (seen (text_of r) token.token)) (λ next. closed_from r.names (place_of r.source) 0 token.to next (drop token.to (text_of r)))

@@ -77,7 +77,7 @@ pub record IsFurther (old new : Reading) : Type 0 where
 abbrev pub closed_left : Reading → Building → Option ℕ
 closed_left r b = closed_from r.names (place_of r.source) 0 r.at b.state (drop r.at (text_of r))
 
--- the place of a token behind which body is closed
+-- the place of a token after which body is closed
 abbrev pub closed_here : Building → Source → ℕ → Option ℕ
 closed_here after page from = if is_behind_body after.state.insertion_mode then Some (place_of page from) else None
 
@@ -86,7 +86,7 @@ abbrev pub first_of : Option ℕ → Option ℕ → Option ℕ
 first_of (Some at) later = Some at
 first_of None later = later
 
--- The token that begins at byte `from` of the text closes body, or body is closed in what is left behind it, if at all.
+-- The token that begins at byte `from` of the text closes body, or body is closed in what is left after it, if at all.
 pub record ClosesAt (old : Reading) (b : Building) (from : ℕ) (new : Reading) (after : Building) : Type 0 where
   pub inside : from ≤ length old.source.placed
   pub is : closed_left old b ≡ first_of (closed_here after old.source from) (closed_left new after)

@@ -146,7 +146,7 @@ pub(crate) fn parse_rest(
 }
 
 /// The tree of a page as `parse` gives it, and where the page closes its body: the byte of the page where the first token
-/// stands behind which only whitespace, comments and `</html>` may come (#parsing-main-afterbody). None closes it in a page
+/// stands after which only whitespace, comments and `</html>` may come (#parsing-main-afterbody). None closes it in a page
 /// that leaves `</body>` and `</html>` out.
 pub fn parse_closed(
     alloc: Global,

@@ -13,7 +13,7 @@ use Rattle.hm_tree.specs.Tokens as tokens
 use Rattle.hm_construction_laws.specs.Closing.{is_behind_body}
 use Rattle.hm_construction_laws.specs.Steps.{InsertionMode, initial, before_html, before_head, in_head, after_head, in_body, after_body, after_html, Construction, Stepped, went, stops, behind_events, behind_bytes as behind_refusal, then_step, at_front, no_drop, step_byte, step_bytes, step, keep_byte, space_byte, is_in_noscript, reach_body, body_byte, moved, under_html, under_head, under_body, make_head, close_head, make_body, closes_at_once, entered, drops_behind, end_event, starts, after_moves, start_in_body, opened, open_html, open_head, open_body_here, open_body, start_after_head, start_in_noscript, start_in_head, start_inside, is_outside, outside_rule, step_start, step_comment, step_doctype}
 
--- the step doesn't lead behind body
+-- the step doesn't lead after body
 abbrev pub StaysOpen : Stepped → Type 0
 StaysOpen (went es st) = is_behind_body st.insertion_mode ≡ false
 StaysOpen (stops rule n) = Unit {0}

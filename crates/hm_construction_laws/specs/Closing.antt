@@ -1,4 +1,4 @@
--- Where a page closes its body: the first token behind which only whitespace, comments and `</html>` may stand.
+-- Where a page closes its body: the first token after which only whitespace, comments and `</html>` may stand.
 use Rattle.std.specs.Prelude.{ℕ, zero, suc, pred, ◌+◌, ◌-◌, Bool, true, false, List, [], ◌∷◌, length, map, Option, Some, None, if◌then◌else◌}
 use Rattle.hm_base.specs.Source.{Source, byte_of, place_in, source_of}
 use Rattle.hm_refs.specs.Names.{Entry}
@@ -7,7 +7,7 @@ use Rattle.hm_token_laws.specs.First.{Next, at_end, behind_bytes, first}
 use Rattle.hm_construction_laws.specs.Steps.{InsertionMode, after_body, after_html, Construction, Stepped, went, stops, step, first_state}
 use Rattle.hm_construction_laws.specs.Trees.{mode_of}
 
--- behind the end tag of body or of html
+-- after the end tag of body or of html
 abbrev pub is_behind_body : InsertionMode → Bool
 is_behind_body after_body = true
 is_behind_body after_html = true

@@ -1,4 +1,4 @@
--- Behind the end of body: an end tag of body is refused there, and what is read stays there.
+-- After the end of body: an end tag of body is refused there, and what is read stays there.
 use Rattle.std.proofs.Common.{arith, ◌≡◌, ℕ, inl, inr, Bool, true, false, cond, ◌&&◌, ◌==◌, List, [], ◌∷◌, refl, ap, subst, encode_utf8_all, bytes_eq}
 use Rattle.std.proofs.lemmas.Bool.{and_parts, and_from}
 use Rattle.hm_base.specs.Bytes.{is_space}
@@ -16,7 +16,7 @@ use Rattle.hm_construction_laws.specs.Trees.{mode_of}
 use Rattle.hm_construction_laws.proofs.Standing.{AtEnd}
 use Rattle.hm_construction_laws.specs.Closing.{is_behind_body}
 
--- a state behind body
+-- a state after body
 pub record IsBehind (st : Construction) : Type 0 where
   pub behind : is_behind_body st.insertion_mode ≡ true
   pub outside : is_in_text st.path ≡ false
@@ -27,7 +27,7 @@ unfolding holds_text is_raw raw_names is_rcdata rcdata_names is_among
 at_end_is_behind st b (inl e) = record { behind = b; outside = ap is_in_text e; reads = ap mode_of e }
 at_end_is_behind st b (inr e) = record { behind = b; outside = ap is_in_text e; reads = ap mode_of e }
 
--- what a step leads to stays behind body, and is whitespace where it is text
+-- what a step leads to stays after body, and is whitespace where it is text
 abbrev pub Stays : Stepped → Type 0
 Stays (went es st) = IsBehind st
 Stays (stops rule n) = Unit {0}
@@ -99,7 +99,7 @@ bytes_stay (c ∷ s) st b = then_stays c s (step_byte c st) (step_bytes s) (byte
 
 -- ---- A token
 
--- where it goes on it stays behind body, and a text is whitespace
+-- where it goes on it stays after body, and a text is whitespace
 pub record Goes (k : Seen) (next : Construction) : Type 0 where
   pub behind : IsBehind next
   pub blank : (s : List ℕ) → k ≡ tokens.slice s → is_blank s ≡ true

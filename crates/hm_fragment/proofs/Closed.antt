@@ -31,7 +31,7 @@ use Rattle.hm_fragment.specs.Laws.{body_end, ClosedPagesTakeNoEndTag}
 use Rattle.hm_fragment.proofs.Behind.{IsBehind, at_end_is_behind, GoesBy, token_goes, body_end_stops}
 use Rattle.hm_fragment.proofs.Longer.{GoesOn, tags_longer, first_longer}
 
--- ---- The end tag behind a text
+-- ---- The end tag after a text
 
 end_is_next : (t : List Entry) → IsNextMarkup t ordinary body_end (tokens.end_tag body) []
 unfolding lower is_tag_name is_letter forms.is_small forms.is_tag_byte
@@ -64,9 +64,9 @@ after_built es (refused_by rule at) w h = cc
 same_skip : (c : ℕ) (s rest : List ℕ) → pred (length (c ∷ (s ++ body_end)) - length (rest ++ body_end)) ≡ pred (length (c ∷ s) - length rest)
 same_skip c s rest = let a = length-append s body_end in let b = length-append rest body_end in omega (arith, a, b)
 
--- ---- Behind body
+-- ---- After body
 
--- what is read of a text behind body isn't read with one more end tag of body
+-- what is read of a text after body isn't read with one more end tag of body
 abbrev StillBehind : List Entry → (ℕ → ℕ) → List ℕ → Type 0
 StillBehind t place s = (skip at : ℕ) (st : Construction) (v w : List Event) → skip ≤ length s → IsBehind st → tree_from t place skip at st s ≡ built v → tree_from t place skip at st (s ++ body_end) ≡ built w → ⊥
 
@@ -106,7 +106,7 @@ module _ (t : List Entry) (table : IsTable t) (place : ℕ → ℕ) where
   still_behind (c ∷ s) (suc skip) at st v w few b h k = still_behind s skip (at + 1) st v w (omega (arith, few)) b h k
   still_behind (c ∷ s) zero at st v w few b h k = behind_token at st c s v w (still_behind s) b (first t ordinary (c ∷ s)) refl (rw (b.reads) at h) (rw (b.reads) at k)
 
--- so a token behind which body is closed is no text
+-- so a token after which body is closed is no text
 closes_no_text : (st next : Construction) (es : List Event) (k : Seen) → is_behind_body st.insertion_mode ≡ false → step st k ≡ went es next → is_behind_body next.insertion_mode ≡ true → (x : List ℕ) → k ≡ tokens.slice x → ⊥
 unfolding step
 closes_no_text st next es k h e b x is =

@@ -230,7 +230,7 @@ module _ (t : List Entry) (place : ℕ → ℕ) where
 
 -- ---- The front
 
--- the text behind the front
+-- the text after the front
 record TextBehind (f : List ℕ) : Type 0 where
   rest : List ℕ
   is : map byte_of (placed_text (framed f)) ≡ front ++ rest

@@ -1,4 +1,4 @@
--- A token of a text is the same in front of an end tag of body, also where it doesn't end by itself.
+-- A token of a text is the same before an end tag of body, also where it doesn't end by itself.
 use Rattle.std.proofs.Common.{◌≡◌, ℕ, ◌⊎◌, inl, inr, Bool, true, false, cond, ◌&&◌, ◌||◌, ◌==◌, List, [], ◌∷◌, ◌++◌, length, drop, Option, Some, None, refl, sym, ap, ap₂, ◌∙◌, subst, append_assoc, append-nil, is_some, arith}
 use Rattle.std.proofs.lemmas.Bool.{and_parts, both_ways, eqb-true}
 use Rattle.std.proofs.lemmas.List.{drop_at}
@@ -52,7 +52,7 @@ reference_longer t k c r = by_test (c == 38) refl
     by_test true e = let same : c ≡ 38 = eqb-true c 38 e in rw same (references_are_decided t false r 60 (47 ∷ 98 ∷ 111 ∷ 100 ∷ 121 ∷ 62 ∷ []) k refl)
     by_test false e = refl
 
--- behind this byte something is left, or it can't be a '/' that is the last one
+-- after this byte something is left, or it can't be a '/' that is the last one
 abbrev is_last_slash : List ℕ → Bool
 is_last_slash [] = false
 is_last_slash (d ∷ []) = d == 47
@@ -78,7 +78,7 @@ ends_more t k c r h = by (begins_markup (c ∷ r)) refl h
         or_true true = refl
         or_true false = refl
 
--- what is behind the plain front of a text
+-- what is after the plain front of a text
 abbrev behind_front : List Entry → List ℕ → List ℕ
 behind_front t u = drop (length (plain_front t false u)) u
 
@@ -95,7 +95,7 @@ no_last_slash t (d ∷ []) h = by_test (d == 47) refl
     by_test false e = refl
 no_last_slash t (d ∷ e ∷ r) h = refl
 
--- a plain text with something behind it ends there also in a longer text
+-- a plain text with something after it ends there also in a longer text
 front_longer : (t : List Entry) → IsTable t → (u : List ℕ) → is_null (behind_front t u) ≡ false → plain_front t false (u ++ body_end) ≡ plain_front t false u
 front_longer t k [] h = absurd (cc)
 front_longer t k (c ∷ r) h = by (ends_plain t false c r) refl h (front_longer t k r)
@@ -124,7 +124,7 @@ unfolding begins_markup is_letter
 blank_longer t [] h = refl
 blank_longer t (c ∷ u) h = let two = and_parts (is_space c) (is_blank u) h in rw (space_plain t c (u ++ body_end) two.0) (ap (λ x. c ∷ x) (blank_longer t u two.1))
 
--- what may stand at the end of a text: a slice only where something is behind it or where it is whitespace
+-- what may stand at the end of a text: a slice only where something is after it or where it is whitespace
 abbrev pub GoesOn : Seen → List ℕ → Type 0
 GoesOn k rest = (x : List ℕ) → k ≡ slice x → (is_null rest ≡ false) ⊎ (is_blank x ≡ true)
 
@@ -186,7 +186,7 @@ same_token y n k rest a b e h = by a b e h
         let rest_is : left ≡ rest = cc in
         is ∙ ap₂ behind_bytes number (extends ∙ ap₂ taken token_is (ap (λ x. x ++ y) rest_is))
 
--- a text that ends with `</` has nothing behind it
+-- a text that ends with `</` has nothing after it
 open_end : (t : List Entry) (k : Seen) (rest : List ℕ) → GoesOn k rest → read_text t false (60 ∷ 47 ∷ []) ≡ taken k rest → ⊥
 unfolding read_text begins_markup reference_in is_letter is_space
 open_end t k rest on h =

@@ -1,4 +1,4 @@
--- The shortest text of a tree of a fragment: it begins with the front, and one more end tag of body can be written behind it.
+-- The shortest text of a tree of a fragment: it begins with the front, and one more end tag of body can be written after it.
 use Rattle.std.proofs.Common.{◌≡◌, ℕ, ◌≤◌, inl, inr, Bool, true, false, cond, List, [], ◌∷◌, ◌++◌, length, map, Option, Some, None, refl, sym, ap, ◌∙◌, subst, arith, append-nil, length-append, codes}
 use Rattle.std.proofs.lemmas.Bool.{both_ways}
 use Rattle.hm_graph_laws.specs.AttributeEdges.{gap_at, closed_at}
@@ -84,7 +84,7 @@ closed_open behind_unquoted e i = elim i [ ]
 closed_open behind_quoted e i = elim i [ ]
 closed_open in_section e i = elim i [ ]
 
--- the state isn't one behind a tag that has closed itself
+-- the state isn't one after a tag that has closed itself
 edge_open : (g : Spelling) (u : Unit) (s : State) (e : Edge) → (is_self_closed s.at ≡ true → begins_end_tag (u ∷ []) ≡ true) → closes_unit u ≡ false → IsIn e (edges_of g u s) → Open e
 edge_open g (fixed b) s e k h i = one_open _ e refl i
 edge_open g (start_tag n omits firm closes) s e k h i = by (start_edge_is n omits firm closes s e i)
@@ -160,7 +160,7 @@ way_open g (u ∷ us) s m b f k (e, i, (rest, is, w)) = way_open g us e.to m res
         by true c = f.0 c
         by false c = absurd (both_ways (is_self_closed e.to.at) (edge_open g u s e (λ j. sym (first_end u us) ∙ k j) c i) h)
 
--- ---- The end tag of body behind a way
+-- ---- The end tag of body after a way
 
 -- a way that leaves the last two end tags out has one with an end tag of body in its place
 pub record EndWritten (g : Spelling) (us : List Unit) (b : List ℕ) : Type 0 where

@@ -3,14 +3,14 @@ use Rattle.std.specs.Prelude.{◌≡◌, ℕ, false, List, [], ◌∷◌, ◌++�
 use Rattle.hm_base.specs.Walks.{Event, doctype, start, end}
 use Rattle.hm_elements.specs.Names.{html, head, body}
 
--- what stands in front of a fragment
+-- what stands before a fragment
 abbrev pub front : List ℕ
 front = codes "<!doctype html><body>"
 
 abbrev pub framed : List ℕ → List ℕ
 framed fragment = front ++ fragment
 
--- what stands behind the front of a text that has it
+-- what stands after the front of a text that has it
 abbrev pub unframed : List ℕ → List ℕ
 unframed page = drop (length front) page
 
@@ -18,11 +18,11 @@ unframed page = drop (length front) page
 abbrev pub frame_start : List Event
 frame_start = doctype false ∷ start html false [] ∷ start head false [] ∷ end head false ∷ start body false [] ∷ []
 
--- the events behind the content of body
+-- the events after the content of body
 abbrev pub frame_end : List Event
 frame_end = end body false ∷ end html false ∷ []
 
--- nothing stands in head, and nothing but body and what is in it behind head
+-- nothing stands in head, and nothing but body and what is in it after head
 pub record IsFramed (w : List Event) : Type 0 where
   pub inside : List Event
   pub is : w ≡ frame_start ++ (inside ++ frame_end)

@@ -24,7 +24,7 @@ use Rattle.hm_fragment.specs.Frames.{front, framed, unframed, IsFramed}
 abbrev pub body_end : List ℕ
 body_end = 60 ∷ 47 ∷ 98 ∷ 111 ∷ 100 ∷ 121 ∷ 62 ∷ []
 
--- A text that is read as a tree and closes its body isn't read as any tree with one more end tag of body behind it.
+-- A text that is read as a tree and closes its body isn't read as any tree with one more end tag of body after it.
 abbrev pub ClosedPagesTakeNoEndTag : Type 0
 ClosedPagesTakeNoEndTag = (t : List Entry) → IsTable t → (place : ℕ → ℕ) (s : List ℕ) (at p : ℕ) (v w : List Event) → IsPlain s
     → closed_from t place 0 at first_state s ≡ Some p → tree_from t place 0 at first_state s ≡ built v → tree_from t place 0 at first_state (s ++ body_end) ≡ built w → ⊥
@@ -60,7 +60,7 @@ pub record IsInBody (w : List Event) : Type 0 where
 abbrev pub FragmentsAreInBody : Type 0
 FragmentsAreInBody = (t : List Entry) → IsTable t → (fragment : List ℕ) (w : List Event) → fragment_tree t fragment ≡ built w → IsInBody w
 
--- The text begins with the front, and what stands behind it is a fragment with this tree.
+-- The text begins with the front, and what stands after it is a fragment with this tree.
 pub record IsReadBack (t : List Entry) (w : List Event) (b : List ℕ) : Type 0 where
   pub framed_is : framed (unframed b) ≡ b
   pub reads : fragment_tree t (unframed b) ≡ built w

@@ -1,7 +1,7 @@
 //! Laws over the definitions. The functions do nothing.
 ghost use Rattle.hm_fragment.specs.Laws.{BoundsAreOfFragments, ClosedPagesTakeNoEndTag, FragmentsAreInBody, FragmentsStayOpen, OpenPagesAreFragments, OpenPagesAreFramed, RewrittenIsReadBack, RewrittenStaysFramed, ShortestIsReadBack};
 
-/// Behind a page that closes its body no further end tag of body is read.
+/// After a page that closes its body no further end tag of body is read.
 pub fn closed_pages_take_no_end_tag()
     ensures { ClosedPagesTakeNoEndTag }
 {}
@@ -11,7 +11,7 @@ pub fn fragments_stay_open()
     ensures { FragmentsStayOpen }
 {}
 
-/// A page that begins with the front and closes its body nowhere has the tree of the fragment behind it, which stands in
+/// A page that begins with the front and closes its body nowhere has the tree of the fragment after it, which stands in
 /// body.
 pub fn open_pages_are_framed()
     ensures framed { OpenPagesAreFramed }
@@ -28,7 +28,7 @@ pub fn fragments_are_in_body()
     ensures { FragmentsAreInBody }
 {}
 
-/// Behind the front, the shortest text of a tree that stands in body is a fragment with that tree. So is that of the tree
+/// After the front, the shortest text of a tree that stands in body is a fragment with that tree. So is that of the tree
 /// of any fragment, rewritten by any options.
 pub fn shortest_is_read_back()
     ensures trees { ShortestIsReadBack }

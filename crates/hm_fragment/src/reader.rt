@@ -15,17 +15,17 @@ use hm_refs::laws::every_table;
 use hm_tree::Tree;
 use std::alloc::Global;
 
-/// What stands in front of a fragment, so that the two are a page.
+/// What stands before a fragment, so that the two are a page.
 const FRONT: &str = "<!doctype html><body>";
 
-/// The bytes of `<!doctype html><body>`, which stand in front of a fragment where it is read.
+/// The bytes of `<!doctype html><body>`, which stand before a fragment where it is read.
 pub fn front() -> &'static [u8]
     ensures { result.now ≡ frames.front }
 {
     FRONT.as_bytes()
 }
 
-/// The refusal of a fragment whose page is refused so. Places of the page are behind the front.
+/// The refusal of a fragment whose page is refused so. Places of the page are after the front.
 fn refusal(refused: Refused) -> Refused
     ensures { result ≡ refusal_of refused }
 {

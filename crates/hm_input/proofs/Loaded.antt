@@ -254,7 +254,7 @@ is_loaded told name limit bytes taken within there = by_content (file_of told na
     by_content None is h = record { content = bytes; there = λ some. none_found (file_of told name) bytes (subst IsSome is (there some)); front = sym (take_all (limit + 1) bytes within) }
     by_content (Some content) is h = record { content = content; there = λ some. is; front = h }
 
--- ---- a fragment behind its front
+-- ---- a fragment after its front
 
 dropped_length : (n m : ℕ) (s : List ℕ) → length s ≤ n + m → length (drop n s) ≤ m
 dropped_length zero m s h = omega (arith, h)
@@ -264,7 +264,7 @@ dropped_length (suc n) m (c ∷ s) h = dropped_length n m s (omega (arith, h))
 pub page_length : (page : List ℕ) → StartsWith page front → length page ≡ 21 + length (unframed page)
 page_length page h = ap length (sym (with_front page h)) ∙ length-append front (unframed page)
 
--- what is loaded behind the front is that of the file
+-- what is loaded after the front is that of the file
 pub framed_loaded : (told : Option FileMap) (name : List ℕ) (limit : ℕ) (page : List ℕ) → Takes (file_of told name) (limit + 1) (unframed page) → length page ≤ length front + (limit + 1) → (IsSome told → IsSome (file_of told name)) → IsLoaded told name limit (unframed page)
 framed_loaded told name limit page taken within there = is_loaded told name limit (unframed page) taken (dropped_length (length front) (limit + 1) page within) there
 

@@ -90,7 +90,7 @@ pub fn make_text(alloc: Global, number: u32, size: u32) -> Result<(SourceText, u
     text_of(alloc, page.into_bytes())
 }
 
-/// The tree of a fragment behind its front, or why it is refused.
+/// The tree of a fragment after its front, or why it is refused.
 fn fragment_tree_of(alloc: Global, page: Vec<u8>, table: &Table) -> Result<Tree, Unread>
     requires front { StartsWith page.items frames.front }
     requires short { length page.items ≤ OUTPUT_LIMIT }

@@ -69,7 +69,7 @@ before_cut n q l = rw (gt (length q) n l) refl
     gt : (a b : ℕ) → b < a → nat_le a b ≡ false
     gt a b h = grind arith
 
--- ---- behind the place
+-- ---- after the place
 
 abbrev goes_on : ℕ → List ℕ → Bool
 goes_on i s = head_is (λ c. not (is_char_start c)) (drop i s)

@@ -2,7 +2,7 @@
 use Rattle.std.specs.Prelude.{ℕ, zero, suc, ◌+◌, Bool, not, ◌&&◌, ◌||◌, ◌==◌, List, [], ◌∷◌, ◌++◌, if◌then◌else◌}
 use Rattle.std.specs.Fmt.{char_count}
 
--- c, with s behind it, ends a line: a CR before an LF doesn't, since the LF does
+-- c, with s after it, ends a line: a CR before an LF doesn't, since the LF does
 abbrev pub ends_line : ℕ → List ℕ → Bool
 ends_line c [] = c == 10 || c == 13
 ends_line c (d ∷ s) = c == 10 || (c == 13 && not (d == 10))

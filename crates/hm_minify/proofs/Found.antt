@@ -74,7 +74,7 @@ text_front t r w out c = by_length (nat_lt OUTPUT_LIMIT (length out)) refl
     by_length true e = long_found t r w (take (OUTPUT_LIMIT + 1) out) c (front_long OUTPUT_LIMIT out e) ∙ sym (long_found t r w out c e)
     by_length false e = ap (λ x. verdict t r w x c) (front_whole OUTPUT_LIMIT out e)
 
--- ---- a fragment behind its front
+-- ---- a fragment after its front
 
 front_bytes : length front ≡ 21
 front_bytes = refl

@@ -103,7 +103,7 @@ abbrev pub format_of : Bool → Format
 format_of false = Two
 format_of true = Three
 
--- what of a text is written: all of it, or what stands behind the front of a fragment
+-- what of a text is written: all of it, or what stands after the front of a fragment
 abbrev pub written_part : Bool → List ℕ → List ℕ
 written_part false text = text
 written_part true text = unframed text
@@ -134,7 +134,7 @@ fragment_limit = OUTPUT_LIMIT - length front
 unfoldable pub out_fragment : List Entry → List ℕ → Outcome
 out_fragment t out = if nat_lt fragment_limit (length out) then refused_by rules.TooLong fragment_limit else fragment_tree t out
 
--- what a check finds of a fragment behind its front is said in bytes of the fragment, where that is one
+-- what a check finds of a fragment after its front is said in bytes of the fragment, where that is one
 abbrev pub fragment_ending : Verdict → Outcome → Ending
 fragment_ending found (refused_by rule at) = says status.No (why_line (OutRefused rule at))
 fragment_ending (Yes n) (built v) = says status.Done (yes_line (n - length front))

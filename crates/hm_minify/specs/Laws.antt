@@ -62,7 +62,7 @@ MinifiedIsChecked = (words : List (List ℕ)) (origin : Origin) (out cert : List
     → Settled w → IsReadableTree (minifies out cert) x t w → length (shortest_text t x.rules w) ≤ OUTPUT_LIMIT → length (certificate_of t x.rules (format_of x.sparse) w) ≤ CERTIFICATE_LIMIT
     → asked_ending (asks origin (checks out cert) options x) (with_writes seen (minified_ending x out cert t w).writes) ≡ says status.Done (yes_line (length (shortest_text t x.rules w)))
 
--- So does the same of a fragment, with the length of what stands behind the front of the text.
+-- So does the same of a fragment, with the length of what stands after the front of the text.
 abbrev pub FragmentIsChecked : Type 0
 FragmentIsChecked = (words : List (List ℕ)) (origin : Origin) (out cert : List ℕ) (options : TreeOptions) (x : Writing) → is_fragment origin ≡ true → asked words ≡ Some (asks origin (minifies out cert) options x)
     → (seen : Contents) (bytes : ℕ) (t : List Entry) (w : List Event) → input_of (asks origin (minifies out cert) options x) seen ≡ tree_input bytes t w → Settled w

@@ -84,8 +84,8 @@ pub record HasMinified (request : Asked) (out_name cert_name : List ℕ) (before
   pub files : after.files ≡ after_writes before.files (write out_name out ∷ write cert_name cert ∷ [])
   pub line : Prints (length_line (length out)) before after
 
--- The files give a table and the tree of a fragment. OUT behind the front of fragments is that tree shortest, which CERT certifies; OUT
--- itself is a fragment with that tree, and the line says its length. With the flag for the order, OUT behind its front is as short as
+-- The files give a table and the tree of a fragment. OUT after the front of fragments is that tree shortest, which CERT certifies; OUT
+-- itself is a fragment with that tree, and the line says its length. With the flag for the order, OUT after its front is as short as
 -- any spelling with the attributes in any order.
 pub record HasMinifiedFragment (request : Asked) (out_name cert_name : List ℕ) (before after : Outside) : Type 0 where
   pub seen : Contents
@@ -104,7 +104,7 @@ pub record HasMinifiedFragment (request : Asked) (out_name cert_name : List ℕ)
   pub line : Prints (length_line (length out)) before after
 
 -- The files give a table, the tree of a fragment, and a fragment with that tree; no fragment that spells it is shorter, and the line
--- says the length. With the flag for the order, the fragment behind its front is as short as any spelling with the attributes in any
+-- says the length. With the flag for the order, the fragment after its front is as short as any spelling with the attributes in any
 -- order.
 pub record HasCheckedFragment (request : Asked) (out_name : List ℕ) (before after : Outside) : Type 0 where
   pub seen : Contents

@@ -152,7 +152,7 @@ fn say_no_fragment<'w>(alloc: Global, refused: Refused) -> Result<Ended<'w>, Sto
     }
 }
 
-/// What was found of a fragment behind its front is said in bytes of the fragment, where it is one.
+/// What was found of a fragment after its front is said in bytes of the fragment, where it is one.
 fn say_fragment<'w>(
     alloc: Global,
     found: Verdict,
@@ -180,7 +180,7 @@ fn say_fragment<'w>(
     }
 }
 
-/// What is found of a fragment behind its front and of a certificate is said. That the rules differ is said first.
+/// What is found of a fragment after its front and of a certificate is said. That the rules differ is said first.
 fn find_fragment<'w>(
     alloc: Global,
     input: &Input,
@@ -209,7 +209,7 @@ fn find_fragment<'w>(
     }
 }
 
-/// A fragment behind its front and the bytes of a certificate are checked.
+/// A fragment after its front and the bytes of a certificate are checked.
 fn check_fragment_bytes<'w>(
     alloc: Global,
     input: &Input,
@@ -233,7 +233,7 @@ fn check_fragment_bytes<'w>(
     }
 }
 
-/// Loads a fragment behind its front and then a certificate, and checks them.
+/// Loads a fragment after its front and then a certificate, and checks them.
 fn check_fragment<'w, S: Store>(
     alloc: Global,
     store: &mut S,

@@ -37,7 +37,7 @@ pub fn format_of(sparse: bool) -> Format
     if sparse { Format::Three } else { Format::Two }
 }
 
-/// Where what is written of a text begins, in bytes: behind the front of a fragment, or at its first byte.
+/// Where what is written of a text begins, in bytes: after the front of a fragment, or at its first byte.
 fn begin_of(frame: bool, text: &[u8]) -> usize
     ensures inside { result ≤ length text.now }
     ensures part { drop result text.now ≡ spec.written_part frame text.now }

@@ -61,7 +61,7 @@ told_is n m h = by (n == 18446744073709551615) h
     by true h = cc
     by false h = cc
 
--- the end tag behind a tag that stands alone, which an element of HTML doesn't have
+-- the end tag after a tag that stands alone, which an element of HTML doesn't have
 abbrev behind_alone : SpellRules → Bool → List Unit
 behind_alone r false = []
 behind_alone r true = end_tag (element_alone true) (may_omit_end r (element_alone true) true [] []) (is_loose_end (element_alone true)) ∷ []

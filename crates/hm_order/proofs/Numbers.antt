@@ -36,7 +36,7 @@ of_plus : (p q : Option ℕ) → IsNumber (plus p q) → IsNumber p × IsNumber 
 of_plus None q (n, e) = cc
 of_plus (Some a) q h = ((a, refl), of_over a q h)
 
--- the units of a tag and all behind it
+-- the units of a tag and all after it
 pub tag_is : (n : List ℕ) (a : Attribute) (attributes : List Attribute) (closes : Bool) (rest : List Unit) → (tag_name n ∷ (attribute_units (a ∷ attributes) ++ tag_close closes ∷ [])) ++ rest ≡ tag_name n ∷ (attribute_units (a ∷ attributes) ++ tag_close closes ∷ rest)
 tag_is n a attributes closes rest = ap (λ us. tag_name n ∷ us) (append_assoc (attribute_units (a ∷ attributes)) (tag_close closes ∷ []) rest)
 

@@ -40,7 +40,7 @@ module _ (costs : List AttrCost) (k best : ℕ) (h : IsBestFrom costs (k + 1) be
   abbrev n : ℕ → ℕ
   n j = (cost_at costs j).inner
 
-  -- the place in front of them is at least as good
+  -- the place before them is at least as good
   pub takes_place : k < length costs → nat_le (l k + n best) (l best + n k) ≡ true → IsBestFrom costs k k
   takes_place inside test =
       let better = at_most_by (l k + n best) (l best + n k) test in
@@ -114,7 +114,7 @@ better_by : (g : Spelling) (closes : Bool) (a b : Attribute) (c d : AttrCost) �
     → is_better_last g closes a b ≡ nat_le (c.last + d.inner) (d.last + c.inner)
 better_by g closes a b c d h k = (λ j. is_at_most (plus (h.1 j) (k.0 j)) (plus (k.1 j) (h.0 j)))
 
--- the first best place of a list behind one more
+-- the first best place of a list after one more
 first_best_behind : (c : AttrCost) (costs : List AttrCost) (i : ℕ) → IsFirstBest (c ∷ costs) (suc i) → IsFirstBest costs i
 first_best_behind c costs i h = record {
   inside = let k = h.inside in omega (arith, k);

@@ -58,7 +58,7 @@ abbrev pub LeadsTo : Edges → List Unit → State → State → Type 0
 LeadsTo es [] s t = s ≡ t
 LeadsTo es (unit ∷ units) s t = (e : Edge) → IsIn e (es unit s) → LeadsTo es units e.to t
 
--- Then the least price is what these units take, and what is behind them.
+-- Then the least price is what these units take, and what is after them.
 pub least_cut : (es : Edges) (units rest : List Unit) (s t : State) → LeadsTo es units s t → least es (units ++ rest) s ≡ plus (least es units s) (least es rest t)
 least_cut es [] rest s t h = ap (least es rest) h ∙ zero_over (least es rest t)
   where

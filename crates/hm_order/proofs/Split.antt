@@ -23,7 +23,7 @@ shorter : (a b : ℕ) (m : Option ℕ) → b ≤ a → lesser (over a m) (over b
 shorter a b None h = refl
 shorter a b (Some m) h = ap Some (omega (arith, h))
 
--- with the end tag behind it, a tag is best closed by itself
+-- with the end tag after it, a tag is best closed by itself
 by_itself : (a b : ℕ) (m : Option ℕ) (n : List ℕ) → b ≤ 3 → lesser (over 1 (lesser (over (length (end_bytes n)) m) None)) (lesser (over b (lesser (over 0 m) None)) None) ≡ over b (lesser (over 0 m) None)
 by_itself a b m n h =
     let r : Option ℕ = lesser (over 0 m) None in

@@ -1,4 +1,4 @@
--- What an attribute takes, behind a place in a tag and in front of what follows.
+-- What an attribute takes, after a place in a tag and before what follows.
 use Rattle.std.proofs.Common.{◌≡◌, ◌+◌, ℕ, Bool, true, false, cond, List, [], ◌∷◌, ◌++◌, length, map, Option, Some, None, refl, sym, ap, ap₂, subst, ◌∙◌, arith, length-append, append-nil, codes, chars}
 use Rattle.hm_refs.specs.Tables.{IsIn, first, later}
 use Rattle.hm_graph_laws.specs.Edges.{Edge, edge}
@@ -83,7 +83,7 @@ pub data InTag : Where → Type 0 where
   unquoted : InTag behind_unquoted
   quoted : InTag behind_quoted
 
--- what is behind costs so much, by the place where the attribute leaves the tag
+-- what is after costs so much, by the place where the attribute leaves the tag
 pub record Behind (g : Spelling) (rest : List Unit) (behind : Where → ℕ) (k : Option ℕ) : Type 0 where
   pub at : (at : Where) → InTag at → least (edges_of g) rest (state at nothing) ≡ over (behind at) k
 

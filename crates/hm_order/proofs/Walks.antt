@@ -265,7 +265,7 @@ module _ (g : Spelling) (plain : SparesOnlyPlain g) where
       start_is : (p : Previous) (n : List ℕ) (f c : Bool) (all : List Attribute) (u : List Event) → may_close_itself f u ≡ c → IsMore all → start_units g.rules p n f all u ≡ tag_name n ∷ (attribute_units all ++ tag_close c ∷ [])
       start_is p n f c all u e k = subst (λ zs. start_units g.rules p n f zs u ≡ tag_name n ∷ (attribute_units zs ++ tag_close c ∷ [])) (sym k.is) (ap (λ d. tag_name n ∷ (attribute_units (k.head ∷ k.rest) ++ tag_close d ∷ [])) e)
 
-  -- the same event in front of both
+  -- the same event before both
   abbrev pub NoMoreWalks : Previous → Previous → List Element → List Event → List Event → Type 0
   NoMoreWalks p q path w v = NoMoreUnits es (units_from g.rules p path w) (units_from g.rules q path v)
 

@@ -202,7 +202,7 @@ module _ (g : Spelling) (table : IsTable g.table) (at : Where) (b : List ℕ) (t
       by true = subst (λ es. AtLeast (0 + length b) (best (λ s. Some 0) es)) (sym closes.closed) one
       by false = tt
 
-  -- behind a name for two code points the second one is skipped
+  -- after a name for two code points the second one is skipped
   half_at_least : (d : ℕ) (cs : List ℕ) (left : Option (List ℕ)) → Fits g.table spot (behind_half left) → Whole cs → AtLeast (total W cs + length b) (from (d ∷ cs) (half left))
   half_at_least d cs left f more =
       subst (λ es. AtLeast (total W cs + length b) (best (least (edges_of g) (units cs)) es)) (sym (character_edges_are g at (half left) d (next_of cs) closes.out closes.plain))

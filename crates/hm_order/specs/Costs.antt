@@ -21,7 +21,7 @@ value_units value = character_units in_value (chars value) ++ attribute_end ∷ 
 abbrev pub value_cost : Spelling → Where → List ℕ → Option ℕ
 value_cost g at value = least (edges_of g) (value_units value) (state at nothing)
 
--- The fewest bytes of an attribute in any form, where so many bytes are counted behind it, by where it leaves the tag. The byte in
+-- The fewest bytes of an attribute in any form, where so many bytes are counted after it, by where it leaves the tag. The byte in
 -- front of it isn't counted.
 abbrev pub cost_of : Spelling → (Where → ℕ) → List ℕ → List ℕ → Option ℕ
 cost_of g behind name [] = Some (length name + behind behind_name)
@@ -30,7 +30,7 @@ cost_of g behind name (c ∷ s) =
     (lesser (over (length name + 2) (plus (value_cost g in_double (c ∷ s)) (Some (behind behind_quoted))))
     (over (length name + 2) (plus (value_cost g in_single (c ∷ s)) (Some (behind behind_quoted)))))
 
--- an attribute with another one behind it: the gap between them is counted
+-- an attribute with another one after it: the gap between them is counted
 abbrev pub inner_cost : Spelling → Attribute → Option ℕ
 inner_cost g a = cost_of g (λ at. length (gap_at g.rules.tight at)) a.name a.value
 

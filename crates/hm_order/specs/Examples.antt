@@ -25,7 +25,7 @@ usual tight = sparing_plain [] (rules tight)
 abbrev attribute : List ℕ → List ℕ → Attribute
 attribute n v = record { name = n; value = v }
 
--- `c=z` with a space behind it
+-- `c=z` with a space after it
 pub inner_of_letter : inner_cost (usual true) (attribute (codes "c") (codes "z")) ≡ Some 4
 unfolding as_itself may_stand is_writable is_barred is_space is_digit_of is_plain_byte allows best_number point_of chars digits encode
 inner_of_letter = refl
@@ -35,7 +35,7 @@ pub last_of_letter : last_cost (usual true) false (attribute (codes "c") (codes 
 unfolding as_itself may_stand is_writable is_barred is_space is_digit_of is_plain_byte allows best_number point_of chars digits encode
 last_of_letter = refl
 
--- `c=z` with a space in front of the '/' that closes the tag
+-- `c=z` with a space before the '/' that closes the tag
 pub last_before_slash : last_cost (usual true) true (attribute (codes "c") (codes "z")) ≡ Some 4
 unfolding as_itself may_stand is_writable is_barred is_space is_digit_of is_plain_byte allows best_number point_of chars digits encode
 last_before_slash = refl
@@ -50,7 +50,7 @@ pub inner_of_quoted_apart : inner_cost (usual false) (attribute (codes "b") (cod
 unfolding as_itself may_stand is_writable is_barred is_space is_digit_of is_plain_byte allows best_number point_of chars digits encode
 inner_of_quoted_apart = refl
 
--- `d`, which needs no space in front of a '/'
+-- `d`, which needs no space before a '/'
 pub last_of_bare : last_cost (usual true) true (attribute (codes "d") (codes "")) ≡ Some 1
 unfolding as_itself may_stand is_writable is_barred is_space is_digit_of is_plain_byte allows best_number point_of chars digits encode
 last_of_bare = refl
@@ -60,7 +60,7 @@ pub touching : ordered (usual true) false (attribute (codes "c") (codes "z") ∷
 unfolding as_itself may_stand is_writable is_barred is_space is_digit_of is_plain_byte allows best_number point_of chars digits encode
 touching = refl
 
--- a value in quotes saves one in front of a '/'
+-- a value in quotes saves one before a '/'
 pub before_slash : ordered (usual false) true (attribute (codes "id") (codes "a b") ∷ attribute (codes "d") (codes "M0") ∷ []) ≡ attribute (codes "d") (codes "M0") ∷ attribute (codes "id") (codes "a b") ∷ []
 unfolding as_itself may_stand is_writable is_barred is_space is_digit_of is_plain_byte allows best_number point_of chars digits encode
 before_slash = refl

@@ -15,7 +15,7 @@ use Rattle.hm_graph_laws.specs.ExchangeLaws.{sparing_plain}
 use Rattle.hm_order.specs.Costs.{plus, attributes_cost}
 use Rattle.hm_order.specs.Orders.{Like, reordered}
 
--- what a tag ends with, and all behind it
+-- what a tag ends with, and all after it
 abbrev pub close_cost : Spelling → Bool → List Unit → Option ℕ
 close_cost g closes rest = if closes then over 2 (least (edges_of g) rest (state self_closed nothing)) else over 1 (least (edges_of g) rest first_state)
 

@@ -36,7 +36,7 @@ abbrev pub is_end : Option Event → Bool
 is_end (Some (end n foreign)) = true
 is_end next = false
 
--- an event with its attributes in that order, by the event behind it
+-- an event with its attributes in that order, by the event after it
 abbrev pub ordered_event : Spelling → Event → Option Event → Event
 ordered_event g (start n foreign attributes) next = start n foreign (ordered g (foreign && is_end next) attributes)
 ordered_event g e next = e

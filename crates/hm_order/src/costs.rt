@@ -16,7 +16,7 @@ use std::alloc::Global;
 /// The fewest bytes of an attribute, its name and quotes included.
 #[derive(Clone, Copy, Debug, PartialEq, Eq)]
 pub struct AttrCost {
-    /// With another attribute behind it. The byte between them, where one is needed, is counted.
+    /// With another attribute after it. The byte between them, where one is needed, is counted.
     pub inner: u64,
     /// As the last one of its tag. A space before the `/` of a tag that closes itself, where one is needed, is counted.
     pub last: u64,
@@ -85,7 +85,7 @@ fn graph_cost(
     ensures last { IfOk result (λ cost. last_cost (sparing_plain table.now.entries rules) closes (record { name = name.now; value = value.now }) ≡ Some cost.last) }
     ensures low { IfOk result IsLowCost }
 {
-    // Where attributes may touch, the space behind a value without quotes is the one that a '/' needs.
+    // Where attributes may touch, the space after a value without quotes is the one that a '/' needs.
     let near = last_alone(alloc, table, rules, name, value, rules.tight)?;
     let inner = if rules.tight { near } else { near + 1 };
     if closes == rules.tight {

@@ -103,7 +103,7 @@ length-mark_of : (b : Bool) → length (mark_of b) ≡ start_of b
 length-mark_of true = refl
 length-mark_of false = refl
 
--- Behind a text that has begun, more of the page adds its lines.
+-- After a text that has begun, more of the page adds its lines.
 pub source_more : (p q : List ℕ) → IsUtf8 p → 0 < length p → CutsFine p q → source_of (p ++ q) ≡ with_lines (source_of p) q
 source_more p q u some fine =
     let m = marked p u some in

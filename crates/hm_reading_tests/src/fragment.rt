@@ -8,7 +8,7 @@ use hm_tree::Tree;
 use std::alloc::Global;
 use std::test::Fail;
 
-/// What a fragment is read as, without names of references. It is put behind the front first.
+/// What a fragment is read as, without names of references. It is put after the front first.
 fn read(alloc: Global, fragment: &[u8]) -> Result<Tree, Refused> {
     if fragment.len() > 100 {
         return Err(Refused::Memory);

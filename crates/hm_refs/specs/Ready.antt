@@ -32,7 +32,7 @@ are_cut s (n ∷ ns) = length (take n s) == n && (is_edge (drop n s) && are_cut 
 -- ---- nodes
 
 -- The nodes, by the name, the depth, the byte and the number of children of each. The first of them has its children
--- from the number m on, and each further one behind those of the one before it.
+-- from the number m on, and each further one after those of the one before it.
 abbrev pub nodes_from : ℕ → List ℕ → List ℕ → List ℕ → List ℕ → List TrieNode
 nodes_from m [] ds bs ks = []
 nodes_from m (n ∷ ns) [] bs ks = []

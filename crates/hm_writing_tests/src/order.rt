@@ -27,7 +27,7 @@ const ASCII_RULES: SpellRules = SpellRules {
     ..TIGHT_RULES
 };
 
-/// What stands behind the doctype in the shortest text of a page in order. None where something can't be read.
+/// What stands after the doctype in the shortest text of a page in order. None where something can't be read.
 fn written(alloc: Global, names: &str, rules: SpellRules, page: &str) -> Option<Vec<u8>> {
     let table = Table::read(alloc, names.as_bytes()).ok()?;
     let text = SourceText::read(alloc, page.as_bytes(), PAGE_LIMIT).ok()?;

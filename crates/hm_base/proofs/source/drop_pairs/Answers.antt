@@ -23,7 +23,7 @@ left_is i j pairs m e =
     let next : suc i ≡ i + 1 = omega arith in
     drop-cons pairs i j m ∙ ap (λ k. k ∷ drop (suc i) pairs) (sym e) ∙ ap (λ k. j ∷ drop k pairs) next
 
--- a pair that is kept is put behind the others
+-- a pair that is kept is put after the others
 kept_on : (n kept i j : ℕ) (pairs : List ℕ) → kept ≤ i → i < length pairs → j ≡ get_or pairs i j → n ≤ j
     → take (kept + 1) (set pairs kept (j - n)) ++ pairs_behind n (drop (i + 1) (set pairs kept (j - n))) ≡ take kept pairs ++ pairs_behind n (drop i pairs)
 kept_on n kept i j pairs l m e h =

@@ -31,7 +31,7 @@ replace_range-requires-clause-end_boundary c =
     let bytes : string_bytes s.text ≡ map byte_of c.args.self.now.placed = sym (source_from-bytes s.start s.pairs.items (string_bytes s.text)) ∙ ap (λ (v : Source). map byte_of v.placed) c.self.view_is in
     rw bytes (c.requires.boundary.0, λ some l. c.requires.boundary.1 l)
 
--- the text behind its first bytes; nothing is put in their place, so no room is missing
+-- the text after its first bytes; nothing is put in their place, so no room is missing
 text_is : (c : goal.Joined-replace_range) → string_bytes c.replace_range.new.self ≡ drop c.args.n (string_bytes c.self.inside.text)
 text_is c = elim c.match-replace_range.branch [
   | in-Ok w ↦ w.in-Ok.ensures.bytes

@@ -20,7 +20,7 @@ const SPACING: usize = 3;
 ///
 /// At each scan the builder reads again what it keeps: the begin of a token that isn't ready. So it scans only once three times
 /// as many bytes have come. Before the last scan no more than n / 3 bytes of a page of n bytes are read again, whatever
-/// its tokens are and however few bytes come at a time; at the end what is kept is read once more.
+/// its tokens are and however few bytes come at a time; at the end what is kept is read once or twice more.
 #[derive(Drop)]
 pub struct SpacedBuilder<'t> {
     builder: Builder<'t>,

@@ -1,10 +1,11 @@
 -- A check of what was minified says yes.
-use Rattle.std.proofs.Common.{◌≡◌, ◌∙◌, ◌-◌, ap₂, length-append, ℕ, ◌≤◌, ◌||◌, ◌&&◌, Bool, true, false, cond, List, [], ◌∷◌, length, Option, Some, None, Result, Ok, Err, refl, sym, ap, arith}
+use Rattle.std.proofs.Common.{◌≡◌, ◌∙◌, ◌-◌, ap₂, length-append, ℕ, ◌≤◌, ◌||◌, ◌&&◌, Bool, true, false, cond, List, [], ◌∷◌, length, Option, Some, None, Result, Ok, Err, refl, sym, ap, subst, arith}
 use Rattle.std.proofs.lemmas.Bool.Decides.{nat_tests}
 use Rattle.std.specs.Bool.{nat_lt}
 use Rattle.std.specs.Str.{bytes_eq}
 use Rattle.hm_base.specs.Walks.{Event}
 use Rattle.hm_base.specs.declared.limits.TheConstants.{CERTIFICATE_LIMIT, OUTPUT_LIMIT}
+use Rattle.hm_base.specs.declared.plain.Format.TheVariants.{Three}
 use Rattle.hm_base.specs.declared.plain.TreeOptions.{TreeOptions}
 use Rattle.hm_cert.specs.Certificate.{AreRows}
 use Rattle.hm_cert.specs.Reading.{given}
@@ -101,6 +102,17 @@ own_ending t k x w page s rows short few =
     rw (within CERTIFICATE_LIMIT (length (certificate_of t x.rules (format_of x.sparse) w)) few)
     (ap (λ f. certificate_ending (found_ending f x.rules t w (shortest_text t x.rules w)) (given (certificate_of t x.rules (format_of x.sparse) w))) page
     ∙ judged_ending (verdict t x.rules w (shortest_text t x.rules w)) (given (certificate_of t x.rules (format_of x.sparse) w)) (length (shortest_text t x.rules w)) yes)
+
+-- what has the bytes of what is written sparsely gets its answer
+pub written_is_checked : (t : List Entry) → IsTable t → (r : SpellRules) (w : List Event) (out cert o c : List ℕ) → r.frame ≡ false → Settled w → AreRows (certified_rows t r Three w) → o ≡ shortest_text t r w → c ≡ certificate_of t r Three w → o ≡ out → c ≡ cert
+    → length out ≤ OUTPUT_LIMIT → length cert ≤ CERTIFICATE_LIMIT → checked_ending r t w out cert ≡ says status.Done (yes_line (length out))
+written_is_checked t k r w out cert o c page settled rows is lines same_out same_cert short few =
+    let x : Writing = record { rules = r; sparse = true; order = false } in
+    let text : shortest_text t r w ≡ out = sym is ∙ same_out in
+    let sparse : certificate_of t r Three w ≡ cert = sym lines ∙ same_cert in
+    (λ i. checked_ending r t w (sym text i) (sym sparse i))
+    ∙ own_ending t k x w page settled rows (subst (λ s. length s ≤ OUTPUT_LIMIT) (sym text) short) (subst (λ s. length s ≤ CERTIFICATE_LIMIT) (sym sparse) few)
+    ∙ ap (λ s. says status.Done (yes_line (length s))) text
 
 pub tree_is_checked : TreeIsChecked
 tree_is_checked q out cert work page seen bytes t w reads settled sparse text lines rows short few =

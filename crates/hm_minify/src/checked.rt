@@ -1,7 +1,7 @@
 //! A text and a certificate, loaded and checked.
 ghost use Rattle.std.specs.Io.{StartsWith};
 ghost use Rattle.std.specs.Prelude as prelude;
-ghost use Rattle.std.specs.Prelude.{◌≡◌, ◌≢◌, ◌⊎◌, ◌≤◌, ◌-◌, IfOk, Err, false, true, bytes_eq, string_bytes};
+ghost use Rattle.std.specs.Prelude.{◌≡◌, ◌≢◌, ◌⊎◌, ◌≤◌, ◌-◌, IfOk, IsTrue, Err, false, true, bytes_eq, string_bytes};
 ghost use Rattle.hm_input.specs.Pages.{IsRefusedAs};
 ghost use Rattle.hm_cert.specs.Certificate.{AreRows};
 ghost use Rattle.hm_input.specs.Trees.{Outcome};
@@ -16,11 +16,13 @@ ghost use Rattle.hm_minify.specs.Lines as lines;
 use crate::Status;
 use crate::ended::{Ended, Stop, says};
 use crate::lines::{bad_line_line, too_long_line, why_line, yes_line};
-use hm_base::{CERTIFICATE_LIMIT, OUTPUT_LIMIT, Refused, Rule, SpellRules};
-use hm_cert::{Certificate, CertificateFault};
+use hm_base::{CERTIFICATE_LIMIT, Format, Memory, OUTPUT_LIMIT, Refused, Rule, SpellRules};
+use hm_cert::{Certificate, CertificateFault, put_head};
 use hm_check::{Verdict, Why, check_settled};
 use hm_input::{Input, front, read_fragment};
+use hm_order::minify_tree;
 use hm_refs::Table;
+use hm_refs::laws::every_table;
 use hm_store::{Store, load, load_behind};
 use std::alloc::Global;
 
@@ -54,6 +56,44 @@ fn find<'w>(
     )
 }
 
+/// Whether a certificate begins as a sparse one by these rules does.
+fn begins_sparse(alloc: Global, rules: SpellRules, cert: &[u8]) -> bool {
+    let mut head = Vec::new(alloc);
+    put_head(&mut head, Format::Three, rules).is_ok() && cert.starts_with(head.as_slice())
+}
+
+/// Whether the bytes are the same.
+fn same_bytes(left: &[u8], right: &[u8]) -> bool
+    ensures { IsTrue result → left.now ≡ right.now }
+{
+    left == right
+}
+
+/// Whether a text and the bytes of a certificate are what is written of the tree by these rules, where the certificate is a sparse
+/// one and both are within the limits. A check of them says yes then, and they needn't be read.
+fn is_as_written(alloc: Global, input: &Input, rules: SpellRules, out: &[u8], cert: &[u8]) -> bool
+    requires page { rules.frame ≡ false }
+    requires settled { Settled input.now.tree }
+    ensures { IsTrue result → spec.checked_ending rules input.now.table.entries input.now.tree out.now cert.now ≡ spec.says Status.Done (lines.yes_line (prelude.length out.now)) }
+{
+    every_table(&input.table);
+    if out.len() > OUTPUT_LIMIT as usize || cert.len() > CERTIFICATE_LIMIT as usize {
+        return false;
+    }
+    if !begins_sparse(alloc, rules, cert) {
+        return false;
+    }
+    match minify_tree(alloc, &input.tree, &input.table, rules, Format::Three) {
+        Ok(minified) => {
+            if !same_bytes(minified.out.as_slice(), out) {
+                return false;
+            }
+            same_bytes(minified.certificate.as_slice(), cert)
+        }
+        Err(Memory) => false,
+    }
+}
+
 /// A text and the bytes of a certificate are checked.
 fn check_bytes<'w>(
     alloc: Global,
@@ -67,6 +107,9 @@ fn check_bytes<'w>(
     ensures ended { IfOk result (λ ended. ended ≡ spec.checked_ending rules input.now.table.entries input.now.tree out.now cert.now) }
     ensures memory { result ≢ Err Stop.Store }
 {
+    if is_as_written(alloc, input, rules, out, cert) {
+        return Ok(says(alloc, Status::Done, yes_line(alloc, out.len() as u64)?));
+    }
     match Certificate::read(alloc, cert) {
         Ok(certificate) => find(alloc, input, rules, out, &certificate),
         Err(CertificateFault::TooLong) => Ok(says(alloc, Status::No, too_long_line(alloc)?)),

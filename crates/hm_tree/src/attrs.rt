@@ -132,7 +132,9 @@ impl Attrs {
     {
         self.text.clear();
         self.pairs.clear();
-        self.table = None;
+        if self.table.is_some() {
+            self.table = None;
+        }
     }
 
     // Whether an attribute has this name.

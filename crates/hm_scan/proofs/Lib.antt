@@ -31,3 +31,4 @@ pub mod BareTags
 pub mod TagStarts
 pub mod Ends
 pub mod Pieces
+pub mod Firsts

@@ -4,7 +4,9 @@ use Rattle.std.specs.Str.{IsUtf8, IsCharBoundary}
 use Rattle.std.proofs.lemmas.Str.{IsCharBoundary-after_ascii, IsCharBoundary-before_ascii, IsCharBoundary-end}
 use Rattle.std.proofs.lemmas.List.{drop-drop, get_or-drop}
 use Rattle.std.proofs.lemmas.Bool.Decides.{Decides-eqb}
-use Rattle.memchr.specs.Find.{IsFirstByte, is_byte}
+use Rattle.memchr.specs.Find.{IsFirstByte, Nowhere, Passes, is_byte}
+use Rattle.hm_refs.specs.Names.{Entry}
+use Rattle.hm_scan.specs.Values.{reference_at, read_value}
 use Rattle.hm_base.specs.Bytes.{front, behind, is_space}
 use Rattle.hm_scan.specs.Tags.{is_later_byte, is_unquoted_byte, is_inside, is_quote, cut_behind, cut_quoted, cut_value, cut_assigned, named, attribute_at}
 use Rattle.hm_refs.specs.Reads.{IsEndOf}
@@ -47,9 +49,23 @@ outside_if : (q c : ℕ) → is_byte q c ≡ true → is_inside q c ≡ false
 unfolding is_inside
 outside_if q c h = rw h refl
 
-pub quoted_found : (s : List ℕ) (q from n : ℕ) → IsUtf8 s → is_quote q ≡ true → IsCharBoundary s from → IsFirstByte (is_byte q) (drop from s) (Some n)
-    → IsCutAt (cut_quoted q (drop from s)) s (record { from = from; to = from + n; behind = from + n + 1 })
-quoted_found s q from n u is_q b (none, there) =
+-- a value without '&' is read as it is written
+plain_front : (t : List Entry) (s : List ℕ) (n : ℕ) → ((k : ℕ) → k < n → is_byte 38 (get_or s k 0) ≡ true → ⊥) → read_value t (take n s) ≡ take n s
+unfolding reference_at
+plain_front t s zero none = refl
+plain_front t [] (suc n) none = refl
+plain_front t (c ∷ s) (suc n) none =
+    let other : (c == 38) ≡ false = not_true (c == 38) (none 0 (omega arith)) in
+    rw other (ap (λ r. c ∷ r) (plain_front t s n (λ k l. none (suc k) (omega arith))))
+  where
+    not_true : (b : Bool) → (b ≡ true → ⊥) → b ≡ false
+    not_true true h = absurd (h refl)
+    not_true false h = refl
+
+pub quoted_found : (s : List ℕ) (q from n : ℕ) (plain : Bool) → IsUtf8 s → is_quote q ≡ true → IsCharBoundary s from → IsFirstByte (is_byte q) (drop from s) (Some n)
+    → (plain ≡ true → Nowhere (Passes (is_byte 38) (drop from s)) 0 n)
+    → IsCutAt (cut_quoted q (drop from s)) s (record { from = from; to = from + n; behind = from + n + 1; plain = plain })
+quoted_found s q from n plain u is_q b (none, there) no_amp =
     let rest = drop from s in
     let inside : n < length s - from = subst (λ m. n < m) (length-drop from s) none.high in
     let both = front_first (is_inside q) rest n none.high (λ k l. inside_if q (get_or rest k 0) (none.before k (omega arith) l)) (outside_if q (get_or rest n 0) there) in
@@ -64,10 +80,11 @@ quoted_found s q from n u is_q b (none, there) =
       starts = b;
       ends = IsCharBoundary-before_ascii s (from + n) (omega arith) ascii;
       rest = IsCharBoundary-after_ascii s (from + n) u (omega arith) ascii;
+      plain = λ e t. subst (λ m. read_value t (take m rest) ≡ take m rest) (sym long) (plain_front t rest n (λ k l. no_amp e k (omega arith) l));
     }
 
 pub quoted_missing : (s : List ℕ) (q from : ℕ) → IsCharBoundary s from → IsFirstByte (is_byte q) (drop from s) None
-    → IsCutAt (cut_quoted q (drop from s)) s (record { from = from; to = length s; behind = length s })
+    → IsCutAt (cut_quoted q (drop from s)) s (record { from = from; to = length s; behind = length s; plain = false })
 quoted_missing s q from b none =
     let rest = drop from s in
     let both = front_whole (is_inside q) rest (λ k l. inside_if q (get_or rest k 0) (none k (omega arith) l)) in
@@ -79,6 +96,7 @@ quoted_missing s q from b none =
       starts = b;
       ends = IsCharBoundary-end s;
       rest = IsCharBoundary-end s;
+      plain = λ e. absurd (cc);
     }
 
 pub take_none : (n : ℕ) → take {A = ℕ} n [] ≡ []
@@ -87,7 +105,7 @@ take_none (suc n) = refl
 
 -- what begins with no quote
 pub unquoted_at : (s : List ℕ) (from to : ℕ) → IsCharBoundary s from → from < length s → is_quote (get_or s from 0) ≡ false → IsEndOf is_unquoted_byte s from to
-    → IsCutAt (cut_value (drop from s)) s (record { from = from; to = to; behind = to })
+    → IsCutAt (cut_value (drop from s)) s (record { from = from; to = to; behind = to; plain = false })
 unquoted_at s from to b h none e =
     let cut : cut_value (drop from s) ≡ cut_behind is_unquoted_byte (drop from s) = rw (rest_cons s from h) (rw none refl) in
     let ends = unquoted_ends s from to e in
@@ -99,6 +117,7 @@ unquoted_at s from to b h none e =
       starts = b;
       ends = ends;
       rest = ends;
+      plain = λ e. absurd (cc);
     }
 
 pub quoted_at : (s : List ℕ) (from : ℕ) (v : Value) → from < length s → is_quote (get_or s from 0) ≡ true → IsCutAt (cut_quoted (get_or s from 0) (drop (from + 1) s)) s v → IsCutAt (cut_value (drop from s)) s v
@@ -132,6 +151,7 @@ attribute_is s at a h e plain k forward =
       is = ap₂ named (ap (λ r. get_or s at 0 ∷ r) e.front ∙ sym name) e.behind
           ∙ ap₂ (λ v r. record { attribute = record { name = slice_range s at a.name_to; value = v }; rest = r }) k.before k.behind;
       plain = plain;
+      plain_value = k.plain;
       forward = omega (arith, e.forward);
       behind = forward;
       ordered = k.ordered;

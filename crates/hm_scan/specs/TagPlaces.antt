@@ -3,7 +3,9 @@ use Rattle.std.specs.Prelude.{◌≡◌, ℕ, ◌+◌, ◌≤◌, ◌<◌, Bool,
 use Rattle.hm_base.specs.Bytes.{Cut, is_space, lower}
 use Rattle.hm_base.specs.Forms.{is_small, is_tag_name}
 use Rattle.hm_scan.specs.Tags.{is_name_byte, is_later_byte, is_unquoted_byte, attribute_at}
+use Rattle.hm_refs.specs.Names.{Entry}
 use Rattle.hm_scan.specs.Reading.{is_bad_name}
+use Rattle.hm_scan.specs.Values.{read_value}
 use Rattle.hm_scan.specs.declared.attribute.WrittenAttribute.{WrittenAttribute}
 use Rattle.hm_scan.specs.declared.attribute.Value.{Value}
 use Rattle.hm_scan.specs.declared.tag_runs.ByteRun.{ByteRun}
@@ -32,6 +34,10 @@ pub record IsOrdinaryName (name : List ℕ) : Type 0 where
   pub good : is_bad_name name ≡ false
   pub lowered : map lower name ≡ name
 
+-- a value that is read as it is written
+abbrev pub IsPlainValue : List ℕ → Type 0
+IsPlainValue value = (t : List Entry) → read_value t value ≡ value
+
 -- a cut of the rest of the text: what is before it stands between two places, and what follows it begins at a third
 pub record IsCutAt (k : Cut) (s : List ℕ) (v : Value) : Type 0 where
   pub before : k.before ≡ slice_range s v.from v.to
@@ -41,11 +47,13 @@ pub record IsCutAt (k : Cut) (s : List ℕ) (v : Value) : Type 0 where
   pub starts : IsCharBoundary s v.from
   pub ends : IsCharBoundary s v.to
   pub rest : IsCharBoundary s v.behind
+  pub plain : v.plain ≡ true → IsPlainValue (slice_range s v.from v.to)
 
 -- the attribute that begins at a place
 pub record IsAttributeAt (s : List ℕ) (at : ℕ) (a : WrittenAttribute) : Type 0 where
   pub is : attribute_at (slice_index s at) (drop (at + 1) s) ≡ record { attribute = record { name = slice_range s at a.name_to; value = slice_range s a.value.from a.value.to }; rest = drop a.value.behind s }
   pub plain : a.plain ≡ true → IsOrdinaryName (slice_range s at a.name_to)
+  pub plain_value : a.value.plain ≡ true → IsPlainValue (slice_range s a.value.from a.value.to)
   pub forward : at < a.name_to
   pub behind : a.name_to ≤ a.value.behind
   pub ordered : a.value.from ≤ a.value.to

@@ -1,5 +1,6 @@
 //! The parts of an attribute as it is written, by their places in the text.
-ghost use Rattle.std.specs.Prelude.{◌≡◌, ◌+◌, ◌≤◌, ◌<◌, length, drop, true, false, slice_index, slice_range, IsUtf8, IsCharBoundary};
+ghost use Rattle.std.specs.Prelude.{◌≡◌, ◌+◌, ◌≤◌, ◌<◌, length, drop, true, false, slice_index, slice_range, IfSome, IsUtf8, IsCharBoundary};
+ghost use Rattle.memchr.specs.Find.{IsFirstByte, Nowhere, Passes, is_byte};
 ghost use Rattle.hm_base.specs.Bytes.{behind, is_space};
 ghost use Rattle.hm_scan.specs.Tags as tags;
 ghost use Rattle.hm_scan.specs.Tags.{cut_assigned, cut_quoted, cut_value};
@@ -8,14 +9,23 @@ ghost use Rattle.hm_refs.specs.Reads.{IsEndOf};
 
 use crate::names::is_tag_byte;
 use crate::tag_runs::{ByteRun, plain_run_end, run_end};
-use memchr::memchr;
+use memchr::{memchr, memchr2};
 
-/// A value from `from` up to `to`. What follows it and its quote begins at `behind`.
+/// A value from `from` up to `to`. What follows it and its quote begins at `behind`. `plain` says that it is read as it is
+/// written, since no `&` is in it.
 #[derive(Clone, Copy)]
 pub(crate) struct Value {
     pub(crate) from: usize,
     pub(crate) to: usize,
     pub(crate) behind: usize,
+    pub(crate) plain: bool,
+}
+
+/// Where a quote stands first. `plain` says that no `&` stands before it.
+#[derive(Clone, Copy)]
+struct FoundQuote {
+    at: Option<usize>,
+    plain: bool,
 }
 
 /// An attribute whose name ends at `name_to`. `plain` says that its name isn't refused, and is read as it is written.
@@ -35,12 +45,13 @@ struct NamePart {
 
 /// An empty value at a place.
 fn empty(at: usize) -> Value
-    ensures { result ≡ record { from = at; to = at; behind = at } }
+    ensures { result ≡ record { from = at; to = at; behind = at; plain = false } }
 {
     Value {
         from: at,
         to: at,
         behind: at,
+        plain: false,
     }
 }
 
@@ -51,6 +62,44 @@ fn is_quote(byte: u8) -> bool
     byte == b'"' || byte == b'\''
 }
 
+/// Where the quote stands first, of which none is before `from`.
+fn quote_from(bytes: &[u8], from: usize, quote: u8) -> Option<usize>
+    requires inside { from ≤ length bytes.now }
+    requires none { Nowhere (Passes (is_byte quote) bytes.now) 0 from }
+    ensures { IsFirstByte (is_byte quote) bytes.now result }
+{
+    match memchr(quote, &bytes[from..]) {
+        Some(len) => Some(from + len),
+        None => None,
+    }
+}
+
+/// Where the quote stands first. It is looked for together with the first `&`.
+fn find_quote(bytes: &[u8], quote: u8) -> FoundQuote
+    requires { tags.is_quote quote ≡ true }
+    ensures found { IsFirstByte (is_byte quote) bytes.now result.at }
+    ensures plain { result.plain ≡ true → IfSome result.at (λ n. Nowhere (Passes (is_byte 38) bytes.now) 0 n) }
+{
+    match memchr2(quote, b'&', bytes) {
+        Some(at) => {
+            if bytes[at] == quote {
+                return FoundQuote {
+                    at: Some(at),
+                    plain: true,
+                };
+            }
+            FoundQuote {
+                at: quote_from(bytes, at, quote),
+                plain: false,
+            }
+        }
+        None => FoundQuote {
+            at: None,
+            plain: false,
+        },
+    }
+}
+
 /// The value that begins after a quote.
 fn quoted_value(bytes: &[u8], from: usize, quote: u8) -> Value
     requires utf8 { IsUtf8 bytes.now }
@@ -59,16 +108,19 @@ fn quoted_value(bytes: &[u8], from: usize, quote: u8) -> Value
     ensures cut { IsCutAt (cut_quoted quote (drop from bytes.now)) bytes.now result }
     ensures forward { from ≤ result.behind }
 {
-    match memchr(quote, &bytes[from..]) {
+    let found = find_quote(&bytes[from..], quote);
+    match found.at {
         Some(len) => Value {
             from,
             to: from + len,
             behind: from + len + 1,
+            plain: found.plain,
         },
         None => Value {
             from,
             to: bytes.len(),
             behind: bytes.len(),
+            plain: false,
         },
     }
 }
@@ -92,6 +144,7 @@ fn value_at(bytes: &[u8], from: usize) -> Value
         from,
         to,
         behind: to,
+        plain: false,
     }
 }
 

@@ -3,7 +3,7 @@ ghost use Rattle.std.specs.Prelude.{◌≡◌, ◌+◌, ◌^◌, ◌<◌, ◌≤
 ghost use Rattle.hm_base.specs.Walks.{Attribute};
 ghost use Rattle.hm_scan.specs.Collected.{IsCollected, added};
 ghost use Rattle.hm_base.specs.Bytes.{lower};
-ghost use Rattle.hm_scan.specs.TagPlaces.{IsOrdinaryName};
+ghost use Rattle.hm_scan.specs.TagPlaces.{IsOrdinaryName, IsPlainValue};
 ghost use Rattle.hm_scan.specs.Reading as reading;
 
 use crate::names::{is_bad_name, lowered};
@@ -42,18 +42,20 @@ impl Collected {
     }
 
     /// Takes one more attribute, name and value as they are written. `plain` says that its name isn't refused, and is
-    /// read as it is written.
+    /// read as it is written; `plain_value` that its value is.
     pub(crate) fn take(
         &mut self,
         alloc: Global,
         name: &str,
         plain: bool,
         value: &str,
+        plain_value: bool,
         table: &Table,
         attrs: &mut Attrs,
     ) -> Result<(), Memory>
         requires room { self.old.count + 1 < 2 ^ 32 }
         requires plain { plain ≡ true → IsOrdinaryName name.now }
+        requires plain_value { plain_value ≡ true → IsPlainValue value.now }
         requires few { length attrs.old ≤ self.old.count }
         ensures taken { OnOk result
             ((written : List Attribute) → IsCollected table.now.entries written self.old attrs.old
@@ -63,7 +65,7 @@ impl Collected {
         self.count += 1;
         self.has_bad_name = self.has_bad_name || is_refused(name, plain);
         if self.wants() {
-            keep(attrs, alloc, name, plain, value, table)?;
+            keep(attrs, alloc, name, plain, value, plain_value, table)?;
         }
         Ok(())
     }
@@ -84,15 +86,17 @@ fn keep(
     name: &str,
     plain: bool,
     value: &str,
+    plain_value: bool,
     table: &Table,
 ) -> Result<(), Memory>
     requires room { length attrs.old + 1 < 2 ^ 32 }
     requires plain { plain ≡ true → IsOrdinaryName name.now }
+    requires plain_value { plain_value ≡ true → IsPlainValue value.now }
     ensures { OnOk result
         (attrs.new ≡ added attrs.old (reading.read_attribute table.now.entries (record { name = name.now; value = value.now }))) }
 {
     if plain {
-        return keep_plain(attrs, alloc, name, value, table);
+        return keep_plain(attrs, alloc, name, value, plain_value, table);
     }
     let name = lowered(alloc, name)?;
     let value = read_value(alloc, value, table)?;
@@ -106,14 +110,16 @@ fn keep_plain(
     alloc: Global,
     name: &str,
     value: &str,
+    plain_value: bool,
     table: &Table,
 ) -> Result<(), Memory>
     requires room { length attrs.old + 1 < 2 ^ 32 }
     requires plain { map lower name.now ≡ name.now }
+    requires plain_value { plain_value ≡ true → IsPlainValue value.now }
     ensures { OnOk result
         (attrs.new ≡ added attrs.old (reading.read_attribute table.now.entries (record { name = name.now; value = value.now }))) }
 {
-    if !has_reference(value, table) {
+    if plain_value || !has_reference(value, table) {
         attrs.put(name, value)?;
         return Ok(());
     }

@@ -51,7 +51,8 @@ pub(crate) fn read_body(
             } => {
                 let name = &text[start..attribute.name_to];
                 let value = &text[attribute.value.from..attribute.value.to];
-                collected.take(alloc, name, attribute.plain, value, table, attrs)?;
+                let plain = attribute.value.plain;
+                collected.take(alloc, name, attribute.plain, value, plain, table, attrs)?;
                 at = attribute.value.behind;
             }
         }

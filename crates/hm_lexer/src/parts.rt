@@ -1,6 +1,8 @@
 //! Pieces of an ordinary text that may go on after its end.
 ghost use Rattle.std.specs.Prelude.{◌≡◌, ◌^◌, ◌<◌, ◌≤◌, drop, false, length, true, MatchOption, IsCharBoundary};
+ghost use Rattle.memchr.specs.Find.{IsFirstByte};
 ghost use Rattle.hm_base.specs.Bytes.{some_passes};
+ghost use Rattle.hm_scan.specs.TextPlaces as texts_at;
 ghost use Rattle.hm_scan.specs.Texts as texts;
 ghost use Rattle.hm_tree.specs.Lexemes.{token_of};
 ghost use Rattle.hm_tree.specs.Tokens.{Reads};
@@ -71,6 +73,32 @@ fn stays_plain(table: &Table, text: &str, at: usize) -> bool
     bytes[0] != b'&' || read_reference(table, bytes, false).is_none()
 }
 
+/// Whether the byte is '<' or '&'.
+fn is_sign(byte: u8) -> bool
+    ensures { result ≡ texts_at.is_sign false byte }
+{
+    byte == b'<' || byte == b'&'
+}
+
+/// How many bytes are looked at one by one before vectors look at more.
+const NEAR: usize = 8;
+
+/// The first '<' or '&' among the bytes. Most pieces of text are short, so the first bytes are looked at one by one.
+fn first_sign(bytes: &[u8]) -> Option<usize>
+    ensures { IsFirstByte (texts_at.is_sign false) bytes.now result }
+{
+    let near = bytes.len().min(NEAR);
+    for i in 0..near {
+        if is_sign(bytes[i]) {
+            return Some(i);
+        }
+    }
+    match memchr2(b'<', b'&', &bytes[near..]) {
+        Some(found) => Some(near + found),
+        None => None,
+    }
+}
+
 /// Where the text ends that began before `from`, or can't be told to go on.
 fn piece_end(table: &Table, text: &str, from: usize) -> usize
     requires inside { from ≤ length text.now }
@@ -79,7 +107,7 @@ fn piece_end(table: &Table, text: &str, from: usize) -> usize
 {
     let bytes = text.as_bytes();
     let mut at = from;
-    'signs: while let Some(found) = memchr2(b'<', b'&', &bytes[at..]) {
+    'signs: while let Some(found) = first_sign(&bytes[at..]) {
         let to = at + found;
         if !stays_plain(table, text, to) {
             return to;

@@ -22,6 +22,7 @@ pub(crate) fn refusal(text: &SourceText, fault: BuildFault, at: u32) -> Refused
 
 /// The byte of the page where the tag stands that closes body, once the token at byte `from` of the text was taken: the
 /// place that was found before, or that of this token.
+#[inline(always)]
 pub(crate) fn closed_by(
     text: &SourceText,
     builder: &TreeBuilder,

@@ -37,6 +37,7 @@ fn mode_of_name(name: &str) -> Mode
 }
 
 /// How the text that comes next is read. Only the name of an element that holds one text is looked up.
+#[inline(always)]
 pub(crate) fn mode(builder: &TreeBuilder) -> Mode
     ensures { mode_of result ≡ trees.mode_of builder.now.state.path }
 {
@@ -50,6 +51,7 @@ pub(crate) fn mode(builder: &TreeBuilder) -> Mode
 }
 
 /// Takes a token of this text, whose name and attributes, where it is a tag, stand in `tag`.
+#[inline(always)]
 pub(crate) fn take(
     alloc: Global,
     builder: &mut TreeBuilder,

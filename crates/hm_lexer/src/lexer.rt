@@ -81,6 +81,7 @@ fn refusal(source: &SourceText, fault: ScanFault, at: u32) -> Refused
 }
 
 /// Where the next token begins, from byte `at` on.
+#[inline(always)]
 fn token_start(text: &str, at: u32, mode: Mode) -> u32
     requires boundary { IsCharBoundary text.now at }
     requires size { length text.now < 2 ^ 32 }
@@ -93,6 +94,7 @@ fn token_start(text: &str, at: u32, mode: Mode) -> u32
 }
 
 // The end of a text that is kept, where byte `to` isn't after it.
+#[inline(always)]
 fn kept_end(end: Option<TextEnd>, to: u32) -> Option<TextEnd>
     ensures { (s : List ℕ) (at : ℕ) → at ≤ to → IsCharBoundary s to → IsLexer s at end → IsLexer s to result }
 {
@@ -227,6 +229,7 @@ impl<'a> Lexer<'a> {
     }
 
     // Reads the tag that begins at the lexer's place, where its end is there.
+    #[inline(always)]
     fn tag_part(
         &mut self,
         alloc: Global,
@@ -256,6 +259,7 @@ impl<'a> Lexer<'a> {
     }
 
     // Reads the piece of ordinary text that begins at `from`.
+    #[inline(always)]
     fn part_of_text(&mut self, mode: Mode, from: u32) -> Option<Placed>
         requires markup { has_markup (mode_of mode) ≡ true }
         requires start { IsBehind (mode_of mode) (text_of self.old) self.old.at from }
@@ -273,6 +277,7 @@ impl<'a> Lexer<'a> {
     }
 
     // Reads the tag that begins at the lexer's place.
+    #[inline(always)]
     fn next_tag(
         &mut self,
         alloc: Global,
@@ -369,6 +374,7 @@ impl<'a> Lexer<'a> {
     }
 
     // Goes on to a place further on.
+    #[inline(always)]
     fn advance(&mut self, to: u32)
         requires forward { self.old.at ≤ to }
         requires boundary { IsCharBoundary (text_of self.old) to }

@@ -20,6 +20,7 @@ pub(crate) fn put_lowered(text: &mut String, name: &str) -> Result<(), Memory>
 }
 
 /// Puts the name as it is read in place of a text; `plain` says that it is read as it is written.
+#[inline(always)]
 pub(crate) fn put_name(text: &mut String, name: &str, plain: bool) -> Result<(), Memory>
     requires { plain ≡ true → IsPlainName name.now }
     ensures { OnOk result (string_bytes text.new ≡ map lower name.now) }

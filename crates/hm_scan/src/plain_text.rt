@@ -10,6 +10,7 @@ use hm_refs::{Reference, Table, read_reference};
 use memchr::{memchr, memchr2};
 
 /// Whether the bytes after a `<` make it the first byte of markup.
+#[inline(always)]
 #[tactic(auto, unfolding(hm_base::specs::Bytes::is_letter))]
 fn opens_markup(bytes: &[u8]) -> bool
     ensures { result ≡ texts.opens_markup bytes.now }
@@ -26,6 +27,7 @@ fn opens_markup(bytes: &[u8]) -> bool
 }
 
 /// Whether markup begins at the start of the bytes.
+#[inline(always)]
 #[tactic(auto, unfolding(crate::specs::Texts::begins_markup))]
 pub fn markup_here(bytes: &[u8]) -> bool
     ensures { result ≡ texts.begins_markup bytes.now }

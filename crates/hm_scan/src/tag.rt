@@ -64,6 +64,7 @@ struct NameEnd {
 }
 
 /// Whether a lowercase letter stands at `from`, and at `to` a byte that ends the name of a tag.
+#[inline(always)]
 fn is_plain_between(bytes: &[u8], from: usize, to: usize) -> bool
     requires { to ≤ length bytes.now }
     ensures from { result ≡ true → from < to }
@@ -78,6 +79,7 @@ fn is_plain_between(bytes: &[u8], from: usize, to: usize) -> bool
 }
 
 /// Where the name of a tag ends that begins at `from`.
+#[inline(always)]
 fn name_end(text: &str, from: usize) -> NameEnd
     requires { IsCharBoundary text.now from }
     ensures end { IsEndOf is_name_byte text.now from result.to }
@@ -96,6 +98,7 @@ fn name_end(text: &str, from: usize) -> NameEnd
 }
 
 /// Whether a tag ends directly after its name, which is read as it is written.
+#[inline(always)]
 fn is_bare(bytes: &[u8], end: NameEnd) -> bool
     ensures plain { result ≡ true → end.plain ≡ true }
     ensures inside { result ≡ true → end.to < length bytes.now }
@@ -105,6 +108,7 @@ fn is_bare(bytes: &[u8], end: NameEnd) -> bool
 }
 
 /// Takes the attributes of an earlier tag away, if it had any.
+#[inline(always)]
 fn clear(attrs: &mut Attrs)
     ensures { attrs.new ≡ [] }
 {
@@ -114,6 +118,7 @@ fn clear(attrs: &mut Attrs)
 }
 
 /// Reads the tag whose name begins at `from` and ends at `to`, where its `>` stands. No attribute is in it.
+#[inline(always)]
 fn read_bare(text: &str, from: usize, to: usize, tag: &mut Tag) -> Result<Whole, ScanFault>
     requires size { length text.now < 2 ^ 32 }
     requires starts { IsCharBoundary text.now from }
@@ -133,8 +138,39 @@ fn read_bare(text: &str, from: usize, to: usize, tag: &mut Tag) -> Result<Whole,
     })
 }
 
+/// Reads the tag whose name begins at `from` and ends at `end`, with what stands between that and its `>`.
+fn read_full(
+    alloc: Global,
+    text: &str,
+    from: usize,
+    end: NameEnd,
+    table: &Table,
+    keeps: bool,
+    tag: &mut Tag,
+) -> Result<Whole, ScanFault>
+    requires size { length text.now < 2 ^ 32 }
+    requires starts { IsCharBoundary text.now from }
+    requires end { IsEndOf is_name_byte text.now from end.to }
+    requires ends { IsCharBoundary text.now end.to }
+    requires plain { end.plain ≡ true → IsPlainName (slice_range text.now from end.to) }
+    ensures ok { IfOk result (IsWhole table.now.entries keeps text.now from tag.new) }
+    ensures err { IfErr result
+        (λ fault. fault ≢ ScanFault.Memory → fault_at (drop from text.now) ≡ Some fault) }
+{
+    let body = read_body(alloc, text, end.to, table, keeps, &mut tag.attrs)?;
+    put_name(&mut tag.name, &text[from..end.to], end.plain)?;
+    match fault_of(&tag.name, end.plain, &body.collected) {
+        Some(fault) => Err(fault),
+        None => Ok(Whole {
+            slash: body.slash,
+            behind: body.behind as u32,
+        }),
+    }
+}
+
 /// Reads the tag whose name begins at `from`, and puts its name, in lowercase letters, and its attributes into `tag`;
 /// `keeps` says whether its attributes are wanted.
+#[inline(always)]
 fn read_whole(
     alloc: Global,
     text: &str,
@@ -153,18 +189,11 @@ fn read_whole(
     if is_bare(text.as_bytes(), end) {
         return read_bare(text, from, end.to, tag);
     }
-    let body = read_body(alloc, text, end.to, table, keeps, &mut tag.attrs)?;
-    put_name(&mut tag.name, &text[from..end.to], end.plain)?;
-    match fault_of(&tag.name, end.plain, &body.collected) {
-        Some(fault) => Err(fault),
-        None => Ok(Whole {
-            slash: body.slash,
-            behind: body.behind as u32,
-        }),
-    }
+    read_full(alloc, text, from, end, table, keeps, tag)
 }
 
 /// Reads the start tag whose name begins at `from`.
+#[inline(always)]
 fn scan_start(
     alloc: Global,
     text: &str,
@@ -187,6 +216,7 @@ fn scan_start(
 }
 
 /// Reads the end tag whose name begins at `from`. Its attributes are judged, and dropped with its `/`.
+#[inline(always)]
 fn scan_end(
     alloc: Global,
     text: &str,
@@ -237,6 +267,7 @@ pub fn scan_tag(
 
 /// The same, with the tag's name and attributes put into `tag`, in place of what was there. After an error nothing is
 /// said of what stands in it.
+#[inline(always)]
 pub fn scan_tag_into(
     alloc: Global,
     text: &str,

@@ -12,6 +12,7 @@ fn is_letter(byte: u8) -> bool
 }
 
 /// Whether a letter stands first.
+#[inline(always)]
 fn begins_with_letter(bytes: &[u8]) -> bool
     ensures { result ≡ head_is is_letter bytes.now }
 {
@@ -22,6 +23,7 @@ fn begins_with_letter(bytes: &[u8]) -> bool
 }
 
 /// Whether the bytes begin with a tag.
+#[inline(always)]
 fn bytes_begin_tag(bytes: &[u8]) -> bool
     ensures { result ≡ reading.begins_tag bytes.now }
 {
@@ -38,6 +40,7 @@ fn bytes_begin_tag(bytes: &[u8]) -> bool
 }
 
 /// Whether a tag begins at byte `at` of the text: `<` or `</`, and a letter (#tag-open-state and #end-tag-open-state).
+#[inline(always)]
 pub fn begins_tag(text: &str, at: u32) -> bool
     requires { at ≤ length text.now }
     ensures { result ≡ reading.begins_tag (drop at text.now) }

@@ -25,6 +25,7 @@ pub(crate) enum ByteRun {
 }
 
 impl ByteRun {
+    #[inline(always)]
     #[tactic(auto, unfolding(crate::specs::TagPlaces::is_gap_byte, crate::specs::Tags::is_name_byte, crate::specs::Tags::is_later_byte, crate::specs::Tags::is_unquoted_byte, hm_base::specs::RawText::is_name_end))]
     pub(crate) fn has(self, byte: u8) -> bool
         ensures { result ≡ test_of self byte }
@@ -49,6 +50,7 @@ fn is_space(byte: u8) -> bool
 }
 
 /// Where the run ends that begins at `from`.
+#[inline(always)]
 pub(crate) fn run_end(bytes: &[u8], from: usize, run: ByteRun) -> usize
     requires { from ≤ length bytes.now }
     ensures { IsEndOf (test_of run) bytes.now from result }
@@ -62,6 +64,7 @@ pub(crate) fn run_end(bytes: &[u8], from: usize, run: ByteRun) -> usize
 
 /// Where the run of small letters, digits, `.`, `_`, `:` and `-` ends that begins at `from`. Most of it are letters, which are
 /// passed first.
+#[inline(always)]
 pub(crate) fn plain_run_end(bytes: &[u8], from: usize) -> usize
     requires { from ≤ length bytes.now }
     ensures { IsEndOf forms.is_tag_byte bytes.now from result }

@@ -10,6 +10,7 @@ use hm_tree::Token;
 
 /// Whether markup begins at byte `at` of ordinary text: a tag, a comment, a doctype, a CDATA section, or `</>`, which
 /// stands for nothing (#tag-open-state and #end-tag-open-state).
+#[inline(always)]
 pub fn begins_markup(text: &str, at: u32) -> bool
     requires { at ≤ length text.now }
     ensures { result ≡ texts.begins_markup (drop at text.now) }

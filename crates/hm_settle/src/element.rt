@@ -33,6 +33,7 @@ impl ElementName {
         }
     }
 
+    #[inline(always)]
     pub(crate) fn as_str(&self) -> &str
         ensures { result.now ≡ name_of self.now }
     {
@@ -83,6 +84,7 @@ impl Marks {
     }
 
     /// The marks at an element that opens where these are.
+    #[inline(always)]
     #[tactic(auto, unfolding(hm_elements::specs::Tables::is_unnested, hm_elements::specs::Tables::unnested_names, hm_elements::specs::Names::is_among))]
     pub(crate) fn at(&self, name: Named<'_>, foreign: bool) -> Marks
         ensures { (path : List Element) → self.now ≡ marks_of path → result ≡ marks_of (record { name = name.entry.name.now; foreign = foreign } ∷ path) }
@@ -135,6 +137,7 @@ impl Marks {
 }
 
 /// Whether a `p` with no boundary above it is open at an element that opens where one is or isn't.
+#[inline(always)]
 fn is_paragraph_open(name: Named<'_>, foreign: bool, outside: bool) -> bool
     ensures { result ≡ (bytes_eq name.entry.name.now p || (not (tables.is_boundary name.entry.name.now foreign) && outside)) }
 {
@@ -142,6 +145,7 @@ fn is_paragraph_open(name: Named<'_>, foreign: bool, outside: bool) -> bool
 }
 
 /// Whether a paragraph is never closed through an open element of this name, of HTML or of SVG.
+#[inline(always)]
 fn bounds(name: Named<'_>, foreign: bool) -> bool
     ensures { result ≡ tables.is_boundary name.entry.name.now foreign }
 {
@@ -154,6 +158,7 @@ fn bounds(name: Named<'_>, foreign: bool) -> bool
 
 /// Whether an element named `one`, which may not stand in one of its own name, is open at an element that opens where
 /// it is or isn't.
+#[inline(always)]
 fn is_open(name: Named<'_>, one: &str, outside: bool) -> bool
     requires one { tables.is_unnested one.now ≡ true }
     ensures { result ≡ (bytes_eq name.entry.name.now one.now || outside) }
@@ -162,6 +167,7 @@ fn is_open(name: Named<'_>, one: &str, outside: bool) -> bool
 }
 
 /// Whether the element is one of HTML that holds one text and nothing else.
+#[inline(always)]
 #[tactic(auto, using(hm_elements::proofs::ClassFacts::text_by_class))]
 fn holds_text(name: Named<'_>, foreign: bool) -> bool
     ensures { result ≡ (not foreign && tables.holds_text name.entry.name.now) }
@@ -179,6 +185,7 @@ pub(crate) struct OpenElement {
 
 impl OpenElement {
     /// The name with its kind, which the marks keep.
+    #[inline(always)]
     pub(crate) fn named(&self) -> Named<'_>
         requires { KeepsKind self.now }
         ensures { result.name.now ≡ name_of self.now.name }

@@ -32,6 +32,7 @@ pub(crate) struct MovePlan {
 }
 
 /// What is open at the innermost of these.
+#[inline(always)]
 pub(crate) fn marks(elements: &[OpenElement]) -> Marks
     requires { AreMarked [] elements.now }
     ensures { result ≡ marks_of (path_of elements.now) }
@@ -43,6 +44,7 @@ pub(crate) fn marks(elements: &[OpenElement]) -> Marks
 }
 
 /// What is open at an element of this name that opens on these.
+#[inline(always)]
 pub(crate) fn marks_on(elements: &[OpenElement], name: Named<'_>, foreign: bool) -> Marks
     requires { AreMarked [] elements.now }
     ensures { result ≡ marks_of (record { name = name.entry.name.now; foreign = foreign } ∷ path_of elements.now) }
@@ -127,6 +129,7 @@ fn left_by_start(elements: &[OpenElement], tag: Named<'_>) -> usize
 
 /// Whether the open element `current` closes before the start tag of an HTML element `next`. Of the parts of a table only
 /// `colgroup` closes before what isn't one, and a row doesn't close before its cells: that is told before rows are looked up.
+#[inline(always)]
 #[tactic(auto, using(crate::proofs::Yields::bound_yields, crate::proofs::Yields::row_stays))]
 fn closes_before(current: Named<'_>, next: Named<'_>) -> bool
     ensures { result ≡ nesting.yields current.entry.name.now next.entry.name.now }

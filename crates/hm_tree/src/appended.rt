@@ -11,6 +11,7 @@ use crate::sources::AttributeSource;
 use crate::{Attrs, AttrsView};
 
 // The bytes of names and values.
+#[inline(always)]
 pub(crate) fn text_len(attrs: &AttributeSource<'_>) -> usize
     requires { attributes_size (listed attrs.now) < 2 ^ 32 }
     ensures { result ≡ attributes_size (listed attrs.now) }
@@ -34,6 +35,7 @@ fn shown_len(attrs: &AttrsView<'_>) -> usize
 }
 
 // Appends attributes for which there is room, and returns the index of the first.
+#[inline(always)]
 pub(crate) fn append_attributes(
     text: &mut String,
     attributes: &mut Vec<AttributePieces>,
@@ -111,6 +113,7 @@ fn append_shown(
 }
 
 // Appends a text for which there is room.
+#[inline(always)]
 pub(crate) fn append(text: &mut String, more: &str) -> TextRange
     requires room { string_len text.old + length more.now ≤ string_capacity text.old }
     requires places { length (string_bytes text.old) + length more.now < 2 ^ 32 }

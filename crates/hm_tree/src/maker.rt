@@ -97,6 +97,7 @@ impl Maker {
         self.start_of(name, foreign, &AttributeSource::Element { attrs: *attrs })
     }
 
+    #[inline(always)]
     fn start_of(
         &mut self,
         name: &str,

@@ -128,6 +128,7 @@ impl Rows {
 
     // A start with more than 65,535 attributes is refused as memory is, since its row has two bytes for their number. A tag
     // that is read has at most 256.
+    #[inline(always)]
     pub(crate) fn push_start(
         &mut self,
         name: &str,

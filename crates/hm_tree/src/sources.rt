@@ -14,6 +14,7 @@ pub(crate) enum AttributeSource<'a> {
 }
 
 // How many attributes there are. Their names are distinct, and names and values are UTF-8.
+#[inline(always)]
 pub(crate) fn count(attrs: &AttributeSource<'_>) -> u32
     ensures len { result ≡ length (listed attrs.now) }
     ensures distinct { has_distinct_names (listed attrs.now) ≡ true }

@@ -111,6 +111,7 @@ impl TreeBuilder {
     }
 
     /// Takes a start tag (#parsing-main-inhtml). None is read inside an element that holds a text.
+    #[inline(always)]
     pub fn start_tag(
         &mut self,
         alloc: Global,
@@ -132,6 +133,7 @@ impl TreeBuilder {
     }
 
     /// Takes an end tag (#parsing-main-inhtml).
+    #[inline(always)]
     pub fn end_tag(&mut self, alloc: Global, name: &str) -> Result<(), BuildFault>
         requires { Fits (step self.old.state (tokens.end_tag name.now)) self.old.walk }
         ensures { Answers (step self.old.state (tokens.end_tag name.now)) result self.old self.new }

@@ -12,6 +12,7 @@ use hm_tree::{Attrs, Maker};
 use std::alloc::Global;
 
 /// Makes what is missing up to `body`, and closes `head` (#the-before-html-insertion-mode to #the-after-head-insertion-mode).
+#[inline(always)]
 pub(crate) fn make_missing(
     alloc: Global,
     maker: &mut Maker,

@@ -46,6 +46,7 @@ fn text_rule(insertion_mode: BuilderMode, path: &hm_settle::Path) -> Option<Rule
 }
 
 /// Whether any text stands as it is: in the body, where a text isn't only whitespace (#parsing-main-inbody).
+#[inline(always)]
 fn holds_any_text(insertion_mode: BuilderMode, path: &hm_settle::Path) -> bool
     ensures body { result ≡ true → insertion_mode ≡ BuilderMode.InBody }
     ensures plain { result ≡ true → paths.is_in_blank path.now ≡ false }

@@ -173,6 +173,7 @@ fn takes_only_blank(tag: Named<'_>) -> bool
 }
 
 /// The innermost of these.
+#[inline(always)]
 fn innermost(elements: &[OpenElement]) -> Option<&OpenElement>
     ensures path { MatchOption result (path_of elements.now ≡ [])
         (λ o. path_of elements.now ≡ element_of o.now ∷ path_of (take (length elements.now - 1) elements.now)) }

@@ -137,6 +137,7 @@ impl Path {
 
     /// Takes an end tag of this name: closes the elements whose ends it implies and its own, and makes
     /// nothing. It takes no memory; after a fault the path is unchanged.
+    #[inline(always)]
     pub fn end(&mut self, name: &str) -> Result<Moves, SettleFault>
         requires body { name.now ≢ body }
         requires html { name.now ≢ html }
@@ -221,6 +222,7 @@ fn push_made(elements: &mut Vec<OpenElement>, name: ElementName)
 }
 
 /// Opens an element of this kind, for which there is room.
+#[inline(always)]
 fn push(elements: &mut Vec<OpenElement>, name: ElementName, kind: &Kind, foreign: bool)
     requires marked { AreMarked [] elements.old.items }
     requires room { vec_len elements.old < vec_capacity elements.old }

@@ -1,5 +1,5 @@
 //! What values need, by the names of a table.
-ghost use Rattle.std.specs.Prelude.{◌≡◌, ◌<◌, ◌&&◌, List, false};
+ghost use Rattle.std.specs.Prelude.{◌≡◌, ◌<◌, ◌&&◌, List, false, IsTrue};
 ghost use Rattle.std.specs.List.{list_any};
 ghost use Rattle.std.specs.Str.{chars};
 ghost use Rattle.hm_edges.specs.Units as units;
@@ -168,12 +168,22 @@ fn has_quotes(bytes: &[u8]) -> bool
     memchr2(b'"', b'\'', bytes).is_some()
 }
 
+/// Whether the byte is known to be that of a character that may stand without quotes, as those of letters and digits are. Two
+/// ranges tell it.
+#[inline(always)]
+#[tactic(auto, unfolding(hm_spelling_spec::specs::Characters::is_barred, hm_base::specs::Bytes::is_space))]
+fn is_clear(byte: u8) -> bool
+    ensures { IsTrue result → spots.is_barred byte ≡ false }
+{
+    (byte > b'>' && byte != b'`') || (byte > b'\'' && byte < b'<')
+}
+
 /// Whether some byte is that of a character that may not stand without quotes.
 fn has_barred(bytes: &[u8]) -> bool
     ensures { result ≡ list_any spots.is_barred bytes.now }
 {
     for byte in bytes {
-        if is_barred(*byte as char) {
+        if !is_clear(*byte) && is_barred(*byte as char) {
             return true;
         }
     }

@@ -1,5 +1,5 @@
 -- Rows of plain characters.
-use Rattle.std.proofs.Common.{◌≡◌, ℕ, zero, suc, ◌<◌, Bool, List, [], length, get_or, take, Option, Some, None, sym, subst, refl, arith}
+use Rattle.std.proofs.Common.{◌≡◌, ℕ, zero, suc, ◌+◌, ◌<◌, Bool, List, [], length, get_or, take, Option, Some, None, sym, subst, refl, arith}
 use Rattle.std.proofs.Math.ListN.{replicate}
 use Rattle.std.proofs.lemmas.List.{take_more}
 use Rattle.std.proofs.lemmas.List.Elements.{All-push}
@@ -26,3 +26,12 @@ all_first P text some own = subst (All P) (sym (take_more text 0 0 some)) (All-p
 pub some_weaker : {A : Type 0} (o : Option A) (P Q : A → Type 0) → ((a : A) → P a → Q a) → IfSome o P → IfSome o Q
 some_weaker None P Q f is = tt
 some_weaker (Some a) P Q f is = f a is
+
+-- one more of a text
+all_more : (P : ℕ → Type 0) (text : List ℕ) (n m : ℕ) → m ≡ n + 1 → n < length text → P (get_or text n 0) → All P (take n text) → All P (take m text)
+all_more P text n m is within own are = subst (λ k. All P (take k text)) (sym is) (subst (All P) (sym (take_more text n 0 within)) (All-push P (take n text) (get_or text n 0) are own))
+
+-- four more
+pub all_four : (P : ℕ → Type 0) (text : List ℕ) (n : ℕ) → n + 4 < length text → P (get_or text n 0) → P (get_or text (n + 1) 0) → P (get_or text (n + 2) 0) → P (get_or text (n + 3) 0) → All P (take n text) → All P (take (n + 4) text)
+all_four P text n within a b c d are =
+    all_more P text (n + 3) (n + 4) (omega arith) (omega arith) d (all_more P text (n + 2) (n + 3) (omega arith) (omega arith) c (all_more P text (n + 1) (n + 2) (omega arith) (omega arith) b (all_more P text n (n + 1) refl (omega arith) a are)))

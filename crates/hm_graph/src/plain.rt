@@ -1,5 +1,5 @@
 //! Steps of plain characters, in rows.
-ghost use Rattle.std.specs.Prelude.{◌≡◌, ◌<◌, ◌≤◌, ℕ, Bool, length, take, slice_index_or, IfOk, IfSome, IsTrue};
+ghost use Rattle.std.specs.Prelude.{◌≡◌, ◌+◌, ◌<◌, ◌≤◌, ℕ, Bool, length, take, slice_index_or, IfOk, IfSome, IsTrue};
 ghost use Rattle.std.specs.List.{All};
 ghost use Rattle.hm_graph.specs.Interned.{IsKnown, IsRow, IsToward, Leads, InternedView, unknown};
 
@@ -27,6 +27,7 @@ pub(crate) struct Alike {
 }
 
 /// It isn't known where a character leads: no step has this number.
+#[inline(always)]
 fn no_step() -> Reached
     ensures { result ≡ unknown }
 {
@@ -37,6 +38,7 @@ fn no_step() -> Reached
 }
 
 /// Whether it is known where a character leads.
+#[inline(always)]
 fn is_known(to: Reached) -> bool
     ensures { IsTrue result → IsKnown to }
 {
@@ -44,6 +46,7 @@ fn is_known(to: Reached) -> bool
 }
 
 /// Where a character leads.
+#[inline(always)]
 fn step_at(steps: &[Reached], byte: u8) -> Reached
     ensures { result ≡ slice_index_or steps.now byte unknown }
 {
@@ -62,7 +65,27 @@ fn is_toward(steps: &[Reached], to: Reached, byte: u8) -> bool
     steps[byte as usize].number == to.number
 }
 
-/// How many characters at the start of a text lead where the first one does, each with another one after it.
+/// Whether the four characters of a text from a place on lead there.
+#[inline(always)]
+fn are_toward(steps: &[Reached], to: Reached, text: &[u8], from: usize) -> bool
+    requires wide { 256 ≤ length steps.now }
+    requires room { from + 4 < length text.now }
+    ensures { IsTrue result → All (IsToward steps.now to) (take from text.now) → All (IsToward steps.now to) (take (from + 4) text.now) }
+{
+    if !is_toward(steps, to, text[from]) {
+        return false;
+    }
+    if !is_toward(steps, to, text[from + 1]) {
+        return false;
+    }
+    if !is_toward(steps, to, text[from + 2]) {
+        return false;
+    }
+    is_toward(steps, to, text[from + 3])
+}
+
+/// How many characters at the start of a text lead where the first one does, each with another one after it. They are looked
+/// at by four, as far as all four lead there, and then one by one.
 #[inline(always)]
 fn alike_run(steps: &[Reached], to: Reached, text: &[u8]) -> usize
     requires wide { 256 ≤ length steps.now }
@@ -73,6 +96,9 @@ fn alike_run(steps: &[Reached], to: Reached, text: &[u8]) -> usize
     ensures toward { All (IsToward steps.now to) (take result text.now) }
 {
     let mut count = 1;
+    'fours: while count + 4 < text.len() && are_toward(steps, to, text, count) {
+        count += 4;
+    }
     while count + 1 < text.len() && is_toward(steps, to, text[count]) {
         count += 1;
     }
@@ -104,6 +130,7 @@ impl PlainRow {
     }
 
     /// Whether it is of this list.
+    #[inline(always)]
     pub(crate) fn is_of(&self, list: u32, kind: TextKind) -> bool
         ensures list { IsTrue result → self.now.list ≡ list }
         ensures kind { IsTrue result → self.now.kind ≡ kind }
@@ -121,6 +148,7 @@ impl PlainRow {
     }
 
     /// Where a character leads, if it is known.
+    #[inline(always)]
     pub(crate) fn step(&self, c: char) -> Option<Reached>
         ensures { IfSome result (λ to. (m : InternedView) (more : Bool) → IsRow m more self.now → Leads m self.now.list self.now.kind more to c) }
     {
@@ -174,6 +202,7 @@ pub(crate) fn no_rows(alloc: Global) -> Result<Vec<PlainRow>, Memory>
 }
 
 /// A number for such texts.
+#[inline(always)]
 fn kind_place(kind: TextKind) -> u32 {
     match kind {
         TextKind::Text => 0,
@@ -184,11 +213,13 @@ fn kind_place(kind: TextKind) -> u32 {
 }
 
 /// The place of the row of a list.
+#[inline(always)]
 pub(crate) fn row_place(list: u32, kind: TextKind) -> usize {
     (list.wrapping_mul(4) ^ kind_place(kind)) as usize % ROWS
 }
 
 /// The row of a list, if it is there.
+#[inline(always)]
 pub(crate) fn row_of(rows: &[PlainRow], list: u32, kind: TextKind) -> Option<&PlainRow>
     ensures list { IfSome result (λ row. row.now.list ≡ list) }
     ensures kind { IfSome result (λ row. row.now.kind ≡ kind) }

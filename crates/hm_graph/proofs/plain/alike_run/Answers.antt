@@ -6,8 +6,11 @@ use Rattle.hm_graph.specs.Interned.{IsToward}
 use Rattle.hm_graph.proofs.PlainRows.{all_first}
 use Rattle.hm_graph.proofs.plain.alike_run.Goals as goal
 
-pub loop-count-init : goal.loop-count-init
-loop-count-init c = (omega arith, (c.requires.some, all_first (IsToward c.args.steps.now c.args.to) c.args.text.now (omega (arith, c.requires.some)) c.requires.first))
+pub fours-init : goal.fours-init
+fours-init c = (omega arith, (c.requires.some, all_first (IsToward c.args.steps.now c.args.to) c.args.text.now (omega (arith, c.requires.some)) c.requires.first))
+
+pub fours-preserved : goal.fours-preserved
+fours-preserved c = (omega arith, (omega (arith, c.fours-test.true), c.if-are_toward.ensures refl c.fours.invariant.1.1))
 
 pub loop-count-preserved : goal.loop-count-preserved
 loop-count-preserved c =

@@ -73,6 +73,7 @@ impl<'t> Model for Interned<'t> {
 const HINTS: usize = 4096;
 
 /// The need as a number below three.
+#[inline(always)]
 fn need_number(need: Need) -> u32 {
     match need {
         Need::Absent => 0,
@@ -82,11 +83,13 @@ fn need_number(need: Need) -> u32 {
 }
 
 /// A number of four bits for what a value needs. Few values need both kinds of quotes.
+#[inline(always)]
 fn needs_number(needs: Needs) -> u32 {
     need_number(needs.double) ^ need_number(needs.single) << 1 ^ need_number(needs.other) << 2
 }
 
 /// The place of the hint for a list and a unit.
+#[inline(always)]
 fn hint_place(list: u32, unit: &Unit) -> usize {
     let own = match *unit {
         Unit::Character {
@@ -250,6 +253,7 @@ impl<'t> Interned<'t> {
     }
 
     /// The number of the list after a step.
+    #[inline(always)]
     pub(crate) fn behind(&self, number: u32) -> u32
         requires { number < length self.now.steps }
         ensures { result ≡ (made_at self.now number).behind }
@@ -292,6 +296,7 @@ impl<'t> Interned<'t> {
     }
 
     /// The number of the step of this list and unit, where they are at this place of the memo.
+    #[inline(always)]
     fn memo_at(&self, place: u32, list: u32, unit: &Unit) -> Option<u32>
         ensures { IfSome result (IsStepOf self.now list unit.now) }
     {
@@ -304,6 +309,7 @@ impl<'t> Interned<'t> {
     }
 
     /// The number of the step of this list and unit, where they are found by their hint.
+    #[inline(always)]
     fn hinted(&self, list: u32, unit: &Unit) -> Option<u32>
         ensures { IfSome result (IsStepOf self.now list unit.now) }
     {
@@ -401,6 +407,7 @@ impl<'t> Interned<'t> {
     }
 
     /// The step of a unit from the states of a list that has no hint: an earlier one, or one that is made.
+    #[inline(never)]
     fn step_without_hint(&mut self, front: Front) -> Result<u32, Memory>
         requires { front.list < length self.old.lists }
         ensures step { IfOk result (IsStepOf self.new front.list front.unit) }
@@ -413,6 +420,7 @@ impl<'t> Interned<'t> {
     }
 
     /// The step of a unit from the states of a list: an earlier one, or one that is made.
+    #[inline(always)]
     pub(crate) fn step(&mut self, list: u32, unit: &Unit) -> Result<u32, Memory>
         requires { list < length self.old.lists }
         ensures step { IfOk result (IsStepOf self.new list unit.now) }
@@ -491,6 +499,7 @@ impl<'t> Interned<'t> {
     }
 
     /// Where the step of the last character of a text leads from the states of a list, if it is kept.
+    #[inline(always)]
     fn kept_last(&self, list: u32, kind: TextKind, c: char) -> Option<Reached>
         ensures { IfSome result (λ to. Leads self.now list kind false to c) }
     {
@@ -499,6 +508,7 @@ impl<'t> Interned<'t> {
     }
 
     /// The same, found as that of any unit. It is kept, where it can be.
+    #[inline(never)]
     fn found_last(&mut self, list: u32, kind: TextKind, c: char) -> Result<Reached, Memory>
         requires { list < length self.old.lists }
         ensures step { IfOk result (λ to. IsStepOf self.new list (Character kind c None false) to.number) }
@@ -519,6 +529,7 @@ impl<'t> Interned<'t> {
     }
 
     /// Where the step of the last character of a text leads from the states of a list.
+    #[inline(always)]
     pub(crate) fn last_step(
         &mut self,
         list: u32,

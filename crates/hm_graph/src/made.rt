@@ -38,6 +38,7 @@ pub(crate) struct Reached {
 }
 
 /// Whether the two are equal.
+#[inline(always)]
 pub(crate) fn is_kind(one: TextKind, other: TextKind) -> bool
     ensures { IsTrue result → one ≡ other }
 {
@@ -45,6 +46,7 @@ pub(crate) fn is_kind(one: TextKind, other: TextKind) -> bool
 }
 
 /// Whether the two are equal.
+#[inline(always)]
 fn is_unit(one: &Unit, other: &Unit) -> bool
     ensures { IsTrue result ↔ (one.now ≡ other.now) }
 {
@@ -53,6 +55,7 @@ fn is_unit(one: &Unit, other: &Unit) -> bool
 
 impl KnownStep {
     /// Whether it is of this unit from this list.
+    #[inline(always)]
     pub(crate) fn is_from(&self, list: u32, unit: &Unit) -> bool
         ensures list { IsTrue result → self.now.list ≡ list }
         ensures unit { IsTrue result → self.now.unit ≡ unit.now }

@@ -113,6 +113,7 @@ wants 'the first call builds: exit status' is "$status" 3
 wants 'the first call builds: output' is "$(cat out)" "<tree><a b><>$room"
 wants 'in a copy, of the crates of the program, without edits and earlier builds' is "$(cat calls)" \
     'ci hm_base hm_tree hminify, Handles allowed: none., 0 more'
+wants 'how many crates at a time' grep -qE 'proving 3 crates, [1-9][0-9]* at a time$' err
 wants 'how many crates are proved is told' says 'hminify: proved 3 of 3, 0:0'
 call "$top/hminify" x
 wants 'the next call builds nothing' is "$(builds)" 1

@@ -24,8 +24,9 @@ from walks import BUILT, FLAGS, HERE, RAW, TABLE, VOID, Second, content, got, li
 
 FRONT = b"<!doctype html><body>"
 with open(os.path.join(HERE, "../tables/entities.json"), "rb") as entities:
-    # with the third one the second program takes long, so it comes less often
-    TABLES = {"none": (None, 0.4), "table": (TABLE, 0.4), "entities.json": (entities.read(), 0.2)}
+    TABLES = {"none": None, "table": TABLE, "entities.json": entities.read()}
+# With the third one the second program takes long, so it comes less often.
+SHARES = [0.4, 0.4, 0.2]
 OPTIONAL = ["p", "li", "dt", "dd", "td", "th", "tr", "tbody", "thead", "tfoot", "option", "optgroup", "colgroup", "caption"]
 BEHIND_BODY = [b"", b"", b" ", b"\n", b"<!--c-->", b"x", b"</html>", b"<p>", b"</body>"]
 PIECES = [
@@ -150,10 +151,10 @@ class Reader(Second):
 
 
 class Both:
-    """The second program and the one that was built, over the same files."""
+    """The second program and the one that was built, over the same files. The tables stand in the folder, each with its name."""
 
-    def __init__(self, second, program, folder):
-        self.second, self.program, self.folder = second, program, folder
+    def __init__(self, second, program, folder, tables):
+        self.second, self.program, self.folder, self.tables = second, program, folder, tables
         self.differ, self.asked, self.lines = 0, 0, collections.Counter()
 
     def told(self, words, files):
@@ -170,7 +171,7 @@ class Both:
     def ends(self, place, words, files):
         """How a run ends by the program. Where the second program ends otherwise, that is told."""
         given = self.told(words, files)
-        table = TABLES[words[1]][0]
+        table = self.tables[words[1]]
         wanted = self.second.told(words, files if table is None else dict(files, **{words[1]: table}))
         line = given[1].decode("utf-8", "replace").strip()
         self.lines[words[0] + ": " + re.sub(r"(?<!^no )\b\d+", "N", line)] += 1
@@ -179,6 +180,13 @@ class Both:
             self.differ += 1
             print("%s: %s gives %r, wanted %r, on %r" % (place, " ".join(words), given, wanted, files.get("page")))
         return given
+
+
+def put_tables(folder, tables):
+    """Writes the tables that are files."""
+    for name, data in tables.items():
+        if data is not None:
+            put(folder, name, data)
 
 
 def flags_for(dice):
@@ -194,7 +202,7 @@ def flags_for(dice):
 def try_one(dice, both, place, other):
     """One fragment by both programs, and the checks of what it leaves: OUT and CERT, where it is written, else those of before."""
     page, flags = fragment(dice), flags_for(dice)
-    table = dice.choices(list(TABLES), [share for _, share in TABLES.values()])[0]
+    table = dice.choices(list(TABLES), SHARES)[0]
     names = [table, "page", "out", "cert"]
     status, said, out, cert = both.ends(place, ["fragment"] + names + flags, {"page": page})
     if status:
@@ -226,10 +234,8 @@ def main():
     dice = random.Random(seed)
     left = (b"<p>a", b"html-cert 3\nrules omit frame\n25\n0\n")
     with tempfile.TemporaryDirectory(prefix="hminify-fragments-") as folder:
-        both = Both(second, program, folder)
-        for name, (data, _) in TABLES.items():
-            if data is not None:
-                put(folder, name, data)
+        put_tables(folder, TABLES)
+        both = Both(second, program, folder, TABLES)
         for turn in range(count):
             left = try_one(dice, both, "seed %d turn %d" % (seed, turn), left)
     for line, times in sorted(both.lines.items()):

@@ -17,7 +17,7 @@ import subprocess
 import sys
 import tempfile
 
-from fragments import TABLES, Both, Reader, attribute
+from fragments import SHARES, TABLES, Both, Reader, attribute, put_tables
 from walks import BUILT, FLAGS, got, put
 
 NAMES = ["id", "class", "href", "title", "alt", "d", "x", "y", "lang", "data-a", "name", "value", "hidden", "style", "rel", "type", "method"]
@@ -56,7 +56,7 @@ def flags_for(dice):
 
 
 def table_for(dice):
-    return dice.choices(list(TABLES), [share for _, share in TABLES.values()])[0]
+    return dice.choices(list(TABLES), SHARES)[0]
 
 
 def try_one(dice, both, place):
@@ -122,11 +122,9 @@ def main():
     dice = random.Random(seed)
     bad = 0
     with tempfile.TemporaryDirectory(prefix="hminify-order-") as folder:
-        for name, (data, _) in TABLES.items():
-            if data is not None:
-                put(folder, name, data)
+        put_tables(folder, TABLES)
         if words[0] != "-":
-            both = Both(Reader(words[0]), program, folder)
+            both = Both(Reader(words[0]), program, folder, TABLES)
             for turn in range(count):
                 try_one(dice, both, "seed %d turn %d" % (seed, turn))
             for line, times in sorted(both.lines.items()):

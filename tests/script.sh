@@ -38,11 +38,12 @@ says_nothing() {
     [ ! -s "$room/err" ]
 }
 
+# How often all crates of the program were built.
 builds() {
-    grep -c '^ci ' "$room/calls"
+    grep -c '^ci hm_base hm_refs hm_tree hminify, ' "$room/calls"
 }
 
-# A repository of three crates and one that the program isn't made of, each with edits that must fail and with what an earlier build
+# A repository of four crates and one that the program isn't made of, each with edits that must fail and with what an earlier build
 # left. Its rt notes each call with the crates that it finds, fails at a crate with a file `bad`, leaves a broken program and fails at
 # one with a file `worse`, sleeps for the seconds that a file `slow` has, and leaves a program. It tells of a crate that it met before
 # that it is kept. Its program prints its words and its folder, and ends with 3. What it tries prints its words, says a line on
@@ -52,8 +53,8 @@ repository() {
     top="$room/a place/of mine"
     mkdir -p "$top/bin"
     cp "$here/hminify" "$top/hminify"
-    printf '%s\n' '# crates' 'hm_tree: hm_base std' 'hm_cases: hm_tree' 'hminify may_abort=2: hm_tree hm_base' 'hm_base:' >"$top/crates.txt"
-    for crate in hm_base hm_tree hminify hm_cases; do
+    printf '%s\n' '# crates' 'hm_tree: hm_base std' 'hm_cases: hm_tree' 'hminify may_abort=2: hm_tree hm_refs' 'hm_base:' 'hm_refs: hm_base' >"$top/crates.txt"
+    for crate in hm_base hm_refs hm_tree hminify hm_cases; do
         mkdir -p "$top/crates/$crate/src" "$top/crates/$crate/must-fail" "$top/crates/$crate/out"
         echo '// a line' >"$top/crates/$crate/src/lib.rt"
         : >"$top/crates/$crate/must-fail/an.edit"
@@ -111,10 +112,12 @@ repository
 call "$top/hminify" tree 'a b' ''
 wants 'the first call builds: exit status' is "$status" 3
 wants 'the first call builds: output' is "$(cat out)" "<tree><a b><>$room"
-wants 'in a copy, of the crates of the program, without edits and earlier builds' is "$(cat calls)" \
-    'ci hm_base hm_tree hminify, Handles allowed: none., 0 more'
-wants 'how many crates at a time' grep -qE 'proving 3 crates, [1-9][0-9]* at a time$' err
-wants 'how many crates are proved is told' says 'hminify: proved 3 of 3, 0:0'
+wants 'in a copy, of the crates of the program, without edits and earlier builds' is "$(head -n 1 calls)" \
+    'ci hm_tree hm_refs hm_base hm_refs hm_tree hminify, Handles allowed: none., 0 more'
+wants 'first those that most wait for, then all but the last two, then all' is "$(sed 's/ hm_base hm_refs hm_tree hminify, .*//' calls | tr '\n' ';')" \
+    'ci hm_tree hm_refs;ci hm_base hm_tree;ci;'
+wants 'how many crates at a time' grep -qE 'proving 4 crates, [1-9][0-9]* at a time$' err
+wants 'how many crates are proved is told' says 'hminify: proved 4 of 4, 0:0'
 call "$top/hminify" x
 wants 'the next call builds nothing' is "$(builds)" 1
 wants 'the next call says nothing' says_nothing
@@ -146,7 +149,7 @@ wants 'a newer source: nothing is built' is "$(builds)" 1
 wants 'a newer source: output and status' is "$(cat out)$status" "<x>${room}3"
 call "$top/hminify" --build
 wants '--build builds and runs nothing' is "$(builds)$status$(cat out)" 20
-wants '--build: a crate that is kept counts too' says 'hminify: proved 3 of 3, 0:0'
+wants '--build: a crate that is kept counts too' says 'hminify: proved 4 of 4, 0:0'
 call "$top/hminify" x
 wants 'what changed since the build began is still newer' says 'crates/hm_tree/src/lib.rt; to build it again'
 touch "$top/crates/hm_tree/src/lib.rt"
@@ -236,7 +239,7 @@ wants '--try: what rt refuses is said' says 'error: no such name'
 
 repository
 mkdir "$room/no_rt"
-for tool in sh awk basename cat chmod cp date dirname find flock grep head mkdir mktemp mv pwd readlink rm sed sleep tail touch tr wc; do
+for tool in sh awk basename cat chmod cp date dirname find flock grep head mkdir mktemp mv pwd readlink rm sed sleep sort tail touch tr wc; do
     ln -s "$(command -v "$tool")" "$room/no_rt/$tool"
 done
 call env PATH="$room/no_rt" "$top/hminify" x

@@ -113,9 +113,9 @@ call "$top/hminify" tree 'a b' ''
 wants 'the first call builds: exit status' is "$status" 3
 wants 'the first call builds: output' is "$(cat out)" "<tree><a b><>$room"
 wants 'in a copy, of the crates of the program, without edits and earlier builds' is "$(head -n 1 calls)" \
-    'ci hm_tree hm_refs hm_base hm_refs hm_tree hminify, Handles allowed: none., 0 more'
-wants 'first those that most wait for, then all but the last two, then all' is "$(sed 's/ hm_base hm_refs hm_tree hminify, .*//' calls | tr '\n' ';')" \
-    'ci hm_tree hm_refs;ci hm_base hm_tree;ci;'
+    'ci hm_base hm_base hm_refs hm_tree hminify, Handles allowed: none., 0 more'
+wants 'first the lowest crate, then all but the last two, then all' is "$(sed 's/ hm_base hm_refs hm_tree hminify, .*//' calls | tr '\n' ';')" \
+    'ci hm_base;ci hm_base hm_tree;ci;'
 wants 'how many crates at a time' grep -qE 'proving 4 crates, [1-9][0-9]* at a time$' err
 wants 'how many crates are proved is told' says 'hminify: proved 4 of 4, 0:0'
 call "$top/hminify" x

@@ -88,6 +88,10 @@ found_below last steps k found row few some is =
 
 -- ---- The first price
 
+-- there is one row more than steps
+pub found_count : (last : ℕ) (stretch same : List KeptView) (found : List Row) → same ≡ stretch → AreFound last (steps_in same) 0 found → length found ≡ length stretch + 1
+found_count last stretch same found e h = omega (arith, ap length e, length-map same (λ (x : KeptView). x.step), h.count)
+
 -- the only price of the first row, which isn't too great
 pub record IsOne (last : ℕ) (steps : List Step) (price : ℕ) : Type 0 where
   pub is : IsOnePrice last steps price

@@ -1,5 +1,6 @@
 pub mod Walking
 pub mod Prices
+pub mod Rows
 pub mod FromLast
 pub mod FirstWay
 mod Forced

@@ -1,13 +1,21 @@
-use Rattle.std.proofs.Common.{◌≡◌, ◌∙◌, ◌+◌, ◌-◌, ◌<◌, ◌≤◌, ◌^◌, length, map, sym, subst, ap, arith}
+use Rattle.std.proofs.Common.{◌≡◌, ◌∙◌, ◌+◌, ◌-◌, ◌<◌, ◌^◌, ◌∷◌, ◌++◌, drop, length, map, sym, subst, ap, arith}
 use Rattle.std.proofs.lemmas.List.{length-map}
 use Rattle.hm_cert.specs.Layout.{told}
-use Rattle.hm_graph.specs.Graphs.{IsLowStep}
-use Rattle.hm_graph.specs.Prices.{row_over}
+use Rattle.hm_graph.specs.Graphs.{AreLow, IsLowStep}
+use Rattle.hm_graph.specs.Prices.{row_over, zeros}
 use Rattle.std.specs.Prelude.{[], slice_index_or}
-use Rattle.hm_plan.proofs.Found.{IsFoundFrom, found_below, found_more}
+use Rattle.hm_plan.proofs.Found.{IsFoundFrom, found_below, found_last, found_more}
 use Rattle.hm_plan.proofs.FromLast.{are_below}
-use Rattle.hm_plan.specs.Stretches.{KeptView, steps_in}
+use Rattle.hm_plan.specs.Stretches.{AreFound, KeptView, steps_in}
 use Rattle.hm_plan.proofs.stretches.find_rows.Goals as goal
+
+pub loop-k-init : goal.loop-k-init
+loop-k-init c =
+    let stretch = c.args.stretch.now in
+    let row = map told c.deref.result.now in
+    let is : row ≡ zeros c.args.last = ap (map told) c.deref.ensures.value ∙ c.in_ok-zero_each.ensures in
+    subst (IsFoundFrom c.args.last (steps_in stretch) (length stretch)) (sym (c.in_ok-push_row.ensures.ok ∙ ap (λ rows. rows ++ row ∷ []) c.clear.ensures))
+    (subst (λ n. IsFoundFrom c.args.last (steps_in stretch) n (row ∷ [])) (length-map stretch (λ (x : KeptView). x.step)) (found_last c.args.last (steps_in stretch) row is))
 
 pub row_before-requires-clause-below : goal.row_before-requires-clause-below
 row_before-requires-clause-below c =
@@ -31,3 +39,9 @@ loop-k-preserved c =
     subst (IsFoundFrom c.args.last (steps_in stretch) (k - 1)) (sym c.in_ok-push_row-2.ensures.ok)
     (found_more c.args.last stretch (k - 1) kept found row front (omega arith) c.index-stretch-k.is low (subst (λ n. IsFoundFrom c.args.last (steps_in stretch) n found) next c.loop-k.invariant)
     (c.row.ensures ∙ ap (λ n. slice_index_or found (n - 1) []) c.rows.ensures) over)
+
+pub returns-clause-found : goal.returns-clause-found
+returns-clause-found c = let all : c.loop-k.k ≡ 0 = omega (arith, c.loop-k-test.false) in subst (λ k. AreFound c.args.last (steps_in c.args.stretch.now) k c.loop-k.found) all c.loop-k.invariant.rows
+
+pub returns-clause-low : goal.returns-clause-low
+returns-clause-low c = let all : c.loop-k.k ≡ 0 = omega (arith, c.loop-k-test.false) in subst (λ k. AreLow (drop k (steps_in c.args.stretch.now))) all c.loop-k.invariant.low

@@ -1,10 +1,13 @@
-use Rattle.std.proofs.Common.{◌≡◌, ◌∙◌, ◌+◌, ◌++◌, ◌∷◌, [], Bool, true, false, not, map, sym, subst, ap, refl}
+use Rattle.std.proofs.Common.{◌≡◌, ◌∙◌, ◌+◌, map, sym, subst, ap, refl}
 use Rattle.hm_cert.specs.Layout.{told}
 use Rattle.hm_graph.specs.Steps.{is_forced}
 use Rattle.hm_plan.specs.Stretches.{placed}
-use Rattle.hm_plan.proofs.Found.{RowsKept, row_forced, row_kept}
+use Rattle.hm_plan.proofs.Found.{RowsKept, row_forced, row_kept, rows_all}
 use Rattle.hm_plan.proofs.stretches.keep_rows.Goals.{else-not-is_forced, then-not-is_forced+in_ok-place_row+in_ok-push_row}
 use Rattle.hm_plan.proofs.stretches.keep_rows.Goals as goal
+
+pub loop-k-init : goal.loop-k-init
+loop-k-init c = λ last at. refl
 
 pub loop-k-preserved : goal.loop-k-preserved
 loop-k-preserved c =
@@ -21,3 +24,6 @@ loop-k-preserved c =
       | else-not-is_forced w ↦ subst (RowsKept stretch found c.args.top c.args.rows.now (l.k + 1)) (sym w.rows-is)
           (row_forced stretch found c.args.top c.args.rows.now l.rows l.k kept c.loop-k-test.true c.index-stretch-k.is (sym forced ∙ w.if-not-is_forced.false) l.invariant)
     ]
+
+pub returns : goal.returns
+returns c = rows_all c.args.stretch.now c.args.found.now c.args.top c.args.rows.now c.loop-k.rows c.loop-k.k c.loop-k-test.false c.loop-k.invariant

@@ -1,11 +1,13 @@
-use Rattle.std.proofs.Common.{◌≡◌, ◌∙◌, ◌+◌, ◌<◌, ◌^◌, ◌++◌, ℕ, List, [], ◌∷◌, Some, length, map, refl, sym, subst, ap, arith, slice_index_or}
+use Rattle.std.proofs.Common.{◌≡◌, ◌∙◌, ◌+◌, ◌^◌, ◌++◌, ℕ, [], length, map, refl, sym, subst, ap, arith, slice_index_or}
 use Rattle.hm_base.specs.declared.plain.Format.TheVariants.{Three}
 use Rattle.hm_cert.specs.Layout.{told}
-use Rattle.hm_graph.specs.Graphs.{AreLow}
 use Rattle.hm_graph.specs.Joined.{kept_rows}
-use Rattle.hm_plan.proofs.Found.{IsOne, all_up_to, one_is}
-use Rattle.hm_plan.specs.Stretches.{AreFound, KeptView, own_way, owns_in, placed, steps_in}
+use Rattle.hm_plan.proofs.Found.{all_up_to, found_count, one_is}
+use Rattle.hm_plan.specs.Stretches.{AreFound, own_way, owns_in, placed, steps_in}
 use Rattle.hm_plan.proofs.direct.DirectWay.settle.Goals as goal
+
+pub find_rows-requires : goal.find_rows-requires
+find_rows-requires c = omega (arith, ap length c.deref.ensures.value, c.if-len-ge-FEW.false, c.len.ensures, c.args.self.now.stretch.ok.0)
 
 pub overflow_add-self : goal.overflow_add-self
 overflow_add-self c =
@@ -13,6 +15,9 @@ overflow_add-self c =
     let one = one_is c.args.last kept c.deref.result.now c.find_rows.new.found (map told c.row.result.now) c.in-Some.price c.deref.ensures.value (omega (arith, c.if-len-ge-FEW.false, c.len.ensures, c.args.self.now.stretch.ok.0)) c.in_ok-find_rows.ensures.found c.in_ok-find_rows.ensures.low
     (c.row.ensures ∙ ap (λ n. slice_index_or c.find_rows.new.found n []) (omega (arith, c.len-2.ensures, c.args.self.now.stretch.ok.0))) c.in-Some.ensures in
     omega (arith, one.low, c.if-self-ge-MOST.false)
+
+pub write_way-requires-clause-count : goal.write_way-requires-clause-count
+write_way-requires-clause-count c = found_count c.args.last c.deref-2.result.now c.deref.result.now c.find_rows.new.found (c.deref.ensures.value ∙ sym c.deref-2.ensures.value) c.in_ok-find_rows.ensures.found
 
 pub write_way-requires-clause-below : goal.write_way-requires-clause-below
 write_way-requires-clause-below c =
@@ -24,6 +29,9 @@ overflow_add-self-2 c =
     let one = one_is c.args.last kept c.deref.result.now c.find_rows.new.found (map told c.row.result.now) c.in-Some.price c.deref.ensures.value (omega (arith, c.if-len-ge-FEW.false, c.len.ensures, c.args.self.now.stretch.ok.0)) c.in_ok-find_rows.ensures.found c.in_ok-find_rows.ensures.low
     (c.row.ensures ∙ ap (λ n. slice_index_or c.find_rows.new.found n []) (omega (arith, c.len-2.ensures, c.args.self.now.stretch.ok.0))) c.in-Some.ensures in
     omega (arith, one.low, c.if-self-ge-MOST.false)
+
+pub keep_rows-requires-clause-count : goal.keep_rows-requires-clause-count
+keep_rows-requires-clause-count c = found_count c.args.last c.deref-3.result.now c.deref.result.now c.find_rows.new.found (c.deref.ensures.value ∙ sym c.deref-3.ensures.value) c.in_ok-find_rows.ensures.found
 
 pub keep_rows-requires-clause-top : goal.keep_rows-requires-clause-top
 keep_rows-requires-clause-top c =

@@ -1,6 +1,6 @@
 use Rattle.std.proofs.Common.{◌∙◌, ◌++◌, map, ap, arith}
 use Rattle.std.proofs.lemmas.List.{take_all}
-use Rattle.hm_cert.specs.Certificate.{row_line, row_lines}
+use Rattle.hm_cert.specs.Certificate.{row_lines}
 use Rattle.hm_cert.specs.Layout.{told}
 use Rattle.hm_plan.proofs.Whole.{lines_more}
 use Rattle.hm_plan.specs.Stretches.{placed}

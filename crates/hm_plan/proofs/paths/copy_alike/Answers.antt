@@ -2,10 +2,11 @@ use Rattle.std.proofs.Common.{◌∙◌, ℕ, ◌-◌, ◌++◌, [], get_or, cha
 use Rattle.std.specs.Str.{IsAscii}
 use Rattle.hm_graph.proofs.Characters.{ascii_boundary, some_chars}
 use Rattle.hm_graph.specs.Graphs.{GraphView}
+use Rattle.hm_graph_laws.specs.Units.{character_units}
 use Rattle.hm_plan.specs.CopiedRuns.{AreCopied, IsCopied}
 use Rattle.hm_plan.specs.Paths.{GoesOver}
 use Rattle.hm_plan.specs.declared.paths.WrittenWay.{WrittenWay}
-use Rattle.hm_plan.proofs.Walking.{front_copied}
+use Rattle.hm_plan.proofs.Walking.{front_copied, goes_none}
 use Rattle.hm_plan.proofs.paths.copy_alike.Goals as goal
 
 pub step-requires-clause-inside : goal.step-requires-clause-inside
@@ -16,6 +17,12 @@ range_from-requires c = λ some.
     let n : ℕ = c.next_alike-at.result.layer - c.args.way.now.at.layer in
     let ascii : IsAscii (take n c.args.text.now) = subst (λ b. IsAscii (take n b)) c.as_bytes.ensures.value c.if-not-is_ascii.ensures.cases in
     ascii_boundary c.args.text.now n c.utf8.text (omega (arith, c.next_alike-at.ensures.layer.1)) ascii
+
+pub returns-then-not-is_copied-clause-goes : goal.returns-then-not-is_copied-clause-goes
+returns-then-not-is_copied-clause-goes c = λ kind. goes_none c.args.graph.now (character_units kind (chars c.args.text.now)) c.args.way.now c.requires.on
+
+pub returns-then-not-is_ascii-clause-goes : goal.returns-then-not-is_ascii-clause-goes
+returns-then-not-is_ascii-clause-goes c = λ kind. goes_none c.args.graph.now (character_units kind (chars c.args.text.now)) c.args.way.now c.requires.on
 
 pub returns-clause-goes : goal.returns-clause-goes
 returns-clause-goes c =

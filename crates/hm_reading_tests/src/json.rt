@@ -3,11 +3,15 @@
 use hm_json_tree::{JsonShown, read_tree, write_tree};
 use hm_store::MemSink;
 use std::alloc::{AllocError, Global};
+use std::process::Abort;
 use std::test::Fail;
 
-/// The events of a page up to its body.
+/// The start of a page's array and its events up to the body.
 const FRONT: &str =
-    "[\"doctype\",\"plain\"],[\"start\",\"html\",[]],[\"start\",\"head\",[]],[\"end\"],[\"start\",\"body\",[]]";
+    "[[\"doctype\",\"plain\"],[\"start\",\"html\",[]],[\"start\",\"head\",[]],[\"end\"],[\"start\",\"body\",[]],";
+
+/// The last events of a page, and the end of its array.
+const BACK: &str = ",[\"end\"],[\"end\"]]";
 
 /// A page of an element with an attribute, two texts and a void element.
 const PAGE: &str =
@@ -21,245 +25,138 @@ fn outcome(alloc: Global, bytes: &[u8]) -> Result<String, AllocError> {
     }
 }
 
+/// Asserts what reading the bytes ends with. A failure is told with the label.
+fn expect_outcome(rt: &impl Abort, alloc: Global, label: &str, bytes: &[u8], wanted: &str) {
+    match outcome(alloc, bytes) {
+        Ok(found) => assert!(rt; found.as_str() == wanted, "at {label}: {found}"),
+        Err(_) => assert!(rt; false, "memory"),
+    }
+}
+
 /// A page whose body has these items.
 fn page_of(alloc: Global, items: &str) -> Result<String, AllocError> {
-    format!(in alloc; "[{FRONT},{items},[\"end\"],[\"end\"]]")
+    let mut page = String::from_str(alloc, FRONT)?;
+    page.push_str(items)?;
+    page.push_str(BACK)?;
+    Ok(page)
 }
+
+/// Asserts what reading a page with these items in its body ends with.
+fn expect_body(rt: &impl Abort, alloc: Global, items: &str, wanted: &str) {
+    match page_of(alloc, items) {
+        Ok(page) => expect_outcome(rt, alloc, items, page.as_bytes(), wanted),
+        Err(_) => assert!(rt; false, "memory"),
+    }
+}
+
+/// The items of a body before ` ⇒ ` in each line, and after it what reading their page ends with.
+const BODIES: &str = "\
+    [\"start\",\"p\",[[\"id\",\"x\"]]],[\"text\",\"a\"],[\"start\",\"br\",[]],[\"end\"],[\"text\",\"b\"],[\"end\"] ⇒ ok\n\
+    [\"comment\",\"c\"] ⇒ ok\n\
+    [\"start\",\"li\",[]],[\"text\",\"a\"],[\"end\"] ⇒ NotSettled event 5 point 3\n\
+    [\"start\",\"p\",[]],[\"start\",\"div\",[]],[\"end\"],[\"end\"] ⇒ NotSettled event 6 point 3\n\
+    [\"start\",\"a\",[]],[\"start\",\"b\",[]],[\"start\",\"a\",[]],[\"end\"],[\"end\"],[\"end\"] ⇒ NotSettled event 7 point 3\n\
+    [\"start\",\"p\",[]],[\"start\",\"p\",[]],[\"end\"],[\"end\"] ⇒ NotSettled event 6 point 3\n\
+    [\"start\",\"P\",[]],[\"end\"] ⇒ NotSettled event 5 point 3\n\
+    [\"start\",\"body\",[]],[\"end\"] ⇒ NotSettled event 5 point 2\n\
+    [\"doctype\",\"plain\"] ⇒ NotSettled event 5 point 1\n\
+    [\"start\",\"svg\",[]],[\"start\",\"path\",[]],[\"end\"],[\"end\"] ⇒ ok\n\
+    [\"start\",\"svg\",[]],[\"start\",\"div\",[]],[\"end\"],[\"end\"] ⇒ NotSettled event 6 point 4\n\
+    [\"start\",\"svg\",[]],[\"start\",\"title\",[]],[\"start\",\"g\",[]],[\"end\"],[\"end\"],[\"end\"] ⇒ NotSettled event 7 point 4\n\
+    [\"start\",\"br\",[]],[\"text\",\"a\"],[\"end\"] ⇒ NotSettled event 6 point 5\n\
+    [\"start\",\"br\",[]],[\"start\",\"svg\",[]],[\"end\"],[\"end\"] ⇒ NotSettled event 6 point 4\n\
+    [\"text\",\"a\"],[\"text\",\"b\"] ⇒ NotSettled event 6 point 6\n\
+    [\"text\",\"\"] ⇒ NotSettled event 5 point 6\n\
+    [\"text\",\"a\\u0000\"] ⇒ NotSettled event 5 point 6\n\
+    [\"start\",\"p\",[[\"a\",\"\\u0000\"]]],[\"end\"] ⇒ NotSettled event 5 point 6\n\
+    [\"start\",\"ul\",[]],[\"text\",\"a\"],[\"end\"] ⇒ ok\n\
+    [\"start\",\"table\",[]],[\"text\",\"a\"],[\"end\"] ⇒ NotSettled event 6 point 6\n\
+    [\"start\",\"table\",[]],[\"text\",\" \"],[\"end\"] ⇒ ok\n\
+    [\"start\",\"title\",[]],[\"comment\",\"c\"],[\"end\"] ⇒ NotSettled event 5 point 3\n\
+    [\"start\",\"script\",[]],[\"text\",\"a<b\"],[\"end\"] ⇒ ok\n\
+    [\"start\",\"script\",[]],[\"text\",\"</script>\"],[\"end\"] ⇒ NotSettled event 6 point 7\n\
+    [\"start\",\"script\",[]],[\"text\",\"<!--<script></script>\"],[\"end\"] ⇒ ok\n\
+    [\"start\",\"script\",[]],[\"text\",\"<!--<script></script>-->\"],[\"end\"] ⇒ ok\n\
+    [\"start\",\"style\",[]],[\"text\",\"a\\r\"],[\"end\"] ⇒ NotSettled event 6 point 7\n\
+    [\"start\",\"style\",[]],[\"text\",\"</STYLE \"],[\"end\"] ⇒ NotSettled event 6 point 7\n\
+    [\"start\",\"style\",[]],[\"text\",\"</styl\"],[\"end\"] ⇒ ok\n\
+    [\"comment\",\"a\\r\"] ⇒ NotSettled event 5 point 8\n\
+    [\"comment\",\">\"] ⇒ NotSettled event 5 point 8\n\
+    [\"comment\",\"->a\"] ⇒ NotSettled event 5 point 8\n\
+    [\"comment\",\"a-->b\"] ⇒ NotSettled event 5 point 8\n\
+    [\"comment\",\"a--!>b\"] ⇒ NotSettled event 5 point 8\n\
+    [\"comment\",\"a--\"] ⇒ ok\n\
+    [\"start\",\"p\",[[\"a\",\"1\"],[\"a\",\"2\"]]],[\"end\"] ⇒ NotSettled event 5 point 9\n\
+    [\"start\",\"p\",[[\"A\",\"1\"]]],[\"end\"] ⇒ NotSettled event 5 point 9\n\
+    [\"start\",\"p\",[[\"\",\"1\"]]],[\"end\"] ⇒ NotSettled event 5 point 9\n\
+    [\"start\",\"p\",[[\"=\",\"1\"]]],[\"end\"] ⇒ NotSettled event 5 point 9\n\
+    [\"text\",\"a\"],[\"text\"] ⇒ BadEvent event 6\n\
+    [\"text\",1] ⇒ BadEvent event 5\n\
+    [\"start\",\"p\"] ⇒ BadEvent event 5\n\
+    [\"start\",\"p\",[[\"a\"]]],[\"end\"] ⇒ BadEvent event 5\n\
+    [\"start\",\"p\",[[\"a\",\"b\",\"c\"]]],[\"end\"] ⇒ BadEvent event 5\n\
+    [\"start\",\"p\",[1]],[\"end\"] ⇒ BadEvent event 5\n\
+    [\"start\",1,[]],[\"end\"] ⇒ BadEvent event 5\n\
+    [\"end\",1] ⇒ BadEvent event 5\n\
+    [\"note\",\"a\"] ⇒ BadEvent event 5\n\
+    [] ⇒ BadEvent event 5\n\
+    {} ⇒ BadEvent event 5\n\
+    [[\"text\"],\"a\"] ⇒ BadEvent event 5\n\
+    [\"comment\",\"a\",1] ⇒ BadEvent event 5\n\
+    [\"doctype\",\"plain\",1] ⇒ BadEvent event 5\n\
+    [\"start\",\"p\",[[\"a\",\"1\"],[\"a\",\"2\"]]],[\"end\"],[\"text\",\"a\"],[\"text\",\"b\"] ⇒ NotSettled event 5 point 9\n";
 
 #[test]
 fn bodies_are_read_or_refused(rt: HostRuntime) -> Result<(), Fail> {
-    for (items, wanted) in [
-        (
-            "[\"start\",\"p\",[[\"id\",\"x\"]]],[\"text\",\"a\"],[\"start\",\"br\",[]],[\"end\"],[\"text\",\"b\"],[\"end\"]",
-            "ok",
-        ),
-        ("[\"comment\",\"c\"]", "ok"),
-        (
-            "[\"start\",\"li\",[]],[\"text\",\"a\"],[\"end\"]",
-            "NotSettled event 5 point 3",
-        ),
-        (
-            "[\"start\",\"p\",[]],[\"start\",\"div\",[]],[\"end\"],[\"end\"]",
-            "NotSettled event 6 point 3",
-        ),
-        (
-            "[\"start\",\"a\",[]],[\"start\",\"b\",[]],[\"start\",\"a\",[]],[\"end\"],[\"end\"],[\"end\"]",
-            "NotSettled event 7 point 3",
-        ),
-        (
-            "[\"start\",\"p\",[]],[\"start\",\"p\",[]],[\"end\"],[\"end\"]",
-            "NotSettled event 6 point 3",
-        ),
-        (
-            "[\"start\",\"P\",[]],[\"end\"]",
-            "NotSettled event 5 point 3",
-        ),
-        (
-            "[\"start\",\"body\",[]],[\"end\"]",
-            "NotSettled event 5 point 2",
-        ),
-        ("[\"doctype\",\"plain\"]", "NotSettled event 5 point 1"),
-        (
-            "[\"start\",\"svg\",[]],[\"start\",\"path\",[]],[\"end\"],[\"end\"]",
-            "ok",
-        ),
-        (
-            "[\"start\",\"svg\",[]],[\"start\",\"div\",[]],[\"end\"],[\"end\"]",
-            "NotSettled event 6 point 4",
-        ),
-        (
-            "[\"start\",\"svg\",[]],[\"start\",\"title\",[]],[\"start\",\"g\",[]],[\"end\"],[\"end\"],[\"end\"]",
-            "NotSettled event 7 point 4",
-        ),
-        (
-            "[\"start\",\"br\",[]],[\"text\",\"a\"],[\"end\"]",
-            "NotSettled event 6 point 5",
-        ),
-        (
-            "[\"start\",\"br\",[]],[\"start\",\"svg\",[]],[\"end\"],[\"end\"]",
-            "NotSettled event 6 point 4",
-        ),
-        (
-            "[\"text\",\"a\"],[\"text\",\"b\"]",
-            "NotSettled event 6 point 6",
-        ),
-        ("[\"text\",\"\"]", "NotSettled event 5 point 6"),
-        ("[\"text\",\"a\\u0000\"]", "NotSettled event 5 point 6"),
-        (
-            "[\"start\",\"p\",[[\"a\",\"\\u0000\"]]],[\"end\"]",
-            "NotSettled event 5 point 6",
-        ),
-        ("[\"start\",\"ul\",[]],[\"text\",\"a\"],[\"end\"]", "ok"),
-        (
-            "[\"start\",\"table\",[]],[\"text\",\"a\"],[\"end\"]",
-            "NotSettled event 6 point 6",
-        ),
-        ("[\"start\",\"table\",[]],[\"text\",\" \"],[\"end\"]", "ok"),
-        (
-            "[\"start\",\"title\",[]],[\"comment\",\"c\"],[\"end\"]",
-            "NotSettled event 5 point 3",
-        ),
-        (
-            "[\"start\",\"script\",[]],[\"text\",\"a<b\"],[\"end\"]",
-            "ok",
-        ),
-        (
-            "[\"start\",\"script\",[]],[\"text\",\"</script>\"],[\"end\"]",
-            "NotSettled event 6 point 7",
-        ),
-        (
-            "[\"start\",\"script\",[]],[\"text\",\"<!--<script></script>\"],[\"end\"]",
-            "ok",
-        ),
-        (
-            "[\"start\",\"script\",[]],[\"text\",\"<!--<script></script>-->\"],[\"end\"]",
-            "ok",
-        ),
-        (
-            "[\"start\",\"style\",[]],[\"text\",\"a\\r\"],[\"end\"]",
-            "NotSettled event 6 point 7",
-        ),
-        (
-            "[\"start\",\"style\",[]],[\"text\",\"</STYLE \"],[\"end\"]",
-            "NotSettled event 6 point 7",
-        ),
-        (
-            "[\"start\",\"style\",[]],[\"text\",\"</styl\"],[\"end\"]",
-            "ok",
-        ),
-        ("[\"comment\",\"a\\r\"]", "NotSettled event 5 point 8"),
-        ("[\"comment\",\">\"]", "NotSettled event 5 point 8"),
-        ("[\"comment\",\"->a\"]", "NotSettled event 5 point 8"),
-        ("[\"comment\",\"a-->b\"]", "NotSettled event 5 point 8"),
-        ("[\"comment\",\"a--!>b\"]", "NotSettled event 5 point 8"),
-        ("[\"comment\",\"a--\"]", "ok"),
-        (
-            "[\"start\",\"p\",[[\"a\",\"1\"],[\"a\",\"2\"]]],[\"end\"]",
-            "NotSettled event 5 point 9",
-        ),
-        (
-            "[\"start\",\"p\",[[\"A\",\"1\"]]],[\"end\"]",
-            "NotSettled event 5 point 9",
-        ),
-        (
-            "[\"start\",\"p\",[[\"\",\"1\"]]],[\"end\"]",
-            "NotSettled event 5 point 9",
-        ),
-        (
-            "[\"start\",\"p\",[[\"=\",\"1\"]]],[\"end\"]",
-            "NotSettled event 5 point 9",
-        ),
-        ("[\"text\",\"a\"],[\"text\"]", "BadEvent event 6"),
-        ("[\"text\",1]", "BadEvent event 5"),
-        ("[\"start\",\"p\"]", "BadEvent event 5"),
-        ("[\"start\",\"p\",[[\"a\"]]],[\"end\"]", "BadEvent event 5"),
-        (
-            "[\"start\",\"p\",[[\"a\",\"b\",\"c\"]]],[\"end\"]",
-            "BadEvent event 5",
-        ),
-        ("[\"start\",\"p\",[1]],[\"end\"]", "BadEvent event 5"),
-        ("[\"start\",1,[]],[\"end\"]", "BadEvent event 5"),
-        ("[\"end\",1]", "BadEvent event 5"),
-        ("[\"note\",\"a\"]", "BadEvent event 5"),
-        ("[]", "BadEvent event 5"),
-        ("{}", "BadEvent event 5"),
-        ("[[\"text\"],\"a\"]", "BadEvent event 5"),
-        ("[\"comment\",\"a\",1]", "BadEvent event 5"),
-        ("[\"doctype\",\"plain\",1]", "BadEvent event 5"),
-        (
-            "[\"start\",\"p\",[[\"a\",\"1\"],[\"a\",\"2\"]]],[\"end\"],[\"text\",\"a\"],[\"text\",\"b\"]",
-            "NotSettled event 5 point 9",
-        ),
-    ] {
-        let page = page_of(rt.alloc(), items)?;
-        assert_eq!(rt;
-            outcome(rt.alloc(), page.as_bytes())?.as_str(),
-            wanted,
-            "at {items}"
-        );
+    for line in BODIES.lines() {
+        let (items, wanted) = line.split_once(" ⇒ ").ok_or("items and an outcome")?;
+        expect_body(&rt, rt.alloc(), items, wanted);
     }
     Ok(())
 }
 
+/// A whole text before ` ⇒ ` in each line, and after it what reading it ends with.
+const WHOLES: &str = "\
+    [] ⇒ NotSettled event 0 point 1\n\
+    {} ⇒ NotArray\n\
+    null ⇒ NotArray\n\
+    \"a\" ⇒ NotArray\n\
+    [1] ⇒ BadEvent event 0\n\
+    [1e999] ⇒ NotJson\n\
+    [[]] ⇒ BadEvent event 0\n\
+    [[\"end\"]] ⇒ BadEvent event 0\n\
+    [[\"doctype\",\"x\"]] ⇒ BadEvent event 0\n\
+    [[\"doctype\"]] ⇒ BadEvent event 0\n\
+    [[\"doctype\",\"plain\"]] ⇒ NotSettled event 1 point 1\n\
+    [[\"doctype\",\"legacy\"]] ⇒ NotSettled event 1 point 1\n\
+    [[\"doctype\",\"plain\"],[\"start\",\"html\",[]]] ⇒ Open open 1\n\
+    [[\"doctype\",\"plain\"],[\"start\",\"html\",[]],[\"end\"]] ⇒ NotSettled event 2 point 2\n\
+    [[\"doctype\",\"plain\"],[\"start\",\"html\",[]],[\"start\",\"head\",[]],[\"end\"],[\"end\"]] ⇒ NotSettled event 4 point 2\n\
+    [[\"start\",\"html\",[]],[\"start\",\"head\",[]],[\"end\"],[\"start\",\"body\",[]],[\"end\"],[\"end\"]] ⇒ NotSettled event 0 point 1\n\
+    [[\"doctype\",\"plain\"],[\"start\",\"p\",[]],[\"end\"]] ⇒ NotSettled event 1 point 1\n\
+    [[\"doctype\",\"plain\"],[\"doctype\",\"plain\"]] ⇒ NotSettled event 1 point 1\n\
+    [[\"text\",\"a\"]] ⇒ NotSettled event 0 point 1\n\
+    [[\"doctype\",\"plain\"],[\"start\",\"html\",[[\"a\",\"1\"],[\"a\",\"2\"]]],[\"start\",\"p\",[[\"b\",\"1\"],[\"b\",\"2\"]]],[\"end\"],[\"end\"]] ⇒ NotSettled event 1 point 9\n\
+    [[\"doctype\",\"plain\"],[\"start\",\"html\",[]],[\"start\",\"body\",[]],[\"end\"],[\"end\"]] ⇒ NotSettled event 2 point 2\n\
+    [[\"doctype\",\"plain\"],[\"start\",\"html\",[]],[\"text\",\" \"],[\"start\",\"head\",[]],[\"end\"],[\"start\",\"body\",[]],[\"end\"],[\"end\"]] ⇒ NotSettled event 2 point 2\n\
+    [[\"doctype\",\"plain\"],[\"start\",\"html\",[]],[\"start\",\"head\",[]],[\"end\"],[\"text\",\"a\"],[\"start\",\"body\",[]],[\"end\"],[\"end\"]] ⇒ NotSettled event 4 point 2\n\
+    [[\"doctype\",\"plain\"],[\"start\",\"html\",[]],[\"start\",\"head\",[]],[\"end\"],[\"text\",\" \"],[\"start\",\"body\",[]],[\"end\"],[\"end\"]] ⇒ ok\n\
+    [[\"text\",\"a\"],[\"text\"]] ⇒ BadEvent event 1\n\
+    [[\"start\",\"p\",[]],[\"start\",\"p\",[]]] ⇒ Open open 2\n\
+    [[\"start\",\"p\",[]],[\"end\"],[\"end\"]] ⇒ BadEvent event 2\n\
+    [[\"text\",\"\\ud800\"]] ⇒ NotJson\n\
+    [[\"text\",\"a\"],] ⇒ NotJson\n\
+    [[\"text\",\"a\"]] [] ⇒ NotJson\n\
+    \u{FEFF}[] ⇒ NotJson\n\
+    [{\"a\":1,\"a\":2}] ⇒ BadEvent event 0\n";
+
 #[test]
 fn wholes_are_read_or_refused(rt: HostRuntime) -> Result<(), Fail> {
-    for (text, wanted) in [
-        ("[]", "NotSettled event 0 point 1"),
-        ("{}", "NotArray"),
-        ("", "NotJson"),
-        ("null", "NotArray"),
-        ("\"a\"", "NotArray"),
-        ("[1]", "BadEvent event 0"),
-        ("[1e999]", "NotJson"),
-        ("[[]]", "BadEvent event 0"),
-        ("[[\"end\"]]", "BadEvent event 0"),
-        ("[[\"doctype\",\"x\"]]", "BadEvent event 0"),
-        ("[[\"doctype\"]]", "BadEvent event 0"),
-        ("[[\"doctype\",\"plain\"]]", "NotSettled event 1 point 1"),
-        ("[[\"doctype\",\"legacy\"]]", "NotSettled event 1 point 1"),
-        (
-            "[[\"doctype\",\"plain\"],[\"start\",\"html\",[]]]",
-            "Open open 1",
-        ),
-        (
-            "[[\"doctype\",\"plain\"],[\"start\",\"html\",[]],[\"end\"]]",
-            "NotSettled event 2 point 2",
-        ),
-        (
-            "[[\"doctype\",\"plain\"],[\"start\",\"html\",[]],[\"start\",\"head\",[]],[\"end\"],[\"end\"]]",
-            "NotSettled event 4 point 2",
-        ),
-        (
-            "[[\"start\",\"html\",[]],[\"start\",\"head\",[]],[\"end\"],[\"start\",\"body\",[]],[\"end\"],[\"end\"]]",
-            "NotSettled event 0 point 1",
-        ),
-        (
-            "[[\"doctype\",\"plain\"],[\"start\",\"p\",[]],[\"end\"]]",
-            "NotSettled event 1 point 1",
-        ),
-        (
-            "[[\"doctype\",\"plain\"],[\"doctype\",\"plain\"]]",
-            "NotSettled event 1 point 1",
-        ),
-        ("[[\"text\",\"a\"]]", "NotSettled event 0 point 1"),
-        (
-            "[[\"doctype\",\"plain\"],[\"start\",\"html\",[[\"a\",\"1\"],[\"a\",\"2\"]]],[\"start\",\"p\",[[\"b\",\"1\"],[\"b\",\"2\"]]],[\"end\"],[\"end\"]]",
-            "NotSettled event 1 point 9",
-        ),
-        (
-            "[[\"doctype\",\"plain\"],[\"start\",\"html\",[]],[\"start\",\"body\",[]],[\"end\"],[\"end\"]]",
-            "NotSettled event 2 point 2",
-        ),
-        (
-            "[[\"doctype\",\"plain\"],[\"start\",\"html\",[]],[\"text\",\" \"],[\"start\",\"head\",[]],[\"end\"],[\"start\",\"body\",[]],[\"end\"],[\"end\"]]",
-            "NotSettled event 2 point 2",
-        ),
-        (
-            "[[\"doctype\",\"plain\"],[\"start\",\"html\",[]],[\"start\",\"head\",[]],[\"end\"],[\"text\",\"a\"],[\"start\",\"body\",[]],[\"end\"],[\"end\"]]",
-            "NotSettled event 4 point 2",
-        ),
-        (
-            "[[\"doctype\",\"plain\"],[\"start\",\"html\",[]],[\"start\",\"head\",[]],[\"end\"],[\"text\",\" \"],[\"start\",\"body\",[]],[\"end\"],[\"end\"]]",
-            "ok",
-        ),
-        ("[[\"text\",\"a\"],[\"text\"]]", "BadEvent event 1"),
-        ("[[\"start\",\"p\",[]],[\"start\",\"p\",[]]]", "Open open 2"),
-        (
-            "[[\"start\",\"p\",[]],[\"end\"],[\"end\"]]",
-            "BadEvent event 2",
-        ),
-        ("[[\"text\",\"\\ud800\"]]", "NotJson"),
-        ("[[\"text\",\"a\"],]", "NotJson"),
-        ("[[\"text\",\"a\"]] []", "NotJson"),
-        ("\u{FEFF}[]", "NotJson"),
-        ("[{\"a\":1,\"a\":2}]", "BadEvent event 0"),
-    ] {
-        assert_eq!(rt;
-            outcome(rt.alloc(), text.as_bytes())?.as_str(),
-            wanted,
-            "at {text}"
-        );
+    for line in WHOLES.lines() {
+        let (text, wanted) = line.split_once(" ⇒ ").ok_or("a text and an outcome")?;
+        expect_outcome(&rt, rt.alloc(), text, text.as_bytes(), wanted);
     }
+    expect_outcome(&rt, rt.alloc(), "no text", b"", "NotJson");
     Ok(())
 }
 
@@ -275,89 +172,112 @@ fn listed(alloc: Global, text: &str, count: u32) -> Result<String, AllocError> {
     Ok(all)
 }
 
+/// A page of so many `div`, each in the one before.
+fn nested(alloc: Global, count: u32) -> Result<String, AllocError> {
+    let mut items = listed(alloc, "[\"start\",\"div\",[]]", count)?;
+    items.push_str(",")?;
+    items.push_str(listed(alloc, "[\"end\"]", count)?.as_str())?;
+    page_of(alloc, items.as_str())
+}
+
 #[test]
 fn elements_nest_to_a_limit(rt: HostRuntime) -> Result<(), Fail> {
-    for (count, wanted) in [(510, "ok"), (511, "NotSettled event 515 point 10")] {
-        let starts = listed(rt.alloc(), "[\"start\",\"div\",[]]", count)?;
-        let ends = listed(rt.alloc(), "[\"end\"]", count)?;
-        let items = format!(in rt.alloc(); "{},{}", starts.as_str(), ends.as_str())?;
-        let page = page_of(rt.alloc(), items.as_str())?;
-        assert_eq!(rt;
-            outcome(rt.alloc(), page.as_bytes())?.as_str(),
-            wanted,
-            "{count} deep"
-        );
-    }
+    let page = nested(rt.alloc(), 510)?;
+    expect_outcome(&rt, rt.alloc(), "510 deep", page.as_bytes(), "ok");
+    let page = nested(rt.alloc(), 511)?;
+    let wanted = "NotSettled event 515 point 10";
+    expect_outcome(&rt, rt.alloc(), "511 deep", page.as_bytes(), wanted);
     Ok(())
+}
+
+/// A page of an element with so many attributes.
+fn attributed(alloc: Global, count: u32) -> Result<String, AllocError> {
+    let mut items = String::from_str(alloc, "[\"start\",\"p\",[")?;
+    for i in 0..count {
+        let comma = if i == 0 { "" } else { "," };
+        let pair = format!(in alloc; "{comma}[\"a{i}\",\"\"]")?;
+        items.push_str(pair.as_str())?;
+    }
+    items.push_str("]],[\"end\"]")?;
+    page_of(alloc, items.as_str())
 }
 
 #[test]
 fn attributes_have_a_limit(rt: HostRuntime) -> Result<(), Fail> {
-    for (count, wanted) in [(256, "ok"), (257, "NotSettled event 5 point 9")] {
-        let mut pairs = String::new(rt.alloc());
-        for i in 0..count {
-            let comma = if i == 0 { "" } else { "," };
-            let pair = format!(in rt.alloc(); "{comma}[\"a{i}\",\"\"]")?;
-            pairs.push_str(pair.as_str())?;
-        }
-        let items = format!(in rt.alloc(); "[\"start\",\"p\",[{}]],[\"end\"]", pairs.as_str())?;
-        let page = page_of(rt.alloc(), items.as_str())?;
-        assert_eq!(rt;
-            outcome(rt.alloc(), page.as_bytes())?.as_str(),
-            wanted,
-            "{count} pairs"
-        );
-    }
+    let page = attributed(rt.alloc(), 256)?;
+    expect_outcome(&rt, rt.alloc(), "256 pairs", page.as_bytes(), "ok");
+    let page = attributed(rt.alloc(), 257)?;
+    let wanted = "NotSettled event 5 point 9";
+    expect_outcome(&rt, rt.alloc(), "257 pairs", page.as_bytes(), wanted);
     Ok(())
+}
+
+/// So many arrays, each in the one before.
+fn arrays(alloc: Global, count: u32) -> Result<String, AllocError> {
+    let mut text = String::new(alloc);
+    for _ in 0..count {
+        text.push_str("[")?;
+    }
+    for _ in 0..count {
+        text.push_str("]")?;
+    }
+    Ok(text)
 }
 
 #[test]
 fn arrays_nest_to_a_limit(rt: HostRuntime) -> Result<(), Fail> {
-    for (count, wanted) in [(127, "BadEvent event 0"), (128, "NotJson")] {
-        let mut text = String::new(rt.alloc());
-        for _ in 0..count {
-            text.push_str("[")?;
-        }
-        for _ in 0..count {
-            text.push_str("]")?;
-        }
-        assert_eq!(rt;
-            outcome(rt.alloc(), text.as_bytes())?.as_str(),
-            wanted,
-            "{count} deep"
-        );
-    }
+    let text = arrays(rt.alloc(), 127)?;
+    expect_outcome(
+        &rt,
+        rt.alloc(),
+        "127 deep",
+        text.as_bytes(),
+        "BadEvent event 0",
+    );
+    let text = arrays(rt.alloc(), 128)?;
+    expect_outcome(&rt, rt.alloc(), "128 deep", text.as_bytes(), "NotJson");
     Ok(())
 }
 
 #[test]
-fn what_is_cut_off_is_no_json(rt: HostRuntime) -> Result<(), Fail> {
+fn what_is_cut_off_is_no_json(rt: HostRuntime) {
     let bytes = PAGE.as_bytes();
     for cut in 0..bytes.len() {
-        assert_eq!(rt;
-            outcome(rt.alloc(), &bytes[..cut])?.as_str(),
-            "NotJson",
-            "cut at {cut}"
-        );
+        expect_outcome(&rt, rt.alloc(), "a cut", &bytes[..cut], "NotJson");
     }
-    assert_eq!(rt; outcome(rt.alloc(), bytes)?.as_str(), "ok");
-    Ok(())
+    expect_outcome(&rt, rt.alloc(), "no cut", bytes, "ok");
+}
+
+/// Texts, and how the tree of each is written.
+const COMPACT: [(&str, &str); 2] = [
+    (PAGE, PAGE),
+    (
+        " [[\"doctype\" ,\n\"plain\"] ,\n[\"start\" ,\n\"html\" ,\n[]] ,\n[\"start\" ,\n\"head\" ,\n[]] ,\n[\"end\"] ,\n[\"start\" ,\n\"body\" ,\n[]] ,\n[\"start\" ,\n\"p\" ,\n[[\"a\\u00e9\" ,\n\"\\\"\\\\\\/\\b\\f\\n\\r\\t\\u0001\\u001f\\u007f\"]]] ,\n[\"text\" ,\n\"\\u20ac \\ud83d\\ude00\"] ,\n[\"end\"] ,\n[\"end\"] ,\n[\"end\"]]",
+        "[[\"doctype\",\"plain\"],[\"start\",\"html\",[]],[\"start\",\"head\",[]],[\"end\"],[\"start\",\"body\",[]],[\"start\",\"p\",[[\"aé\",\"\\\"\\\\/\\b\\f\\n\\r\\t\\u0001\\u001f\u{7f}\"]]],[\"text\",\"€ 😀\"],[\"end\"],[\"end\"],[\"end\"]]",
+    ),
+];
+
+/// Whether the tree of a text is written so.
+fn is_written(alloc: Global, text: &str, wanted: &str) -> bool {
+    match read_tree(alloc, text.as_bytes()) {
+        Ok(tree) => match write_tree(alloc, &tree) {
+            Ok(written) => written.as_slice() == wanted.as_bytes(),
+            Err(_) => false,
+        },
+        Err(_) => false,
+    }
+}
+
+/// Asserts how the tree of a text is written.
+fn expect_written(rt: &impl Abort, alloc: Global, text: &str, wanted: &str) {
+    assert!(rt; is_written(alloc, text, wanted), "{text}");
 }
 
 #[test]
-fn what_is_read_is_written_compactly(rt: HostRuntime) -> Result<(), Fail> {
-    for (text, wanted) in [
-        (PAGE, PAGE),
-        (
-            " [[\"doctype\" ,\n\"plain\"] ,\n[\"start\" ,\n\"html\" ,\n[]] ,\n[\"start\" ,\n\"head\" ,\n[]] ,\n[\"end\"] ,\n[\"start\" ,\n\"body\" ,\n[]] ,\n[\"start\" ,\n\"p\" ,\n[[\"a\\u00e9\" ,\n\"\\\"\\\\\\/\\b\\f\\n\\r\\t\\u0001\\u001f\\u007f\"]]] ,\n[\"text\" ,\n\"\\u20ac \\ud83d\\ude00\"] ,\n[\"end\"] ,\n[\"end\"] ,\n[\"end\"]]",
-            "[[\"doctype\",\"plain\"],[\"start\",\"html\",[]],[\"start\",\"head\",[]],[\"end\"],[\"start\",\"body\",[]],[\"start\",\"p\",[[\"aé\",\"\\\"\\\\/\\b\\f\\n\\r\\t\\u0001\\u001f\u{7f}\"]]],[\"text\",\"€ 😀\"],[\"end\"],[\"end\"],[\"end\"]]",
-        ),
-    ] {
-        let tree = read_tree(rt.alloc(), text.as_bytes()).map_err(|_| "a tree")?;
-        let written = write_tree(rt.alloc(), &tree).map_err(|_| "memory")?;
-        assert_eq!(rt; written.as_slice(), wanted.as_bytes());
+fn what_is_read_is_written_compactly(rt: HostRuntime) {
+    for (text, wanted) in COMPACT {
+        expect_written(&rt, rt.alloc(), text, wanted);
     }
-    Ok(())
 }
 
 #[test]
@@ -367,7 +287,7 @@ fn json_is_put_with_a_line_feed(rt: HostRuntime) -> Result<(), Fail> {
     let mut sink = MemSink::new(rt.alloc());
     assert!(rt; shown.put(&mut sink).is_ok());
     let line = format!(in rt.alloc(); "{PAGE}\n")?;
-    assert_eq!(rt; sink.bytes(), line.as_bytes());
+    assert!(rt; sink.bytes() == line.as_bytes());
     Ok(())
 }
 
@@ -378,6 +298,6 @@ fn a_failed_put_is_said(rt: HostRuntime) -> Result<(), Fail> {
     let mut sink = MemSink::new(rt.alloc());
     sink.fail(1).map_err(|_| "memory")?;
     assert!(rt; shown.put(&mut sink).is_err());
-    assert_eq!(rt; sink.bytes().len(), 0);
+    assert!(rt; sink.bytes().is_empty());
     Ok(())
 }

@@ -23,42 +23,48 @@ fn outcome(alloc: Global, text: &str) -> Result<String, AllocError> {
     }
 }
 
+/// Asserts what reading the text ends with. A failure is told with the label.
+fn expect_outcome(rt: &impl Abort, alloc: Global, label: &str, text: &str, wanted: &str) {
+    match outcome(alloc, text) {
+        Ok(found) => assert!(rt; found.as_str() == wanted, "at {label}: {found}"),
+        Err(_) => assert!(rt; false, "memory"),
+    }
+}
+
+/// A text before ` ⇒ ` in each line, and after it what reading it ends with.
+const OUTCOMES: &str = "\
+    {} ⇒ ok\n\
+    {\"amp;\":{\"codepoints\":[38]}} ⇒ BadName amp;\n\
+    [] ⇒ NotObject\n\
+    { ⇒ NotJson\n\
+    {\"&xy\":{\"codepoints\":[33]}} ⇒ Lone &xy\n\
+    {\"&ab;\":{\"codepoints\":[0]}} ⇒ BadPoints &ab;\n\
+    {\"&ab;\":{\"codepoints\":[-0]}} ⇒ BadPoints &ab;\n\
+    {\"&ab;\":{\"codepoints\":[33.0]}} ⇒ BadPoints &ab;\n\
+    {\"&ab;\":{\"codepoints\":[55296]}} ⇒ BadPoints &ab;\n\
+    {\"&ab;\":{\"codepoints\":[33,34,35]}} ⇒ BadPoints &ab;\n\
+    {\"&ab;\":{\"codepoints\":[33],\"codepoints\":[]}} ⇒ BadPoints &ab;\n\
+    {\"&ab;\":{\"codepoints\":[0]},\"&ab;\":{\"codepoints\":[33]}} ⇒ ok\n\
+    \u{FEFF}{} ⇒ NotJson\n\
+    {\"x\":\"\\ud800\"} ⇒ NotJson\n\
+    {\"&ab;\":1e999} ⇒ NotJson\n\
+    {\"&b;\":{},\"&ab;\":{}} ⇒ BadName &b;\n\
+    {\"&ac\":1,\"&aa\":[33]} ⇒ BadPoints &aa\n\
+    {\"&ab\":{\"codepoints\":[33]},\"&ab;\":{\"codepoints\":[33,34]}} ⇒ Lone &ab\n";
+
 #[test]
 fn reads_or_names_the_first_fault(rt: HostRuntime) -> Result<(), Fail> {
-    for (text, wanted) in [
-        (SEVEN, "ok"),
-        (COPY, "ok"),
-        ("{}", "ok"),
-        ("{\"amp;\":{\"codepoints\":[38]}}", "BadName amp;"),
-        ("[]", "NotObject"),
-        ("{", "NotJson"),
-        ("{\"&xy\":{\"codepoints\":[33]}}", "Lone &xy"),
-        ("{\"&ab;\":{\"codepoints\":[0]}}", "BadPoints &ab;"),
-        ("{\"&ab;\":{\"codepoints\":[-0]}}", "BadPoints &ab;"),
-        ("{\"&ab;\":{\"codepoints\":[33.0]}}", "BadPoints &ab;"),
-        ("{\"&ab;\":{\"codepoints\":[55296]}}", "BadPoints &ab;"),
-        ("{\"&ab;\":{\"codepoints\":[33,34,35]}}", "BadPoints &ab;"),
-        (
-            "{\"&ab;\":{\"codepoints\":[33],\"codepoints\":[]}}",
-            "BadPoints &ab;",
-        ),
-        (
-            "{\"&ab;\":{\"codepoints\":[0]},\"&ab;\":{\"codepoints\":[33]}}",
-            "ok",
-        ),
-        ("\u{FEFF}{}", "NotJson"),
-        ("{\"x\":\"\\ud800\"}", "NotJson"),
-        ("{\"&ab;\":1e999}", "NotJson"),
-        ("{\"&b;\":{},\"&ab;\":{}}", "BadName &b;"),
-        ("{\"&ac\":1,\"&aa\":[33]}", "BadPoints &aa"),
-        (
-            "{\"&ab\":{\"codepoints\":[33]},\"&ab;\":{\"codepoints\":[33,34]}}",
-            "Lone &ab",
-        ),
-    ] {
-        assert_eq!(rt; outcome(rt.alloc(), text)?.as_str(), wanted, "at {text}");
+    for line in OUTCOMES.lines() {
+        let (text, wanted) = line.split_once(" ⇒ ").ok_or("a text and an outcome")?;
+        expect_outcome(&rt, rt.alloc(), text, text, wanted);
     }
     Ok(())
+}
+
+#[test]
+fn reads_names(rt: HostRuntime) {
+    expect_outcome(&rt, rt.alloc(), "seven", SEVEN, "ok");
+    expect_outcome(&rt, rt.alloc(), "copy", COPY, "ok");
 }
 
 /// An object of `count` names, where each `share` of them have one code point, from 33 on.
@@ -76,54 +82,70 @@ fn numbered(alloc: Global, count: u32, share: u32) -> Result<String, AllocError>
     Ok(text)
 }
 
-#[test]
-fn counts_names(rt: HostRuntime) -> Result<(), Fail> {
-    for (count, share, wanted) in [
-        (4096, 64, "ok"),
-        (4097, 64, "TooMany"),
-        (4097, 5000, "TooMany"),
-        (65, 5000, "TooManyFor 33"),
-        (129, 65, "TooManyFor 33"),
-        (64, 5000, "ok"),
-    ] {
-        let text = numbered(rt.alloc(), count, share)?;
-        assert_eq!(rt;
-            outcome(rt.alloc(), text.as_str())?.as_str(),
-            wanted,
-            "{count} by {share}"
-        );
+/// Asserts what reading `count` names ends with, where each `share` of them have one code point.
+fn expect_numbered(rt: &impl Abort, alloc: Global, count: u32, share: u32, wanted: &str)
+    requires { 64 ≤ share }
+{
+    match numbered(alloc, count, share) {
+        Ok(text) => expect_outcome(rt, alloc, wanted, text.as_str(), wanted),
+        Err(_) => assert!(rt; false, "memory"),
     }
-    Ok(())
 }
 
 #[test]
-fn counts_names_without_semicolon(rt: HostRuntime) -> Result<(), Fail> {
-    let four =
-        "{\"&aa\":{\"codepoints\":[33]},\"&aa;\":{\"codepoints\":[33]},\"&ab\":{\"codepoints\":[33]},\"&ab;\":{\"codepoints\":[33]},\"&ac\":{\"codepoints\":[33]},\"&ac;\":{\"codepoints\":[33]},\"&ad\":{\"codepoints\":[33]},\"&ad;\":{\"codepoints\":[33]}}";
-    let five =
-        "{\"&aa\":{\"codepoints\":[33]},\"&aa;\":{\"codepoints\":[33]},\"&ab\":{\"codepoints\":[33]},\"&ab;\":{\"codepoints\":[33]},\"&ac\":{\"codepoints\":[33]},\"&ac;\":{\"codepoints\":[33]},\"&ad\":{\"codepoints\":[33]},\"&ad;\":{\"codepoints\":[33]},\"&ae\":{\"codepoints\":[33]},\"&ae;\":{\"codepoints\":[33]}}";
-    assert_eq!(rt; outcome(rt.alloc(), four)?.as_str(), "ok");
-    assert_eq!(rt; outcome(rt.alloc(), five)?.as_str(), "TooManyFor 33");
-    Ok(())
+fn counts_names(rt: HostRuntime) {
+    expect_numbered(&rt, rt.alloc(), 4096, 64, "ok");
+    expect_numbered(&rt, rt.alloc(), 4097, 64, "TooMany");
+    expect_numbered(&rt, rt.alloc(), 4097, 5000, "TooMany");
+    expect_numbered(&rt, rt.alloc(), 65, 5000, "TooManyFor 33");
+    expect_numbered(&rt, rt.alloc(), 129, 65, "TooManyFor 33");
+    expect_numbered(&rt, rt.alloc(), 64, 5000, "ok");
+}
+
+/// Four names with and without a semicolon.
+const FOUR: &str =
+    "{\"&aa\":{\"codepoints\":[33]},\"&aa;\":{\"codepoints\":[33]},\"&ab\":{\"codepoints\":[33]},\"&ab;\":{\"codepoints\":[33]},\"&ac\":{\"codepoints\":[33]},\"&ac;\":{\"codepoints\":[33]},\"&ad\":{\"codepoints\":[33]},\"&ad;\":{\"codepoints\":[33]}}";
+
+/// Five names with and without a semicolon.
+const FIVE: &str =
+    "{\"&aa\":{\"codepoints\":[33]},\"&aa;\":{\"codepoints\":[33]},\"&ab\":{\"codepoints\":[33]},\"&ab;\":{\"codepoints\":[33]},\"&ac\":{\"codepoints\":[33]},\"&ac;\":{\"codepoints\":[33]},\"&ad\":{\"codepoints\":[33]},\"&ad;\":{\"codepoints\":[33]},\"&ae\":{\"codepoints\":[33]},\"&ae;\":{\"codepoints\":[33]}}";
+
+#[test]
+fn counts_names_without_semicolon(rt: HostRuntime) {
+    expect_outcome(&rt, rt.alloc(), "four", FOUR, "ok");
+    expect_outcome(&rt, rt.alloc(), "five", FIVE, "TooManyFor 33");
+}
+
+/// Asserts the longest name at the start of a text.
+fn expect_longest(rt: &impl Abort, table: &Table, text: &str, name: &str) {
+    match table.longest(text.as_bytes()) {
+        Some(found) => assert!(rt; table.name(found) == name.as_bytes(), "in {text}"),
+        None => assert!(rt; false, "in {text}"),
+    }
+}
+
+/// Asserts that a text begins with no name.
+fn expect_no_name(rt: &impl Abort, table: &Table, text: &str) {
+    assert!(rt; table.longest(text.as_bytes()).is_none(), "in {text}");
 }
 
 #[test]
 fn finds_the_longest_name(rt: HostRuntime) -> Result<(), Fail> {
     let table = Table::read(rt.alloc(), COPY.as_bytes())?;
-    for (text, name) in [
-        ("&notit;", "&not"),
-        ("&notin;x", "&notin;"),
-        ("&copy=", "&copy"),
-        ("&lt;", "&lt;"),
-    ] {
-        let found = table.longest(text.as_bytes()).ok_or("a name")?;
-        assert_eq!(rt; table.name(found), name.as_bytes(), "in {text}");
-    }
+    expect_longest(&rt, &table, "&notit;", "&not");
+    expect_longest(&rt, &table, "&notin;x", "&notin;");
+    expect_longest(&rt, &table, "&copy=", "&copy");
+    expect_longest(&rt, &table, "&lt;", "&lt;");
     for text in ["&no", "", "&", "not", "x&not"] {
-        assert!(rt; table.longest(text.as_bytes()).is_none(), "in {text}");
+        expect_no_name(&rt, &table, text);
     }
+    Ok(())
+}
+
+#[test]
+fn finds_nothing_in_an_empty_table(rt: HostRuntime) -> Result<(), Fail> {
     let empty = Table::empty(rt.alloc())?;
-    assert!(rt; empty.longest(b"&lt;").is_none());
+    expect_no_name(&rt, &empty, "&lt;");
     assert!(rt; empty.names_for('<').is_empty());
     assert!(rt; empty.child(empty.root(), b'l').is_none());
     Ok(())
@@ -137,11 +159,11 @@ fn walks_down_names(rt: HostRuntime) -> Result<(), Fail> {
     let id = table.name_at(lt).ok_or("a name")?;
     assert!(rt; table.name_at(l).is_none());
     assert!(rt; table.node_of(id) == lt);
-    assert_eq!(rt; table.name(id), b"&lt".as_slice());
+    assert!(rt; table.name(id) == b"&lt".as_slice());
     let closed = table.child(lt, b';').ok_or("a semicolon")?;
     assert!(rt; table.child(closed, b';').is_none());
     let names = table.names_for('<');
-    assert_eq!(rt; names.len(), 2);
+    assert!(rt; names.len() == 2);
     assert!(rt; names[0] == id);
     assert!(rt; Some(names[1]) == table.name_at(closed));
     Ok(())
@@ -158,22 +180,41 @@ fn plain_in(alloc: Global, table: &Table, text: &str) -> Result<String, AllocErr
     Ok(plain)
 }
 
+/// Asserts which characters of a text are plain.
+fn expect_plain(rt: &impl Abort, alloc: Global, table: &Table, text: &str, wanted: &str) {
+    match plain_in(alloc, table, text) {
+        Ok(found) => assert!(rt; found.as_str() == wanted, "{found} and not {wanted}"),
+        Err(_) => assert!(rt; false, "memory"),
+    }
+}
+
+/// Asserts which characters of a text are plain with the table of these names.
+fn expect_plain_with(
+    rt: &impl Abort,
+    alloc: Global,
+    names: &str,
+    wanted: &str,
+) -> Result<(), Fail> {
+    let table = table_of(alloc, names)?;
+    expect_plain(rt, alloc, &table, "abfjxyz!", wanted);
+    Ok(())
+}
+
 #[test]
 fn tells_plain_characters(rt: HostRuntime) -> Result<(), Fail> {
     let text = "Az09 !\"#$%&'()*+,-./:;<=>?@[\\]^_`{|}~\u{7F}\u{80}\u{E9}\n";
     let plain = "Az09!#$%()*+,-./:;?@[\\]^_{|}~";
     let empty = Table::empty(rt.alloc())?;
-    assert_eq!(rt; plain_in(rt.alloc(), &empty, text)?.as_str(), plain);
-    for (names, wanted) in [
-        ("aa=97 aa;=97 bb;=98 fjlig;=102,106", "bjxyz!"),
-        ("aA;=97 excl;=33 xy;=102,97", "abjxyz!"),
-        ("half;=189", "abfjxyz!"),
-    ] {
-        let table = table_of(rt.alloc(), names)?;
-        let found = plain_in(rt.alloc(), &table, "abfjxyz!")?;
-        assert_eq!(rt; found.as_str(), wanted, "with {names}");
-    }
+    expect_plain(&rt, rt.alloc(), &empty, text, plain);
     Ok(())
+}
+
+#[test]
+fn tells_plain_characters_with_names(rt: HostRuntime) -> Result<(), Fail> {
+    let alloc = rt.alloc();
+    expect_plain_with(&rt, alloc, "aa=97 aa;=97 bb;=98 fjlig;=102,106", "bjxyz!")?;
+    expect_plain_with(&rt, alloc, "aA;=97 excl;=33 xy;=102,97", "abjxyz!")?;
+    expect_plain_with(&rt, alloc, "half;=189", "abfjxyz!")
 }
 
 /// The table of these names.
@@ -197,18 +238,24 @@ fn shown(alloc: Global, points: Points) -> Result<String, AllocError> {
     }
 }
 
+/// Asserts that a name is its own longest, with these code points, of which it is a name.
+fn expect_name(rt: &impl Abort, alloc: Global, table: &Table, line: &str) -> Result<(), Fail> {
+    let (name, points) = line.split_once('=').ok_or("points")?;
+    let name = format!(in alloc; "&{name}")?;
+    let found = table.longest(name.as_bytes()).ok_or("a name")?;
+    assert!(rt; table.name(found) == name.as_bytes(), "{line}");
+    let found_points = table.points(found);
+    assert!(rt; shown(alloc, found_points)?.as_str() == points, "{line}");
+    assert!(rt;
+        table.names_for(found_points.first).contains(&found),
+        "{line}"
+    );
+    Ok(())
+}
+
 fn find_each(rt: &impl Abort, alloc: Global, table: &Table, names: &str) -> Result<(), Fail> {
     for line in names.split(' ') {
-        let (name, points) = line.split_once('=').ok_or("points")?;
-        let name = format!(in alloc; "&{name}")?;
-        let found = table.longest(name.as_bytes()).ok_or("a name")?;
-        assert_eq!(rt; table.name(found), name.as_bytes(), "{line}");
-        let found_points = table.points(found);
-        assert_eq!(rt; shown(alloc, found_points)?.as_str(), points, "{line}");
-        assert!(rt;
-            table.names_for(found_points.first).contains(&found),
-            "{line}"
-        );
+        expect_name(rt, alloc, table, line)?;
     }
     Ok(())
 }
@@ -219,33 +266,49 @@ fn each_name_of_the_standard_is_its_own_longest(rt: HostRuntime) -> Result<(), F
     find_each(&rt, rt.alloc(), &table, NAMES)
 }
 
+/// Numbers, and the code point that each stands for.
+const NUMBERS: [(u32, char); 11] = [
+    (0, '\u{FFFD}'),
+    (0x61, 'a'),
+    (0x80, '\u{20AC}'),
+    (0x81, '\u{81}'),
+    (0x9F, '\u{178}'),
+    (0xD7FF, '\u{D7FF}'),
+    (0xD800, '\u{FFFD}'),
+    (0xDFFF, '\u{FFFD}'),
+    (0x10FFFF, '\u{10FFFF}'),
+    (0x110000, '\u{FFFD}'),
+    (u32::MAX, '\u{FFFD}'),
+];
+
+/// Code points, and the least number of each.
+const LEAST_NUMBERS: [(char, Option<u32>); 8] = [
+    ('a', Some(0x61)),
+    ('\u{FFFD}', Some(0)),
+    ('\u{20AC}', Some(0x80)),
+    ('\u{178}', Some(0x9F)),
+    ('\u{81}', Some(0x81)),
+    ('\u{80}', None),
+    ('\0', None),
+    ('\u{10FFFF}', Some(0x10FFFF)),
+];
+
+/// Asserts the code point of a number.
+fn expect_point(rt: &impl Abort, number: u32, point: char) {
+    assert!(rt; number_value(number) == point, "at {number}");
+}
+
+/// Asserts the least number of a code point.
+fn expect_number(rt: &impl Abort, point: char, number: Option<u32>) {
+    assert!(rt; best_number(point) == number, "at {point:?}");
+}
+
 #[test]
 fn numbers_stand_for_code_points(rt: HostRuntime) {
-    for (number, point) in [
-        (0, '\u{FFFD}'),
-        (0x61, 'a'),
-        (0x80, '\u{20AC}'),
-        (0x81, '\u{81}'),
-        (0x9F, '\u{178}'),
-        (0xD7FF, '\u{D7FF}'),
-        (0xD800, '\u{FFFD}'),
-        (0xDFFF, '\u{FFFD}'),
-        (0x10FFFF, '\u{10FFFF}'),
-        (0x110000, '\u{FFFD}'),
-        (u32::MAX, '\u{FFFD}'),
-    ] {
-        assert_eq!(rt; number_value(number), point, "at {number}");
+    for (number, point) in NUMBERS {
+        expect_point(&rt, number, point);
     }
-    for (point, number) in [
-        ('a', Some(0x61)),
-        ('\u{FFFD}', Some(0)),
-        ('\u{20AC}', Some(0x80)),
-        ('\u{178}', Some(0x9F)),
-        ('\u{81}', Some(0x81)),
-        ('\u{80}', None),
-        ('\0', None),
-        ('\u{10FFFF}', Some(0x10FFFF)),
-    ] {
-        assert_eq!(rt; best_number(point), number, "at {point:?}");
+    for (point, number) in LEAST_NUMBERS {
+        expect_number(&rt, point, number);
     }
 }

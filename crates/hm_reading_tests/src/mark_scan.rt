@@ -6,6 +6,7 @@ use hm_scan::{
     scan_script,
 };
 use hm_tree::{ScanFault, Token};
+use std::process::Abort;
 
 /// Whether a text is short enough for every scan, and can be cut at its start.
 fn is_short(text: &str) -> bool
@@ -40,33 +41,55 @@ fn is_open_comment(text: &str) -> bool {
         && matches!(scan_comment(text, 0), Err(ScanFault::Cut))
 }
 
+/// Texts that begin with a comment, its text, and what stands after it.
+const COMMENTS: [(&str, &str, &str); 16] = [
+    ("<!-->x", "", "x"),
+    ("<!--->-->", "", "-->"),
+    ("<!---->x", "", "x"),
+    ("<!----!>x", "", "x"),
+    ("<!--a--!>b", "a", "b"),
+    ("<!--a--!-->b", "a--!", "b"),
+    ("<!--a->-->", "a->", ""),
+    ("<!--a-b--->c", "a-b-", "c"),
+    ("<!-- <!-- -->x-->", " <!-- ", "x-->"),
+    ("<!--<!-->x", "<!", "x"),
+    ("<?x>y", "?x", "y"),
+    ("</ x>", " x", ""),
+    ("<!x>y", "x", "y"),
+    ("<!>y", "", "y"),
+    ("<!-x>y", "-x", "y"),
+    ("<![CDATA[x]]>y", "[CDATA[x]]", "y"),
+];
+
+/// Asserts the comment at the start of a text.
+fn expect_comment(rt: &impl Abort, text: &str, piece: &str, rest: &str) {
+    assert!(rt; is_comment(text, piece, rest), "{text}");
+}
+
 #[test]
 fn comments(rt: HostRuntime) {
-    for (text, piece, rest) in [
-        ("<!-->x", "", "x"),
-        ("<!--->-->", "", "-->"),
-        ("<!---->x", "", "x"),
-        ("<!----!>x", "", "x"),
-        ("<!--a--!>b", "a", "b"),
-        ("<!--a--!-->b", "a--!", "b"),
-        ("<!--a->-->", "a->", ""),
-        ("<!--a-b--->c", "a-b-", "c"),
-        ("<!-- <!-- -->x-->", " <!-- ", "x-->"),
-        ("<!--<!-->x", "<!", "x"),
-        ("<?x>y", "?x", "y"),
-        ("</ x>", " x", ""),
-        ("<!x>y", "x", "y"),
-        ("<!>y", "", "y"),
-        ("<!-x>y", "-x", "y"),
-        ("<![CDATA[x]]>y", "[CDATA[x]]", "y"),
-    ] {
-        assert!(rt; is_comment(text, piece, rest), "{text}");
+    for (text, piece, rest) in COMMENTS {
+        expect_comment(&rt, text, piece, rest);
     }
+}
+
+/// Asserts that a text begins with a comment that is cut off.
+fn expect_open_comment(rt: &impl Abort, text: &str) {
+    assert!(rt; is_open_comment(text), "{text}");
+}
+
+/// Asserts that a text begins with no comment.
+fn expect_no_comment(rt: &impl Abort, text: &str) {
+    assert!(rt; !begins_comment(text, 0), "{text}");
+}
+
+#[test]
+fn open_and_no_comments(rt: HostRuntime) {
     for text in ["<!--", "<!--a--", "<!--a->", "<?", "<!", "</ x"] {
-        assert!(rt; is_open_comment(text), "{text}");
+        expect_open_comment(&rt, text);
     }
     for text in ["</>", "</a>", "</", "<a>", "<!DOCTYPE"] {
-        assert!(rt; !begins_comment(text, 0), "{text}");
+        expect_no_comment(&rt, text);
     }
 }
 
@@ -82,30 +105,45 @@ fn form(text: &str) -> Result<(bool, u32), ScanFault> {
     }
 }
 
+/// Texts that begin with a doctype, whether it is the legacy one, and the place after it.
+const DOCTYPES: [(&str, bool, u32); 5] = [
+    ("<!doctype html>x", false, 15),
+    ("<!DocTypehtml\u{c}\n>>", false, 16),
+    ("<!DOCTYPE\t\r HTML>", false, 17),
+    ("<!DOCTYPE html SYSTEM 'about:legacy-compat'>", true, 44),
+    ("<!doctype html\nsystem\"about:legacy-compat\" >x", true, 44),
+];
+
+/// Texts that begin with another doctype.
+const BAD_DOCTYPES: [&str; 7] = [
+    "<!doctype x>",
+    "<!doctype>",
+    "<!doctype html x>",
+    "<!doctype htmlSYSTEM\"about:legacy-compat\">",
+    "<!doctype html SYSTEM 'about:legacy-compat\">",
+    "<!doctype html SYSTEM 'About:legacy-compat'>",
+    "<!doctype html SYSTEM 'about:legacy-compat' x>",
+];
+
+/// Asserts the form of the doctype at the start of a text, or its fault.
+fn expect_form(rt: &impl Abort, text: &str, wanted: Result<(bool, u32), ScanFault>) {
+    assert!(rt; form(text) == wanted, "{text}");
+}
+
 #[test]
 fn doctypes(rt: HostRuntime) {
-    for (text, legacy, behind) in [
-        ("<!doctype html>x", false, 15),
-        ("<!DocTypehtml\u{c}\n>>", false, 16),
-        ("<!DOCTYPE\t\r HTML>", false, 17),
-        ("<!DOCTYPE html SYSTEM 'about:legacy-compat'>", true, 44),
-        ("<!doctype html\nsystem\"about:legacy-compat\" >x", true, 44),
-    ] {
-        assert!(rt; form(text) == Ok((legacy, behind)), "{text}");
+    for (text, legacy, behind) in DOCTYPES {
+        expect_form(&rt, text, Ok((legacy, behind)));
     }
-    for text in [
-        "<!doctype x>",
-        "<!doctype>",
-        "<!doctype html x>",
-        "<!doctype htmlSYSTEM\"about:legacy-compat\">",
-        "<!doctype html SYSTEM 'about:legacy-compat\">",
-        "<!doctype html SYSTEM 'About:legacy-compat'>",
-        "<!doctype html SYSTEM 'about:legacy-compat' x>",
-    ] {
-        assert!(rt; form(text) == Err(ScanFault::BadDoctype), "{text}");
+}
+
+#[test]
+fn bad_doctypes(rt: HostRuntime) {
+    for text in BAD_DOCTYPES {
+        expect_form(&rt, text, Err(ScanFault::BadDoctype));
     }
-    assert!(rt; form("<!doctype html") == Err(ScanFault::Cut));
-    assert!(rt; form("<!doctype x") == Err(ScanFault::Cut));
+    expect_form(&rt, "<!doctype html", Err(ScanFault::Cut));
+    expect_form(&rt, "<!doctype x", Err(ScanFault::Cut));
 }
 
 fn is_cdata(text: &str, piece: &str, rest: &str) -> bool {
@@ -157,28 +195,40 @@ fn is_open_script(text: &str) -> bool {
     is_short(text) && matches!(scan_script(text, 0), Err(ScanFault::Cut))
 }
 
+/// Texts that begin with a script, it, and what stands after it.
+const SCRIPTS: [(&str, &str, &str); 8] = [
+    (
+        "<!--<script></script>--></script>",
+        "<!--<script></script>-->",
+        "</script>",
+    ),
+    ("<script>a</SCRIPT\t>b", "<script>a", "</SCRIPT\t>b"),
+    ("<!--</script>-->", "<!--", "</script>-->"),
+    ("<!--><script></script>", "<!--><script>", "</script>"),
+    ("<!-- <scriptx></script>", "<!-- <scriptx>", "</script>"),
+    (
+        "<!--<Script/></scripts></Script></script>",
+        "<!--<Script/></scripts></Script>",
+        "</script>",
+    ),
+    ("<!--<script>--></script>", "<!--<script>-->", "</script>"),
+    ("<!-<script></script>", "<!-<script>", "</script>"),
+];
+
+/// Asserts the script at the start of a text.
+fn expect_script(rt: &impl Abort, text: &str, piece: &str, rest: &str) {
+    assert!(rt; is_script(text, piece, rest), "{text}");
+}
+
 #[test]
 fn scripts(rt: HostRuntime) {
-    for (text, piece, rest) in [
-        (
-            "<!--<script></script>--></script>",
-            "<!--<script></script>-->",
-            "</script>",
-        ),
-        ("<script>a</SCRIPT\t>b", "<script>a", "</SCRIPT\t>b"),
-        ("<!--</script>-->", "<!--", "</script>-->"),
-        ("<!--><script></script>", "<!--><script>", "</script>"),
-        ("<!-- <scriptx></script>", "<!-- <scriptx>", "</script>"),
-        (
-            "<!--<Script/></scripts></Script></script>",
-            "<!--<Script/></scripts></Script>",
-            "</script>",
-        ),
-        ("<!--<script>--></script>", "<!--<script>-->", "</script>"),
-        ("<!-<script></script>", "<!-<script>", "</script>"),
-    ] {
-        assert!(rt; is_script(text, piece, rest), "{text}");
+    for (text, piece, rest) in SCRIPTS {
+        expect_script(&rt, text, piece, rest);
     }
+}
+
+#[test]
+fn open_scripts(rt: HostRuntime) {
     assert!(rt; is_open_script("<!--<script></script>-->"));
     assert!(rt; is_open_script("</script"));
 }

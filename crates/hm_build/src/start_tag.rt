@@ -26,6 +26,7 @@ use std::alloc::Global;
 
 impl Parts {
     /// Takes a start tag (#parsing-main-inhtml). None is read inside an element that holds a text.
+    #[inline(always)]
     pub(crate) fn start_tag(
         &mut self,
         alloc: Global,
@@ -43,6 +44,7 @@ impl Parts {
     }
 
     /// Takes a start tag where no line feed is dropped any more (#parsing-main-inhtml).
+    #[inline(always)]
     fn start_undropped(
         &mut self,
         alloc: Global,

@@ -207,6 +207,7 @@ const PARENTS: [PairRow<'static>; 5] = [
 ];
 
 /// Whether an HTML element `name` may stand under the element `parent`, which itself stands under `grandparent` or at the top.
+#[inline(always)]
 #[tactic(auto, unfolding(crate::specs::Nesting::may_stand, crate::specs::Nesting::noscript_children))]
 pub fn may_stand(name: Named<'_>, parent: Named<'_>, grandparent: Option<&str>) -> bool
     ensures { result ≡ nesting.may_stand name.entry.name.now parent.entry.name.now (text_of grandparent.entry) }

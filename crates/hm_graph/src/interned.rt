@@ -70,7 +70,7 @@ impl<'t> Model for Interned<'t> {
 }
 
 /// How many places there are for hints.
-const HINTS: usize = 4096;
+const HINTS: usize = 1 << 14;
 
 /// The need as a number below three.
 #[inline(always)]
@@ -116,16 +116,12 @@ fn hint_place(list: u32, unit: &Unit) -> usize {
             loosens,
         } => len ^ 3584 ^ u32::from(omits) << 5 ^ u32::from(loosens) << 6,
     };
-    (own ^ list.wrapping_mul(131)) as usize % HINTS
+    (own ^ list.wrapping_mul(0x9E37_79B1) >> 18) as usize % HINTS
 }
 
 /// Places for hints, with none known.
 fn no_hints(alloc: Global) -> Result<Vec<u32>, Memory> {
-    let mut hints = Vec::with_capacity(alloc, HINTS)?;
-    for _place in 0..HINTS {
-        hints.push(0)?;
-    }
-    Ok(hints)
+    Ok(vec![in alloc; 0; HINTS]?)
 }
 
 /// Puts a hint to its place.

@@ -193,6 +193,7 @@ fn stands(elements: &[OpenElement], made: Made, tag: Named<'_>) -> bool
 }
 
 /// How many elements stay after an end tag of this name.
+#[inline(always)]
 pub(crate) fn left_by_end(elements: &[OpenElement], name: &str) -> Result<usize, Rule>
     requires path { IsPath elements.now }
     requires name { name.now ≢ body }

@@ -54,8 +54,24 @@ pub(crate) fn append_attributes(
     }
 }
 
-// Appends the attributes of a tag, whose text is copied whole.
+// Appends the attributes of a tag. Most tags have none.
+#[inline(always)]
 fn append_tag(text: &mut String, attributes: &mut Vec<AttributePieces>, attrs: &Attrs) -> u32
+    requires room { string_len text.old + attributes_size attrs.now ≤ string_capacity text.old }
+    requires places { length (string_bytes text.old) + attributes_size attrs.now < 2 ^ 32 }
+    requires rows { vec_len attributes.old + length attrs.now ≤ vec_capacity attributes.old }
+    requires indices { length attributes.old.items + length attrs.now < 2 ^ 32 }
+    ensures appended { IsAppended (string_bytes text.old) attributes.old.items attrs.now (string_bytes text.new) attributes.new.items }
+    ensures first { result ≡ length attributes.old.items }
+{
+    if attrs.len() == 0 {
+        return attributes.len() as u32;
+    }
+    append_pairs(text, attributes, attrs)
+}
+
+// The same, whose text is copied whole.
+fn append_pairs(text: &mut String, attributes: &mut Vec<AttributePieces>, attrs: &Attrs) -> u32
     requires room { string_len text.old + attributes_size attrs.now ≤ string_capacity text.old }
     requires places { length (string_bytes text.old) + attributes_size attrs.now < 2 ^ 32 }
     requires rows { vec_len attributes.old + length attrs.now ≤ vec_capacity attributes.old }

@@ -1,5 +1,5 @@
 //! The attributes of a start tag.
-ghost use Rattle.std.specs.Prelude.{◌≡◌, ◌+◌, ◌^◌, ◌<◌, [], ◌∷◌, ◌++◌, length, slice_get, string_bytes, true, false, not, All, Some, Ok, IfOk, OnErr, if◌then◌else◌, ◌↔◌, IsTrue};
+ghost use Rattle.std.specs.Prelude.{◌≡◌, ◌+◌, ◌^◌, ◌<◌, [], ◌∷◌, ◌++◌, length, slice_get, string_bytes, true, false, not, All, Some, Ok, IfOk, OnErr, if◌then◌else◌};
 ghost use Rattle.hm_base.specs.Walks.{has_name, has_distinct_names};
 ghost use Rattle.hm_tree.specs.Attributes.{are_texts};
 ghost use Rattle.hm_tree.specs.Pairs.{HasPair, attributes_of};
@@ -147,22 +147,5 @@ impl Attrs {
             Some(table) => table.contains(name),
             None => has_among(text, pairs, name),
         }
-    }
-
-    /// Whether both have the same attributes in the same order.
-    pub fn same(&self, other: &Attrs) -> bool
-        ensures { IsTrue result ↔ (self.now ≡ other.now) }
-    {
-        if self.len() != other.len() {
-            return false;
-        }
-        for i in 0..self.len() {
-            let (name, value) = self.at(i);
-            let (other_name, other_value) = other.at(i);
-            if name != other_name || value != other_value {
-                return false;
-            }
-        }
-        true
     }
 }

@@ -2,7 +2,7 @@ use Rattle.std.proofs.Common.{◌≡◌, ◌++◌, ◌∷◌, [], length, string
 use Rattle.hm_tree.specs.Pieces.{texts_of}
 use Rattle.hm_tree.proofs.ShownLemmas.{length-texts_of}
 use Rattle.hm_tree.proofs.PairLemmas.{AreAppended-none, AreAppended-more, AreAppended-all, length-pairs}
-use Rattle.hm_tree.proofs.appended.append_tag.Goals as goal
+use Rattle.hm_tree.proofs.appended.append_pairs.Goals as goal
 
 pub append-start-requires-clause-room : goal.append-start-requires-clause-room
 append-start-requires-clause-room c = omega (arith, c.requires.room, ap length c.text.ensures, length-texts_of c.args.attrs.now)

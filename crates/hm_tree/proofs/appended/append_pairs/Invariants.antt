@@ -1,7 +1,7 @@
 use Rattle.std.proofs.Common.{◌+◌, ◌-◌, ◌^◌, ◌<◌, ◌≤◌, length, vec_len, vec_capacity, string_bytes}
 use Rattle.hm_tree.specs.Pieces.{texts_of}
 use Rattle.hm_tree.proofs.PairLemmas.{AreAppended}
-use Rattle.hm_tree.proofs.appended.append_tag.Given as goal
+use Rattle.hm_tree.proofs.appended.append_pairs.Given as goal
 
 abbrev pub invariant-loop-pair : goal.invariant-loop-pair
 invariant-loop-pair l =

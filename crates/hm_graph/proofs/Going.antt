@@ -1,19 +1,19 @@
 -- A visitor while steps are added, step by step.
-use Rattle.std.proofs.Common.{◌≡◌, ◌∙◌, ℕ, ◌+◌, ◌<◌, ◌≤◌, List, [], ◌∷◌, ◌++◌, length, get_or, take, drop, chars, Option, refl, sym, ap, subst, append_assoc, append-nil}
+use Rattle.std.proofs.Common.{◌≡◌, ◌≢◌, ◌∙◌, ℕ, ◌+◌, ◌<◌, ◌≤◌, List, [], ◌∷◌, ◌++◌, length, get_or, take, drop, chars, Option, Some, refl, sym, ap, subst, append_assoc, append-nil}
 use Rattle.std.specs.Prelude.{encode_utf8, slice_get}
 use Rattle.std.specs.Str.{IsAscii, IsUtf8}
 use Rattle.std.proofs.Math.ListN.{replicate}
 use Rattle.std.proofs.lemmas.List.{drop_all, drop_more, length-take-le}
+use Rattle.std.proofs.lemmas.Option.{slice_get_within, get_or_from_slice_get}
 use Rattle.std.proofs.lemmas.Str.{chars_past_char}
-use Rattle.hm_base.specs.Walks.{Event}
+use Rattle.hm_base.specs.Walks.{Attribute, Event}
+use Rattle.hm_parts.proofs.AttributeUnits.{first_alone}
 use Rattle.hm_parts.specs.Events.{units_at, units_left}
 use Rattle.hm_parts.proofs.UnitsLeft.{units_left-next, units_left-none}
-use Rattle.hm_parts.specs.Parts.{part_units, parts_units}
-use Rattle.hm_parts.specs.declared.parts.Part.{Part}
 use Rattle.hm_refs.specs.Names.{Entry}
 use Rattle.hm_refs.specs.Tables.{TableView}
 use Rattle.hm_graph.specs.Steps.{Step}
-use Rattle.hm_graph_laws.specs.Units.{TextKind, Unit, character, character_units, next_of, units_of}
+use Rattle.hm_graph_laws.specs.Units.{TextKind, Unit, attribute_end, attribute_name, attribute_units, bare_attribute, character, character_units, in_value, next_of, units_of}
 use Rattle.hm_graph.specs.Going.{Goes, GoesOver}
 use Rattle.hm_graph.specs.Building.{AddsFront, AddsSteps, BuildingView, IsMade, numbered_step}
 use Rattle.hm_graph.specs.Graphs.{IsLowStep, IsNamedStep}
@@ -107,21 +107,38 @@ text_alike C kind text n step a b inside ascii front on =
 pub text_all : {V : Type 0} (C : V → List Entry → List Unit → List Step → V → Type 0) (kind : TextKind) (cs left : List ℕ) (a b : Along V) → left ≡ [] → GoesOver C kind cs left a b → GoesOver C kind cs [] a b
 text_all C kind cs left a b none goes = subst (λ rest. GoesOver C kind cs rest a b) none goes
 
--- ---- The parts of an event
+-- ---- The attributes of a tag
 
--- the first n parts were added
-abbrev pub PartsAdded : {V : Type 0} → (V → List Entry → List Unit → List Step → V → Type 0) → List Part → ℕ → Along V → Along V → Type 0
-PartsAdded C parts n old new = Goes C (parts_units parts) (parts_units (drop n parts)) old new
+-- over some units and then over others
+pub goes_then : {V : Type 0} (C : V → List Entry → List Unit → List Step → V → Type 0) (us vs : List Unit) (a b d : Along V) → Goes C us [] a b → Goes C vs [] b d → Goes C (us ++ vs) [] a d
+goes_then C us vs a b d one two = goes_on C (us ++ vs) vs [] a b d (goes_front C us vs a b one) two
 
-pub part_added : {V : Type 0} (C : V → List Entry → List Unit → List Step → V → Type 0) (parts : List Part) (n : ℕ) (none : Part) (a b d : Along V) → n < length parts → PartsAdded C parts n a b → Goes C (part_units (get_or parts n none)) [] b d → PartsAdded C parts (n + 1) a d
-part_added C parts n none a b d more added one =
-    let part : Part = get_or parts n none in
-    let behind : List Unit = parts_units (drop (n + 1) parts) in
-    goes_on C (parts_units parts) (parts_units (drop n parts)) behind a b d added
-    (subst (λ ps. Goes C (parts_units ps) behind b d) (sym (drop_more parts n none more)) (goes_front C (part_units part) behind b d one))
+pub bare_added : {V : Type 0} (C : V → List Entry → List Unit → List Step → V → Type 0) (n v : List ℕ) (a b : Along V) → v ≡ [] → Goes C (bare_attribute n ∷ []) [] a b → Goes C (attribute_units (record { name = n; value = v } ∷ [])) [] a b
+bare_added C n [] a b none goes = goes
+bare_added C n (c ∷ v) a b none goes = absurd (cc)
 
-pub parts_all : {V : Type 0} (C : V → List Entry → List Unit → List Step → V → Type 0) (parts : List Part) (n : ℕ) (a b : Along V) → length parts ≤ n → PartsAdded C parts n a b → Goes C (parts_units parts) [] a b
-parts_all C parts n a b past added = subst (λ ps. Goes C (parts_units parts) (parts_units ps) a b) (drop_all n parts past) added
+pub value_added : {V : Type 0} (C : V → List Entry → List Unit → List Step → V → Type 0) (n v : List ℕ) (a b d e : Along V) → v ≢ [] → Goes C (attribute_name n (chars v) ∷ []) [] a b → GoesOver C in_value (chars v) [] b d → Goes C (attribute_end ∷ []) [] d e
+    → Goes C (attribute_units (record { name = n; value = v } ∷ [])) [] a e
+value_added C n [] a b d e some opened over closed = absurd (some refl)
+value_added C n (c ∷ v) a b d e some opened over closed =
+    let text : List Unit = character_units in_value (chars (c ∷ v)) in
+    subst (λ us. Goes C us [] a e) (sym (append-nil (attribute_name n (chars (c ∷ v)) ∷ (text ++ attribute_end ∷ []))))
+    (goes_then C (attribute_name n (chars (c ∷ v)) ∷ []) (text ++ attribute_end ∷ []) a b e opened (goes_then C text (attribute_end ∷ []) b d e over closed))
+
+-- the first n attributes were added
+abbrev pub AttributesAdded : {V : Type 0} → (V → List Entry → List Unit → List Step → V → Type 0) → List Attribute → ℕ → Along V → Along V → Type 0
+AttributesAdded C attributes n old new = Goes C (attribute_units attributes) (attribute_units (drop n attributes)) old new
+
+pub attribute_added : {V : Type 0} (C : V → List Entry → List Unit → List Step → V → Type 0) (attributes : List Attribute) (n : ℕ) (x : Attribute) (a b d : Along V) → slice_get attributes n ≡ Some x → AttributesAdded C attributes n a b → Goes C (attribute_units (x ∷ [])) [] b d
+    → AttributesAdded C attributes (n + 1) a d
+attribute_added C attributes n x a b d at added one =
+    let behind : List Unit = attribute_units (drop (n + 1) attributes) in
+    let rest : drop n attributes ≡ x ∷ drop (n + 1) attributes = rw (drop_more attributes n x (slice_get_within attributes n x at), get_or_from_slice_get attributes n x x at) refl in
+    goes_on C (attribute_units attributes) (attribute_units (drop n attributes)) behind a b d added
+    (subst (λ us. Goes C us behind b d) (sym (ap attribute_units rest ∙ first_alone x (drop (n + 1) attributes))) (goes_front C (attribute_units (x ∷ [])) behind b d one))
+
+pub attributes_all : {V : Type 0} (C : V → List Entry → List Unit → List Step → V → Type 0) (attributes : List Attribute) (n : ℕ) (a b : Along V) → length attributes ≤ n → AttributesAdded C attributes n a b → Goes C (attribute_units attributes) [] a b
+attributes_all C attributes n a b past added = subst (λ xs. Goes C (attribute_units attributes) (attribute_units xs) a b) (drop_all n attributes past) added
 
 -- ---- The events of a tree
 

@@ -1,18 +1,23 @@
 //! The steps of a tree's parts. A visitor is called for each as it is added.
-ghost use Rattle.std.specs.Prelude.{◌≡◌, ◌<◌, ◌≤◌, ◌^◌, ◌∷◌, [], length, IfOk, OnOk};
+ghost use Rattle.std.specs.Prelude.{◌≡◌, ◌<◌, ◌≤◌, ◌+◌, ◌^◌, ◌∷◌, ◌++◌, [], codes, length, IfOk, OnOk};
+ghost use Rattle.hm_base.specs.Walks.{attributes_size};
 ghost use Rattle.std.specs.Str.{IsUtf8, chars};
 ghost use Rattle.hm_edges.specs.Pieces.{own_bytes};
 ghost use Rattle.hm_edges.specs.Units.{StandsFor, kind_of};
 ghost use Rattle.hm_graph.specs.Going.{Goes, GoesOver};
-ghost use Rattle.hm_parts.specs.Parts.{AreParts, IsPart, part_units, parts_units};
+ghost use Rattle.hm_parts.specs.Found.{IsFound, found_units};
+ghost use Rattle.hm_parts.specs.Parts.{HasOwn, IsPart, part_units, unit_with};
 ghost use Rattle.hm_parts.specs.Own.{own_text};
 ghost use Rattle.hm_graph_laws.specs.Units as units;
+ghost use Rattle.hm_graph_laws.specs.Units.{attribute_units, character_units};
+ghost use Rattle.hm_tree.specs.Views.{attributes_shown};
 
 use crate::building::GraphBuilder;
 use crate::plain::Alike;
 use crate::visitors::Visitor;
 use hm_edges::{TextKind, Unit};
-use hm_parts::{Own, Part};
+use hm_parts::{Found, Own, Part};
+use hm_tree::AttrsView;
 
 /// A graph while it is built, and its visitor.
 #[derive(Drop)]
@@ -31,6 +36,15 @@ fn add<V: Visitor>(along: &mut Along<'_, V>, unit: &Unit, own: Own) -> Result<()
         .by
         .take(along.graph.table(), along.graph.step(number), own)?;
     Ok(())
+}
+
+/// Adds the step of a unit that is no character and opens no value, with its own bytes.
+#[inline(always)]
+fn add_one<V: Visitor>(along: &mut Along<'_, V>, unit: &Unit, own: &str) -> Result<(), V::Stop>
+    requires { HasOwn unit.now own.now }
+    ensures { OnOk result (Goes V.goes_on (unit_with unit.now own.now ∷ []) [] along.old along.new) }
+{
+    add(along, unit, Own::Bytes { text: own })
 }
 
 /// Adds the step of the first character of a text, where there is one, and gives the rest of the text.
@@ -135,7 +149,7 @@ fn add_part<V: Visitor>(along: &mut Along<'_, V>, part: &Part<'_>) -> Result<(),
     ensures { OnOk result (Goes V.goes_on (part_units part.now) [] along.old along.new) }
 {
     match part {
-        Part::One { unit, own } => add(along, unit, Own::Bytes { text: own }),
+        Part::One { unit, own } => add_one(along, unit, own),
         Part::Opening { name, value } => add_opening(along, *name, *value),
         Part::Comment { text } => add(
             along,
@@ -148,17 +162,84 @@ fn add_part<V: Visitor>(along: &mut Along<'_, V>, part: &Part<'_>) -> Result<(),
     }
 }
 
-/// Adds the steps of these parts.
+/// Adds the steps of an attribute.
 #[inline(always)]
-pub(crate) fn add_parts<V: Visitor>(
+fn add_attribute<V: Visitor>(
     along: &mut Along<'_, V>,
-    parts: &[Part<'_>],
+    name: &str,
+    value: &str,
 ) -> Result<(), V::Stop>
-    requires { AreParts parts.now }
-    ensures { OnOk result (Goes V.goes_on (parts_units parts.now) [] along.old along.new) }
+    requires { length name.now < 2 ^ 32 }
+    ensures { OnOk result (Goes V.goes_on (attribute_units (record { name = name.now; value = value.now } ∷ [])) [] along.old along.new) }
 {
-    for part in parts {
-        add_part(along, part)?;
+    if value.is_empty() {
+        let unit = Unit::BareAttribute {
+            len: name.len() as u32,
+        };
+        return add_one(along, &unit, name);
+    }
+    add_opening(along, name, value)?;
+    add_characters(along, TextKind::Value, value)?;
+    add_one(along, &Unit::AttributeEnd, "")
+}
+
+/// Adds the steps of attributes in their order.
+#[inline(always)]
+fn add_attributes<V: Visitor>(along: &mut Along<'_, V>, attrs: AttrsView<'_>) -> Result<(), V::Stop>
+    requires { attributes_size (attributes_shown attrs) < 2 ^ 32 }
+    ensures { OnOk result (Goes V.goes_on (attribute_units (attributes_shown attrs.entry)) [] along.old along.new) }
+{
+    for i in 0..attrs.len() {
+        let (name, value) = attrs.at(i);
+        add_attribute(along, name, value)?;
     }
     Ok(())
+}
+
+/// Adds the steps of a start tag with attributes.
+#[inline(always)]
+fn add_tag<V: Visitor>(
+    along: &mut Along<'_, V>,
+    name: &str,
+    attrs: AttrsView<'_>,
+    closes: bool,
+) -> Result<(), V::Stop>
+    requires { length name.now + attributes_size (attributes_shown attrs) < 2 ^ 32 }
+    ensures { OnOk result (Goes V.goes_on (units.tag_name name.now ∷ (attribute_units (attributes_shown attrs.entry) ++ units.tag_close closes ∷ [])) [] along.old along.new) }
+{
+    let unit = Unit::TagName {
+        len: name.len() as u32,
+    };
+    add_one(along, &unit, name)?;
+    add_attributes(along, attrs)?;
+    add_one(along, &Unit::TagClose { closes }, "")
+}
+
+/// Adds the steps of a line feed and of the characters after it.
+fn add_line<V: Visitor>(along: &mut Along<'_, V>, kind: TextKind, text: &str) -> Result<(), V::Stop>
+    ensures { OnOk result (Goes V.goes_on (units.fixed (codes "\n") ∷ character_units (kind_of kind) (chars text.now)) [] along.old along.new) }
+{
+    add_one(along, &Unit::Fixed { len: 1 }, "\n")?;
+    add_characters(along, kind, text)
+}
+
+/// Adds the steps of what is found of an event.
+#[inline(always)]
+pub(crate) fn add_found<V: Visitor>(
+    along: &mut Along<'_, V>,
+    found: Found<'_>,
+) -> Result<(), V::Stop>
+    requires { IsFound found }
+    ensures { OnOk result (Goes V.goes_on (found_units found.entry) [] along.old along.new) }
+{
+    match found {
+        Found::Nothing => Ok(()),
+        Found::Single { part } => add_part(along, &part),
+        Found::Lined { kind, text } => add_line(along, kind, text),
+        Found::Tag {
+            name,
+            attrs,
+            closes,
+        } => add_tag(along, name, attrs, closes),
+    }
 }

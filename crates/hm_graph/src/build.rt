@@ -3,14 +3,14 @@ ghost use Rattle.std.specs.Prelude.{◌≡◌, [], IfOk, OnOk};
 ghost use Rattle.hm_graph.specs.Going.{Goes, IsWalk};
 ghost use Rattle.hm_graph_laws.specs.Units.{units_of};
 
-use crate::along::{Along, add_parts};
+use crate::along::{Along, add_found};
 use crate::building::GraphBuilder;
 use crate::graph::Graph;
 use crate::rules::EdgeRules;
 use crate::visitors::{NoVisitor, Visitor};
 use crate::walked::Walked;
 use hm_base::{Format, Memory, SpellRules};
-use hm_parts::find_parts;
+use hm_parts::find_event;
 use hm_refs::Table;
 use hm_tree::Tree;
 use std::alloc::Global;
@@ -18,17 +18,14 @@ use std::alloc::Global;
 /// Adds the steps of a tree.
 #[inline(always)]
 fn add_tree<V: Visitor>(
-    alloc: Global,
     along: &mut Along<'_, V>,
     tree: &Tree,
     rules: SpellRules,
 ) -> Result<(), V::Stop>
     ensures { OnOk result (Goes V.goes_on (units_of rules tree.now) [] along.old along.new) }
 {
-    let mut parts = Vec::new(alloc);
     for i in 0..tree.len() {
-        find_parts(tree, rules, i, &mut parts)?;
-        add_parts(along, parts.as_slice())?;
+        add_found(along, find_event(tree, rules, i))?;
     }
     Ok(())
 }
@@ -54,7 +51,7 @@ pub fn walk<V: Visitor>(
         graph: GraphBuilder::new(alloc, table, edges, false)?,
         by: visitor,
     };
-    add_tree(alloc, &mut along, tree, rules)?;
+    add_tree(&mut along, tree, rules)?;
     let Along { graph, by } = along;
     Ok((graph.into_walked(), by))
 }
@@ -97,7 +94,7 @@ impl<'t> Graph<'t> {
             graph: GraphBuilder::new(alloc, table, edges, true)?,
             by: visitor,
         };
-        add_tree(alloc, &mut along, tree, rules)?;
+        add_tree(&mut along, tree, rules)?;
         let Along { graph, by } = along;
         let graph = graph.into_graph(tree)?;
         Ok((graph, by))

@@ -5,7 +5,7 @@ use Rattle.std.proofs.lemmas.Option.{slice_get_within, get_or_from_slice_get}
 use Rattle.hm_base.specs.Walks.{Attribute}
 use Rattle.hm_graph_laws.specs.Units.{attribute_units}
 
-first_alone : (a : Attribute) (attributes : List Attribute) → attribute_units (a ∷ attributes) ≡ attribute_units (a ∷ []) ++ attribute_units attributes
+pub first_alone : (a : Attribute) (attributes : List Attribute) → attribute_units (a ∷ attributes) ≡ attribute_units (a ∷ []) ++ attribute_units attributes
 first_alone a attributes = rw append-nil refl
 
 units_more : (attributes : List Attribute) (a : Attribute) → attribute_units (attributes ++ a ∷ []) ≡ attribute_units attributes ++ attribute_units (a ∷ [])

@@ -1,5 +1,6 @@
 -- Parts that are added to a buffer, one after the other.
-use Rattle.std.proofs.Common.{◌≡◌, List, [], ◌∷◌, ◌++◌, Result, Ok, Err, sym, ap, subst, ◌∙◌, append_assoc, append-nil}
+use Rattle.std.proofs.Common.{◌≡◌, List, [], ◌∷◌, ◌++◌, Result, Ok, Err, OnOk, sym, ap, subst, ◌∙◌, append_assoc, append-nil}
+use Rattle.std.proofs.lemmas.Result.{on_ok_weaker}
 use Rattle.hm_graph_laws.specs.Units as units
 use Rattle.hm_parts.specs.Adding.{AddsParts}
 use Rattle.hm_parts.specs.Parts.{AreParts, IsPart, part_units, parts_units}
@@ -27,3 +28,7 @@ adds_then (Ok z) (Err y) before between now more again x is h k = record { units
 
 pub adds_as : {E : Type 0} (r : Result (Unit {0}) E) (before now : List Part) (more again : List units.Unit) → more ≡ again → AddsParts r before now more → AddsParts r before now again
 adds_as r before now more again e h = subst (λ us. AddsParts r before now us) e h
+
+-- to a buffer that was empty
+pub added_first : {E : Type 0} (r : Result (Unit {0}) E) (before now : List Part) (more : List units.Unit) → before ≡ [] → AddsParts r before now more → OnOk r (parts_units now ≡ more)
+added_first r before now more none h = on_ok_weaker r (λ is. is ∙ ap (λ ps. parts_units ps ++ more) none) h.units

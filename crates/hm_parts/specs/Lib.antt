@@ -1,6 +1,7 @@
 pub mod Adding
 pub mod Around
 pub mod Events
+pub mod Found
 pub mod Laws
 pub mod Likely
 pub mod Parts

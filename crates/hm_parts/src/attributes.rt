@@ -6,7 +6,8 @@ ghost use Rattle.hm_graph_laws.specs.Units as units;
 ghost use Rattle.hm_graph_laws.specs.Units.{attribute_units};
 ghost use Rattle.hm_parts.specs.Adding.{AddsParts};
 
-use crate::adding::{add, len_of};
+use crate::adding::add;
+use crate::found::len_of;
 use crate::parts::Part;
 use hm_base::Memory;
 use hm_edges::{TextKind, Unit};

@@ -5,6 +5,7 @@
 mod adding;
 mod attributes;
 mod find;
+mod found;
 pub mod laws;
 mod left_out;
 mod likely;
@@ -15,5 +16,6 @@ mod pieces;
 mod texts;
 
 pub use find::find_parts;
+pub use found::{Found, find_event};
 pub use parts::Part;
 pub use pieces::{Own, put_piece};

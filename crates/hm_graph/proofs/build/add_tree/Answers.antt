@@ -1,5 +1,5 @@
-use Rattle.std.proofs.Common.{◌≡◌, ◌∙◌, ◌<◌, length, ap, arith}
-use Rattle.hm_parts.specs.Parts.{parts_units}
+use Rattle.std.proofs.Common.{◌≡◌, ◌<◌, length, arith}
+use Rattle.hm_parts.specs.Found.{found_units}
 use Rattle.hm_graph.proofs.Going.{events_all, events_begin, events_next}
 use Rattle.hm_graph.proofs.build.add_tree.Goals as goal
 
@@ -9,8 +9,7 @@ loop-i-init g c = events_begin g.V.Visitor.goes_on c.args.rules c.args.tree.now 
 pub loop-i-preserved : goal.loop-i-preserved
 loop-i-preserved g c =
     let within : c.loop-i.i < length c.args.tree.now = omega (arith, c.loop-i-test.true, c.len-i-end.ensures.len) in
-    events_next g.V.Visitor.goes_on c.args.rules c.args.tree.now c.loop-i.i (parts_units c.as_slice.result.now) c.args.along.now c.loop-i.along c.add_parts.new.along within (ap parts_units c.as_slice.ensures.value ∙ c.in_ok-find_parts.ensures.units) c.loop-i.invariant
-    c.in_ok-add_parts.ensures
+    events_next g.V.Visitor.goes_on c.args.rules c.args.tree.now c.loop-i.i (found_units c.find_event.result) c.args.along.now c.loop-i.along c.add_found.new.along within c.find_event.ensures.units c.loop-i.invariant c.in_ok-add_found.ensures
 
 pub returns : goal.returns
 returns g c =

@@ -1,5 +1,5 @@
 //! The price of a tag with one attribute that stands alone.
-ghost use Rattle.std.specs.Prelude.{◌≡◌, ◌+◌, ◌<◌, ◌^◌, length, Some, IfOk};
+ghost use Rattle.std.specs.Prelude.{◌≡◌, ◌+◌, ◌<◌, ◌^◌, ◌∷◌, [], length, Some, IfOk};
 ghost use Rattle.hm_graph_laws.specs.ExchangeLaws.{sparing_plain};
 ghost use Rattle.hm_order.specs.Alone as alone;
 ghost use Rattle.hm_order.specs.Alone.{walk_alone};
@@ -25,16 +25,25 @@ fn element_alone(closes: bool) -> &'static str
     if closes { "g" } else { "br" }
 }
 
+// The attributes of a tag with this one alone.
+#[inline(always)]
+fn attrs_alone(alloc: Global, name: &str, value: &str) -> Result<Attrs, Memory>
+    ensures { IfOk result (λ attrs. attrs ≡ record { name = name.now; value = value.now } ∷ []) }
+{
+    let mut attrs = Attrs::new(alloc);
+    attrs.put(name, value)?;
+    Ok(attrs)
+}
+
 // The tree of an element with this attribute alone.
 fn tree_alone(alloc: Global, name: &str, value: &str, closes: bool) -> Result<Tree, Memory>
     requires name { length name.now < 2 ^ 27 }
     requires value { length value.now < 2 ^ 27 }
     ensures { IfOk result (λ tree. tree ≡ walk_alone closes (record { name = name.now; value = value.now })) }
 {
-    let mut attrs = Attrs::new(alloc);
-    attrs.put(name, value)?;
+    let attrs = attrs_alone(alloc, name, value)?;
     let mut maker = Tree::maker(alloc);
-    maker.start_from(element_alone(closes), closes, &attrs)?;
+    maker.start(element_alone(closes), closes, attrs)?;
     maker.end()?;
     Ok(maker.finish())
 }

@@ -1,4 +1,4 @@
-use Rattle.std.proofs.Common.{◌≡◌, ◌≤◌, ◌+◌, ◌∷◌, ◌++◌, [], length, take, subst, sym, arith}
+use Rattle.std.proofs.Common.{◌≡◌, ◌≤◌, ◌+◌, ◌∷◌, ◌++◌, [], length, take, subst, sym, ap, arith}
 use Rattle.std.proofs.lemmas.List.{take_all}
 use Rattle.std.proofs.lemmas.List.Elements.{All-push}
 use Rattle.std.specs.List.{All}
@@ -42,6 +42,17 @@ loop-i-preserved c =
     }
 
 -- after the loop
+pub best_last-requires-clause-some : goal.best_last-requires-clause-some
+best_last-requires-clause-some c =
+    let g = sparing_plain c.args.table.now.entries c.args.rules in
+    let xs = attributes_shown c.args.attrs.now in
+    let past : length xs ≤ c.loop-i.i = omega (arith, c.len-i-end.ensures.len, c.loop-i-test.false) in
+    let all : AreCosts g c.args.closes c.loop-i.costs.items xs = subst (AreCosts g c.args.closes c.loop-i.costs.items) (take_all c.loop-i.i xs past) c.loop-i.invariant.costs in
+    omega (arith, ap length c.deref.ensures.value, costs_count g c.args.closes c.loop-i.costs.items xs all, c.requires.some)
+
+pub best_last-requires-clause-low : goal.best_last-requires-clause-low
+best_last-requires-clause-low c = subst (All IsLowCost) (sym c.deref.ensures.value) c.loop-i.invariant.low
+
 all_found : (c : goal.After-best_last) → AreCosts (sparing_plain c.args.table.now.entries c.args.rules) c.args.closes c.deref.result.now (attributes_shown c.args.attrs.now)
 all_found c =
     let g = sparing_plain c.args.table.now.entries c.args.rules in

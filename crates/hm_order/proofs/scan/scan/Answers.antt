@@ -1,9 +1,18 @@
-use Rattle.std.proofs.Common.{Some, sym, subst, ap, ◌∙◌, ◌||◌}
+use Rattle.std.proofs.Common.{Some, refl, sym, subst, ap, ◌∙◌, ◌||◌}
 use Rattle.hm_graph_laws.specs.States.{nothing}
 use Rattle.hm_spelling_spec.specs.Characters.{double, is_barred}
 use Rattle.hm_order.specs.Weights.{AreEasy, are_literal, ends, literal, some_barred}
 use Rattle.hm_order.proofs.Scans.{all_given, barred_push, easy_push, given_more, literals_push}
 use Rattle.hm_order.proofs.scan.scan.Goals as goal
+
+pub loop-c-init : goal.loop-c-init
+loop-c-init c = record {
+  given = cc (c.into_iter-c-iterator.ensures.into_iter_gives, c.chars-c-items.ensures.rest);
+  easy = tt;
+  barred = refl;
+  pending = refl;
+  nodes = tt;
+}
 
 pub loop-c-preserved : goal.loop-c-preserved
 loop-c-preserved c =

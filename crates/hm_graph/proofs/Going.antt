@@ -1,8 +1,9 @@
 -- A visitor while steps are added, step by step.
-use Rattle.std.proofs.Common.{◌≡◌, ◌≢◌, ◌∙◌, ℕ, ◌+◌, ◌<◌, ◌≤◌, List, [], ◌∷◌, ◌++◌, length, get_or, take, drop, chars, Option, Some, refl, sym, ap, subst, append_assoc, append-nil}
+use Rattle.std.proofs.Common.{◌≡◌, ◌==◌, ◌∙◌, true, false, ℕ, ◌+◌, ◌<◌, ◌≤◌, List, [], ◌∷◌, ◌++◌, length, get_or, take, drop, chars, Option, Some, refl, sym, ap, subst, append_assoc, append-nil, arith}
 use Rattle.std.specs.Prelude.{encode_utf8, slice_get}
 use Rattle.std.specs.Str.{IsAscii, IsUtf8}
 use Rattle.std.proofs.Math.ListN.{replicate}
+use Rattle.std.proofs.lemmas.Bool.Decides.{Decides-eqb}
 use Rattle.std.proofs.lemmas.List.{drop_all, drop_more, length-take-le}
 use Rattle.std.proofs.lemmas.Option.{slice_get_within, get_or_from_slice_get}
 use Rattle.std.proofs.lemmas.Str.{chars_past_char}
@@ -113,13 +114,13 @@ text_all C kind cs left a b none goes = subst (λ rest. GoesOver C kind cs rest 
 pub goes_then : {V : Type 0} (C : V → List Entry → List Unit → List Step → V → Type 0) (us vs : List Unit) (a b d : Along V) → Goes C us [] a b → Goes C vs [] b d → Goes C (us ++ vs) [] a d
 goes_then C us vs a b d one two = goes_on C (us ++ vs) vs [] a b d (goes_front C us vs a b one) two
 
-pub bare_added : {V : Type 0} (C : V → List Entry → List Unit → List Step → V → Type 0) (n v : List ℕ) (a b : Along V) → v ≡ [] → Goes C (bare_attribute n ∷ []) [] a b → Goes C (attribute_units (record { name = n; value = v } ∷ [])) [] a b
+pub bare_added : {V : Type 0} (C : V → List Entry → List Unit → List Step → V → Type 0) (n v : List ℕ) (a b : Along V) → (length v == 0) ≡ true → Goes C (bare_attribute n ∷ []) [] a b → Goes C (attribute_units (record { name = n; value = v } ∷ [])) [] a b
 bare_added C n [] a b none goes = goes
-bare_added C n (c ∷ v) a b none goes = absurd (cc)
+bare_added C n (c ∷ v) a b none goes = absurd (omega (arith, (Decides-eqb (length (c ∷ v)) 0).0 none))
 
-pub value_added : {V : Type 0} (C : V → List Entry → List Unit → List Step → V → Type 0) (n v : List ℕ) (a b d e : Along V) → v ≢ [] → Goes C (attribute_name n (chars v) ∷ []) [] a b → GoesOver C in_value (chars v) [] b d → Goes C (attribute_end ∷ []) [] d e
+pub value_added : {V : Type 0} (C : V → List Entry → List Unit → List Step → V → Type 0) (n v : List ℕ) (a b d e : Along V) → (length v == 0) ≡ false → Goes C (attribute_name n (chars v) ∷ []) [] a b → GoesOver C in_value (chars v) [] b d → Goes C (attribute_end ∷ []) [] d e
     → Goes C (attribute_units (record { name = n; value = v } ∷ [])) [] a e
-value_added C n [] a b d e some opened over closed = absurd (some refl)
+value_added C n [] a b d e some opened over closed = absurd (cc)
 value_added C n (c ∷ v) a b d e some opened over closed =
     let text : List Unit = character_units in_value (chars (c ∷ v)) in
     subst (λ us. Goes C us [] a e) (sym (append-nil (attribute_name n (chars (c ∷ v)) ∷ (text ++ attribute_end ∷ []))))

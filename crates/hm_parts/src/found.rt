@@ -26,9 +26,14 @@ pub enum Found<'t> {
     /// No part: the end of a void element.
     Nothing,
     /// One part.
-    Single { part: Part<'t> },
+    Single {
+        part: Part<'t>,
+    },
     /// A line feed, and the characters of a text after it.
-    Lined { kind: TextKind, text: &'t str },
+    Lined {
+        kind: TextKind,
+        text: &'t str,
+    },
     /// A start tag with attributes. `closes` says whether it may close itself.
     Tag {
         name: &'t str,

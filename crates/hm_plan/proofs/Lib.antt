@@ -15,3 +15,4 @@ pub mod Joined
 pub mod Directly
 pub mod Whole
 pub mod Found
+pub mod Parts

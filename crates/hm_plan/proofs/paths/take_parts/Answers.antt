@@ -1,4 +1,4 @@
-use Rattle.hm_graph.proofs.Parts.{part_at}
+use Rattle.hm_plan.proofs.Parts.{part_at}
 use Rattle.hm_plan.proofs.Walking.{goes_none, part_inside, part_taken, parts_all}
 use Rattle.hm_parts.specs.Parts.{parts_units}
 use Rattle.hm_plan.proofs.paths.take_parts.Goals as goal

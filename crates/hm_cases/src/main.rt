@@ -1,4 +1,5 @@
-//! Runs each case of `cases.txt` in memory, prints each that doesn't end as wanted, and last how many there are.
+//! Runs each case of `cases.txt` in memory, prints each that doesn't end as wanted, and then how many there are. The same for
+//! `wrong.txt`, whose cases are wrong on purpose but the first: each of the others has to be told.
 //!
 //! The form of the file is described in `compare/README.md`.
 #![tactic(auto)]
@@ -9,6 +10,7 @@ mod faults;
 
 use case::{Case, CaseVerdict};
 use std::alloc::Global;
+use std::rt::Files;
 use std::{fs, io};
 
 /// Runs a case and prints how it differs: whether it does.
@@ -48,9 +50,9 @@ fn differs(rt: &impl Print, alloc: Global, case: &mut Case) -> io::Result<bool> 
     }
 }
 
-fn main(rt: HostRuntime) -> io::Result<()> {
-    let alloc = rt.alloc();
-    let text = fs::read_to_string(&rt, "cases.txt")?;
+/// Runs the cases of a file, and prints each that differs, and how many there are.
+fn run_cases(rt: &(impl Print + Files), alloc: Global, file: &str) -> io::Result<()> {
+    let text = fs::read_to_string(rt, file)?;
     let mut case = Case::new(alloc);
     let mut count: u32 = 0;
     let mut differ: u32 = 0;
@@ -58,18 +60,20 @@ fn main(rt: HostRuntime) -> io::Result<()> {
         let (key, rest) = line.split_once(' ').unwrap_or((line, ""));
         if key == "end" {
             count = count.saturating_add(1);
-            if differs(&rt, alloc, &mut case)? {
+            if differs(rt, alloc, &mut case)? {
                 differ = differ.saturating_add(1);
             }
             case = Case::new(alloc);
         } else if key == "file" {
-            case.take_file(alloc, "table", fs::read(&rt, rest)?.as_slice())?;
+            case.take_file(alloc, "table", fs::read(rt, rest)?.as_slice())?;
         } else {
             case.take(alloc, key, rest)?;
         }
     }
-    println!(rt; "{count} cases, {differ} differ")
+    println!(rt; "{file}: {count} cases, {differ} differ")
 }
 
-#[cfg(test)]
-mod tests;
+fn main(rt: HostRuntime) -> io::Result<()> {
+    run_cases(&rt, rt.alloc(), "cases.txt")?;
+    run_cases(&rt, rt.alloc(), "wrong.txt")
+}

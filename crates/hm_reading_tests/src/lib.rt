@@ -16,6 +16,8 @@ mod refs;
 #[cfg(test)]
 mod settle;
 #[cfg(test)]
+mod source;
+#[cfg(test)]
 mod tag_scan;
 #[cfg(test)]
 mod text_scan;

@@ -146,6 +146,3 @@ fn main(rt: HostRuntime) -> ExitCode {
         Err(NoWords::Memory) => ExitCode::from(7),
     }
 }
-
-#[cfg(test)]
-mod tests;

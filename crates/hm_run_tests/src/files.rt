@@ -1,3 +1,4 @@
+//! A whole run over real files.
 use hm_base::Word;
 use hm_minify::{Status, run};
 use hm_store::{FileStore, WriteSink};
@@ -24,15 +25,15 @@ fn real_files_hold_the_output_and_its_certificate(rt: HostRuntime) -> Result<(),
     let folder = env::temp_dir(&rt)?;
     let page = folder.join(
         rt.alloc(),
-        format!(in rt.alloc(); "hminify_{number}.page")?.as_str(),
+        format!(in rt.alloc(); "hm_run_tests_{number}.page")?.as_str(),
     )?;
     let out = folder.join(
         rt.alloc(),
-        format!(in rt.alloc(); "hminify_{number}.out")?.as_str(),
+        format!(in rt.alloc(); "hm_run_tests_{number}.out")?.as_str(),
     )?;
     let cert = folder.join(
         rt.alloc(),
-        format!(in rt.alloc(); "hminify_{number}.cert")?.as_str(),
+        format!(in rt.alloc(); "hm_run_tests_{number}.cert")?.as_str(),
     )?;
     fs::write(&rt, page.as_str(), PAGE)?;
     let mut words = Vec::new(rt.alloc());

@@ -1,9 +1,10 @@
 //! Steps that are kept, and which of them a unit has from a list.
-ghost use Rattle.std.specs.Prelude.{◌≡◌, ◌<◌, ◌↔◌, length, IfSome, IsTrue};
+ghost use Rattle.std.specs.Prelude.{◌≡◌, ◌<◌, length, IfSome, IsTrue};
 ghost use Rattle.std.specs.List.{HoldsAt};
+ghost use Rattle.hm_edges.specs.declared.units.Unit.TheVariants.{AttributeEnd, AttributeName, EndTag, StartTag, TagClose, TagName};
 
 use crate::step::{Step, are_equal};
-use hm_edges::{TextKind, Unit};
+use hm_edges::{Needs, TextKind, Unit};
 
 /// How many steps are searched for one that is there.
 const SEARCHED: usize = 256;
@@ -45,12 +46,107 @@ pub(crate) fn is_kind(one: TextKind, other: TextKind) -> bool
     one == other
 }
 
-/// Whether the two are equal.
+/// Whether a unit is a start tag without attributes with all of this.
+#[inline(always)]
+fn is_start_tag(one: &Unit, len: u32, omits: bool, firm: bool, closes: bool) -> bool
+    ensures { IsTrue result → one.now ≡ StartTag len omits firm closes }
+{
+    match *one {
+        Unit::StartTag {
+            len: own,
+            omits: is_omitted,
+            firm: is_firm,
+            closes: is_closed,
+        } => own == len && is_omitted == omits && is_firm == firm && is_closed == closes,
+        _ => false,
+    }
+}
+
+/// Whether a unit is an end tag with all of this.
+#[inline(always)]
+fn is_end_tag(one: &Unit, len: u32, omits: bool, loosens: bool) -> bool
+    ensures { IsTrue result → one.now ≡ EndTag len omits loosens }
+{
+    match *one {
+        Unit::EndTag {
+            len: own,
+            omits: is_omitted,
+            loosens: is_loose,
+        } => own == len && is_omitted == omits && is_loose == loosens,
+        _ => false,
+    }
+}
+
+/// Whether a unit is the name of a tag with so many bytes.
+#[inline(always)]
+fn is_tag_name(one: &Unit, len: u32) -> bool
+    ensures { IsTrue result → one.now ≡ TagName len }
+{
+    match *one {
+        Unit::TagName { len: own } => own == len,
+        _ => false,
+    }
+}
+
+/// Whether a unit is the name of an attribute with so many bytes, whose value needs this.
+#[inline(always)]
+fn is_attribute_name(one: &Unit, len: u32, needs: Needs) -> bool
+    ensures { IsTrue result → one.now ≡ AttributeName len needs }
+{
+    match *one {
+        Unit::AttributeName {
+            len: own,
+            needs: own_needs,
+        } => own == len && own_needs == needs,
+        _ => false,
+    }
+}
+
+/// Whether a unit is the `>` of a tag that may close itself, or of one that may not.
+#[inline(always)]
+fn is_tag_close(one: &Unit, closes: bool) -> bool
+    ensures { IsTrue result → one.now ≡ TagClose closes }
+{
+    match *one {
+        Unit::TagClose { closes: own } => own == closes,
+        _ => false,
+    }
+}
+
+/// Whether a unit closes a value.
+#[inline(always)]
+fn is_attribute_end(one: &Unit) -> bool
+    ensures { IsTrue result → one.now ≡ AttributeEnd }
+{
+    match *one {
+        Unit::AttributeEnd => true,
+        _ => false,
+    }
+}
+
+/// Whether the two are equal. Where the kind of the other one is known, as it is wherever a unit is made, its test is put inline.
 #[inline(always)]
 fn is_unit(one: &Unit, other: &Unit) -> bool
-    ensures { IsTrue result ↔ (one.now ≡ other.now) }
+    ensures { IsTrue result → one.now ≡ other.now }
 {
-    one == other
+    match *other {
+        Unit::StartTag {
+            len,
+            omits,
+            firm,
+            closes,
+        } => is_start_tag(one, len, omits, firm, closes),
+        Unit::EndTag {
+            len,
+            omits,
+            loosens,
+        } => is_end_tag(one, len, omits, loosens),
+        Unit::TagName { len } => is_tag_name(one, len),
+        Unit::AttributeName { len, needs } => is_attribute_name(one, len, needs),
+        Unit::TagClose { closes } => is_tag_close(one, closes),
+        Unit::AttributeEnd => is_attribute_end(one),
+        _ => one == other,
+    }
 }
 
 impl KnownStep {

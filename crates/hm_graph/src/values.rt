@@ -178,12 +178,22 @@ fn is_clear(byte: u8) -> bool
     (byte > b'>' && byte != b'`') || (byte > b'\'' && byte < b'<')
 }
 
+/// Whether the byte is that of a character that may not stand without quotes. One look tells it of small letters, of which most
+/// values are made.
+#[inline(always)]
+#[tactic(auto, unfolding(hm_spelling_spec::specs::Characters::is_barred, hm_base::specs::Bytes::is_space))]
+fn is_barred_byte(byte: u8) -> bool
+    ensures { result ≡ spots.is_barred byte }
+{
+    byte <= b'`' && !is_clear(byte) && is_barred(byte as char)
+}
+
 /// Whether some byte is that of a character that may not stand without quotes.
 fn has_barred(bytes: &[u8]) -> bool
     ensures { result ≡ list_any spots.is_barred bytes.now }
 {
     for byte in bytes {
-        if !is_clear(*byte) && is_barred(*byte as char) {
+        if is_barred_byte(*byte) {
             return true;
         }
     }

@@ -2,6 +2,8 @@
 #![tactic(auto)]
 
 #[cfg(test)]
+mod dump;
+#[cfg(test)]
 mod elements;
 #[cfg(test)]
 mod fragment;

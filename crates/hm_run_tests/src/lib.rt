@@ -1,10 +1,6 @@
-//! Tests of words, stores and whole runs.
+//! Tests of what a run is given and what it leaves: words, stores and sinks.
 #![tactic(auto)]
 
-#[cfg(test)]
-mod files;
-#[cfg(test)]
-mod minify;
 #[cfg(test)]
 mod store;
 #[cfg(test)]

@@ -135,6 +135,13 @@ no_pair d (v ∷ []) a l = absurd (omega (arith, l))
 no_pair d (v ∷ u ∷ []) a l = absurd (omega (arith, l))
 no_pair d (v ∷ u ∷ x ∷ vs) a l = sym (ap attribute_in (array_is d _ a) ∙ pair_of_three (view x) (items_view vs) (view v) (view u))
 
+pub pair_of_two : (d : Data) (vs : List Value) (a b : Value) (o : Option Attribute) → Some (items_view vs) ≡ as_array d → 2 ≤ length vs → length vs < 3 → a ≡ get_or vs 0 a → b ≡ get_or vs 1 b
+    → o ≡ attribute_in (array (item (view a) (item (view b) no_items))) → o ≡ attribute_in d
+pair_of_two d [] a b o s l m i j is = absurd (omega (arith, l))
+pair_of_two d (v ∷ []) a b o s l m i j is = absurd (omega (arith, l))
+pair_of_two d (v ∷ u ∷ []) a b o s l m i j is = is ∙ (λ k. attribute_in (array (item (view (i k)) (item (view (j k)) no_items)))) ∙ sym (ap attribute_in (array_is d _ s))
+pair_of_two d (v ∷ u ∷ x ∷ vs) a b o s l m i j is = absurd (omega (arith, m))
+
 -- ---- Attributes
 
 -- where an item is no pair, there are no attributes

@@ -1,5 +1,5 @@
 //! The attributes of a start.
-ghost use Rattle.std.specs.Prelude.{◌≡◌, ◌&&◌, false, true, not, length, nat_le, IfOk, MatchOption};
+ghost use Rattle.std.specs.Prelude.{◌≡◌, ◌≤◌, ◌&&◌, [], false, true, not, length, nat_le, IfOk, MatchOption};
 ghost use Rattle.hm_base.specs.Walks.{has_distinct_names};
 ghost use Rattle.hm_base.specs.declared.limits.TheConstants.{ATTRIBUTE_LIMIT};
 ghost use Rattle.hm_elements.specs.Settled.{all_names_in_form, no_zero_in_values};
@@ -29,20 +29,43 @@ pub(crate) fn attributes_of(alloc: Global, pairs: &Pairs<'_>) -> Result<Option<A
     ensures { IfOk result (λ made. MatchOption made (are_in_form pairs.now ≡ false)
         (λ attrs. (attrs ≡ pairs.now) × (are_in_form pairs.now ≡ true))) }
 {
-    let mut attrs = Attrs::new(alloc);
     if pairs.len() > ATTRIBUTE_LIMIT as usize {
         return Ok(None);
     }
-    for i in 0..pairs.len() {
-        let (name, value) = pairs.at(i);
-        if !is_attribute_name(name.as_bytes()) {
-            return Ok(None);
-        }
-        if !attrs.put(name, value)? {
-            return Ok(None);
-        }
+    let mut attrs = Attrs::new(alloc);
+    let all = put_all(&mut attrs, pairs)?;
+    Ok(kept(attrs, all))
+}
+
+/// The attributes, where all were put.
+#[inline(always)]
+fn kept(attrs: Attrs, all: bool) -> Option<Attrs>
+    ensures { MatchOption result (all ≡ false) (λ same. (all ≡ true) × (same ≡ attrs) × (has_distinct_names attrs ≡ true)) }
+{
+    if !all {
+        return None;
     }
     // What is true of all attributes comes with their number.
     let _count = attrs.len();
-    Ok(Some(attrs))
+    Some(attrs)
+}
+
+/// Puts all pairs where no attribute is yet, up to one whose name is repeated or can't be written.
+#[inline(always)]
+fn put_all(attrs: &mut Attrs, pairs: &Pairs<'_>) -> Result<bool, Memory>
+    requires none { attrs.old ≡ [] }
+    requires few { length pairs.now ≤ ATTRIBUTE_LIMIT }
+    ensures all { IfOk result (λ put. put ≡ true → (attrs.new ≡ pairs.now) × (all_names_in_form pairs.now ≡ true)) }
+    ensures other { IfOk result (λ put. put ≡ false → are_in_form pairs.now ≡ false) }
+{
+    for i in 0..pairs.len() {
+        let (name, value) = pairs.at(i);
+        if !is_attribute_name(name.as_bytes()) {
+            return Ok(false);
+        }
+        if !attrs.put(name, value)? {
+            return Ok(false);
+        }
+    }
+    Ok(true)
 }

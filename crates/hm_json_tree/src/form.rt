@@ -1,5 +1,6 @@
 //! Items of the array as events, before the open elements are asked.
 ghost use Rattle.std.specs.Prelude.{◌≡◌, ◌∷◌, length, List, Some, None, IfOk, IfSome, MatchOption, is_some, option_map, option_and_then};
+ghost use Rattle.serde_json.specs.Data.{array, item, no_items};
 ghost use Rattle.serde_json.specs.View.{items_view, view};
 ghost use Rattle.hm_base.specs.Walks.{Element, Event, path_behind};
 ghost use Rattle.hm_json_tree.specs.Forms.{event_told};
@@ -130,11 +131,19 @@ fn as_pair(item: &Value) -> Option<(&str, &str)>
     ensures { option_map (λ p. record { name = p.0.now; value = p.1.now }) result ≡ reading.attribute_in (view item.now) }
 {
     match item.as_array()?.as_slice() {
-        [name, value] => Some((name.as_str()?, value.as_str()?)),
+        [name, value] => both(name, value),
         [] => None,
         [_] => None,
         [_, _, _, ..] => None,
     }
+}
+
+/// The texts that two items say, if both are texts.
+#[inline(always)]
+fn both<'v>(name: &'v Value, value: &'v Value) -> Option<(&'v str, &'v str)>
+    ensures { option_map (λ p. record { name = p.0.now; value = p.1.now }) result ≡ reading.attribute_in (array (item (view name.now) (item (view value.now) no_items))) }
+{
+    Some((name.as_str()?, value.as_str()?))
 }
 
 /// The name and the value that an item says, which is a pair of texts; else both are empty.

@@ -82,11 +82,32 @@ impl Reader {
     {
         let raw_ends = is_raw_text(alloc, &self.path, form)?;
         let attrs = attributes_in(alloc, form)?;
+        self.judge(alloc, form, raw_ends, &attrs)
+    }
+
+    /// The same where the rules on raw texts and on attributes were asked.
+    #[inline(always)]
+    fn judge(
+        &mut self,
+        alloc: Global,
+        form: &Form<'_>,
+        raw_ends: bool,
+        attrs: &Option<Attrs>,
+    ) -> Result<Option<u8>, Memory>
+        requires at { IsAt self.old }
+        requires told { event_told self.old.path form.now ≡ Some (told self.old.path form.now) }
+        requires raw { raw_ends ≡ settled.is_raw_text self.old.path (told self.old.path form.now) [] }
+        requires form { is_some attrs.now ≡ settled.has_attributes_in_form self.old.path (told self.old.path form.now) [] }
+        requires made { IfSome attrs.now (HasAttributes form.now) }
+        ensures { IfOk result (λ point. MatchOption point
+            (IsAt self.new × (self.new.maker ≡ self.old.maker ++ told self.old.path form.now ∷ []) × (self.new.path ≡ path_behind self.old.path (told self.old.path form.now)))
+            (λ k. (self.new.path ≡ self.old.path) × ((w : List Event) → first_break (self.old.maker ++ told self.old.path form.now ∷ w) ≡ Some (record { event = length self.old.maker; point = k })))) }
+    {
         let point = point_of(&self.seen, &self.path, form, raw_ends, attrs.is_some());
         if point.is_some() {
             return Ok(point);
         }
-        self.put(alloc, form, &attrs.unwrap())?;
+        self.put(alloc, form, attrs.as_ref().unwrap())?;
         Ok(None)
     }
 

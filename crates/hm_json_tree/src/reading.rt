@@ -4,8 +4,8 @@ ghost use Rattle.serde_json.specs.View.{items_view, view};
 ghost use Rattle.hm_base.specs.Walks.{Element, Event, path_behind};
 ghost use Rattle.hm_elements.specs.Settled.{Settled};
 ghost use Rattle.hm_json_tree.specs.declared.limits.TheConstants as limits;
-ghost use Rattle.hm_json_tree.specs.Progress.{fault_walk, put_events};
-ghost use Rattle.hm_json_tree.specs.Reading.{event_in, events_in, json_walk, listed, of_listed, walk};
+ghost use Rattle.hm_json_tree.specs.Progress.{AreListed, IsAt, fault_walk, put_events};
+ghost use Rattle.hm_json_tree.specs.Reading.{at_end, event_in, events_in, json_walk, listed, of_listed, walk};
 ghost use Rattle.hm_refs.specs.Json as json;
 
 use crate::JsonFault;
@@ -75,16 +75,51 @@ fn read_items(alloc: Global, items: &[Value]) -> Result<Tree, JsonFault>
     ensures fault { IfErr result (λ fault. fault ≢ JsonFault.Memory → of_listed (events_in 0 [] (items_view items.now)) ≡ fault_walk fault) }
 {
     let mut reader = Reader::new(alloc);
-    for i in 0..items.len() {
-        let Some(form) = reader.form_of(&items[i]) else {
-            return Err(bad_event(i));
-        };
-        if let Some(point) = reader.take(alloc, &form)? {
-            follow(items, i, reader.path.len() as u32)?;
-            return Err(not_settled(i, point));
-        }
-    }
+    take_items(alloc, items, &mut reader)?;
     reader.finish()
+}
+
+/// Takes the events of all items, where none was taken before.
+#[inline(always)]
+fn take_items(alloc: Global, items: &[Value], reader: &mut Reader) -> Result<(), JsonFault>
+    requires at { IsAt reader.old }
+    requires none { reader.old.maker ≡ [] }
+    requires top { reader.old.path ≡ [] }
+    ensures at { OnOk result (IsAt reader.new) }
+    ensures read { OnOk result (events_in 0 [] (items_view items.now) ≡ put_events reader.new.maker (at_end reader.new.path)) }
+    ensures fault { IfErr result (λ fault. fault ≢ JsonFault.Memory → of_listed (events_in 0 [] (items_view items.now)) ≡ fault_walk fault) }
+{
+    for i in 0..items.len() {
+        take_item(alloc, items, i, reader)?;
+    }
+    Ok(())
+}
+
+/// Takes the event of an item, after those of the items before it.
+#[inline(always)]
+fn take_item(
+    alloc: Global,
+    items: &[Value],
+    i: usize,
+    reader: &mut Reader,
+) -> Result<(), JsonFault>
+    requires inside { i < length items.now }
+    requires at { IsAt reader.old }
+    requires count { i ≡ length reader.old.maker }
+    requires listed { AreListed items.now i reader.old.maker reader.old.path }
+    ensures at { OnOk result (IsAt reader.new) }
+    ensures count { OnOk result (i + 1 ≡ length reader.new.maker) }
+    ensures listed { OnOk result (AreListed items.now (i + 1) reader.new.maker reader.new.path) }
+    ensures fault { IfErr result (λ fault. fault ≢ JsonFault.Memory → of_listed (events_in 0 [] (items_view items.now)) ≡ fault_walk fault) }
+{
+    let Some(form) = reader.form_of(&items[i]) else {
+        return Err(bad_event(i));
+    };
+    if let Some(point) = reader.take(alloc, &form)? {
+        follow(items, i, reader.path.len() as u32)?;
+        return Err(not_settled(i, point));
+    }
+    Ok(())
 }
 
 /// Whether events stand from an item on, before which so many elements are open, and all elements are closed at the end.

@@ -68,7 +68,14 @@ pub fn write_tree(alloc: Global, tree: &Tree) -> Result<Vec<u8>, Memory>
     if buffer.failed {
         return Err(Memory);
     }
-    let mut bytes = Vec::new(alloc);
-    bytes.extend_from_slice(out.bytes())?;
-    Ok(bytes)
+    copied(alloc, out.bytes())
+}
+
+#[inline(always)]
+fn copied(alloc: Global, bytes: &[u8]) -> Result<Vec<u8>, Memory>
+    ensures { IfOk result (λ copy. copy.items ≡ bytes.now) }
+{
+    let mut copy = Vec::new(alloc);
+    copy.extend_from_slice(bytes)?;
+    Ok(copy)
 }

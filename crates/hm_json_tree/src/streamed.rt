@@ -1,14 +1,15 @@
 //! Trees whose events are read one after the other, each item when the one before it was judged.
-ghost use Rattle.std.specs.Prelude.{◌≡◌, ◌≢◌, ◌<◌, ◌≤◌, List, length, true, IfOk, IfErr, IfSome};
+ghost use Rattle.std.specs.Prelude.{◌≡◌, ◌≢◌, ◌<◌, ◌≤◌, [], ◌∷◌, List, length, true, IfOk, IfErr, IfSome};
 ghost use Rattle.hm_elements.specs.Settled.{Settled};
 ghost use Rattle.hm_json_tree.specs.declared.limits.TheConstants.{JSON_LIMIT};
 ghost use Rattle.json.specs.Token as json;
-ghost use Rattle.hm_json_tree.specs.Progress.{IsAt, fault_walk};
-ghost use Rattle.hm_json_tree.specs.Reading.{json_walk, walk};
-ghost use Rattle.hm_json_tree.specs.Tokens.{IsRead, Passes, PassesAs, PassesOne, Whole};
+ghost use Rattle.hm_json_tree.specs.Progress.{IsAt, fault_walk, put_events};
+ghost use Rattle.hm_json_tree.specs.Reading.{JsonWalk, at_end, json_walk, of_listed, walk};
+ghost use Rattle.hm_tree.specs.Trees.{are_sound};
+ghost use Rattle.hm_json_tree.specs.Tokens.{IsItem, IsRead, Passes, PassesAs, PassesOne, Whole};
 
 use crate::JsonFault;
-use crate::form::depth_after;
+use crate::form::{Form, depth_after};
 use crate::reader::Reader;
 use crate::tokens::{is_at_end, next_form};
 use hm_base::Memory;
@@ -28,10 +29,19 @@ pub(crate) fn read_tokens(alloc: Global, bytes: &[u8]) -> Result<Option<Tree>, J
     };
     let mut scratch = Scratch::new(alloc);
     let mut tokens = json::Reader::new(text, &mut scratch)?;
+    read_array(alloc, &mut tokens)
+}
+
+/// The tree of the array that stands next, up to the end of the text.
+#[inline(always)]
+fn read_array(alloc: Global, tokens: &mut json::Reader<'_>) -> Result<Option<Tree>, JsonFault>
+    ensures tree { IfOk result (λ read. IfSome read (λ tree. (rest : List json.Token) × (tokens.old ≡ json.Token.begin_array ∷ rest) × Whole rest (walk tree) × (are_sound tree ≡ true))) }
+    ensures fault { IfErr result (λ fault. fault ≢ JsonFault.Memory → (rest : List json.Token) × (tokens.old ≡ json.Token.begin_array ∷ rest) × Whole rest (fault_walk fault)) }
+{
     let Some(Token::BeginArray) = tokens.next() else {
         return Ok(None);
     };
-    let Some(tree) = read_events(alloc, &mut tokens)? else {
+    let Some(tree) = read_events(alloc, tokens)? else {
         return Ok(None);
     };
     // What is true of every tree comes with its length.
@@ -45,15 +55,32 @@ fn read_events(alloc: Global, tokens: &mut json::Reader<'_>) -> Result<Option<Tr
     ensures fault { IfErr result (λ fault. fault ≢ JsonFault.Memory → Whole tokens.old (fault_walk fault)) }
 {
     let mut reader = Reader::new(alloc);
-    while !tokens.take_end_array() {
-        if !read_event(alloc, tokens, &mut reader)? {
-            return Ok(None);
-        }
-    }
-    if !is_at_end(tokens) {
+    if !take_events(alloc, tokens, &mut reader)? {
         return Ok(None);
     }
     Ok(Some(reader.finish()?))
+}
+
+/// Whether the items that follow are events up to the end of the text, which are then all taken, where none was before.
+#[inline(always)]
+fn take_events(
+    alloc: Global,
+    tokens: &mut json::Reader<'_>,
+    reader: &mut Reader,
+) -> Result<bool, JsonFault>
+    requires at { IsAt reader.old }
+    requires none { reader.old.maker ≡ [] }
+    requires top { reader.old.path ≡ [] }
+    ensures at { IfOk result (λ taken. taken ≡ true → IsAt reader.new) }
+    ensures read { IfOk result (λ taken. taken ≡ true → (w : JsonWalk) → of_listed (put_events reader.new.maker (at_end reader.new.path)) ≡ w → Whole tokens.old w) }
+    ensures fault { IfErr result (λ fault. fault ≢ JsonFault.Memory → Whole tokens.old (fault_walk fault)) }
+{
+    while !tokens.take_end_array() {
+        if !read_event(alloc, tokens, reader)? {
+            return Ok(false);
+        }
+    }
+    Ok(is_at_end(tokens))
 }
 
 /// Whether the next item is an event, which is then taken. Where it breaks a rule, the rest of the text is read too.
@@ -68,14 +95,31 @@ fn read_event(
     ensures shorter { IfOk result (λ taken. taken ≡ true → length tokens.new < length tokens.old) }
     ensures fault { IfErr result (λ fault. fault ≢ JsonFault.Memory → (all : List json.Token) → IsRead all reader.old.maker reader.old.path tokens.old → Whole all (fault_walk fault)) }
 {
-    let Some(form) = next_form(alloc, tokens) else {
-        return Ok(false);
-    };
+    match next_form(alloc, tokens) {
+        Some(form) => take_form(alloc, tokens, reader, &form),
+        None => Ok(false),
+    }
+}
+
+/// The same of the event that the item before says.
+#[inline(always)]
+fn take_form(
+    alloc: Global,
+    tokens: &mut json::Reader<'_>,
+    reader: &mut Reader,
+    form: &Form<'_>,
+) -> Result<bool, JsonFault>
+    requires { IsAt reader.old }
+    ensures at { IfOk result (λ taken. taken ≡ true → IsAt reader.new) }
+    ensures same { IfOk result (λ taken. taken ≡ true → tokens.new ≡ tokens.old) }
+    ensures read { IfOk result (λ taken. taken ≡ true → (all before : List json.Token) → IsItem before form.now tokens.old → IsRead all reader.old.maker reader.old.path before → IsRead all reader.new.maker reader.new.path tokens.new) }
+    ensures fault { IfErr result (λ fault. fault ≢ JsonFault.Memory → (all before : List json.Token) → IsItem before form.now tokens.old → IsRead all reader.old.maker reader.old.path before → Whole all (fault_walk fault)) }
+{
     let event = reader.events;
-    let Some(opened) = depth_after(&form, reader.path.len() as u32)? else {
+    let Some(opened) = depth_after(form, reader.path.len() as u32)? else {
         return Ok(false);
     };
-    let Some(point) = reader.take(alloc, &form)? else {
+    let Some(point) = reader.take(alloc, form)? else {
         return Ok(true);
     };
     if pass_events(alloc, tokens, opened)? {

@@ -1,5 +1,6 @@
 //! Items of the array that are read token by token. Where an item has another form than an event's, none is said.
-ghost use Rattle.std.specs.Prelude.{◌≡◌, [], true, IfSome, codes, map};
+ghost use Rattle.std.specs.Prelude.{◌≡◌, [], true, Some, IfSome, codes, map};
+ghost use Rattle.json.specs.Json.{after_end_array};
 ghost use Rattle.hm_json_tree.specs.Pairs.{text_attribute};
 ghost use Rattle.hm_json_tree.specs.Tokens.{ArePairs, IsItem, IsPair, IsText, Says};
 
@@ -17,10 +18,19 @@ pub(crate) fn next_form<'a>(alloc: Global, tokens: &mut Reader<'a>) -> Option<Fo
     };
     let kind = text(tokens)?;
     let form = form_of_kind(alloc, kind, tokens)?;
-    if !tokens.take_end_array() {
-        return None;
+    closed(tokens, form)
+}
+
+/// What an item says, where the bracket that closes it is next.
+#[inline(always)]
+fn closed<'a>(tokens: &mut Reader<'a>, form: Form<'a>) -> Option<Form<'a>>
+    ensures { IfSome result (λ same. (same ≡ form.entry) × (after_end_array tokens.old ≡ Some tokens.new)) }
+{
+    if tokens.take_end_array() {
+        Some(form)
+    } else {
+        None
     }
-    Some(form)
 }
 
 /// The event of a kind that the next tokens say more of.

@@ -90,7 +90,7 @@ fn pull_all<S: Store>(
     let most = front.len() + limit;
     while bytes.len() <= most {
         if !pull_more(store, &mut piece, &mut bytes, most)? {
-            break;
+            return Ok(bytes);
         }
     }
     Ok(bytes)

@@ -14,6 +14,7 @@ pub mod MovedLemmas
 pub mod OwnLemmas
 pub mod ListLemmas
 pub mod NameLemmas
+pub mod NextLemmas
 pub mod OpenLemmas
 pub mod PairLemmas
 pub mod ParentLemmas

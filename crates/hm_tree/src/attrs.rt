@@ -1,7 +1,8 @@
 //! The attributes of a start tag.
-ghost use Rattle.std.specs.Prelude.{◌≡◌, ◌+◌, ◌^◌, ◌<◌, [], ◌∷◌, ◌++◌, length, slice_get, string_bytes, true, false, not, All, Some, Ok, IfOk, OnErr, if◌then◌else◌};
-ghost use Rattle.hm_base.specs.Walks.{has_name, has_distinct_names};
+ghost use Rattle.std.specs.Prelude.{◌≡◌, ◌+◌, ◌^◌, ◌<◌, ◌≤◌, [], ◌∷◌, ◌++◌, length, slice_get, string_bytes, string_len, string_capacity, vec_len, vec_capacity, true, false, not, All, Some, Ok, IfSome, IfOk, OnOk, OnErr, if◌then◌else◌};
+ghost use Rattle.hm_base.specs.Walks.{Attribute, has_name, has_distinct_names};
 ghost use Rattle.hm_tree.specs.Attributes.{are_texts};
+ghost use Rattle.hm_tree.specs.Names.{HasNames};
 ghost use Rattle.hm_tree.specs.Pairs.{HasPair, attributes_of};
 ghost use Rattle.hm_tree.specs.Pieces.{texts_of};
 
@@ -107,22 +108,14 @@ impl Attrs {
         if self.has(name) {
             return Ok(false);
         }
-        self.pairs.reserve(1)?;
-        self.text.reserve(name.len() + value.len())?;
-        let alloc = *self.text.allocator();
-        note(
-            alloc,
+        make_room(
+            &mut self.text,
+            &mut self.pairs,
             &mut self.table,
-            self.text.as_str(),
-            self.pairs.as_slice(),
             name,
+            value,
         )?;
-        let from = self.text.len();
-        self.text.push_str(name).unwrap();
-        let middle = self.text.len();
-        self.text.push_str(value).unwrap();
-        let to = self.text.len();
-        self.pairs.push(Pair { from, middle, to }).unwrap();
+        append_pair(&mut self.text, &mut self.pairs, name, value);
         Ok(true)
     }
 
@@ -148,4 +141,43 @@ impl Attrs {
             None => has_among(text, pairs, name),
         }
     }
+}
+
+// Makes room for one more attribute, and notes its name.
+#[inline(always)]
+fn make_room(
+    text: &mut String,
+    pairs: &mut Vec<Pair>,
+    table: &mut Option<IndexSet<String>>,
+    name: &str,
+    value: &str,
+) -> Result<(), Memory>
+    requires pieces { All (HasPair (string_bytes text.old)) pairs.old.items }
+    requires noted { IfSome table.old (λ names. HasNames names (attributes_of (string_bytes text.old) pairs.old.items)) }
+    ensures kept { (string_bytes text.new ≡ string_bytes text.old) × (pairs.new.items ≡ pairs.old.items) }
+    ensures room { OnOk result ((string_len text.new + (length name.now + length value.now) ≤ string_capacity text.new) × (vec_len pairs.new + 1 ≤ vec_capacity pairs.new)) }
+    ensures ok { OnOk result ((a : Attribute) → a.name ≡ name.now → IfSome table.new (λ names. HasNames names (attributes_of (string_bytes text.old) pairs.old.items ++ a ∷ []))) }
+    ensures err { OnErr result (IfSome table.new (λ names. HasNames names (attributes_of (string_bytes text.old) pairs.old.items))) }
+{
+    pairs.reserve(1)?;
+    text.reserve(name.len() + value.len())?;
+    let alloc = *text.allocator();
+    note(alloc, table, text.as_str(), pairs.as_slice(), name)?;
+    Ok(())
+}
+
+// Appends an attribute for which there is room.
+#[inline(always)]
+fn append_pair(text: &mut String, pairs: &mut Vec<Pair>, name: &str, value: &str)
+    requires room { string_len text.old + (length name.now + length value.now) ≤ string_capacity text.old }
+    requires place { vec_len pairs.old + 1 ≤ vec_capacity pairs.old }
+    ensures text { string_bytes text.new ≡ (string_bytes text.old ++ name.now) ++ value.now }
+    ensures pairs { pairs.new.items ≡ pairs.old.items ++ record { from = length (string_bytes text.old); middle = length (string_bytes text.old ++ name.now); to = length ((string_bytes text.old ++ name.now) ++ value.now) } ∷ [] }
+{
+    let from = text.len();
+    text.push_str(name).unwrap();
+    let middle = text.len();
+    text.push_str(value).unwrap();
+    let to = text.len();
+    pairs.push(Pair { from, middle, to }).unwrap();
 }

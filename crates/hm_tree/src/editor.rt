@@ -1,5 +1,5 @@
 //! A tree gone through from its first event to its last, and changed in place.
-ghost use Rattle.std.specs.Prelude.{◌≡◌, ◌<◌, ◌≤◌, [], ◌++◌, length, slice_get, take, false, true, Some, option_map, MatchOption, IfSome, OnOk, OnErr};
+ghost use Rattle.std.specs.Prelude.{◌≡◌, ◌+◌, ◌<◌, ◌≤◌, [], ◌++◌, length, slice_get, string_bytes, take, false, true, Some, option_map, MatchOption, IfSome, IfOk, OnOk, OnErr};
 ghost use Rattle.hm_base.specs.Walks.{begins_comment, begins_text, path_after};
 ghost use Rattle.hm_tree.specs.Edits as edits;
 ghost use Rattle.std.specs.List.{remove};
@@ -222,12 +222,7 @@ impl Editor {
         let RowPart::Text { raw, .. } = row.part else {
             return Err(Memory);
         };
-        let Ok(to) = u32::try_from(self.text.len() + text.len()) else {
-            return Err(Memory);
-        };
-        let from = self.text.len() as u32;
-        self.text.push_str(text)?;
-        let text = TextRange { from, to };
+        let text = append_last(&mut self.text, text)?;
         self.next += count;
         self.rows[self.next as usize] = EventRow {
             part: RowPart::Text { text, raw },
@@ -266,12 +261,7 @@ impl Editor {
         let RowPart::Text { raw, .. } = row.part else {
             return Err(Memory);
         };
-        let Ok(to) = u32::try_from(self.text.len() + text.len()) else {
-            return Err(Memory);
-        };
-        let from = self.text.len() as u32;
-        self.text.push_str(text)?;
-        let text = TextRange { from, to };
+        let text = append_last(&mut self.text, text)?;
         self.rows[at] = EventRow {
             part: RowPart::Text { text, raw },
             parent: row.parent,
@@ -311,4 +301,20 @@ fn parent_behind(rows: &[EventRow], parent: Option<u32>, part: RowPart, at: u32)
         },
         _ => parent,
     }
+}
+
+// Appends a text after all bytes that are there.
+#[inline(always)]
+fn append_last(text: &mut String, more: &str) -> Result<TextRange, Memory>
+    ensures bytes { OnOk result (string_bytes text.new ≡ string_bytes text.old ++ more.now) }
+    ensures from { IfOk result (λ range. range.from ≡ length (string_bytes text.old)) }
+    ensures to { IfOk result (λ range. range.to ≡ length (string_bytes text.old) + length more.now) }
+    ensures err { OnErr result (string_bytes text.new ≡ string_bytes text.old) }
+{
+    let Ok(to) = u32::try_from(text.len() + more.len()) else {
+        return Err(Memory);
+    };
+    let from = text.len() as u32;
+    text.push_str(more)?;
+    Ok(TextRange { from, to })
 }

@@ -62,6 +62,22 @@ fn table_of(alloc: Global, text: &str, pairs: &[Pair]) -> Result<IndexSet<String
     Ok(table)
 }
 
+// The same with the name of one more attribute, after these.
+#[inline(always)]
+fn table_with(
+    alloc: Global,
+    text: &str,
+    pairs: &[Pair],
+    name: &str,
+) -> Result<IndexSet<String>, Memory>
+    requires { All (HasPair text.now) pairs.now }
+    ensures { IfOk result (λ table. (a : Attribute) → a.name ≡ name.now → HasNames table (attributes_of text.now pairs.now ++ a ∷ [])) }
+{
+    let mut table = table_of(alloc, text, pairs)?;
+    add(&mut table, name)?;
+    Ok(table)
+}
+
 // Notes the name of one more attribute, after these.
 pub(crate) fn note(
     alloc: Global,
@@ -79,9 +95,7 @@ pub(crate) fn note(
         Some(table) => add(table, name)?,
         None => {
             if pairs.len() >= FEW {
-                let mut fresh = table_of(alloc, text, pairs)?;
-                add(&mut fresh, name)?;
-                *table = Some(fresh);
+                *table = Some(table_with(alloc, text, pairs, name)?);
             }
         }
     }

@@ -1,7 +1,8 @@
 //! The rows of a tree that is being made: one for each event, and all texts one after the other.
-ghost use Rattle.std.specs.Prelude.{◌≡◌, ◌+◌, ◌^◌, ◌<◌, ◌≤◌, [], ◌∷◌, ◌++◌, length, true, Some, OnOk, OnErr};
+ghost use Rattle.std.specs.Prelude.{◌≡◌, ◌+◌, ◌^◌, ◌<◌, ◌≤◌, [], ◌∷◌, ◌++◌, length, string_bytes, string_len, string_capacity, vec_len, vec_capacity, true, Some, IfOk, OnOk, OnErr};
 ghost use Rattle.hm_base.specs.Walks as walks;
-ghost use Rattle.hm_base.specs.Walks.{start, doctype, comment, event_size, path_after, walk_size, with_text};
+ghost use Rattle.hm_base.specs.Walks.{start, doctype, comment, attributes_size, event_size, has_distinct_names, path_after, walk_size, with_text};
+ghost use Rattle.hm_tree.specs.Attributes.{are_texts};
 ghost use Rattle.hm_tree.specs.Rows.{ends_in_text, extended};
 ghost use Rattle.hm_tree.specs.Sources.{listed};
 ghost use Rattle.hm_tree.specs.Trees.{IsTold, end_of, innermost, last_agrees, parent_of};
@@ -142,12 +143,13 @@ impl Rows {
         ensures ok { OnOk result (self.new ≡ self.old ++ start name.now foreign (listed attrs.now) ∷ []) }
         ensures err { OnErr result (self.new ≡ self.old) }
     {
-        let Ok(count) = u16::try_from(count(attrs)) else {
-            return Err(Memory);
-        };
-        self.rows.reserve(1)?;
-        self.attributes.reserve(usize::from(count))?;
-        self.text.reserve(name.len() + text_len(attrs))?;
+        let count = start_room(
+            &mut self.text,
+            &mut self.attributes,
+            &mut self.rows,
+            name,
+            attrs,
+        )?;
         let name = append(&mut self.text, name);
         let first = append_attributes(&mut self.text, &mut self.attributes, attrs);
         let part = RowPart::Start {
@@ -173,8 +175,7 @@ impl Rows {
         ensures ok { OnOk result (self.new ≡ self.old ++ walks.text text.now raw ∷ []) }
         ensures err { OnErr result (self.new ≡ self.old) }
     {
-        self.rows.reserve(1)?;
-        self.text.reserve(text.len())?;
+        row_room(&mut self.text, &mut self.rows, text.len())?;
         let text = append(&mut self.text, text);
         let part = RowPart::Text { text, raw };
         let parent = Parent::of(parent);
@@ -189,8 +190,7 @@ impl Rows {
         ensures ok { OnOk result (self.new ≡ self.old ++ comment text.now ∷ []) }
         ensures err { OnErr result (self.new ≡ self.old) }
     {
-        self.rows.reserve(1)?;
-        self.text.reserve(text.len())?;
+        row_room(&mut self.text, &mut self.rows, text.len())?;
         let text = append(&mut self.text, text);
         let part = RowPart::Comment { text };
         let parent = Parent::of(parent);
@@ -274,4 +274,39 @@ impl Rows {
         self.rows.push(EventRow { part, parent })?;
         Ok(())
     }
+}
+
+// Makes room for a row and for so many bytes.
+#[inline(always)]
+fn row_room(text: &mut String, rows: &mut Vec<EventRow>, bytes: usize) -> Result<(), Memory>
+    ensures kept { (string_bytes text.new ≡ string_bytes text.old) × (rows.new.items ≡ rows.old.items) }
+    ensures ok { OnOk result ((string_len text.new + bytes ≤ string_capacity text.new) × (vec_len rows.new + 1 ≤ vec_capacity rows.new)) }
+{
+    rows.reserve(1)?;
+    text.reserve(bytes)?;
+    Ok(())
+}
+
+// Makes room for a start, and returns how many attributes it has.
+#[inline(always)]
+fn start_room(
+    text: &mut String,
+    attributes: &mut Vec<AttributePieces>,
+    rows: &mut Vec<EventRow>,
+    name: &str,
+    attrs: &AttributeSource<'_>,
+) -> Result<u16, Memory>
+    requires { length name.now + attributes_size (listed attrs.now) < 2 ^ 29 }
+    ensures kept { (string_bytes text.new ≡ string_bytes text.old) × (attributes.new.items ≡ attributes.old.items) × (rows.new.items ≡ rows.old.items) }
+    ensures sound { (has_distinct_names (listed attrs.now) ≡ true) × (are_texts (listed attrs.now) ≡ true) }
+    ensures ok { IfOk result (λ count. (count ≡ length (listed attrs.now))
+        × (string_len text.new + (length name.now + attributes_size (listed attrs.now)) ≤ string_capacity text.new)
+        × (vec_len attributes.new + length (listed attrs.now) ≤ vec_capacity attributes.new) × (vec_len rows.new + 1 ≤ vec_capacity rows.new)) }
+{
+    let Ok(count) = u16::try_from(count(attrs)) else {
+        return Err(Memory);
+    };
+    attributes.reserve(usize::from(count))?;
+    row_room(text, rows, name.len() + text_len(attrs))?;
+    Ok(count)
 }

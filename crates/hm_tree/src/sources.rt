@@ -7,7 +7,7 @@ ghost use Rattle.hm_tree.specs.Sources.{listed};
 use crate::{Attrs, AttrsView};
 
 // The attributes of a tag, or those of an element of another tree.
-#[derive(Clone, Copy, Debug)]
+#[derive(Clone, Copy)]
 pub(crate) enum AttributeSource<'a> {
     Tag { attrs: &'a Attrs },
     Element { attrs: AttrsView<'a> },

@@ -1,6 +1,7 @@
 //! Tokens and the faults of scans.
 ghost use Rattle.std.specs.Prelude.{◌≡◌, [], string_bytes};
 ghost use Rattle.hm_tree.specs.Lexemes.{spanned_of, token_of};
+ghost use Rattle.hm_tree.specs.declared.tokens.Lexeme.TheVariants as lexemes;
 
 use crate::Attrs;
 use hm_base::{Memory, Points, Word};
@@ -63,6 +64,30 @@ impl Tag {
             attrs: Attrs::new(alloc),
         }
     }
+
+    // The start tag with this name and these attributes.
+    #[inline(always)]
+    fn start(self, slash: bool) -> Token
+        ensures { result ≡ token_of (lexemes.StartTag slash) self }
+    {
+        let Tag { name, attrs } = self;
+        Token::StartTag {
+            name: Word { text: name },
+            attrs,
+            slash,
+        }
+    }
+
+    // The end tag with this name.
+    #[inline(always)]
+    fn end(self) -> Token
+        ensures { result ≡ token_of lexemes.EndTag self }
+    {
+        let Tag { name, .. } = self;
+        Token::EndTag {
+            name: Word { text: name },
+        }
+    }
 }
 
 /// A token whose name and attributes, where it is a tag, stand in a [`Tag`].
@@ -105,20 +130,16 @@ impl Lexeme {
     pub fn token(self, tag: Tag) -> Token
         ensures { result ≡ token_of self tag }
     {
-        match self {
+        // A place that no tag takes over is dropped once, after the match.
+        let token = match self {
+            Lexeme::StartTag { slash } => return tag.start(slash),
+            Lexeme::EndTag => return tag.end(),
             Lexeme::Doctype { legacy } => Token::Doctype { legacy },
-            Lexeme::StartTag { slash } => Token::StartTag {
-                name: Word { text: tag.name },
-                attrs: tag.attrs,
-                slash,
-            },
-            Lexeme::EndTag => Token::EndTag {
-                name: Word { text: tag.name },
-            },
             Lexeme::Slice { from, to } => Token::Slice { from, to },
             Lexeme::Points { points } => Token::Points { points },
             Lexeme::Comment { from, to } => Token::Comment { from, to },
-        }
+        };
+        token
     }
 }
 

@@ -1,31 +1,12 @@
-use Rattle.std.proofs.Common.{arith}
-use Rattle.std.proofs.lemmas.Result.{err_from_is_err_and}
+use Rattle.std.proofs.lemmas.Result.{IfErr-weaker, IfOk-weaker}
 use Rattle.hm_refs.proofs.ByTokens.{begins_shorter}
-use Rattle.hm_json_tree.proofs.ByTokens.{one_read, read_breaks, read_fails, told_depth, told_is}
 use Rattle.hm_json_tree.proofs.streamed.read_event.Goals as goal
 
-pub returns-in_default-3-clause-read : goal.returns-in_default-3-clause-read
-returns-in_default-3-clause-read c = λ _ all r.
-    let path = c.args.reader.now.path in
-    let m = rw c.in-Some-2.is at (c.in_ok-opened.ensures path (omega (arith, c.len.ensures))) in
-    let t = rw c.in_default-3.is at c.in_ok-point.ensures in
-    rw (t.1, t.2) (one_read all _ _ c.args.reader.now.maker path r c.in-Some.form _ c.in-Some.ensures (told_is path c.in-Some.form m.0 m.1))
+pub returns-in-Some-clause-read : goal.returns-in-Some-clause-read
+returns-in-Some-clause-read c = IfOk-weaker c.take_form.result _ _ (λ taken h is all r. h is all _ c.in-Some.ensures r) c.take_form.ensures.read
 
-pub returns-in_default-3-clause-shorter : goal.returns-in_default-3-clause-shorter
-returns-in_default-3-clause-shorter c = λ _. begins_shorter 126 _ _ _ c.in-Some.ensures
+pub returns-in-Some-clause-shorter : goal.returns-in-Some-clause-shorter
+returns-in-Some-clause-shorter c = IfOk-weaker c.take_form.result _ _ (λ taken h is. rw (h is) (begins_shorter 126 _ _ _ c.in-Some.ensures)) c.take_form.ensures.same
 
-pub returns-in_err-pass_events-clause-fault : goal.returns-in_err-pass_events-clause-fault
-returns-in_err-pass_events-clause-fault c =
-    let path = c.args.reader.now.path in
-    let form = c.in-Some.form in
-    let m = rw c.in-Some-2.is at (c.in_ok-opened.ensures path (omega (arith, c.len.ensures))) in
-    let p = err_from_is_err_and c.from_residual-in_err-pass_events.result c.from_residual-in_err-pass_events.ensures.1 in
-    rw (p.1, p.2) (λ memory all r. read_fails all _ _ c.args.reader.now.maker path r form _ c.in-Some.ensures (told_is path form m.0 m.1) c.in-Some-2.opened _ (told_depth path form m.0 _ m.1 m.2) (c.in_err-pass_events.ensures.fault memory))
-
-pub returns-then-branch-clause-fault : goal.returns-then-branch-clause-fault
-returns-then-branch-clause-fault c = λ _ all r.
-    let path = c.args.reader.now.path in
-    let form = c.in-Some.form in
-    let m = rw c.in-Some-2.is at (c.in_ok-opened.ensures path (omega (arith, c.len.ensures))) in
-    let t = rw c.in-Some-3.is at c.in_ok-point.ensures in
-    rw c.requires.count (read_breaks all _ _ c.args.reader.now.maker path r form _ c.in-Some.ensures (told_is path form m.0 m.1) c.in-Some-3.point c.in-Some-2.opened t.1 (told_depth path form m.0 _ m.1 m.2) (c.in_ok-pass_events.ensures.ok c.if-branch.true))
+pub returns-in-Some-clause-fault : goal.returns-in-Some-clause-fault
+returns-in-Some-clause-fault c = IfErr-weaker c.take_form.result _ _ (λ fault h other all r. h other all _ c.in-Some.ensures r) c.take_form.ensures.fault

@@ -18,9 +18,9 @@ pushed : (c : goal.After-unwrap)
 pushed c =
     let s = string_bytes c.self.inside.text in
     let pieces = c.self.inside.attributes.items in
-    let bytes : s ++ c.args.text.now ≡ string_bytes c.append-text.new.text = sym (c.append-text.ensures.bytes ∙ ap (λ t. t ++ c.args.text.now) c.reserve-2.ensures.bytes) in
-    let from : c.append-text.result.from ≡ length s = c.append-text.ensures.from ∙ ap length c.reserve-2.ensures.bytes in
-    let to : c.append-text.result.to ≡ length s + length c.args.text.now = c.append-text.ensures.to ∙ ap (λ t. length t + length c.args.text.now) c.reserve-2.ensures.bytes in
+    let bytes : s ++ c.args.text.now ≡ string_bytes c.append-text.new.text = sym (c.append-text.ensures.bytes ∙ ap (λ t. t ++ c.args.text.now) c.row_room.ensures.kept.0) in
+    let from : c.append-text.result.from ≡ length s = c.append-text.ensures.from ∙ ap length c.row_room.ensures.kept.0 in
+    let to : c.append-text.result.to ≡ length s + length c.args.text.now = c.append-text.ensures.to ∙ ap (λ t. length t + length c.args.text.now) c.row_room.ensures.kept.0 in
     IsTableOf-push s c.args.text.now (string_bytes c.append-text.new.text) pieces [] (c.self.inside.attributes.items) c.self.inside.rows.items c.args.self.now (record { part = Text c.append-text.result c.args.raw; parent = c.args.parent }) (text c.args.text.now c.args.raw)
     bytes (append-nil pieces) c.self.view_is c.self.invariant (record {
       utf8 = c.utf8.text;
@@ -39,7 +39,7 @@ pushed c =
 
 -- the rows that are then there
 items : (c : goal.After-unwrap) → c.push.new.self.items ≡ c.self.inside.rows.items ++ record { part = Text c.append-text.result c.args.raw; parent = c.args.parent } ∷ []
-items c = rw (c.unwrap.ensures, c.reserve.ensures.items, c.of-parent.ensures) at c.push.ensures.items
+items c = rw (c.unwrap.ensures, c.row_room.ensures.kept.1, c.of-parent.ensures) at c.push.ensures.items
 
 pub invariant_of-self-2 : goal.invariant_of-self-2
 invariant_of-self-2 c = rw (items c) (pushed c).0

@@ -2,17 +2,17 @@ use Rattle.std.proofs.Common.{◌≡◌, ◌++◌, ◌∷◌, [], true, false, t
 use Rattle.hm_base.specs.Forms.{is_attribute_name}
 use Rattle.hm_base.specs.Walks.{Attribute, has_name}
 use Rattle.hm_json_tree.proofs.Told.{name_fails, name_repeats, one_more, names_more, misnamed, repeated, denied}
-use Rattle.hm_json_tree.proofs.attributes.attributes_of.Goals as goal
+use Rattle.hm_json_tree.proofs.attributes.put_all.Goals as goal
 
-pub returns-then-not-is_attribute_name : goal.returns-then-not-is_attribute_name
-returns-then-not-is_attribute_name c =
+pub returns-then-not-is_attribute_name-clause-other : goal.returns-then-not-is_attribute_name-clause-other
+returns-then-not-is_attribute_name-clause-other c _ =
     let all = c.args.pairs.now in
     let a : Attribute = record { name = c.at.result.0.now; value = c.at.result.1.now } in
     let bad : is_attribute_name a.name ≡ false = sym (rw c.as_bytes.ensures.value at c.if-not-is_attribute_name.ensures) in
     misnamed all (name_fails all c.loop-i.i a c.at.ensures bad)
 
-pub returns-then-not-branch : goal.returns-then-not-branch
-returns-then-not-branch c =
+pub returns-then-not-branch-clause-other : goal.returns-then-not-branch-clause-other
+returns-then-not-branch-clause-other c _ =
     let all = c.args.pairs.now in
     let a : Attribute = record { name = c.at.result.0.now; value = c.at.result.1.now } in
     let there : has_name a.name c.loop-i.attrs ≡ true = denied (has_name a.name c.loop-i.attrs) (sym c.in_ok-put.ensures.there ∙ c.if-not-branch.true) in

@@ -125,3 +125,20 @@ known_last v (d ∷ kept) e known own = (known.0, known_last v kept e known.1 ow
 pub known_next : (v : TableView) (kept : List Edge) (e : Edge) (b : Bool) → AreOfTable v kept → IsOfTable v e → AreOfTable v (kept ++ cond b [] (e ∷ []))
 known_next v kept e true known own = subst (AreOfTable v) (sym (append-nil kept)) known
 known_next v kept e false known own = known_last v kept e known own
+
+-- those of some first edges, and those behind them
+pub known_front : (v : TableView) (edges : List Edge) (n : ℕ) → AreOfTable v edges → AreOfTable v (take n edges)
+known_front v edges zero known = tt
+known_front v [] (suc n) known = tt
+known_front v (e ∷ edges) (suc n) known = (known.0, known_front v edges n known.1)
+
+pub known_behind : (v : TableView) (edges : List Edge) (n : ℕ) → AreOfTable v edges → AreOfTable v (drop n edges)
+known_behind v edges zero known = known
+known_behind v [] (suc n) known = tt
+known_behind v (e ∷ edges) (suc n) known = known_behind v edges n known.1
+
+-- the edges that are kept are there at the end
+pub all_kept : (v : TableView) (u : units.Unit) (edges kept : List Edge) (n : ℕ) → length edges ≤ n → SomeKept v u edges kept n → edges_seen v u kept ≡ kept_edges (dominance v.entries) u (edges_seen v u edges)
+all_kept v u edges kept n past some =
+    sym (append-nil (edges_seen v u kept))
+    ∙ ap (λ es. edges_seen v u kept ++ kept_behind (dominance v.entries) u (reverse (edges_seen v u (take n edges))) (edges_seen v u es)) (sym (drop_all n edges past)) ∙ some

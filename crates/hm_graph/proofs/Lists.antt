@@ -21,6 +21,9 @@ interned v rules lists made = record { table = v; rules = rules; lists = lists; 
 
 -- ---- Growing
 
+pub grows_self : (m : InternedView) → Grows m m
+grows_self m = record { table = refl; rules = refl; lists = λ k within. record { there = within; list = refl }; steps = λ n within. (within, refl) }
+
 pub grows_on : (a b c : InternedView) → Grows a b → Grows b c → Grows a c
 grows_on a b c ab bc =
     record {
@@ -97,6 +100,14 @@ list_grows v rules lists made states =
       lists = λ k within. record { there = omega (arith, length_push lists states); list = get_or_append_left lists (states ∷ []) [] k within };
       steps = λ n within. (within, refl);
     }
+
+last_at : (lists : List (List State)) (states : List State) → get_or (lists ++ states ∷ []) (length lists) [] ≡ states
+last_at [] states = refl
+last_at (l ∷ lists) states = last_at lists states
+
+-- the last list has the number of those before it
+pub last_there : (v : TableView) (rules : EdgeRules) (lists : List (List State)) (made : List MadeStep) (states : List State) (n : ℕ) → n ≡ length lists → IsListOf (interned v rules (lists ++ states ∷ []) made) states n
+last_there v rules lists made states n is = record { there = omega (arith, length_push lists states, is); list = ap (λ k. get_or (lists ++ states ∷ []) k []) is ∙ last_at lists states }
 
 nodes_at : (v : TableView) (lists : List (List State)) (states : List State) → ((k : ℕ) → HaveNodes v (get_or lists k [])) → HaveNodes v states → (k : ℕ) → HaveNodes v (get_or (lists ++ states ∷ []) k [])
 nodes_at v [] states nodes own zero = own

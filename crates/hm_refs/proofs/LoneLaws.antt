@@ -1,10 +1,11 @@
 -- Names without ';' and their forms with it.
-use Rattle.std.proofs.Common.{◌≡◌, ℕ, Bool, true, false, cond, not, ◌&&◌, eqb, List, [], ◌∷◌, ◌++◌, Option, Some, None, option_map, option_to_list, bytes_eq, refl, sym, ap, ◌∙◌}
+use Rattle.std.proofs.Common.{◌≡◌, ℕ, ◌+◌, ◌<◌, ◌≤◌, Bool, true, false, cond, drop, length, not, ◌&&◌, eqb, List, [], ◌∷◌, ◌++◌, Option, Some, None, option_map, option_to_list, bytes_eq, refl, sym, ap, ◌∙◌}
+use Rattle.std.proofs.lemmas.List.{drop_all, drop_more}
 use Rattle.std.specs.Option.{option_eq}
 use Rattle.hm_base.specs.declared.plain.Points.{Points}
 use Rattle.hm_refs.specs.Names.{Entry, points_of, is_closed, is_front, child_of}
-use Rattle.hm_refs.specs.Tables.{names_in, entry_at, points_list}
-use Rattle.hm_refs.specs.Json.{is_lone}
+use Rattle.hm_refs.specs.Tables.{names_in, no_entry, entry_at, points_list}
+use Rattle.hm_refs.specs.Json.{first_lone, is_lone}
 use Rattle.hm_refs.specs.Nodes.{place}
 use Rattle.hm_refs.proofs.Found.{points_front}
 use Rattle.hm_refs.proofs.Whole.{points_place}
@@ -53,3 +54,20 @@ child_front t q f c h = by_test (is_front t (q ++ c ∷ [])) h
 
 pub no_name : (t : List Entry) (q : List ℕ) → None ≡ place q (names_in t) → points_of t q ≡ None
 no_name t q h = points_place t q ∙ ap (λ o. option_map (λ i. (entry_at t i).points) o) (sym h)
+
+-- ---- The first name that stands alone, name by name
+
+-- the search from a name on, which is that of all
+lone_next : (t : List Entry) (n id : ℕ) (b : Bool) → n < length t → id ≡ n → b ≡ is_lone t (entry_at t id) → first_lone t (drop n t) ≡ first_lone t t → cond b (Some (entry_at t id).name) (first_lone t (drop (n + 1) t)) ≡ first_lone t t
+lone_next t n id b l e h all =
+    ap (λ c. cond c (Some (entry_at t id).name) (first_lone t (drop (n + 1) t))) h ∙ ap (λ i. first_lone t (entry_at t i ∷ drop (n + 1) t)) e
+    ∙ sym (ap (first_lone t) (drop_more t n no_entry l)) ∙ all
+
+pub lone_here : (t : List Entry) (n id : ℕ) → n < length t → id ≡ n → true ≡ is_lone t (entry_at t id) → first_lone t (drop n t) ≡ first_lone t t → Some (entry_at t id).name ≡ first_lone t t
+lone_here t n id l e h all = lone_next t n id true l e h all
+
+pub lone_later : (t : List Entry) (n id : ℕ) → n < length t → id ≡ n → false ≡ is_lone t (entry_at t id) → first_lone t (drop n t) ≡ first_lone t t → first_lone t (drop (n + 1) t) ≡ first_lone t t
+lone_later t n id l e h all = lone_next t n id false l e h all
+
+pub lone_end : (t : List Entry) (n : ℕ) → length t ≤ n → first_lone t (drop n t) ≡ first_lone t t → None ≡ first_lone t t
+lone_end t n l all = sym (ap (first_lone t) (drop_all n t l)) ∙ all

@@ -1,15 +1,15 @@
 -- What was read of a table, beside the definitions.
-use Rattle.std.proofs.Common.{◌≡◌, ℕ, ◌<◌, ◌≤◌, nat_lt, length, arith, Result, Err, Bool, true, false, cond, List, [], ◌∷◌, Option, Some, None, IsUtf8, refl, sym, ap, ◌∙◌}
+use Rattle.std.proofs.Common.{◌≡◌, ℕ, ◌<◌, ◌≤◌, ◌++◌, nat_lt, length, arith, Result, Err, Bool, true, false, cond, List, [], ◌∷◌, Option, Some, None, IsUtf8, is_some, refl, sym, ap, ◌∙◌, append_assoc, append-nil}
 use Rattle.std.proofs.lemmas.Str.{IsUtf8-from_is_utf8, is_utf8-from_IsUtf8}
 use Rattle.std.specs.Str.{is_utf8}
-use Rattle.serde_json.specs.Data.{Data, Members}
+use Rattle.serde_json.specs.Data.{Data, Members, no_members, member}
 use Rattle.serde_json.specs.Read.{read}
 use Rattle.serde_json.specs.Find.{as_object}
 use Rattle.serde_json.specs.View.{items_view}
 use Rattle.serde_json.specs.declared.value.Value.{Value}
 use Rattle.hm_base.specs.declared.limits.TheConstants.{TABLE_LIMIT}
 use Rattle.hm_refs.specs.Names.{Entry}
-use Rattle.hm_refs.specs.Json.{json, points_in, names_of_members, names_of_object, names_of_data, names}
+use Rattle.hm_refs.specs.Json.{and_entry, codepoints, entries_in, first_bad_points, json, points_in, with_entry, names_of_members, names_of_object, names_of_data, names}
 use Rattle.hm_refs.specs.declared.fault.TableFault.{TableFault}
 use Rattle.hm_refs.specs.declared.fault.TableFault.TheVariants.{TooLong, NotJson, NotObject}
 
@@ -30,6 +30,29 @@ many_points [] l = absurd (omega arith)
 many_points (a ∷ []) l = absurd (omega arith)
 many_points (a ∷ b ∷ []) l = absurd (omega arith)
 many_points (a ∷ b ∷ c ∷ vs) l = refl
+
+-- ---- the names of members with their code points, one after another
+
+-- none of those before has a fault, and their names are there; the rest is judged
+abbrev pub AreGathered : List Entry → Members → Members → Type 0
+AreGathered t rest all = (first_bad_points rest ≡ first_bad_points all) × (t ++ entries_in rest ≡ entries_in all)
+
+pub one_gathered : (now next : List Entry) (ms rest all : Members) (k ps : List ℕ) (d : Data) → ms ≡ member k d rest → Some ps ≡ codepoints d → next ≡ and_entry now k ps → AreGathered now ms all → AreGathered next rest all
+one_gathered now next ms rest all k ps d m p n are = (
+  (λ i. cond (is_some (p i)) (first_bad_points rest) (Some k)) ∙ sym (ap first_bad_points m) ∙ are.0,
+  ap (λ t. t ++ entries_in rest) n ∙ append_assoc now (record { name = k; points = ps } ∷ []) (entries_in rest)
+  ∙ ap (λ o. now ++ with_entry k o (entries_in rest)) p ∙ sym (ap (λ xs. now ++ entries_in xs) m) ∙ are.1,
+)
+
+pub none_left : (now : List Entry) (ms all : Members) → ms ≡ no_members → AreGathered now ms all → first_bad_points all ≡ None
+none_left now ms all m are = sym are.0 ∙ ap first_bad_points m
+
+pub all_gathered : (now : List Entry) (ms all : Members) → ms ≡ no_members → AreGathered now ms all → now ≡ entries_in all
+all_gathered now ms all m are = sym (append-nil now) ∙ sym (ap (λ xs. now ++ entries_in xs) m) ∙ are.1
+
+-- the first name without code points
+pub first_without : (now : List Entry) (ms rest all : Members) (k n : List ℕ) (d : Data) → ms ≡ member k d rest → None ≡ codepoints d → n ≡ k → AreGathered now ms all → first_bad_points all ≡ Some n
+first_without now ms rest all k n d m p e are = sym are.0 ∙ ap first_bad_points m ∙ (λ i. cond (is_some (sym p i)) (first_bad_points rest) (Some k)) ∙ ap Some (sym e)
 
 -- ---- the faults of members
 

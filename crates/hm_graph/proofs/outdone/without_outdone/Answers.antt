@@ -1,6 +1,7 @@
-use Rattle.std.proofs.Common.{◌∙◌, ◌+◌, take, ap, sym, subst}
-use Rattle.hm_edges.specs.Pieces.{AreOfTable}
-use Rattle.hm_graph.proofs.KeptEdges.{SomeKept, is_outdone, up_to_end, kept_next, known_at, known_next}
+use Rattle.std.proofs.Common.{◌∙◌, ◌+◌, ◌++◌, drop, take, ap, sym, subst}
+use Rattle.hm_edges.specs.Pieces.{AreOfTable, edges_seen}
+use Rattle.hm_graph.proofs.KeptEdges.{SomeKept, all_kept, is_outdone, up_to_end, kept_next, known_at, known_behind, known_front, known_next}
+use Rattle.hm_optimality_laws.specs.Outdone.{dominance, kept_edges}
 use Rattle.hm_graph.proofs.outdone.without_outdone.Goals as goal
 
 pub loop-place-preserved : goal.loop-place-preserved
@@ -14,3 +15,25 @@ loop-place-preserved c = record {
   known = subst (AreOfTable c.args.table.now) (sym c.in_ok-keep.ensures)
       (known_next c.args.table.now c.loop-place.kept.items c.index-edges-place.result c.is_outdone-outdone.result c.loop-place.invariant.known (known_at c.args.table.now c.args.edges.now c.loop-place.place c.index-edges-place.result c.requires c.loop-place-test.true c.index-edges-place.is));
 }
+
+pub loop-place-init : goal.loop-place-init
+loop-place-init c = record {
+  edges = λ u stands. ap (λ kept. edges_seen c.args.table.now u kept ++ kept_edges (dominance c.args.table.now.entries) u (edges_seen c.args.table.now u c.args.edges.now)) c.new-kept.ensures.items;
+  known = subst (AreOfTable c.args.table.now) (sym c.new-kept.ensures.items) tt;
+}
+
+pub is_outdone-outdone-requires-clause-edge : goal.is_outdone-outdone-requires-clause-edge
+is_outdone-outdone-requires-clause-edge c = known_at c.args.table.now c.args.edges.now c.loop-place.place c.index-edges-place.result c.requires c.loop-place-test.true c.index-edges-place.is
+
+pub is_outdone-outdone-requires-clause-front : goal.is_outdone-outdone-requires-clause-front
+is_outdone-outdone-requires-clause-front c = known_front c.args.table.now c.args.edges.now c.loop-place.place c.requires
+
+pub is_outdone-outdone-requires-clause-behind : goal.is_outdone-outdone-requires-clause-behind
+is_outdone-outdone-requires-clause-behind c =
+    subst (AreOfTable c.args.table.now) (sym (up_to_end c.args.edges.now (c.loop-place.place + 1))) (known_behind c.args.table.now c.args.edges.now (c.loop-place.place + 1) c.requires)
+
+pub returns-clause-edges : goal.returns-clause-edges
+returns-clause-edges c = λ u stands. all_kept c.args.table.now u c.args.edges.now c.loop-place.kept.items c.loop-place.place c.loop-place-test.false (c.loop-place.invariant.edges u stands)
+
+pub returns-clause-known : goal.returns-clause-known
+returns-clause-known c = c.loop-place.invariant.known

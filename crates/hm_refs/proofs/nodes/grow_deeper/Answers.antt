@@ -26,3 +26,27 @@ pub returns : goal.returns
 returns c =
     let e : c.loop-number.number ≡ length (entries_of c.args.names.now) = omega (arith, length_entries c.args.names.now, c.loop-number-test.false, c.loop-number.auto.number-end) in
     deeper _ _ _ _ (subst (λ n. IsSpread (entries_of c.args.names.now) c.args.depth n c.loop-number.nodes.items c.loop-number.places) e c.loop-number.invariant)
+
+pub loop-number-init : goal.loop-number-init
+loop-number-init c = c.requires.spread
+
+pub behind_first-tail-requires : goal.behind_first-tail-requires
+behind_first-tail-requires c =
+    let l : c.loop-number.number < length (entries_of c.args.names.now) = omega (arith, length_entries c.args.names.now, c.loop-number-test.true) in
+    let is = name_read c.args.names.now c.loop-number.number _ _ c.loop-number-test.true (c.as_bytes.ensures.value ∙ c.as_str.ensures) in
+    omega (arith, ap length is, (c.loop-number.invariant.names.short c.loop-number.number l).long)
+
+pub overflow_cast-number : goal.overflow_cast-number
+overflow_cast-number c = omega (arith, length_entries c.args.names.now, c.loop-number-test.true, c.loop-number.invariant.names.few)
+
+pub bounds-places-number : goal.bounds-places-number
+bounds-places-number c = omega (arith, length_entries c.args.names.now, c.loop-number-test.true, c.loop-number.invariant.as_long)
+
+pub step-requires-clause-few : goal.step-requires-clause-few
+step-requires-clause-few c = omega (arith, length_entries c.args.names.now, c.loop-number-test.true, c.loop-number.invariant.names.few, c.loop-number.invariant.few, c.requires.low)
+
+pub step-requires-clause-within : goal.step-requires-clause-within
+step-requires-clause-within c = λ n x h e. (c.loop-number.invariant.web.kin n x h e).within
+
+pub bounds-places-number-then-depth-tail : goal.bounds-places-number-then-depth-tail
+bounds-places-number-then-depth-tail c = omega (arith, length_entries c.args.names.now, c.loop-number-test.true, c.loop-number.invariant.as_long)

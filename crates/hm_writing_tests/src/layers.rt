@@ -6,7 +6,6 @@ use hm_graph::Graph;
 use hm_refs::Table;
 use hm_tree::Tree;
 use std::alloc::Global;
-use std::test::Fail;
 
 /// A text outside of elements.
 fn text_alone(alloc: Global, text: &str) -> Result<Tree, Memory> {
@@ -26,8 +25,8 @@ fn element_alone(alloc: Global, name: &str, attr: &str, value: &str) -> Result<T
     if name.len() > 100 || attr.len() > 100 || value.len() > 100 {
         return Err(Memory);
     }
-    let mut maker = Tree::maker(alloc);
     let attrs = attributes(alloc, attr, value)?;
+    let mut maker = Tree::maker(alloc);
     maker.start(name, false, attrs)?;
     if maker.depth() == 0 {
         return Err(Memory);
@@ -62,54 +61,86 @@ fn is_like(graph: &Graph, wanted: &[Shown], last: usize) -> bool {
     true
 }
 
+/// Whether the graph of a tree has these steps with a table, and `last` states after them.
+fn graph_has_steps(
+    alloc: Global,
+    table: &Table,
+    tree: &Tree,
+    format: Format,
+    wanted: &[Shown],
+    last: usize,
+) -> bool {
+    match Graph::of(alloc, tree, table, RULES, format) {
+        Ok(graph) => is_like(&graph, wanted, last),
+        Err(Memory) => false,
+    }
+}
+
+/// The same with the table of these names of references.
+fn has_steps(
+    alloc: Global,
+    names: &str,
+    tree: &Tree,
+    format: Format,
+    wanted: &[Shown],
+    last: usize,
+) -> bool {
+    match Table::read(alloc, names.as_bytes()) {
+        Ok(table) => graph_has_steps(alloc, &table, tree, format, wanted, last),
+        Err(_) => false,
+    }
+}
+
 /// `a<b`: after the `<` as itself no letter may stand.
 #[test]
-fn less_than(rt: HostRuntime) -> Result<(), Fail> {
-    let table = Table::read(rt.alloc(), NONE.as_bytes())?;
+fn less_than(rt: HostRuntime) -> Result<(), Memory> {
     let tree = text_alone(rt.alloc(), "a<b")?;
-    let graph = Graph::of(rt.alloc(), &tree, &table, RULES, Format::Two)?;
     let wanted = [(1, 1, true), (1, 3, false), (3, 0, false)];
-    assert!(rt; is_like(&graph, &wanted, 1));
+    assert!(rt; has_steps(rt.alloc(), NONE, &tree, Format::Two, &wanted, 1));
     Ok(())
 }
+
+/// The steps of an attribute's value.
+const VALUE_STEPS: [Shown; 6] = [
+    (1, 1, true),
+    (1, 3, false),
+    (3, 1, true),
+    (3, 1, true),
+    (2, 1, true),
+    (1, 1, true),
+];
 
 /// `<p id=x></p>`: three ways to write the value. After either quote the state is the same.
 #[test]
-fn value(rt: HostRuntime) -> Result<(), Fail> {
-    let table = Table::read(rt.alloc(), NONE.as_bytes())?;
+fn value(rt: HostRuntime) -> Result<(), Memory> {
     let tree = element_alone(rt.alloc(), "p", "id", "x")?;
-    let graph = Graph::of(rt.alloc(), &tree, &table, RULES, Format::Two)?;
-    let wanted = [
-        (1, 1, true),
-        (1, 3, false),
-        (3, 1, true),
-        (3, 1, true),
-        (2, 1, true),
-        (1, 1, true),
-    ];
-    assert!(rt; is_like(&graph, &wanted, 1));
+    assert!(rt; has_steps(rt.alloc(), NONE, &tree, Format::Two, &VALUE_STEPS, 1));
     Ok(())
 }
 
-/// A name for two code points is a way where they stand together, and only there.
+/// A name for two code points is a way where they stand together.
 #[test]
-fn pair(rt: HostRuntime) -> Result<(), Fail> {
-    let table = Table::read(rt.alloc(), TWO.as_bytes())?;
+fn pair(rt: HostRuntime) -> Result<(), Memory> {
     let tree = text_alone(rt.alloc(), "x\u{338}")?;
-    let graph = Graph::of(rt.alloc(), &tree, &table, RULES, Format::Two)?;
-    assert!(rt; is_like(&graph, &[(1, 4, false), (3, 3, false)], 2));
+    let wanted = [(1, 4, false), (3, 3, false)];
+    assert!(rt; has_steps(rt.alloc(), TWO, &tree, Format::Two, &wanted, 2));
+    Ok(())
+}
+
+/// It is no way where they stand apart.
+#[test]
+fn no_pair(rt: HostRuntime) -> Result<(), Memory> {
     let tree = text_alone(rt.alloc(), "xx")?;
-    let graph = Graph::of(rt.alloc(), &tree, &table, RULES, Format::Two)?;
-    assert!(rt; is_like(&graph, &[(1, 3, false), (2, 3, false)], 2));
+    let wanted = [(1, 3, false), (2, 3, false)];
+    assert!(rt; has_steps(rt.alloc(), TWO, &tree, Format::Two, &wanted, 2));
     Ok(())
 }
 
 /// In the graph of a sparse certificate a character that can stand as itself stands as a number nowhere.
 #[test]
-fn sparse(rt: HostRuntime) -> Result<(), Fail> {
-    let table = Table::read(rt.alloc(), TWO.as_bytes())?;
+fn sparse(rt: HostRuntime) -> Result<(), Memory> {
     let tree = text_alone(rt.alloc(), "x\u{338}")?;
-    let graph = Graph::of(rt.alloc(), &tree, &table, RULES, Format::Three)?;
-    assert!(rt; is_like(&graph, &[(1, 2, false), (2, 1, true)], 1));
+    let wanted = [(1, 2, false), (2, 1, true)];
+    assert!(rt; has_steps(rt.alloc(), TWO, &tree, Format::Three, &wanted, 1));
     Ok(())
 }

@@ -1,11 +1,14 @@
-//! What several of the tests make: rules, tables of names, attributes.
+//! What several of the tests make: rules, tables of names, attributes, trees of pages.
 #![tactic(auto, using(hm_tree::proofs::RoomLemmas::room))]
 
-ghost use Rattle.std.specs.Prelude.{◌+◌, ◌≤◌, length, IfOk};
+ghost use Rattle.std.specs.Prelude.{◌+◌, ◌≤◌, length, IfOk, IfSome};
 ghost use Rattle.hm_base.specs.Walks.{attributes_size};
+ghost use Rattle.hm_elements.specs.Settled.{Settled};
 
-use hm_base::{Memory, SpellRules};
-use hm_tree::Attrs;
+use hm_base::{Memory, PAGE_LIMIT, SourceText, SpellRules};
+use hm_build::parse;
+use hm_refs::Table;
+use hm_tree::{Attrs, Tree};
 use std::alloc::Global;
 
 /// A table without names.
@@ -30,9 +33,19 @@ pub(crate) const LOOSE_RULES: SpellRules = SpellRules {
 pub(crate) fn attributes(alloc: Global, name: &str, value: &str) -> Result<Attrs, Memory>
     ensures { IfOk result (λ attrs. attributes_size attrs ≤ length name.now + length value.now) }
 {
-    let mut attrs = Attrs::new(alloc);
     let name = String::from_str(alloc, name)?;
     let value = String::from_str(alloc, value)?;
+    let mut attrs = Attrs::new(alloc);
     attrs.add(name, value)?;
     Ok(attrs)
+}
+
+/// The tree of a page. None where it can't be read.
+pub(crate) fn tree_of(alloc: Global, table: &Table, page: &str) -> Option<Tree>
+    ensures { IfSome result Settled }
+{
+    match SourceText::read(alloc, page.as_bytes(), PAGE_LIMIT) {
+        Ok(text) => parse(alloc, &text, table).ok(),
+        Err(_) => None,
+    }
 }

@@ -10,7 +10,7 @@ use hm_edges::{TextKind, Unit};
 use hm_parts::{Part, find_parts};
 use hm_tree::{Attrs, Maker, Tree};
 use std::alloc::Global;
-use std::test::Fail;
+use std::process::Abort;
 
 /// A call of a maker: the start of an element, of one of SVG, of one with an attribute; a text; an end.
 #[derive(Clone, Copy)]
@@ -86,10 +86,11 @@ fn take(alloc: Global, maker: &mut Maker, step: EventCall) -> Result<(), Memory>
     }
 }
 
-/// The tree of these calls.
-fn made(alloc: Global, steps: &[EventCall]) -> Result<Tree, Memory>
-    requires { length steps.now < 100 }
-{
+/// The tree of fewer than a hundred calls.
+fn made(alloc: Global, steps: &[EventCall]) -> Result<Tree, Memory> {
+    if steps.len() >= 100 {
+        return Err(Memory);
+    }
     let mut maker = Tree::maker(alloc);
     for step in steps {
         take(alloc, &mut maker, *step)?;
@@ -100,304 +101,367 @@ fn made(alloc: Global, steps: &[EventCall]) -> Result<Tree, Memory>
     Ok(maker.finish())
 }
 
-/// What a part has. A name with a value has neither a unit nor a kind, as a comment.
-type Shown = (Option<Unit>, Option<TextKind>, &'static str);
+/// What a part is wanted to be. How many bytes its name has comes first, and the name last.
+#[derive(Clone, Copy)]
+enum Wanted {
+    Fixed(u32, &'static str),
+    /// Whether it may be left out, whether not after a loose end, and whether it may close itself.
+    StartTag(u32, bool, bool, bool, &'static str),
+    /// Whether it may be left out, and whether that leaves the end loose.
+    EndTag(u32, bool, bool, &'static str),
+    TagName(u32, &'static str),
+    BareAttribute(u32, &'static str),
+    AttributeEnd,
+    /// Whether the tag may close itself.
+    TagClose(bool),
+    /// A name and a value that isn't empty.
+    Opening(&'static str, &'static str),
+    Chars(TextKind, &'static str),
+}
 
-/// The name and the value of the only attribute that isn't empty.
-const OPENING: (&str, &str) = ("id", "x");
-
-fn is_shown(part: &Part<'_>, wanted: &Shown) -> bool {
-    match part {
-        Part::One { unit, own } => wanted.0 == Some(*unit)
-            && wanted.1.is_none()
-            && *own == wanted.2,
-        Part::Opening { name, value } => wanted.0.is_none()
-            && wanted.1.is_none()
-            && wanted.2 == OPENING.0
-            && *name == OPENING.0
-            && *value == OPENING.1,
-        Part::Comment { text } => wanted.0.is_none() && wanted.1.is_none() && *text == wanted.2,
-        Part::Chars { kind, text } => wanted.0.is_none()
-            && wanted.1 == Some(*kind)
-            && *text == wanted.2,
+/// The unit that is wanted, and its own bytes. None where it is an attribute's name or characters.
+fn unit_of(wanted: Wanted) -> Option<(Unit, &'static str)> {
+    match wanted {
+        Wanted::Fixed(len, bytes) => Some((Unit::Fixed { len }, bytes)),
+        Wanted::StartTag(len, omits, firm, closes, name) => {
+            let unit = Unit::StartTag {
+                len,
+                omits,
+                firm,
+                closes,
+            };
+            Some((unit, name))
+        }
+        Wanted::EndTag(len, omits, loosens, name) => {
+            let unit = Unit::EndTag {
+                len,
+                omits,
+                loosens,
+            };
+            Some((unit, name))
+        }
+        Wanted::TagName(len, name) => Some((Unit::TagName { len }, name)),
+        Wanted::BareAttribute(len, name) => Some((Unit::BareAttribute { len }, name)),
+        Wanted::AttributeEnd => Some((Unit::AttributeEnd, "")),
+        Wanted::TagClose(closes) => Some((Unit::TagClose { closes }, "")),
+        Wanted::Opening(_, _) | Wanted::Chars(_, _) => None,
     }
 }
 
-fn fixed(len: u32, bytes: &'static str) -> Shown {
-    (Some(Unit::Fixed { len }), None, bytes)
-}
-
-fn chars(kind: TextKind, text: &'static str) -> Shown {
-    (None, Some(kind), text)
-}
-
-/// A start tag that may be left out, where `omits` is set.
-fn start_tag(len: u32, omits: bool, firm: bool, closes: bool, name: &'static str) -> Shown {
-    let unit = Unit::StartTag {
-        len,
-        omits,
-        firm,
-        closes,
-    };
-    (Some(unit), None, name)
-}
-
-fn end_tag(len: u32, omits: bool, loosens: bool, name: &'static str) -> Shown {
-    let unit = Unit::EndTag {
-        len,
-        omits,
-        loosens,
-    };
-    (Some(unit), None, name)
-}
-
-/// Whether the events of the tree of these calls have these parts, in their order.
-fn has_parts(alloc: Global, steps: &[EventCall], wanted: &[Shown]) -> Result<bool, Memory>
-    requires { length steps.now < 100 }
-{
-    let tree = made(alloc, steps)?;
-    let mut parts = Vec::new(alloc);
-    let mut at = 0;
-    for i in 0..tree.len() {
-        find_parts(&tree, RULES, i, &mut parts)?;
-        for part in &parts {
-            if at >= wanted.len() || !is_shown(part, &wanted[at]) {
-                return Ok(false);
-            }
-            at += 1;
+/// Whether a part is as wanted.
+fn is_shown(part: &Part<'_>, wanted: Wanted) -> bool {
+    match part {
+        Part::One { unit, own } => unit_of(wanted) == Some((*unit, *own)),
+        Part::Opening { name, value } => {
+            matches!(wanted, Wanted::Opening(one, other) if *name == one && *value == other)
+        }
+        Part::Comment { text: _ } => false,
+        Part::Chars { kind, text } => {
+            matches!(wanted, Wanted::Chars(one, other) if *kind == one && *text == other)
         }
     }
-    Ok(at == wanted.len())
+}
+
+/// Whether the parts are the first of those that are wanted.
+fn are_first(parts: &[Part<'_>], wanted: &[Wanted]) -> bool {
+    if parts.len() > wanted.len() {
+        return false;
+    }
+    for i in 0..parts.len() {
+        if !is_shown(&parts[i], wanted[i]) {
+            return false;
+        }
+    }
+    true
+}
+
+/// Whether the events of a tree have these parts, in their order.
+fn has_parts(alloc: Global, tree: &Tree, wanted: &[Wanted]) -> bool {
+    let mut parts = Vec::new(alloc);
+    let mut left = wanted;
+    for i in 0..tree.len() {
+        match find_parts(tree, RULES, i, &mut parts) {
+            Ok(()) => {}
+            Err(Memory) => return false,
+        }
+        if !are_first(&parts, left) {
+            return false;
+        }
+        left = left.get(parts.len()..).unwrap_or(&[]);
+    }
+    left.is_empty()
+}
+
+/// The same of the tree of these calls.
+fn has_made_parts(alloc: Global, steps: &[EventCall], wanted: &[Wanted]) -> bool {
+    match made(alloc, steps) {
+        Ok(tree) => has_parts(alloc, &tree, wanted),
+        Err(Memory) => false,
+    }
+}
+
+/// Asserts the parts of the events of the tree of these calls.
+fn expect_parts(rt: &impl Abort, alloc: Global, steps: &[EventCall], wanted: &[Wanted]) {
+    assert!(rt; has_made_parts(alloc, steps, wanted));
 }
 
 /// `<div id=x><pre>`, two line feeds, `a<br></pre><p hidden></div>`.
+const TEXTS_AND_ATTRIBUTES: [EventCall; 9] = [
+    EventCall::With("div", "id", "x"),
+    EventCall::Start("pre"),
+    EventCall::Text("\na"),
+    EventCall::Start("br"),
+    EventCall::End,
+    EventCall::End,
+    EventCall::With("p", "hidden", ""),
+    EventCall::End,
+    EventCall::End,
+];
+
+/// The parts of its events.
+const TEXTS_AND_ATTRIBUTES_PARTS: [Wanted; 15] = [
+    Wanted::TagName(3, "div"),
+    Wanted::Opening("id", "x"),
+    Wanted::Chars(TextKind::Value, "x"),
+    Wanted::AttributeEnd,
+    Wanted::TagClose(false),
+    Wanted::StartTag(3, false, false, false, "pre"),
+    Wanted::Fixed(1, "\n"),
+    Wanted::Chars(TextKind::Text, "\na"),
+    Wanted::StartTag(2, false, false, false, "br"),
+    Wanted::EndTag(3, false, false, "pre"),
+    Wanted::TagName(1, "p"),
+    Wanted::BareAttribute(6, "hidden"),
+    Wanted::TagClose(false),
+    Wanted::EndTag(1, true, false, "p"),
+    Wanted::EndTag(3, false, false, "div"),
+];
+
 #[test]
-fn texts_and_attributes(rt: HostRuntime) -> Result<(), Fail> {
-    let steps = [
-        EventCall::With("div", "id", "x"),
-        EventCall::Start("pre"),
-        EventCall::Text("\na"),
-        EventCall::Start("br"),
-        EventCall::End,
-        EventCall::End,
-        EventCall::With("p", "hidden", ""),
-        EventCall::End,
-        EventCall::End,
-    ];
-    let wanted = [
-        (Some(Unit::TagName { len: 3 }), None, "div"),
-        (None, None, "id"),
-        chars(TextKind::Value, "x"),
-        (Some(Unit::AttributeEnd), None, ""),
-        (Some(Unit::TagClose { closes: false }), None, ""),
-        start_tag(3, false, false, false, "pre"),
-        fixed(1, "\n"),
-        chars(TextKind::Text, "\na"),
-        start_tag(2, false, false, false, "br"),
-        end_tag(3, false, false, "pre"),
-        (Some(Unit::TagName { len: 1 }), None, "p"),
-        (Some(Unit::BareAttribute { len: 6 }), None, "hidden"),
-        (Some(Unit::TagClose { closes: false }), None, ""),
-        end_tag(1, true, false, "p"),
-        end_tag(3, false, false, "div"),
-    ];
-    assert!(rt; has_parts(rt.alloc(), &steps, &wanted)?);
-    Ok(())
+fn texts_and_attributes(rt: HostRuntime) {
+    expect_parts(
+        &rt,
+        rt.alloc(),
+        &TEXTS_AND_ATTRIBUTES,
+        &TEXTS_AND_ATTRIBUTES_PARTS,
+    );
 }
 
 /// Two sections of a table, the first one empty: both end tags may be left out, and then the second start tag may not.
+const SECTIONS: [EventCall; 8] = [
+    EventCall::Start("table"),
+    EventCall::Start("thead"),
+    EventCall::End,
+    EventCall::Start("tbody"),
+    EventCall::Start("tr"),
+    EventCall::End,
+    EventCall::End,
+    EventCall::End,
+];
+
+/// The parts of its events.
+const SECTIONS_PARTS: [Wanted; 8] = [
+    Wanted::StartTag(5, false, false, false, "table"),
+    Wanted::StartTag(5, false, false, false, "thead"),
+    Wanted::EndTag(5, true, true, "thead"),
+    Wanted::StartTag(5, true, true, false, "tbody"),
+    Wanted::StartTag(2, false, false, false, "tr"),
+    Wanted::EndTag(2, true, false, "tr"),
+    Wanted::EndTag(5, true, true, "tbody"),
+    Wanted::EndTag(5, false, false, "table"),
+];
+
 #[test]
-fn sections(rt: HostRuntime) -> Result<(), Fail> {
-    let steps = [
-        EventCall::Start("table"),
-        EventCall::Start("thead"),
-        EventCall::End,
-        EventCall::Start("tbody"),
-        EventCall::Start("tr"),
-        EventCall::End,
-        EventCall::End,
-        EventCall::End,
-    ];
-    let wanted = [
-        start_tag(5, false, false, false, "table"),
-        start_tag(5, false, false, false, "thead"),
-        end_tag(5, true, true, "thead"),
-        start_tag(5, true, true, false, "tbody"),
-        start_tag(2, false, false, false, "tr"),
-        end_tag(2, true, false, "tr"),
-        end_tag(5, true, true, "tbody"),
-        end_tag(5, false, false, "table"),
-    ];
-    assert!(rt; has_parts(rt.alloc(), &steps, &wanted)?);
-    Ok(())
+fn sections(rt: HostRuntime) {
+    expect_parts(&rt, rt.alloc(), &SECTIONS, &SECTIONS_PARTS);
 }
 
 /// `<table><thead><tr><td>a</td></tr></thead><tbody><tr><td>b</td></tr></tbody></table>`: the start tag of the second section
 /// may be left out, but not where the end tag of the first one is.
+const SECOND_SECTION: [EventCall; 16] = [
+    EventCall::Start("table"),
+    EventCall::Start("thead"),
+    EventCall::Start("tr"),
+    EventCall::Start("td"),
+    EventCall::Text("a"),
+    EventCall::End,
+    EventCall::End,
+    EventCall::End,
+    EventCall::Start("tbody"),
+    EventCall::Start("tr"),
+    EventCall::Start("td"),
+    EventCall::Text("b"),
+    EventCall::End,
+    EventCall::End,
+    EventCall::End,
+    EventCall::End,
+];
+
+/// The parts of its events.
+const SECOND_SECTION_PARTS: [Wanted; 16] = [
+    Wanted::StartTag(5, false, false, false, "table"),
+    Wanted::StartTag(5, false, false, false, "thead"),
+    Wanted::StartTag(2, false, false, false, "tr"),
+    Wanted::StartTag(2, false, false, false, "td"),
+    Wanted::Chars(TextKind::Text, "a"),
+    Wanted::EndTag(2, true, false, "td"),
+    Wanted::EndTag(2, true, false, "tr"),
+    Wanted::EndTag(5, true, true, "thead"),
+    Wanted::StartTag(5, true, true, false, "tbody"),
+    Wanted::StartTag(2, false, false, false, "tr"),
+    Wanted::StartTag(2, false, false, false, "td"),
+    Wanted::Chars(TextKind::Text, "b"),
+    Wanted::EndTag(2, true, false, "td"),
+    Wanted::EndTag(2, true, false, "tr"),
+    Wanted::EndTag(5, true, true, "tbody"),
+    Wanted::EndTag(5, false, false, "table"),
+];
+
 #[test]
-fn second_section(rt: HostRuntime) -> Result<(), Fail> {
-    let steps = [
-        EventCall::Start("table"),
-        EventCall::Start("thead"),
-        EventCall::Start("tr"),
-        EventCall::Start("td"),
-        EventCall::Text("a"),
-        EventCall::End,
-        EventCall::End,
-        EventCall::End,
-        EventCall::Start("tbody"),
-        EventCall::Start("tr"),
-        EventCall::Start("td"),
-        EventCall::Text("b"),
-        EventCall::End,
-        EventCall::End,
-        EventCall::End,
-        EventCall::End,
-    ];
-    let wanted = [
-        start_tag(5, false, false, false, "table"),
-        start_tag(5, false, false, false, "thead"),
-        start_tag(2, false, false, false, "tr"),
-        start_tag(2, false, false, false, "td"),
-        chars(TextKind::Text, "a"),
-        end_tag(2, true, false, "td"),
-        end_tag(2, true, false, "tr"),
-        end_tag(5, true, true, "thead"),
-        start_tag(5, true, true, false, "tbody"),
-        start_tag(2, false, false, false, "tr"),
-        start_tag(2, false, false, false, "td"),
-        chars(TextKind::Text, "b"),
-        end_tag(2, true, false, "td"),
-        end_tag(2, true, false, "tr"),
-        end_tag(5, true, true, "tbody"),
-        end_tag(5, false, false, "table"),
-    ];
-    assert!(rt; has_parts(rt.alloc(), &steps, &wanted)?);
-    Ok(())
+fn second_section(rt: HostRuntime) {
+    expect_parts(&rt, rt.alloc(), &SECOND_SECTION, &SECOND_SECTION_PARTS);
 }
 
 /// `<table><caption>x</caption><script></script><tr><td>y</td></tr></table>`: a script after a caption keeps its end tag.
+const CAPTION_BEFORE_A_SCRIPT: [EventCall; 14] = [
+    EventCall::Start("table"),
+    EventCall::Start("caption"),
+    EventCall::Text("x"),
+    EventCall::End,
+    EventCall::Start("script"),
+    EventCall::End,
+    EventCall::Start("tbody"),
+    EventCall::Start("tr"),
+    EventCall::Start("td"),
+    EventCall::Text("y"),
+    EventCall::End,
+    EventCall::End,
+    EventCall::End,
+    EventCall::End,
+];
+
+/// The parts of its events.
+const CAPTION_BEFORE_A_SCRIPT_PARTS: [Wanted; 14] = [
+    Wanted::StartTag(5, false, false, false, "table"),
+    Wanted::StartTag(7, false, false, false, "caption"),
+    Wanted::Chars(TextKind::Text, "x"),
+    Wanted::EndTag(7, false, false, "caption"),
+    Wanted::StartTag(6, false, false, false, "script"),
+    Wanted::EndTag(6, false, false, "script"),
+    Wanted::StartTag(5, true, false, false, "tbody"),
+    Wanted::StartTag(2, false, false, false, "tr"),
+    Wanted::StartTag(2, false, false, false, "td"),
+    Wanted::Chars(TextKind::Text, "y"),
+    Wanted::EndTag(2, true, false, "td"),
+    Wanted::EndTag(2, true, false, "tr"),
+    Wanted::EndTag(5, true, true, "tbody"),
+    Wanted::EndTag(5, false, false, "table"),
+];
+
 #[test]
-fn caption_before_a_script(rt: HostRuntime) -> Result<(), Fail> {
-    let steps = [
-        EventCall::Start("table"),
-        EventCall::Start("caption"),
-        EventCall::Text("x"),
-        EventCall::End,
-        EventCall::Start("script"),
-        EventCall::End,
-        EventCall::Start("tbody"),
-        EventCall::Start("tr"),
-        EventCall::Start("td"),
-        EventCall::Text("y"),
-        EventCall::End,
-        EventCall::End,
-        EventCall::End,
-        EventCall::End,
-    ];
-    let wanted = [
-        start_tag(5, false, false, false, "table"),
-        start_tag(7, false, false, false, "caption"),
-        chars(TextKind::Text, "x"),
-        end_tag(7, false, false, "caption"),
-        start_tag(6, false, false, false, "script"),
-        end_tag(6, false, false, "script"),
-        start_tag(5, true, false, false, "tbody"),
-        start_tag(2, false, false, false, "tr"),
-        start_tag(2, false, false, false, "td"),
-        chars(TextKind::Text, "y"),
-        end_tag(2, true, false, "td"),
-        end_tag(2, true, false, "tr"),
-        end_tag(5, true, true, "tbody"),
-        end_tag(5, false, false, "table"),
-    ];
-    assert!(rt; has_parts(rt.alloc(), &steps, &wanted)?);
-    Ok(())
+fn caption_before_a_script(rt: HostRuntime) {
+    expect_parts(
+        &rt,
+        rt.alloc(),
+        &CAPTION_BEFORE_A_SCRIPT,
+        &CAPTION_BEFORE_A_SCRIPT_PARTS,
+    );
 }
 
 /// `<span><p>x</p></span>`: a paragraph keeps its end tag in an element that may hold no other one after it.
+const PARAGRAPH_IN_A_SPAN: [EventCall; 5] = [
+    EventCall::Start("span"),
+    EventCall::Start("p"),
+    EventCall::Text("x"),
+    EventCall::End,
+    EventCall::End,
+];
+
+/// The parts of its events.
+const PARAGRAPH_IN_A_SPAN_PARTS: [Wanted; 5] = [
+    Wanted::StartTag(4, false, false, false, "span"),
+    Wanted::StartTag(1, false, false, false, "p"),
+    Wanted::Chars(TextKind::Text, "x"),
+    Wanted::EndTag(1, false, false, "p"),
+    Wanted::EndTag(4, false, false, "span"),
+];
+
 #[test]
-fn paragraph_in_a_span(rt: HostRuntime) -> Result<(), Fail> {
-    let steps = [
-        EventCall::Start("span"),
-        EventCall::Start("p"),
-        EventCall::Text("x"),
-        EventCall::End,
-        EventCall::End,
-    ];
-    let wanted = [
-        start_tag(4, false, false, false, "span"),
-        start_tag(1, false, false, false, "p"),
-        chars(TextKind::Text, "x"),
-        end_tag(1, false, false, "p"),
-        end_tag(4, false, false, "span"),
-    ];
-    assert!(rt; has_parts(rt.alloc(), &steps, &wanted)?);
-    Ok(())
+fn paragraph_in_a_span(rt: HostRuntime) {
+    expect_parts(
+        &rt,
+        rt.alloc(),
+        &PARAGRAPH_IN_A_SPAN,
+        &PARAGRAPH_IN_A_SPAN_PARTS,
+    );
 }
 
 /// `<html><head></head><body><div><p>x</p></div><p>y</p></body></html>`: both paragraphs may leave out their end tags.
+const PARAGRAPHS: [EventCall; 14] = [
+    EventCall::Start("html"),
+    EventCall::Start("head"),
+    EventCall::End,
+    EventCall::Start("body"),
+    EventCall::Start("div"),
+    EventCall::Start("p"),
+    EventCall::Text("x"),
+    EventCall::End,
+    EventCall::End,
+    EventCall::Start("p"),
+    EventCall::Text("y"),
+    EventCall::End,
+    EventCall::End,
+    EventCall::End,
+];
+
+/// The parts of its events.
+const PARAGRAPHS_PARTS: [Wanted; 14] = [
+    Wanted::StartTag(4, true, false, false, "html"),
+    Wanted::StartTag(4, true, false, false, "head"),
+    Wanted::EndTag(4, true, false, "head"),
+    Wanted::StartTag(4, true, false, false, "body"),
+    Wanted::StartTag(3, false, false, false, "div"),
+    Wanted::StartTag(1, false, false, false, "p"),
+    Wanted::Chars(TextKind::Text, "x"),
+    Wanted::EndTag(1, true, false, "p"),
+    Wanted::EndTag(3, false, false, "div"),
+    Wanted::StartTag(1, false, false, false, "p"),
+    Wanted::Chars(TextKind::Text, "y"),
+    Wanted::EndTag(1, true, false, "p"),
+    Wanted::EndTag(4, true, false, "body"),
+    Wanted::EndTag(4, true, false, "html"),
+];
+
 #[test]
-fn paragraphs(rt: HostRuntime) -> Result<(), Fail> {
-    let steps = [
-        EventCall::Start("html"),
-        EventCall::Start("head"),
-        EventCall::End,
-        EventCall::Start("body"),
-        EventCall::Start("div"),
-        EventCall::Start("p"),
-        EventCall::Text("x"),
-        EventCall::End,
-        EventCall::End,
-        EventCall::Start("p"),
-        EventCall::Text("y"),
-        EventCall::End,
-        EventCall::End,
-        EventCall::End,
-    ];
-    let wanted = [
-        start_tag(4, true, false, false, "html"),
-        start_tag(4, true, false, false, "head"),
-        end_tag(4, true, false, "head"),
-        start_tag(4, true, false, false, "body"),
-        start_tag(3, false, false, false, "div"),
-        start_tag(1, false, false, false, "p"),
-        chars(TextKind::Text, "x"),
-        end_tag(1, true, false, "p"),
-        end_tag(3, false, false, "div"),
-        start_tag(1, false, false, false, "p"),
-        chars(TextKind::Text, "y"),
-        end_tag(1, true, false, "p"),
-        end_tag(4, true, false, "body"),
-        end_tag(4, true, false, "html"),
-    ];
-    assert!(rt; has_parts(rt.alloc(), &steps, &wanted)?);
-    Ok(())
+fn paragraphs(rt: HostRuntime) {
+    expect_parts(&rt, rt.alloc(), &PARAGRAPHS, &PARAGRAPHS_PARTS);
 }
 
 /// `<svg><path></path>a</svg><title>b</title>`: an element of SVG that ends at once may close itself.
+const SVG: [EventCall; 8] = [
+    EventCall::Svg("svg"),
+    EventCall::Svg("path"),
+    EventCall::End,
+    EventCall::Text("a"),
+    EventCall::End,
+    EventCall::Start("title"),
+    EventCall::Text("b"),
+    EventCall::End,
+];
+
+/// The parts of its events.
+const SVG_PARTS: [Wanted; 8] = [
+    Wanted::StartTag(3, false, false, false, "svg"),
+    Wanted::StartTag(4, false, false, true, "path"),
+    Wanted::EndTag(4, false, false, "path"),
+    Wanted::Chars(TextKind::Foreign, "a"),
+    Wanted::EndTag(3, false, false, "svg"),
+    Wanted::StartTag(5, false, false, false, "title"),
+    Wanted::Chars(TextKind::Rcdata, "b"),
+    Wanted::EndTag(5, false, false, "title"),
+];
+
 #[test]
-fn svg(rt: HostRuntime) -> Result<(), Fail> {
-    let steps = [
-        EventCall::Svg("svg"),
-        EventCall::Svg("path"),
-        EventCall::End,
-        EventCall::Text("a"),
-        EventCall::End,
-        EventCall::Start("title"),
-        EventCall::Text("b"),
-        EventCall::End,
-    ];
-    let wanted = [
-        start_tag(3, false, false, false, "svg"),
-        start_tag(4, false, false, true, "path"),
-        end_tag(4, false, false, "path"),
-        chars(TextKind::Foreign, "a"),
-        end_tag(3, false, false, "svg"),
-        start_tag(5, false, false, false, "title"),
-        chars(TextKind::Rcdata, "b"),
-        end_tag(5, false, false, "title"),
-    ];
-    assert!(rt; has_parts(rt.alloc(), &steps, &wanted)?);
-    Ok(())
+fn svg(rt: HostRuntime) {
+    expect_parts(&rt, rt.alloc(), &SVG, &SVG_PARTS);
 }

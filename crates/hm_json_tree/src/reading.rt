@@ -97,12 +97,7 @@ fn take_items(alloc: Global, items: &[Value], reader: &mut Reader) -> Result<(),
 
 /// Takes the event of an item, after those of the items before it.
 #[inline(always)]
-fn take_item(
-    alloc: Global,
-    items: &[Value],
-    i: usize,
-    reader: &mut Reader,
-) -> Result<(), JsonFault>
+fn take_item(alloc: Global, items: &[Value], i: usize, reader: &mut Reader) -> Result<(), JsonFault>
     requires inside { i < length items.now }
     requires at { IsAt reader.old }
     requires count { i ≡ length reader.old.maker }

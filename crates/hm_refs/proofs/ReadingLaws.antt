@@ -41,7 +41,7 @@ pub one_gathered : (now next : List Entry) (ms rest all : Members) (k ps : List 
 one_gathered now next ms rest all k ps d m p n are = (
   (λ i. cond (is_some (p i)) (first_bad_points rest) (Some k)) ∙ sym (ap first_bad_points m) ∙ are.0,
   ap (λ t. t ++ entries_in rest) n ∙ append_assoc now (record { name = k; points = ps } ∷ []) (entries_in rest)
-  ∙ ap (λ o. now ++ with_entry k o (entries_in rest)) p ∙ sym (ap (λ xs. now ++ entries_in xs) m) ∙ are.1,
+      ∙ ap (λ o. now ++ with_entry k o (entries_in rest)) p ∙ sym (ap (λ xs. now ++ entries_in xs) m) ∙ are.1,
 )
 
 pub none_left : (now : List Entry) (ms all : Members) → ms ≡ no_members → AreGathered now ms all → first_bad_points all ≡ None

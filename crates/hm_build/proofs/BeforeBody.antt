@@ -22,6 +22,7 @@ use Rattle.hm_build.specs.declared.insertion.BuilderMode.{BuilderMode}
 use Rattle.hm_build.specs.declared.insertion.BuilderMode.TheVariants.{Initial, BeforeHtml, BeforeHead, InHead, AfterHead, InBody, AfterBody as PastBody, AfterHtml}
 use Rattle.hm_build.specs.declared.parts.Parts.{Parts}
 use Rattle.hm_build.proofs.Events.{HasRoom-front, path_after-append, walk_any}
+use Rattle.hm_build.proofs.Open.{false_true, no_text_in_head, true_false}
 use Rattle.hm_build.proofs.Others.{any_done}
 use Rattle.hm_build.proofs.Texts.{behind_nothing}
 use Rattle.hm_build.proofs.Unbegun.{unbegun_fresh, at_its_mode, kept_at}
@@ -144,32 +145,27 @@ module _ (w : List Event) (path : List Element) (drops : Bool) (inner last : Vec
   pub body_refused : (attributes : List Attribute) (ph : BuilderMode) → has_begun ph ≡ true → is_in_text (open_path ph path) ≡ false → steps.open_body (insertion_mode_of ph) attributes (state_of (parts ph)) ≡ stops SecondRoot 0
   unfolding holds_text is_raw is_rcdata raw_names rcdata_names is_among
   body_refused attributes Initial h k = refl
-  body_refused attributes BeforeHtml h k = absurd (cc)
-  body_refused attributes BeforeHead h k = absurd (cc)
+  body_refused attributes BeforeHtml h k = absurd (false_true h)
+  body_refused attributes BeforeHead h k = absurd (false_true h)
   body_refused attributes (InHead true None) h k = refl
-  body_refused attributes (InHead true (Some Title)) h k = absurd (cc)
-  body_refused attributes (InHead true (Some Style)) h k = absurd (cc)
-  body_refused attributes (InHead true (Some Script)) h k = absurd (cc)
-  body_refused attributes (InHead false inside) h k = absurd (cc)
-  body_refused attributes AfterHead h k = absurd (cc)
+  body_refused attributes (InHead true (Some text)) h k = absurd (no_text_in_head true text k)
+  body_refused attributes (InHead false inside) h k = absurd (false_true h)
+  body_refused attributes AfterHead h k = absurd (false_true h)
   body_refused attributes InBody h k = refl
   body_refused attributes PastBody h k = refl
   body_refused attributes AfterHtml h k = refl
 
   pub not_begun : (ph : BuilderMode) → has_begun ph ≡ false → is_in_text (open_path ph path) ≡ false → IsUnbegun ph
-  unfolding holds_text is_raw is_rcdata raw_names rcdata_names is_among
-  not_begun Initial h k = absurd (cc)
+  not_begun Initial h k = absurd (true_false h)
   not_begun BeforeHtml h k = tt
   not_begun BeforeHead h k = tt
-  not_begun (InHead true inside) h k = absurd (cc)
+  not_begun (InHead true inside) h k = absurd (true_false h)
   not_begun (InHead false None) h k = tt
-  not_begun (InHead false (Some Title)) h k = absurd (cc)
-  not_begun (InHead false (Some Style)) h k = absurd (cc)
-  not_begun (InHead false (Some Script)) h k = absurd (cc)
+  not_begun (InHead false (Some text)) h k = absurd (no_text_in_head false text k)
   not_begun AfterHead h k = tt
-  not_begun InBody h k = absurd (cc)
-  not_begun PastBody h k = absurd (cc)
-  not_begun AfterHtml h k = absurd (cc)
+  not_begun InBody h k = absurd (true_false h)
+  not_begun PastBody h k = absurd (true_false h)
+  not_begun AfterHtml h k = absurd (true_false h)
 
   -- ---- Children of head
 
@@ -338,18 +334,12 @@ module _ (n : List ℕ) (attributes : List Attribute) (st : Construction) where
 -- ---- By insertion mode
 
 pub noscript_alone : (ph : BuilderMode) (path : List Element) (here : Bool) (text : Option HeadText) → ph ≡ InHead here text → here ≡ true → is_in_text (open_path ph path) ≡ false → ph ≡ InHead true None
-unfolding holds_text is_raw is_rcdata raw_names rcdata_names is_among
 noscript_alone ph path here None is flag h = is ∙ ap (λ b. InHead b None) flag
-noscript_alone ph path here (Some Title) is flag h = let wrong = sym (ap (λ x. is_in_text (open_path x path)) is) ∙ h in absurd (cc)
-noscript_alone ph path here (Some Style) is flag h = let wrong = sym (ap (λ x. is_in_text (open_path x path)) is) ∙ h in absurd (cc)
-noscript_alone ph path here (Some Script) is flag h = let wrong = sym (ap (λ x. is_in_text (open_path x path)) is) ∙ h in absurd (cc)
+noscript_alone ph path here (Some text) is flag h = absurd (no_text_in_head here text (sym (ap (λ x. is_in_text (open_path x path)) is) ∙ h))
 
 pub head_alone : (ph : BuilderMode) (path : List Element) (here : Bool) (text : Option HeadText) → ph ≡ InHead here text → here ≡ false → is_in_text (open_path ph path) ≡ false → TakesChildren ph
-unfolding holds_text is_raw is_rcdata raw_names rcdata_names is_among
 head_alone ph path here None is flag h = subst TakesChildren (sym (is ∙ ap (λ b. InHead b None) flag)) tt
-head_alone ph path here (Some Title) is flag h = let wrong = sym (ap (λ x. is_in_text (open_path x path)) is) ∙ h in absurd (cc)
-head_alone ph path here (Some Style) is flag h = let wrong = sym (ap (λ x. is_in_text (open_path x path)) is) ∙ h in absurd (cc)
-head_alone ph path here (Some Script) is flag h = let wrong = sym (ap (λ x. is_in_text (open_path x path)) is) ∙ h in absurd (cc)
+head_alone ph path here (Some text) is flag h = absurd (no_text_in_head here text (sym (ap (λ x. is_in_text (open_path x path)) is) ∙ h))
 
 pub noscript_step : (p : Parts) (n : List ℕ) (attributes : List Attribute) (slash : Bool) → p.insertion_mode ≡ InHead true None → start_inside (insertion_mode_of p.insertion_mode) n attributes slash (state_of p) ≡ steps.start_in_noscript n attributes (state_of p)
 noscript_step p n attributes slash e = at_its_mode (λ q. start_inside (insertion_mode_of q.insertion_mode) n attributes slash (state_of q) ≡ steps.start_in_noscript n attributes (state_of q)) p (InHead true None) e refl

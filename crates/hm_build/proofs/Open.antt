@@ -1,5 +1,5 @@
 -- What the innermost element says of a text in it.
-use Rattle.std.proofs.Common.{◌≡◌, true, false, not, Bool, List, [], ◌∷◌, Option, Some, None, ◌⊎◌, ⊎_elim, refl}
+use Rattle.std.proofs.Common.{◌≡◌, true, false, not, Bool, List, [], ◌∷◌, Option, Some, None, ◌⊎◌, ⊎_elim, refl, ◌∙◌}
 use Rattle.std.specs.Option.{is_some}
 use Rattle.std.proofs.lemmas.Bool.{and_parts}
 use Rattle.hm_base.specs.Walks.{Element}
@@ -30,3 +30,18 @@ text_in_head here (Some Style) = refl
 text_in_head here (Some Script) = refl
 text_in_head true None = refl
 text_in_head false None = refl
+
+-- ---- Cases that can't be
+
+pub true_false : true ≡ false → ⊥
+true_false e = cc
+
+pub false_true : false ≡ true → ⊥
+false_true e = cc
+
+pub some_none : {A : Type 0} (x : A) → Some x ≡ None → ⊥
+some_none x e = cc
+
+-- where no text is open, none is open in head
+pub no_text_in_head : (here : Bool) (text : HeadText) → is_in_text (inside_head here (Some text)) ≡ false → ⊥
+no_text_in_head here text h = true_false (text_in_head here (Some text) ∙ h)

@@ -6,7 +6,7 @@ use Rattle.std.proofs.lemmas.Bool.{and_parts, and_from}
 use Rattle.std.proofs.lemmas.List.{take-append-drop, take_more, map-append}
 use Rattle.hm_base.specs.Walks.{Event, comment, Element, path_after}
 use Rattle.hm_base.specs.declared.rules.Rule.{Rule}
-use Rattle.hm_base.specs.declared.rules.Rule.TheVariants.{Cut, Unclosed}
+use Rattle.hm_base.specs.declared.rules.Rule.TheVariants.{Cut, NoDoctype, Unclosed}
 use Rattle.hm_elements.specs.Names.{is_among}
 use Rattle.hm_elements.specs.Tables.{is_raw, is_rcdata, raw_names, rcdata_names, holds_text}
 use Rattle.hm_elements.specs.Paths.{is_in_text}
@@ -16,12 +16,12 @@ use Rattle.hm_tree.specs.Trees.{HasRoom, end_of}
 use Rattle.hm_tree.specs.Rows.{is_text}
 use Rattle.hm_build.specs.Building.{Fits, IsBuilt}
 use Rattle.hm_build.specs.Inside.{open_path, state_of, has_no_text, missing, html_made, head_made, head_closed, body_made, end_rule, IsFresh, IsKept, CanMake, IsWalkTo}
-use Rattle.hm_build.specs.declared.insertion.HeadText.TheVariants.{Title, Style, Script}
 use Rattle.hm_build.specs.declared.insertion.BuilderMode.{BuilderMode}
 use Rattle.hm_build.specs.declared.insertion.BuilderMode.TheVariants.{Initial, BeforeHtml, BeforeHead, InHead, AfterHead, InBody, AfterBody as PastBody, AfterHtml}
 use Rattle.hm_build.specs.declared.parts.Parts.{Parts}
 use Rattle.hm_build.proofs.Events.{path_after-append, HasRoom-front, grown_tags}
 use Rattle.hm_build.proofs.EndTags.{ends_lead}
+use Rattle.hm_build.proofs.Open.{no_text_in_head, some_none}
 use Rattle.hm_build.proofs.Unbegun.{parts}
 use Rattle.hm_build.proofs.AtEnd.{Begins}
 
@@ -72,12 +72,8 @@ module _ (w : List Event) (path : List Element) (drops : Bool) (inner last : Vec
   over BeforeHead h fresh = at_body_closing BeforeHead made_state fresh refl
   over (InHead true None) h fresh = refl
   over (InHead false None) h fresh = at_body_closing (InHead false None) made_state fresh refl
-  over (InHead true (Some Title)) h fresh = absurd (cc)
-  over (InHead false (Some Title)) h fresh = absurd (cc)
-  over (InHead true (Some Style)) h fresh = absurd (cc)
-  over (InHead false (Some Style)) h fresh = absurd (cc)
-  over (InHead true (Some Script)) h fresh = absurd (cc)
-  over (InHead false (Some Script)) h fresh = absurd (cc)
+  over (InHead true (Some text)) h fresh = absurd (no_text_in_head true text h)
+  over (InHead false (Some text)) h fresh = absurd (no_text_in_head false text h)
   over AfterHead h fresh = at_body_closing AfterHead made_state fresh refl
   over InBody h fresh = over_body h
   over PastBody h fresh = (state_of (parts w path drops inner last PastBody), over_past h)
@@ -178,17 +174,13 @@ some_path (e ∷ path) begins = omega arith
 -- where the page may end, all that is missing up to body can be made
 pub over_makes : (ph : BuilderMode) (path : List Element) (w : List Event) → is_in_text (open_path ph path) ≡ false → None ≡ end_rule ph path → IsFresh ph path → IsWalkTo w (open_path ph path) → CanMake ph (path_after [] w) × (path_after [] (w ++ missing ph) ≡ path) × (has_no_text (missing ph) ≡ true)
 unfolding holds_text is_raw is_rcdata raw_names rcdata_names is_among
-over_makes Initial path w h none fresh walk = absurd (cc)
+over_makes Initial path w h none fresh walk = absurd (some_none NoDoctype (sym none))
 over_makes BeforeHtml path w h none fresh walk = (walk.leads, path_after-append [] w html_made ∙ ap (λ p. path_after p html_made) walk.leads ∙ sym fresh, refl)
 over_makes BeforeHead path w h none fresh walk = (walk.leads, path_after-append [] w head_made ∙ ap (λ p. path_after p head_made) walk.leads ∙ sym fresh, refl)
-over_makes (InHead true None) path w h none fresh walk = absurd (cc)
+over_makes (InHead true None) path w h none fresh walk = absurd (some_none Unclosed (sym none))
 over_makes (InHead false None) path w h none fresh walk = (walk.leads, path_after-append [] w head_closed ∙ ap (λ p. path_after p head_closed) walk.leads ∙ sym fresh, refl)
-over_makes (InHead true (Some Title)) path w h none fresh walk = absurd (cc)
-over_makes (InHead false (Some Title)) path w h none fresh walk = absurd (cc)
-over_makes (InHead true (Some Style)) path w h none fresh walk = absurd (cc)
-over_makes (InHead false (Some Style)) path w h none fresh walk = absurd (cc)
-over_makes (InHead true (Some Script)) path w h none fresh walk = absurd (cc)
-over_makes (InHead false (Some Script)) path w h none fresh walk = absurd (cc)
+over_makes (InHead true (Some text)) path w h none fresh walk = absurd (no_text_in_head true text h)
+over_makes (InHead false (Some text)) path w h none fresh walk = absurd (no_text_in_head false text h)
 over_makes AfterHead path w h none fresh walk = (walk.leads, path_after-append [] w body_made ∙ ap (λ p. path_after p body_made) walk.leads ∙ sym fresh, refl)
 over_makes InBody path w h none fresh walk = (tt, path_after-append [] w [] ∙ walk.leads, refl)
 over_makes PastBody path w h none fresh walk = (tt, path_after-append [] w [] ∙ walk.leads, refl)

@@ -11,7 +11,8 @@ use Rattle.hm_tree.specs.Trees.{HasRoom, last_agrees}
 use Rattle.hm_tree.proofs.RoomLemmas.{path_after-with_text, walk_size-with_text, length-with_text}
 use Rattle.hm_build.specs.Building.{grown}
 use Rattle.hm_build.specs.Inside.{open_path, is_apart, each_byte, kept_bytes, missing, CanMake, IsWalkTo, IsFresh, text_rule, keeps_space, body_path, with_blank, mixed_events, has_no_text, body_made, head_closed, head_made, has_no_svg_root}
-use Rattle.hm_build.specs.declared.insertion.HeadText.TheVariants.{Title, Style, Script}
+use Rattle.hm_base.specs.declared.rules.Rule.TheVariants.{AfterBody, NoDoctype, TextHere}
+use Rattle.hm_build.proofs.Open.{no_text_in_head, some_none}
 use Rattle.hm_build.specs.declared.insertion.BuilderMode.{BuilderMode}
 use Rattle.hm_build.specs.declared.insertion.BuilderMode.TheVariants.{Initial, BeforeHtml, BeforeHead, InHead, AfterHead, InBody, AfterBody as PastBody, AfterHtml}
 use Rattle.hm_build.proofs.Events.{path_after-append, walk_size-append, grown_grown, grown_tags, grown_text, grown_nothing, walk_tags, walk_text, HasRoom-front}
@@ -75,18 +76,13 @@ walk_blank ph w path s plain walk = by (keeps_space ph)
 
 -- where a text may stand, all that is missing up to body can be made
 pub can_make : (ph : BuilderMode) (path : List Element) (w : List Event) → is_in_text (open_path ph path) ≡ false → text_rule ph path ≡ None → IsWalkTo w (open_path ph path) → CanMake ph (path_after [] w)
-unfolding holds_text is_raw is_rcdata raw_names rcdata_names is_among
 can_make Initial path w plain none walk = tt
 can_make BeforeHtml path w plain none walk = walk.leads
 can_make BeforeHead path w plain none walk = walk.leads
-can_make (InHead true None) path w plain none walk = absurd (cc)
+can_make (InHead true None) path w plain none walk = absurd (some_none TextHere none)
 can_make (InHead false None) path w plain none walk = walk.leads
-can_make (InHead true (Some Title)) path w plain none walk = absurd (cc)
-can_make (InHead false (Some Title)) path w plain none walk = absurd (cc)
-can_make (InHead true (Some Style)) path w plain none walk = absurd (cc)
-can_make (InHead false (Some Style)) path w plain none walk = absurd (cc)
-can_make (InHead true (Some Script)) path w plain none walk = absurd (cc)
-can_make (InHead false (Some Script)) path w plain none walk = absurd (cc)
+can_make (InHead true (Some text)) path w plain none walk = absurd (no_text_in_head true text plain)
+can_make (InHead false (Some text)) path w plain none walk = absurd (no_text_in_head false text plain)
 can_make AfterHead path w plain none walk = walk.leads
 can_make InBody path w plain none walk = tt
 can_make PastBody path w plain none walk = tt
@@ -98,21 +94,17 @@ raw_body ph path plain none = not_raw (body_path ph path) (body_is_plain ph path
 -- the walk where all that is missing up to body is made
 pub walk_made : (ph : BuilderMode) (path : List Element) (w : List Event) → is_in_text (open_path ph path) ≡ false → text_rule ph path ≡ None → IsWalkTo w (open_path ph path) → IsWalkTo (w ++ missing ph) (body_path ph path)
 unfolding holds_text is_raw is_rcdata raw_names rcdata_names is_among
-walk_made Initial path w plain none walk = absurd (cc)
+walk_made Initial path w plain none walk = absurd (some_none NoDoctype none)
 walk_made BeforeHtml path w plain none walk = walk_tags w [] (start html false []) head_made under_body walk refl refl
 walk_made BeforeHead path w plain none walk = walk_tags w under_html (start head false []) head_closed under_body walk refl refl
-walk_made (InHead true None) path w plain none walk = absurd (cc)
+walk_made (InHead true None) path w plain none walk = absurd (some_none TextHere none)
 walk_made (InHead false None) path w plain none walk = walk_tags w under_head (end head false) body_made under_body walk refl refl
-walk_made (InHead true (Some Title)) path w plain none walk = absurd (cc)
-walk_made (InHead false (Some Title)) path w plain none walk = absurd (cc)
-walk_made (InHead true (Some Style)) path w plain none walk = absurd (cc)
-walk_made (InHead false (Some Style)) path w plain none walk = absurd (cc)
-walk_made (InHead true (Some Script)) path w plain none walk = absurd (cc)
-walk_made (InHead false (Some Script)) path w plain none walk = absurd (cc)
+walk_made (InHead true (Some text)) path w plain none walk = absurd (no_text_in_head true text plain)
+walk_made (InHead false (Some text)) path w plain none walk = absurd (no_text_in_head false text plain)
 walk_made AfterHead path w plain none walk = walk_tags w under_html (start body false []) [] under_body walk refl refl
 walk_made InBody path w plain none walk = subst (λ v. IsWalkTo v path) (sym (append-nil w)) walk
-walk_made PastBody path w plain none walk = absurd (cc)
-walk_made AfterHtml path w plain none walk = absurd (cc)
+walk_made PastBody path w plain none walk = absurd (some_none AfterBody none)
+walk_made AfterHtml path w plain none walk = absurd (some_none AfterBody none)
 
 pub missing_has_no_text : (ph : BuilderMode) → has_no_text (missing ph) ≡ true
 missing_has_no_text Initial = refl
@@ -131,8 +123,8 @@ fresh_path BeforeHead path none fresh = fresh
 fresh_path (InHead here inside) path none fresh = fresh
 fresh_path AfterHead path none fresh = fresh
 fresh_path InBody path none fresh = refl
-fresh_path PastBody path none fresh = absurd (cc)
-fresh_path AfterHtml path none fresh = absurd (cc)
+fresh_path PastBody path none fresh = absurd (some_none AfterBody none)
+fresh_path AfterHtml path none fresh = absurd (some_none AfterBody none)
 
 pub fresh_body : (ph : BuilderMode) (path : List Element) → text_rule ph path ≡ None → IsFresh ph path → has_no_svg_root (body_path ph path) ≡ true
 fresh_body Initial path none fresh = refl

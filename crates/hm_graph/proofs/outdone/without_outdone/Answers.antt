@@ -1,4 +1,4 @@
-use Rattle.std.proofs.Common.{◌∙◌, ◌+◌, ◌++◌, drop, take, ap, sym, subst}
+use Rattle.std.proofs.Common.{◌∙◌, ◌+◌, ◌++◌, take, ap, sym, subst}
 use Rattle.hm_edges.specs.Pieces.{AreOfTable, edges_seen}
 use Rattle.hm_graph.proofs.KeptEdges.{SomeKept, all_kept, is_outdone, up_to_end, kept_next, known_at, known_behind, known_front, known_next}
 use Rattle.hm_optimality_laws.specs.Outdone.{dominance, kept_edges}

@@ -14,6 +14,8 @@ mod lexer;
 #[cfg(test)]
 mod mark_scan;
 #[cfg(test)]
+mod printed;
+#[cfg(test)]
 mod refs;
 #[cfg(test)]
 mod settle;

@@ -15,30 +15,54 @@ fn is_short(text: &str) -> bool
     text.len() < 1000 && text.is_char_boundary(0)
 }
 
+/// The bytes of a comment or of a piece of text.
+fn bytes_of(token: &Token) -> Option<(u32, u32)> {
+    match token {
+        Token::Comment { from, to } | Token::Slice { from, to } => Some((*from, *to)),
+        _ => None,
+    }
+}
+
+/// Whether these bytes of the text are this piece.
+fn is_at(text: &str, bytes: Option<(u32, u32)>, piece: &str) -> bool {
+    match bytes {
+        Some((from, to)) => text.get(from as usize..to as usize) == Some(piece),
+        None => false,
+    }
+}
+
 /// Whether the answer is this piece of the text, before this rest.
-fn is_piece(text: &str, answer: Result<(Token, u32), ScanFault>, piece: &str, rest: &str) -> bool {
+fn is_piece(text: &str, answer: &Result<(Token, u32), ScanFault>, piece: &str, rest: &str) -> bool {
     match answer {
-        Ok((Token::Comment { from, to } | Token::Slice { from, to }, behind)) => {
-            match (
-                text.get(from as usize..to as usize),
-                text.get(behind as usize..),
-            ) {
-                (Some(found), Some(left)) => found == piece && left == rest,
-                _ => false,
-            }
+        Ok((token, behind)) => {
+            is_at(text, bytes_of(token), piece) && text.get(*behind as usize..) == Some(rest)
         }
-        _ => false,
+        Err(_) => false,
+    }
+}
+
+/// Whether the answer is this fault.
+fn is_fault(answer: &Result<(Token, u32), ScanFault>, wanted: ScanFault) -> bool {
+    match answer {
+        Ok(_) => false,
+        Err(fault) => *fault == wanted,
     }
 }
 
 fn is_comment(text: &str, piece: &str, rest: &str) -> bool {
-    is_short(text) && begins_comment(text, 0) && is_piece(text, scan_comment(text, 0), piece, rest)
+    if !is_short(text) || !begins_comment(text, 0) {
+        return false;
+    }
+    let answer = scan_comment(text, 0);
+    is_piece(text, &answer, piece, rest)
 }
 
 fn is_open_comment(text: &str) -> bool {
-    is_short(text)
-        && begins_comment(text, 0)
-        && matches!(scan_comment(text, 0), Err(ScanFault::Cut))
+    if !is_short(text) || !begins_comment(text, 0) {
+        return false;
+    }
+    let answer = scan_comment(text, 0);
+    is_fault(&answer, ScanFault::Cut)
 }
 
 /// Texts that begin with a comment, its text, and what stands after it.
@@ -93,16 +117,30 @@ fn open_and_no_comments(rt: HostRuntime) {
     }
 }
 
-/// Whether a doctype is the legacy one, and the place after it.
-fn form(text: &str) -> Result<(bool, u32), ScanFault> {
-    if !(is_short(text) && begins_doctype(text, 0)) {
-        return Err(ScanFault::Memory);
+/// Whether the answer is a doctype that is the legacy one or not, and the place after it.
+fn is_form(answer: &Result<(Token, u32), ScanFault>, legacy: bool, behind: u32) -> bool {
+    match answer {
+        Ok((Token::Doctype { legacy: found }, place)) => *found == legacy && *place == behind,
+        _ => false,
     }
-    match scan_doctype(text, 0) {
-        Ok((Token::Doctype { legacy }, behind)) => Ok((legacy, behind)),
-        Ok(_) => Err(ScanFault::Memory),
-        Err(fault) => Err(fault),
+}
+
+/// Whether a text begins with a doctype that is the legacy one or not, before this place.
+fn is_doctype(text: &str, legacy: bool, behind: u32) -> bool {
+    if !is_short(text) || !begins_doctype(text, 0) {
+        return false;
     }
+    let answer = scan_doctype(text, 0);
+    is_form(&answer, legacy, behind)
+}
+
+/// Whether a text begins with a doctype of this fault.
+fn is_bad_doctype(text: &str, fault: ScanFault) -> bool {
+    if !is_short(text) || !begins_doctype(text, 0) {
+        return false;
+    }
+    let answer = scan_doctype(text, 0);
+    is_fault(&answer, fault)
 }
 
 /// Texts that begin with a doctype, whether it is the legacy one, and the place after it.
@@ -125,33 +163,46 @@ const BAD_DOCTYPES: [&str; 7] = [
     "<!doctype html SYSTEM 'about:legacy-compat' x>",
 ];
 
-/// Asserts the form of the doctype at the start of a text, or its fault.
-fn expect_form(rt: &impl Abort, text: &str, wanted: Result<(bool, u32), ScanFault>) {
-    assert!(rt; form(text) == wanted, "{text}");
+/// Asserts the form of the doctype at the start of a text.
+fn expect_doctype(rt: &impl Abort, text: &str, legacy: bool, behind: u32) {
+    assert!(rt; is_doctype(text, legacy, behind), "{text}");
+}
+
+/// Asserts the fault of the doctype at the start of a text.
+fn expect_fault(rt: &impl Abort, text: &str, fault: ScanFault) {
+    assert!(rt; is_bad_doctype(text, fault), "{text}");
 }
 
 #[test]
 fn doctypes(rt: HostRuntime) {
     for (text, legacy, behind) in DOCTYPES {
-        expect_form(&rt, text, Ok((legacy, behind)));
+        expect_doctype(&rt, text, legacy, behind);
     }
 }
 
 #[test]
 fn bad_doctypes(rt: HostRuntime) {
     for text in BAD_DOCTYPES {
-        expect_form(&rt, text, Err(ScanFault::BadDoctype));
+        expect_fault(&rt, text, ScanFault::BadDoctype);
     }
-    expect_form(&rt, "<!doctype html", Err(ScanFault::Cut));
-    expect_form(&rt, "<!doctype x", Err(ScanFault::Cut));
+    expect_fault(&rt, "<!doctype html", ScanFault::Cut);
+    expect_fault(&rt, "<!doctype x", ScanFault::Cut);
 }
 
 fn is_cdata(text: &str, piece: &str, rest: &str) -> bool {
-    is_short(text) && begins_cdata(text, 0) && is_piece(text, scan_cdata(text, 0), piece, rest)
+    if !is_short(text) || !begins_cdata(text, 0) {
+        return false;
+    }
+    let answer = scan_cdata(text, 0);
+    is_piece(text, &answer, piece, rest)
 }
 
 fn is_open_cdata(text: &str) -> bool {
-    is_short(text) && begins_cdata(text, 0) && matches!(scan_cdata(text, 0), Err(ScanFault::Cut))
+    if !is_short(text) || !begins_cdata(text, 0) {
+        return false;
+    }
+    let answer = scan_cdata(text, 0);
+    is_fault(&answer, ScanFault::Cut)
 }
 
 #[test]
@@ -163,11 +214,19 @@ fn cdata_sections(rt: HostRuntime) {
 }
 
 fn is_raw(text: &str, name: &str, piece: &str, rest: &str) -> bool {
-    is_short(text) && is_piece(text, scan_raw(text, 0, name), piece, rest)
+    if !is_short(text) {
+        return false;
+    }
+    let answer = scan_raw(text, 0, name);
+    is_piece(text, &answer, piece, rest)
 }
 
 fn is_open_raw(text: &str, name: &str) -> bool {
-    is_short(text) && matches!(scan_raw(text, 0, name), Err(ScanFault::Cut))
+    if !is_short(text) {
+        return false;
+    }
+    let answer = scan_raw(text, 0, name);
+    is_fault(&answer, ScanFault::Cut)
 }
 
 #[test]
@@ -188,11 +247,19 @@ fn raw_texts(rt: HostRuntime) {
 }
 
 fn is_script(text: &str, piece: &str, rest: &str) -> bool {
-    is_short(text) && is_piece(text, scan_script(text, 0), piece, rest)
+    if !is_short(text) {
+        return false;
+    }
+    let answer = scan_script(text, 0);
+    is_piece(text, &answer, piece, rest)
 }
 
 fn is_open_script(text: &str) -> bool {
-    is_short(text) && matches!(scan_script(text, 0), Err(ScanFault::Cut))
+    if !is_short(text) {
+        return false;
+    }
+    let answer = scan_script(text, 0);
+    is_fault(&answer, ScanFault::Cut)
 }
 
 /// Texts that begin with a script, it, and what stands after it.

@@ -1,9 +1,11 @@
-ghost use Rattle.std.specs.Prelude.{◌≤◌};
+ghost use Rattle.std.specs.Prelude.{◌<◌, ◌≤◌, length, IfSome};
+ghost use Rattle.hm_refs.specs.Tables.{IsNode};
 
 mod standard;
 
+use crate::printed::is_number;
 use hm_base::Points;
-use hm_refs::{Table, best_number, number_value};
+use hm_refs::{NameId, Node, Table, best_number, number_value};
 use standard::NAMES;
 use std::alloc::{AllocError, Global};
 use std::process::Abort;
@@ -129,14 +131,30 @@ fn expect_no_name(rt: &impl Abort, table: &Table, text: &str) {
     assert!(rt; table.longest(text.as_bytes()).is_none(), "in {text}");
 }
 
+/// Texts, and the longest name at the start of each.
+const LONGEST: [(&str, &str); 4] = [
+    ("&notit;", "&not"),
+    ("&notin;x", "&notin;"),
+    ("&copy=", "&copy"),
+    ("&lt;", "&lt;"),
+];
+
+/// Texts that begin with no name.
+const NAMELESS: [&str; 5] = ["&no", "", "&", "not", "x&not"];
+
 #[test]
 fn finds_the_longest_name(rt: HostRuntime) -> Result<(), Fail> {
     let table = Table::read(rt.alloc(), COPY.as_bytes())?;
-    expect_longest(&rt, &table, "&notit;", "&not");
-    expect_longest(&rt, &table, "&notin;x", "&notin;");
-    expect_longest(&rt, &table, "&copy=", "&copy");
-    expect_longest(&rt, &table, "&lt;", "&lt;");
-    for text in ["&no", "", "&", "not", "x&not"] {
+    for (text, name) in LONGEST {
+        expect_longest(&rt, &table, text, name);
+    }
+    Ok(())
+}
+
+#[test]
+fn finds_no_name(rt: HostRuntime) -> Result<(), Fail> {
+    let table = Table::read(rt.alloc(), COPY.as_bytes())?;
+    for text in NAMELESS {
         expect_no_name(&rt, &table, text);
     }
     Ok(())
@@ -151,21 +169,58 @@ fn finds_nothing_in_an_empty_table(rt: HostRuntime) -> Result<(), Fail> {
     Ok(())
 }
 
+/// The node that `&lt` leads to, where `&l` is no name.
+fn lt_node(table: &Table) -> Option<Node>
+    ensures { IfSome result (IsNode table.now) }
+{
+    let l = table.child(table.root(), b'l')?;
+    match table.name_at(l) {
+        Some(_name) => None,
+        None => table.child(l, b't'),
+    }
+}
+
+/// The name that `&lt` is.
+fn lt_name(table: &Table) -> Option<NameId>
+    ensures { IfSome result (λ id. id < length table.now.entries) }
+{
+    match lt_node(table) {
+        Some(node) => table.name_at(node),
+        None => None,
+    }
+}
+
+/// The name that `&lt;` is, where no name is longer.
+fn closed_name(table: &Table) -> Option<NameId> {
+    let lt = lt_node(table)?;
+    let closed = table.child(lt, b';')?;
+    match table.child(closed, b';') {
+        Some(_longer) => None,
+        None => table.name_at(closed),
+    }
+}
+
+/// Whether the bytes of the name `&lt` are those, and lead to its node.
+fn leads_to_lt(table: &Table) -> bool {
+    match lt_name(table) {
+        Some(id) => Some(table.node_of(id)) == lt_node(table)
+            && table.name(id) == b"&lt".as_slice(),
+        None => false,
+    }
+}
+
+/// Whether the names of `<` are `&lt` and `&lt;`.
+fn has_both(table: &Table) -> bool {
+    let names = table.names_for('<');
+    names.len() == 2 && Some(names[0]) == lt_name(table) && Some(names[1]) == closed_name(table)
+}
+
 #[test]
 fn walks_down_names(rt: HostRuntime) -> Result<(), Fail> {
     let table = Table::read(rt.alloc(), COPY.as_bytes())?;
-    let l = table.child(table.root(), b'l').ok_or("l")?;
-    let lt = table.child(l, b't').ok_or("t")?;
-    let id = table.name_at(lt).ok_or("a name")?;
-    assert!(rt; table.name_at(l).is_none());
-    assert!(rt; table.node_of(id) == lt);
-    assert!(rt; table.name(id) == b"&lt".as_slice());
-    let closed = table.child(lt, b';').ok_or("a semicolon")?;
-    assert!(rt; table.child(closed, b';').is_none());
-    let names = table.names_for('<');
-    assert!(rt; names.len() == 2);
-    assert!(rt; names[0] == id);
-    assert!(rt; Some(names[1]) == table.name_at(closed));
+    assert!(rt; leads_to_lt(&table));
+    assert!(rt; closed_name(&table).is_some());
+    assert!(rt; has_both(&table));
     Ok(())
 }
 
@@ -212,58 +267,102 @@ fn tells_plain_characters(rt: HostRuntime) -> Result<(), Fail> {
 #[test]
 fn tells_plain_characters_with_names(rt: HostRuntime) -> Result<(), Fail> {
     let alloc = rt.alloc();
-    expect_plain_with(&rt, alloc, "aa=97 aa;=97 bb;=98 fjlig;=102,106", "bjxyz!")?;
-    expect_plain_with(&rt, alloc, "aA;=97 excl;=33 xy;=102,97", "abjxyz!")?;
-    expect_plain_with(&rt, alloc, "half;=189", "abfjxyz!")
+    expect_plain_with(
+        &rt,
+        alloc,
+        "&aa=97 &aa;=97 &bb;=98 &fjlig;=102,106",
+        "bjxyz!",
+    )?;
+    expect_plain_with(&rt, alloc, "&aA;=97 &excl;=33 &xy;=102,97", "abjxyz!")?;
+    expect_plain_with(&rt, alloc, "&half;=189", "abfjxyz!")
+}
+
+/// Appends a name and its code points to the text of a table. A line without `=` stands as it is, and spoils the text.
+fn push_name(alloc: Global, text: &mut String, line: &str) -> Result<(), AllocError> {
+    match line.split_once('=') {
+        Some((name, points)) => {
+            let member = format!(in alloc; ",\"{name}\":{{\"codepoints\":[{points}]}}")?;
+            text.push_str(member.as_str())
+        }
+        None => text.push_str(line),
+    }
+}
+
+/// Appends these names and their code points to the text of a table.
+fn push_names(alloc: Global, text: &mut String, names: &str) -> Result<(), AllocError> {
+    for line in names.split(' ') {
+        push_name(alloc, text, line)?;
+    }
+    text.push_str("}")
+}
+
+/// The text of the table of these names.
+fn text_of(alloc: Global, names: &str) -> Result<String, AllocError> {
+    let mut text = String::from_str(alloc, "{\"&end;\":{\"codepoints\":[1]}")?;
+    push_names(alloc, &mut text, names)?;
+    Ok(text)
 }
 
 /// The table of these names.
 fn table_of(alloc: Global, names: &str) -> Result<Table, Fail> {
-    let mut text = String::from_str(alloc, "{\"&end;\":{\"codepoints\":[1]}")?;
-    for line in names.split(' ') {
-        let (name, points) = line.split_once('=').ok_or("points")?;
-        let member = format!(in alloc; ",\"&{name}\":{{\"codepoints\":[{points}]}}")?;
-        text.push_str(member.as_str())?;
-    }
-    text.push_str("}")?;
+    let text = text_of(alloc, names)?;
     Ok(Table::read(alloc, text.as_bytes())?)
 }
 
-/// The code points of a name in decimal.
-fn shown(alloc: Global, points: Points) -> Result<String, AllocError> {
-    let first = points.first as u32;
-    match points.second {
-        Some(second) => format!(in alloc; "{first},{}", second as u32),
-        None => format!(in alloc; "{first}"),
+/// Whether this is a code point in decimal, where there is one.
+fn is_point(text: &str, point: Option<char>) -> bool {
+    match point {
+        Some(point) => is_number(text, point as u32),
+        None => false,
     }
 }
 
-/// Asserts that a name is its own longest, with these code points, of which it is a name.
-fn expect_name(rt: &impl Abort, alloc: Global, table: &Table, line: &str) -> Result<(), Fail> {
-    let (name, points) = line.split_once('=').ok_or("points")?;
-    let name = format!(in alloc; "&{name}")?;
-    let found = table.longest(name.as_bytes()).ok_or("a name")?;
-    assert!(rt; table.name(found) == name.as_bytes(), "{line}");
-    let found_points = table.points(found);
-    assert!(rt; shown(alloc, found_points)?.as_str() == points, "{line}");
-    assert!(rt;
-        table.names_for(found_points.first).contains(&found),
-        "{line}"
-    );
-    Ok(())
+/// Whether these are the code points of a name in decimal.
+fn are_points(text: &str, points: Points) -> bool {
+    match text.split_once(',') {
+        Some((first, second)) => {
+            is_number(first, points.first as u32) && is_point(second, points.second)
+        }
+        None => is_number(text, points.first as u32) && points.second.is_none(),
+    }
 }
 
-fn find_each(rt: &impl Abort, alloc: Global, table: &Table, names: &str) -> Result<(), Fail> {
+/// Whether a name has these code points, of which it is a name.
+fn has_points(table: &Table, id: NameId, text: &str) -> bool
+    requires { id < length table.now.entries }
+{
+    let points = table.points(id);
+    are_points(text, points) && table.names_for(points.first).contains(&id)
+}
+
+/// Whether a name is its own longest, with these code points, of which it is a name.
+fn is_its_own(table: &Table, name: &str, points: &str) -> bool {
+    match table.longest(name.as_bytes()) {
+        Some(id) => table.name(id) == name.as_bytes() && has_points(table, id, points),
+        None => false,
+    }
+}
+
+/// Asserts that the name in a line is its own longest, with its code points.
+fn expect_name(rt: &impl Abort, table: &Table, line: &str) {
+    match line.split_once('=') {
+        Some((name, points)) => assert!(rt; is_its_own(table, name, points), "{line}"),
+        None => assert!(rt; false, "{line}"),
+    }
+}
+
+/// Asserts that each of these names is its own longest, with its code points.
+fn expect_names(rt: &impl Abort, table: &Table, names: &str) {
     for line in names.split(' ') {
-        expect_name(rt, alloc, table, line)?;
+        expect_name(rt, table, line);
     }
-    Ok(())
 }
 
 #[test]
 fn each_name_of_the_standard_is_its_own_longest(rt: HostRuntime) -> Result<(), Fail> {
     let table = table_of(rt.alloc(), NAMES)?;
-    find_each(&rt, rt.alloc(), &table, NAMES)
+    expect_names(&rt, &table, NAMES);
+    Ok(())
 }
 
 /// Numbers, and the code point that each stands for.

@@ -1,92 +1,140 @@
 //! Tags, after the HTML Standard (#tag-open-state to #tag-name-state and #before-attribute-name-state to
 //! #self-closing-start-tag-state).
 
+use crate::printed::{behind, behind_attributes, is_number};
 use hm_refs::Table;
 use hm_scan::{begins_tag, scan_tag};
-use hm_tree::{Attrs, Token};
+use hm_tree::{Attrs, ScanFault, Token};
 use std::alloc::{AllocError, Global};
+use std::process::Abort;
 use std::test::Fail;
 
 const NAMES: &str = "{\"&copy\":{\"codepoints\":[169]},\"&copy;\":{\"codepoints\":[169]}}";
 
-/// The attributes, each as a space, its name, `=` and its value in brackets.
-fn attributes(alloc: Global, attrs: &Attrs) -> Result<String, AllocError> {
-    let mut text = String::new(alloc);
-    for i in 0..attrs.len() {
-        let (name, value) = attrs.at(i);
-        text.push_str(" ")?;
-        text.push_str(name)?;
-        text.push_str("=[")?;
-        text.push_str(value)?;
-        text.push_str("]")?;
-    }
-    Ok(text)
+/// What is wanted after a start tag: its name, its attributes, and ` /` where a `/` stands before the `>`.
+fn behind_start<'w>(wanted: &'w str, name: &str, attrs: &Attrs, slash: bool) -> Option<&'w str> {
+    let wanted = wanted.strip_prefix(name)?;
+    let wanted = behind_attributes(wanted, attrs)?;
+    wanted.strip_prefix(if slash { " /" } else { "" })
 }
 
-/// A tag: its name, after `/` where it is an end tag, its attributes, `/` where it stands before the `>`, and the place
-/// after the tag.
-fn tag(alloc: Global, token: &Token, behind: u32) -> Result<String, AllocError> {
+/// What is wanted after a tag. An end tag is `/` and its name.
+fn behind_tag<'w>(wanted: &'w str, token: &Token) -> Option<&'w str> {
     match token {
         Token::StartTag { name, attrs, slash } => {
-            let attributes = attributes(alloc, attrs)?;
-            let flag = if *slash { " /" } else { "" };
-            format!(in alloc; "{}{attributes}{flag} {behind}", name.text)
+            behind_start(wanted, name.text.as_str(), attrs, *slash)
         }
-        Token::EndTag { name } => format!(in alloc; "/{} {behind}", name.text),
-        _ => String::from_str(alloc, "another token"),
+        Token::EndTag { name } => behind(wanted, "/", name.text.as_str(), ""),
+        _ => None,
     }
 }
 
-/// The tag at the start of a text, or its fault.
-fn read(alloc: Global, table: &Table, text: &str) -> Result<String, AllocError> {
-    if text.len() > 1000 || !begins_tag(text, 0) {
-        return String::from_str(alloc, "no tag");
+/// Whether a tag is wanted, and after a space the place behind it.
+fn is_printed(wanted: &str, token: &Token, place: u32) -> bool {
+    match behind_tag(wanted, token) {
+        Some(rest) => match rest.strip_prefix(' ') {
+            Some(number) => is_number(number, place),
+            None => false,
+        },
+        None => false,
     }
-    match scan_tag(alloc, text, 0, table) {
-        Ok((token, behind)) => tag(alloc, &token, behind),
-        Err(fault) => format!(in alloc; "{fault:?}"),
+}
+
+/// The name of a fault.
+fn fault_name(fault: ScanFault) -> &'static str {
+    match fault {
+        ScanFault::Cut => "Cut",
+        ScanFault::BadName => "BadName",
+        ScanFault::TooManyAttributes => "TooManyAttributes",
+        ScanFault::BadDoctype => "BadDoctype",
+        ScanFault::Memory => "Memory",
+    }
+}
+
+/// Whether an answer is wanted: the tag and the place behind it, or its fault.
+fn is_answer(wanted: &str, answer: &Result<(Token, u32), ScanFault>) -> bool {
+    match answer {
+        Ok((token, behind)) => is_printed(wanted, token, *behind),
+        Err(fault) => wanted == fault_name(*fault),
+    }
+}
+
+/// Whether this is wanted of the start of a text: its tag and the place behind it, its fault, or `no tag`.
+fn is_read(alloc: Global, table: &Table, text: &str, wanted: &str) -> bool {
+    if text.len() > 1000 || !begins_tag(text, 0) {
+        return wanted == "no tag";
+    }
+    let answer = scan_tag(alloc, text, 0, table);
+    is_answer(wanted, &answer)
+}
+
+/// Asserts what is read of the tag at the start of a text.
+fn expect_tag(rt: &impl Abort, alloc: Global, table: &Table, text: &str, wanted: &str) {
+    assert!(rt; is_read(alloc, table, text, wanted), "{text} and {wanted}");
+}
+
+/// A text before ` ⇒ ` in each line, and after it what is read at its start: the name of a tag, after `/` where it is
+/// an end tag, its attributes, `/` where it stands before the `>`, and the place after the tag.
+const TAGS: &str = "\
+    <a/b=c//>d ⇒ a b=[c//] 9\n\
+    <a b=\"c\"d/> ⇒ a b=[c] d=[] / 11\n\
+    <A B=1 b=2> ⇒ a b=[1] 11\n\
+    <a/ > ⇒ a 5\n\
+    <a b=>> ⇒ a b=[] 6\n\
+    <a b='>'> ⇒ a b=[>] 9\n\
+    <é> ⇒ no tag\n\
+    <aé> ⇒ BadName\n\
+    <a é=É> ⇒ a é=[É] 9\n\
+    </a b=c> ⇒ /a 8\n\
+    </A/>x ⇒ /a 5\n\
+    </> ⇒ no tag\n\
+    <a =x> ⇒ BadName\n\
+    <b \"x> ⇒ BadName\n\
+    </b \"x> ⇒ BadName\n\
+    <a\"b> ⇒ BadName\n\
+    <a b'=c> ⇒ BadName\n\
+    <a <b> ⇒ BadName\n\
+    <b \"x ⇒ Cut\n\
+    <a ⇒ Cut\n\
+    <a b ⇒ Cut\n\
+    <a b= ⇒ Cut\n\
+    <a b=c ⇒ Cut\n\
+    <a b='c\"> ⇒ Cut\n\
+    </a ⇒ Cut\n\
+    <a b=&copy=> ⇒ a b=[&copy=] 12\n\
+    <a b='&copy;='> ⇒ a b=[©=] 15\n\
+    <a b=&copyx> ⇒ a b=[&copyx] 12\n\
+    <a b=&copy> ⇒ a b=[©] 11\n\
+    <a b=&#65> ⇒ a b=[A] 10\n\
+    <a b=\"&#x80;&#;&#65x\"> ⇒ a b=[€&#;Ax] 22\n";
+
+/// Asserts what is read at the start of the text in a line.
+fn expect_line(rt: &impl Abort, alloc: Global, table: &Table, line: &str) {
+    match line.split_once(" ⇒ ") {
+        Some((text, wanted)) => expect_tag(rt, alloc, table, text, wanted),
+        None => assert!(rt; false, "{line}"),
     }
 }
 
 #[test]
 fn tags(rt: HostRuntime) -> Result<(), Fail> {
     let table = Table::read(rt.alloc(), NAMES.as_bytes())?;
-    for (text, wanted) in [
-        ("<a/b=c//>d", "a b=[c//] 9"),
-        ("<a b=\"c\"d/>", "a b=[c] d=[] / 11"),
-        ("<A B=1 b=2>", "a b=[1] 11"),
-        ("<a\nb = 'c' d = >", "a b=[c] d=[] 16"),
-        ("<a/ >", "a 5"),
-        ("<a b=>>", "a b=[] 6"),
-        ("<a b='>'>", "a b=[>] 9"),
-        ("<é>", "no tag"),
-        ("<aé>", "BadName"),
-        ("<a é=É>", "a é=[É] 9"),
-        ("</a b=c>", "/a 8"),
-        ("</A/>x", "/a 5"),
-        ("</>", "no tag"),
-        ("<a =x>", "BadName"),
-        ("<b \"x>", "BadName"),
-        ("</b \"x>", "BadName"),
-        ("<a\"b>", "BadName"),
-        ("<a b'=c>", "BadName"),
-        ("<a <b>", "BadName"),
-        ("<b \"x", "Cut"),
-        ("<a", "Cut"),
-        ("<a b", "Cut"),
-        ("<a b=", "Cut"),
-        ("<a b=c", "Cut"),
-        ("<a b='c\">", "Cut"),
-        ("</a", "Cut"),
-        ("<a b=&copy=>", "a b=[&copy=] 12"),
-        ("<a b='&copy;='>", "a b=[©=] 15"),
-        ("<a b=&copyx>", "a b=[&copyx] 12"),
-        ("<a b=&copy>", "a b=[©] 11"),
-        ("<a b=&#65>", "a b=[A] 10"),
-        ("<a b=\"&#x80;&#;&#65x\">", "a b=[€&#;Ax] 22"),
-    ] {
-        assert_eq!(rt; read(rt.alloc(), &table, text)?.as_str(), wanted, "{text}");
+    for line in TAGS.lines() {
+        expect_line(&rt, rt.alloc(), &table, line);
     }
+    Ok(())
+}
+
+#[test]
+fn a_tag_of_two_lines(rt: HostRuntime) -> Result<(), Fail> {
+    let table = Table::read(rt.alloc(), NAMES.as_bytes())?;
+    expect_tag(
+        &rt,
+        rt.alloc(),
+        &table,
+        "<a\nb = 'c' d = >",
+        "a b=[c] d=[] 16",
+    );
     Ok(())
 }
 
@@ -100,16 +148,18 @@ fn repeated(alloc: Global, count: u32) -> Result<String, AllocError> {
     Ok(text)
 }
 
+/// Asserts what is read of a start tag in which an attribute is written `count` times.
+fn expect_repeated(rt: &impl Abort, alloc: Global, table: &Table, count: u32, wanted: &str) {
+    match repeated(alloc, count) {
+        Ok(text) => expect_tag(rt, alloc, table, text.as_str(), wanted),
+        Err(_) => assert!(rt; false, "memory"),
+    }
+}
+
 #[test]
 fn at_most_256_attributes_are_written(rt: HostRuntime) -> Result<(), Fail> {
     let table = Table::empty(rt.alloc())?;
-    for (count, wanted) in [(256, "p a=[] 515"), (257, "TooManyAttributes")] {
-        let text = repeated(rt.alloc(), count)?;
-        assert_eq!(rt;
-            read(rt.alloc(), &table, text.as_str())?.as_str(),
-            wanted,
-            "{count}"
-        );
-    }
+    expect_repeated(&rt, rt.alloc(), &table, 256, "p a=[] 515");
+    expect_repeated(&rt, rt.alloc(), &table, 257, "TooManyAttributes");
     Ok(())
 }

@@ -5,11 +5,12 @@ ghost use Rattle.hm_base.specs.Walks.{attributes_size, path_after, walk_size};
 ghost use Rattle.hm_tree.specs.Trees.{last_agrees};
 
 use hm_base::{Memory, Word};
-use hm_tree::{Attrs, EventView, Lexeme, Maker, Placed, ScanFault, Tag, Token, Tree};
+use hm_tree::{Attrs, EventView, Lexeme, Maker, Placed, ScanFault, Spanned, Tag, Token, Tree};
 use std::alloc::{AllocError, AllocFailed, Global};
+use std::process::Abort;
 use std::test::Fail;
 
-// A call of a maker. A start may have one attribute, a name and a value.
+/// A call of a maker. A start may have one attribute, a name and a value.
 #[derive(Clone, Copy)]
 enum MakerCall {
     Doctype(bool),
@@ -120,11 +121,12 @@ fn take(alloc: Global, maker: &mut Maker, step: MakerCall) -> Result<(), Memory>
     }
 }
 
-// The tree of these calls.
-fn made(alloc: Global, steps: &[MakerCall]) -> Result<Tree, Memory>
-    requires { length steps.now < 100 }
-{
+/// The tree of these calls.
+fn made(alloc: Global, steps: &[MakerCall]) -> Result<Tree, Memory> {
     let mut maker = Tree::maker(alloc);
+    if steps.len() > 99 {
+        return Err(Memory);
+    }
     for step in steps {
         take(alloc, &mut maker, *step)?;
     }
@@ -134,7 +136,7 @@ fn made(alloc: Global, steps: &[MakerCall]) -> Result<Tree, Memory>
     Ok(maker.finish())
 }
 
-// `<p id=x>a<br>b` as a page.
+/// `<p id=x>a<br>b` as a page.
 const PAGE: [MakerCall; 13] = [
     MakerCall::Doctype(false),
     MakerCall::Start("html"),
@@ -151,7 +153,7 @@ const PAGE: [MakerCall; 13] = [
     MakerCall::End,
 ];
 
-// The name or the text of an event, and whether it is an end.
+/// The name or the text of an event, and whether it is an end.
 fn shown<'t>(event: EventView<'t>) -> (&'t str, bool) {
     match event {
         EventView::Doctype { .. } => ("", false),
@@ -162,30 +164,52 @@ fn shown<'t>(event: EventView<'t>) -> (&'t str, bool) {
     }
 }
 
+/// The events of the page: the name or the text of each, whether it is an end, and its parent.
+const EVENTS: [(u32, &str, bool, Option<u32>); 13] = [
+    (0, "", false, None),
+    (1, "html", false, None),
+    (2, "head", false, Some(1)),
+    (3, "head", true, Some(2)),
+    (4, "body", false, Some(1)),
+    (5, "p", false, Some(4)),
+    (6, "a", false, Some(5)),
+    (7, "br", false, Some(5)),
+    (8, "br", true, Some(7)),
+    (9, "b", false, Some(5)),
+    (10, "p", true, Some(5)),
+    (11, "body", true, Some(4)),
+    (12, "html", true, Some(1)),
+];
+
+/// Whether event `i` is an end or not, and has this name or text and this parent.
+fn is_event(tree: &Tree, i: u32, text: &str, is_end: bool, parent: Option<u32>) -> bool {
+    i < tree.len() && shown(tree.event(i)) == (text, is_end) && tree.parent(i) == parent
+}
+
+/// Asserts what event `i` is.
+fn expect_event(
+    rt: &impl Abort,
+    tree: &Tree,
+    i: u32,
+    text: &str,
+    is_end: bool,
+    parent: Option<u32>,
+) {
+    assert!(rt; is_event(tree, i, text, is_end, parent), "at {i}");
+}
+
+/// Asserts what each event of the page is.
+fn expect_events(rt: &impl Abort, tree: &Tree) {
+    assert!(rt; tree.len() == 13);
+    for (i, text, is_end, parent) in EVENTS {
+        expect_event(rt, tree, i, text, is_end, parent);
+    }
+}
+
 #[test]
 fn a_page(rt: HostRuntime) -> Result<(), Fail> {
     let tree = made(rt.alloc(), &PAGE)?;
-    let events = [
-        ("", false, None),
-        ("html", false, None),
-        ("head", false, Some(1)),
-        ("head", true, Some(2)),
-        ("body", false, Some(1)),
-        ("p", false, Some(4)),
-        ("a", false, Some(5)),
-        ("br", false, Some(5)),
-        ("br", true, Some(7)),
-        ("b", false, Some(5)),
-        ("p", true, Some(5)),
-        ("body", true, Some(4)),
-        ("html", true, Some(1)),
-    ];
-    assert_eq!(rt; tree.len(), 13);
-    for i in 0..13u32 {
-        let (name, is_end, parent) = events[i as usize];
-        assert_eq!(rt; shown(tree.event(i)), (name, is_end), "at {i}");
-        assert_eq!(rt; tree.parent(i), parent, "at {i}");
-    }
+    expect_events(&rt, &tree);
     Ok(())
 }
 
@@ -219,61 +243,82 @@ const LONGER: [MakerCall; 4] = [
     MakerCall::Comment("a"),
 ];
 
-// Where the trees differ first, and whether they are the same.
-fn compared(
+/// Whether the trees of these calls differ first at this place, and are the same where there is none.
+fn differ_at(alloc: Global, one: &[MakerCall], other: &[MakerCall], place: Option<u32>) -> bool {
+    match made(alloc, one) {
+        Ok(one) => match made(alloc, other) {
+            Ok(other) => one.first_other(&other) == place && one.same(&other) == place.is_none(),
+            Err(_) => false,
+        },
+        Err(_) => false,
+    }
+}
+
+/// Asserts where the trees of these calls differ first.
+fn expect_other(
+    rt: &impl Abort,
     alloc: Global,
     one: &[MakerCall],
     other: &[MakerCall],
-) -> Result<(Option<u32>, bool), Memory>
-    requires one { length one.now < 100 }
-    requires other { length other.now < 100 }
-{
-    let one = made(alloc, one)?;
-    let other = made(alloc, other)?;
-    Ok((one.first_other(&other), one.same(&other)))
+    place: Option<u32>,
+) {
+    assert!(rt; differ_at(alloc, one, other, place));
 }
 
 #[test]
-fn first_differences(rt: HostRuntime) -> Result<(), Fail> {
-    let cases: [(&[MakerCall], &[MakerCall], Option<u32>); 5] = [
-        (&ONE, &IN_PARTS, None),
-        (&ONE, &JOINED, Some(1)),
-        (&ONE, &NAMED, Some(0)),
-        (&ONE, &LONGER, Some(3)),
-        (&LONGER, &ONE, Some(3)),
-    ];
-    for (one, other, place) in cases {
-        assert!(rt; one.len() < 100 && other.len() < 100);
-        let (found, same) = compared(rt.alloc(), one, other)?;
-        assert_eq!(rt; found, place);
-        assert_eq!(rt; same, place.is_none());
+fn first_differences(rt: HostRuntime) {
+    expect_other(&rt, rt.alloc(), &ONE, &IN_PARTS, None);
+    expect_other(&rt, rt.alloc(), &ONE, &JOINED, Some(1));
+    expect_other(&rt, rt.alloc(), &ONE, &NAMED, Some(0));
+    expect_other(&rt, rt.alloc(), &ONE, &LONGER, Some(3));
+    expect_other(&rt, rt.alloc(), &LONGER, &ONE, Some(3));
+}
+
+/// Adds an attribute, and says whether it was added. A fourth is refused as memory is.
+fn add(alloc: Global, attrs: &mut Attrs, name: &str, value: &str) -> Result<bool, Memory> {
+    if attrs.len() > 2 {
+        return Err(Memory);
     }
-    Ok(())
+    let name = String::from_str(alloc, name)?;
+    let value = String::from_str(alloc, value)?;
+    attrs.add(name, value)
+}
+
+/// Asserts whether an attribute is added.
+fn expect_added(
+    rt: &impl Abort,
+    alloc: Global,
+    attrs: &mut Attrs,
+    name: &str,
+    value: &str,
+    wanted: bool,
+) {
+    assert!(rt;
+        add(alloc, attrs, name, value) == Ok(wanted),
+        "{name}={value}"
+    );
+}
+
+/// Asserts the name and the value of attribute `i`.
+fn expect_attribute(rt: &impl Abort, attrs: &Attrs, i: u32, name: &str, value: &str) {
+    assert!(rt; i < attrs.len() && attrs.at(i) == (name, value), "at {i}");
 }
 
 #[test]
-fn a_name_once(rt: HostRuntime) -> Result<(), Fail> {
-    let alloc = rt.alloc();
-    let mut attrs = Attrs::new(alloc);
-    for (name, value, added) in [("id", "x", true), ("class", "", true), ("id", "y", false)] {
-        if attrs.len() < 3 {
-            let name = String::from_str(alloc, name)?;
-            let value = String::from_str(alloc, value)?;
-            assert_eq!(rt; attrs.add(name, value)?, added);
-        }
-    }
-    assert_eq!(rt; attrs.len(), 2);
-    assert_eq!(rt; attrs.at(0), ("id", "x"));
-    assert_eq!(rt; attrs.at(1), ("class", ""));
+fn a_name_once(rt: HostRuntime) {
+    let mut attrs = Attrs::new(rt.alloc());
+    expect_added(&rt, rt.alloc(), &mut attrs, "id", "x", true);
+    expect_added(&rt, rt.alloc(), &mut attrs, "class", "", true);
+    expect_added(&rt, rt.alloc(), &mut attrs, "id", "y", false);
+    assert!(rt; attrs.len() == 2);
+    expect_attribute(&rt, &attrs, 0, "id", "x");
+    expect_attribute(&rt, &attrs, 1, "class", "");
     attrs.clear();
-    assert_eq!(rt; attrs.len(), 0);
-    Ok(())
+    assert!(rt; attrs.len() == 0);
 }
 
-#[test]
-fn a_tag_in_its_place(rt: HostRuntime) -> Result<(), Fail> {
-    let alloc = rt.alloc();
-    let mut tag = Tag::new(alloc);
+/// A tag `<br/>` in the bytes from 3 to 8. Its name and attributes are put into `tag`.
+fn placed_tag(alloc: Global, tag: &mut Tag) -> Result<Placed, AllocError> {
     let name = Word {
         text: String::from_str(alloc, "br")?,
     };
@@ -282,25 +327,39 @@ fn a_tag_in_its_place(rt: HostRuntime) -> Result<(), Fail> {
         attrs: Attrs::new(alloc),
         slash: true,
     };
-    let lexeme = Lexeme::of(token, &mut tag);
-    let placed = Placed {
-        lexeme,
+    Ok(Placed {
+        lexeme: Lexeme::of(token, tag),
         from: 3,
         to: 8,
-    };
-    assert_eq!(rt; tag.name.as_str(), "br");
-    let spanned = placed.spanned(tag);
-    assert_eq!(rt; (spanned.from, spanned.to), (3, 8));
-    assert!(rt; matches!(&spanned.token, Token::StartTag { slash: true, .. }));
-    Ok(())
+    })
+}
+
+/// Whether a token is a start tag that closes at once, in the bytes from 3 to 8.
+fn is_spanned(spanned: &Spanned) -> bool {
+    spanned.from == 3
+        && spanned.to == 8
+        && matches!(&spanned.token, Token::StartTag { slash: true, .. })
+}
+
+/// Whether what is placed is, with its tag, such a token.
+fn is_placed(placed: Result<Placed, AllocError>, tag: Tag) -> bool {
+    match placed {
+        Ok(placed) => is_spanned(&placed.spanned(tag)),
+        Err(_) => false,
+    }
+}
+
+#[test]
+fn a_tag_in_its_place(rt: HostRuntime) {
+    let mut tag = Tag::new(rt.alloc());
+    let placed = placed_tag(rt.alloc(), &mut tag);
+    assert!(rt; tag.name.as_str() == "br");
+    assert!(rt; is_placed(placed, tag));
 }
 
 #[test]
 fn want_of_memory_is_a_fault(rt: HostRuntime) {
-    assert_eq!(rt; ScanFault::from(Memory), ScanFault::Memory);
-    assert_eq!(rt; ScanFault::from(AllocError), ScanFault::Memory);
-    assert_eq!(rt;
-        ScanFault::from(AllocFailed { value: 1u8 }),
-        ScanFault::Memory
-    );
+    assert!(rt; ScanFault::from(Memory) == ScanFault::Memory);
+    assert!(rt; ScanFault::from(AllocError) == ScanFault::Memory);
+    assert!(rt; ScanFault::from(AllocFailed { value: 1u8 }) == ScanFault::Memory);
 }

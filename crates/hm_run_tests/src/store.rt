@@ -2,49 +2,50 @@
 ghost use Rattle.std.specs.Prelude.{◌≡◌, true, is_some};
 ghost use Rattle.hm_store.specs.Causes.{counted};
 
+use crate::made::{holds, path_of};
 use hm_store::{Failed, FileStore, MemSink, MemStore, Sink, Store, WriteSink, load, write_file};
-use std::alloc::Allocator;
+use std::alloc::{Allocator, Global};
 use std::fs::{Metadata, OpenFile, OpenOptions};
 use std::io::{Empty, ErrorKind, Read, Seek, SeekFrom, Write};
+use std::process::Abort;
 use std::rt::Files;
-use std::test::Fail;
 use std::{env, fs, io};
 
-fn has_file(store: &MemStore, name: &str, text: &str) -> bool {
-    match store.file(name) {
-        Some(bytes) => bytes == text.as_bytes(),
-        None => false,
+#[test]
+fn files_are_written(rt: HostRuntime) {
+    let mut store = MemStore::new(rt.alloc());
+    assert!(rt; store.add("page", b"hello").is_ok());
+    assert!(rt; write_file(&mut store, "out", b"world").is_ok());
+    assert!(rt; holds(&store, "page", Some("hello")));
+    assert!(rt; holds(&store, "out", Some("world")));
+    assert!(rt; holds(&store, "cert", None));
+}
+
+#[test]
+fn a_file_is_replaced(rt: HostRuntime) {
+    let mut store = MemStore::new(rt.alloc());
+    assert!(rt; write_file(&mut store, "out", b"world").is_ok());
+    assert!(rt; store.add("out", b"new").is_ok());
+    assert!(rt; holds(&store, "out", Some("new")));
+}
+
+/// Asserts what a load of `page` with this limit gives.
+fn expect_loaded(rt: &impl Abort, alloc: Global, store: &mut MemStore, limit: u32, wanted: &str) {
+    match load(alloc, store, "page", limit) {
+        Ok(bytes) => assert!(rt; bytes.as_slice() == wanted.as_bytes(), "limit {limit}"),
+        Err(_) => assert!(rt; false, "limit {limit}"),
     }
 }
 
 #[test]
-fn files_are_written(rt: HostRuntime) -> Result<(), Fail> {
+fn a_load_takes_one_byte_more_than_its_limit(rt: HostRuntime) {
     let mut store = MemStore::new(rt.alloc());
-    store.add("page", b"hello")?;
-    write_file(&mut store, "out", b"world")?;
-    assert!(rt; has_file(&store, "page", "hello"));
-    assert!(rt; has_file(&store, "out", "world"));
-    assert_eq!(rt; store.file("cert"), None);
-    store.add("out", b"new")?;
-    assert!(rt; has_file(&store, "out", "new"));
-    Ok(())
-}
-
-#[test]
-fn a_load_takes_one_byte_more_than_its_limit(rt: HostRuntime) -> Result<(), Fail> {
-    let mut store = MemStore::new(rt.alloc());
-    store.add("page", b"hello")?;
-    for (limit, want) in [
-        (100, "hello"),
-        (5, "hello"),
-        (4, "hello"),
-        (3, "hell"),
-        (0, "h"),
-    ] {
-        let bytes = load(rt.alloc(), &mut store, "page", limit)?;
-        assert_eq!(rt; bytes.as_slice(), want.as_bytes(), "limit {limit}");
-    }
-    Ok(())
+    assert!(rt; store.add("page", b"hello").is_ok());
+    expect_loaded(&rt, rt.alloc(), &mut store, 100, "hello");
+    expect_loaded(&rt, rt.alloc(), &mut store, 5, "hello");
+    expect_loaded(&rt, rt.alloc(), &mut store, 4, "hello");
+    expect_loaded(&rt, rt.alloc(), &mut store, 3, "hell");
+    expect_loaded(&rt, rt.alloc(), &mut store, 0, "h");
 }
 
 /// Opens a file of a store for reading: a failure counts as one more fault, and another answer as none.
@@ -55,11 +56,10 @@ fn open_counted(store: &mut MemStore, name: &str) -> Result<bool, Failed>
 }
 
 #[test]
-fn an_absent_file_is_no_fault(rt: HostRuntime) -> Result<(), Fail> {
+fn an_absent_file_is_no_fault(rt: HostRuntime) {
     let mut store = MemStore::new(rt.alloc());
-    store.add("page", b"hello")?;
-    assert_eq!(rt; open_counted(&mut store, "none"), Ok(false));
-    Ok(())
+    assert!(rt; store.add("page", b"hello").is_ok());
+    assert!(rt; open_counted(&mut store, "none") == Ok(false));
 }
 
 /// Takes a piece of a store's file: a failure counts as one more fault, and another answer as none.
@@ -71,46 +71,58 @@ fn pull_counted(store: &mut MemStore, into: &mut [u8]) -> Result<usize, Failed>
     store.pull(into)
 }
 
-#[test]
-fn a_listed_pull_fails_and_stays_in_place(rt: HostRuntime) -> Result<(), Fail> {
-    let mut store = MemStore::new(rt.alloc());
-    store.add("page", b"hello")?;
-    store.fail(3)?;
-    assert_eq!(rt; store.open_in("page"), Ok(true));
+/// Asserts that the second pull of two bytes fails, and the third gives what it would have given.
+fn expect_pulls(rt: &impl Abort, store: &mut MemStore) {
+    assert!(rt; store.open_in("page") == Ok(true));
     let mut piece = [0u8; 2];
-    assert_eq!(rt; store.pull(&mut piece), Ok(2));
-    assert_eq!(rt; pull_counted(&mut store, &mut piece), Err(Failed));
-    assert_eq!(rt; store.pull(&mut piece), Ok(2));
-    assert_eq!(rt; piece, *b"ll");
-    Ok(())
+    assert!(rt; store.pull(&mut piece) == Ok(2));
+    assert!(rt; pull_counted(store, &mut piece) == Err(Failed));
+    assert!(rt; store.pull(&mut piece) == Ok(2));
+    assert!(rt; piece == *b"ll");
+}
+
+#[test]
+fn a_listed_pull_fails_and_stays_in_place(rt: HostRuntime) {
+    let mut store = MemStore::new(rt.alloc());
+    assert!(rt; store.add("page", b"hello").is_ok());
+    assert!(rt; store.fail(3).is_ok());
+    expect_pulls(&rt, &mut store);
+}
+
+/// A call on the store that fails, whether a load succeeds then, and a write after it, and the file that is left.
+type Left = (u32, bool, bool, Option<&'static str>);
+
+/// Whether a load of a store, and a write after it, end so.
+fn is_left(alloc: Global, store: &mut MemStore, row: &Left) -> bool {
+    let loaded = load(alloc, store, "page", 100).is_ok();
+    let written = write_file(store, "out", b"world").is_ok();
+    loaded == row.1 && written == row.2 && holds(store, "out", row.3)
+}
+
+/// Asserts what is left where a call fails.
+fn expect_left(rt: &impl Abort, alloc: Global, row: &Left) {
+    let mut store = MemStore::new(alloc);
+    assert!(rt; store.add("page", b"hello").is_ok());
+    assert!(rt; store.fail(row.0).is_ok());
+    assert!(rt; is_left(alloc, &mut store, row), "call {}", row.0);
 }
 
 /// The calls are: `open_in`, two of `pull`, `open_out`, `put`, `close_out`.
+const CALLS: [Left; 7] = [
+    (1, false, true, Some("world")),
+    (2, false, true, Some("world")),
+    (3, false, true, Some("world")),
+    (4, true, false, None),
+    (5, true, false, Some("")),
+    (6, true, false, Some("world")),
+    (7, true, true, Some("world")),
+];
+
 #[test]
-fn each_call_fails_in_turn(rt: HostRuntime) -> Result<(), Fail> {
-    for (call, loads, writes, out) in [
-        (1, false, true, Some("world")),
-        (2, false, true, Some("world")),
-        (3, false, true, Some("world")),
-        (4, true, false, None),
-        (5, true, false, Some("")),
-        (6, true, false, Some("world")),
-        (7, true, true, Some("world")),
-    ] {
-        let mut store = MemStore::new(rt.alloc());
-        store.add("page", b"hello")?;
-        store.fail(call)?;
-        let loaded = load(rt.alloc(), &mut store, "page", 100);
-        assert_eq!(rt; loaded.is_ok(), loads, "call {call}");
-        let written = write_file(&mut store, "out", b"world");
-        assert_eq!(rt; written.is_ok(), writes, "call {call}");
-        assert_eq!(rt;
-            store.file("out"),
-            out.map(|text| text.as_bytes()),
-            "call {call}"
-        );
+fn each_call_fails_in_turn(rt: HostRuntime) {
+    for row in &CALLS {
+        expect_left(&rt, rt.alloc(), row);
     }
-    Ok(())
 }
 
 /// Puts bytes to a sink: a failure counts as one more fault, and another answer as none.
@@ -120,34 +132,44 @@ fn put_counted(sink: &mut MemSink, bytes: &[u8]) -> Result<(), Failed>
     sink.put(bytes)
 }
 
-#[test]
-fn a_listed_put_changes_nothing(rt: HostRuntime) -> Result<(), Fail> {
-    let mut sink = MemSink::new(rt.alloc());
-    sink.fail(2)?;
-    assert_eq!(rt; sink.put(b"length "), Ok(()));
-    assert_eq!(rt; put_counted(&mut sink, b"none"), Err(Failed));
-    assert_eq!(rt; sink.put(b"23\n"), Ok(()));
-    assert_eq!(rt; sink.bytes(), b"length 23\n".as_slice());
-    Ok(())
+/// Asserts that the second put fails, and that the first and the third are what the sink holds.
+fn expect_puts(rt: &impl Abort, sink: &mut MemSink) {
+    assert!(rt; sink.put(b"length ") == Ok(()));
+    assert!(rt; put_counted(sink, b"none") == Err(Failed));
+    assert!(rt; sink.put(b"23\n") == Ok(()));
+    assert!(rt; sink.bytes() == b"length 23\n".as_slice());
 }
 
 #[test]
-fn a_real_file_is_written_and_read(rt: HostRuntime) -> Result<(), Fail> {
-    let number = std::process::id(rt.process());
-    let name = format!(in rt.alloc(); "hm_store_{number}.test")?;
+fn a_listed_put_changes_nothing(rt: HostRuntime) {
+    let mut sink = MemSink::new(rt.alloc());
+    assert!(rt; sink.fail(2).is_ok());
+    expect_puts(&rt, &mut sink);
+}
+
+/// Whether a store has no file at a path at first, and what is written there is read again.
+fn is_kept<S: Store>(alloc: Global, store: &mut S, path: &str) -> bool {
+    let is_absent = load(alloc, store, path, 100).is_err();
+    let is_written = write_file(store, path, b"hello").is_ok();
+    match load(alloc, store, path, 100) {
+        Ok(bytes) => is_absent && is_written && bytes.as_slice() == b"hello".as_slice(),
+        Err(_) => false,
+    }
+}
+
+/// Asserts that a real file is written and read. It is removed.
+fn expect_kept(rt: &(impl Files + Abort), alloc: Global, path: &str) {
+    let is_kept = is_kept(alloc, &mut FileStore::new(alloc, rt), path);
+    assert!(rt; fs::remove_file(rt, path).is_ok());
+    assert!(rt; is_kept);
+}
+
+#[test]
+fn a_real_file_is_written_and_read(rt: HostRuntime) -> io::Result<()> {
     let folder = env::temp_dir(&rt)?;
-    let path = folder.join(rt.alloc(), name.as_str())?;
-    let mut store = FileStore::new(rt.alloc(), &rt);
-    let text = path.as_str();
-    assert_eq!(rt;
-        load(rt.alloc(), &mut store, text, 100).is_err(),
-        true,
-        "before it is written"
-    );
-    write_file(&mut store, text, b"hello")?;
-    let bytes = load(rt.alloc(), &mut store, text, 100);
-    fs::remove_file(&rt, text)?;
-    assert_eq!(rt; bytes?.as_slice(), b"hello".as_slice());
+    let number = std::process::id(rt.process());
+    let path = path_of(rt.alloc(), folder.as_str(), number, "test")?;
+    expect_kept(&rt, rt.alloc(), path.as_str());
     Ok(())
 }
 
@@ -166,17 +188,20 @@ impl Write for Full {
 }
 
 #[test]
-fn bytes_go_to_the_writer(rt: HostRuntime) -> Result<(), Fail> {
+fn bytes_go_to_the_writer(rt: HostRuntime) {
     let mut bytes = Vec::new(rt.alloc());
     let mut sink = WriteSink::new(&mut bytes);
-    sink.put(b"length ")?;
-    sink.put(b"23\n")?;
+    assert!(rt; sink.put(b"length ") == Ok(()));
+    assert!(rt; sink.put(b"23\n") == Ok(()));
     drop(sink);
-    assert_eq!(rt; bytes.as_slice(), b"length 23\n".as_slice());
+    assert!(rt; bytes.as_slice() == b"length 23\n".as_slice());
+}
+
+#[test]
+fn a_full_writer_takes_no_bytes(rt: HostRuntime) {
     let mut full = WriteSink::new(Full);
-    assert_eq!(rt; full.put(b""), Ok(()));
-    assert_eq!(rt; full.put(b"x"), Err(Failed));
-    Ok(())
+    assert!(rt; full.put(b"") == Ok(()));
+    assert!(rt; full.put(b"x") == Err(Failed));
 }
 
 /// A file that a signal interrupts at the first call to read it, and that fails at the third. It gives `x` at the second, and `y` from the fourth on.
@@ -285,14 +310,13 @@ impl Files for Signals {
 
 /// A read that a signal interrupts is made once more, and one that fails is not.
 #[test]
-fn an_interrupted_read_is_tried_again(rt: HostRuntime) -> Result<(), Fail> {
+fn an_interrupted_read_is_tried_again(rt: HostRuntime) {
     let mut store = FileStore::new(rt.alloc(), &Signals);
-    assert_eq!(rt; store.open_in("page"), Ok(true));
+    assert!(rt; store.open_in("page") == Ok(true));
     let mut bytes = [0u8; 4];
-    assert_eq!(rt; store.pull(&mut bytes), Ok(1));
-    assert_eq!(rt; bytes[0], b'x');
-    assert_eq!(rt; store.pull(&mut bytes), Err(Failed));
-    assert_eq!(rt; store.pull(&mut bytes), Ok(1));
-    assert_eq!(rt; bytes[0], b'y');
-    Ok(())
+    assert!(rt; store.pull(&mut bytes) == Ok(1));
+    assert!(rt; bytes[0] == b'x');
+    assert!(rt; store.pull(&mut bytes) == Err(Failed));
+    assert!(rt; store.pull(&mut bytes) == Ok(1));
+    assert!(rt; bytes[0] == b'y');
 }

@@ -1,8 +1,9 @@
 //! What the words of a call ask for.
-use hm_base::{SpellRules, TreeOptions, Word};
+use crate::made::worded;
+use hm_base::{SpellRules, TreeOptions};
 use hm_words::{Asked, Origin, WordsFault, Work};
 use std::alloc::{AllocError, Global};
-use std::test::Fail;
+use std::process::Abort;
 
 const NO_OPTIONS: TreeOptions = TreeOptions {
     doctype: false,
@@ -21,17 +22,6 @@ const NO_RULES: SpellRules = SpellRules {
     ascii: false,
     frame: false,
 };
-
-/// The words of a text, with one space between each two.
-fn worded(alloc: Global, text: &str) -> Result<Vec<Word>, AllocError> {
-    let mut words = Vec::new(alloc);
-    for word in text.split(' ') {
-        words.push(Word {
-            text: String::from_str(alloc, word)?,
-        })?;
-    }
-    Ok(words)
-}
 
 /// Whether a request is the command of this name with these names of files.
 fn is_command(asked: &Asked<'_>, wanted: &[&str]) -> bool {
@@ -69,145 +59,145 @@ fn is_command(asked: &Asked<'_>, wanted: &[&str]) -> bool {
     }
 }
 
-/// Whether the words of a text ask for this.
-fn asks(
-    alloc: Global,
-    text: &str,
-    command: &[&str],
+/// Words of a text, and the command, the options and the rules that they ask for.
+struct Request {
+    text: &'static str,
+    command: &'static [&'static str],
     options: TreeOptions,
     rules: SpellRules,
     sparse: bool,
-) -> Result<bool, Fail> {
-    let words = worded(alloc, text)?;
+}
+
+/// Whether the words of a text ask for this.
+fn asks(alloc: Global, request: &Request) -> Result<bool, AllocError> {
+    let words = worded(alloc, request.text)?;
     match Asked::read(alloc, words.as_slice()) {
         Ok(asked) => Ok(
-            is_command(&asked, command)
-                && asked.options == options
-                && asked.writing.rules == rules
-                && asked.writing.sparse == sparse,
+            is_command(&asked, request.command)
+                && asked.options == request.options
+                && asked.writing.rules == request.rules
+                && asked.writing.sparse == request.sparse,
         ),
         Err(_) => Ok(false),
     }
 }
 
+/// Asserts whether the words of a text ask for this.
+fn expect_asked(rt: &impl Abort, alloc: Global, request: &Request, wanted: bool) {
+    match asks(alloc, request) {
+        Ok(asks) => assert!(rt; asks == wanted, "{}", request.text),
+        Err(_) => assert!(rt; false, "memory"),
+    }
+}
+
+const COMMENTED: TreeOptions = TreeOptions {
+    comments: true,
+    ..NO_OPTIONS
+};
+
+const SPACED: TreeOptions = TreeOptions {
+    space: true,
+    conservative: true,
+    ..NO_OPTIONS
+};
+
+const OMITTED: SpellRules = SpellRules {
+    omit: true,
+    ..NO_RULES
+};
+
+const FRAMED: SpellRules = SpellRules {
+    frame: true,
+    ..OMITTED
+};
+
+const SPELLED: SpellRules = SpellRules {
+    unquote: true,
+    ..OMITTED
+};
+
+const ALL_RULES: SpellRules = SpellRules {
+    tight: true,
+    ascii: true,
+    ..SPELLED
+};
+
+/// Texts that ask for something.
+const REQUESTS: [Request; 7] = [
+    Request {
+        text: "minify none page out cert --omit --unquote",
+        command: &["minify", "none", "page", "out", "cert"],
+        options: NO_OPTIONS,
+        rules: SPELLED,
+        sparse: false,
+    },
+    Request {
+        text: "checkfragment none page --omit out cert",
+        command: &["checkfragment", "none", "page", "out", "cert"],
+        options: NO_OPTIONS,
+        rules: FRAMED,
+        sparse: false,
+    },
+    Request {
+        text: "--ascii minify --unquote table page --tight out cert --sparse --omit --comments",
+        command: &["minify", "table", "page", "out", "cert"],
+        options: COMMENTED,
+        rules: ALL_RULES,
+        sparse: true,
+    },
+    Request {
+        text: "tree none none",
+        command: &["tree", "none", "none"],
+        options: NO_OPTIONS,
+        rules: NO_RULES,
+        sparse: false,
+    },
+    Request {
+        text: "--space tree none --conservative page",
+        command: &["tree", "none", "page"],
+        options: SPACED,
+        rules: NO_RULES,
+        sparse: false,
+    },
+    Request {
+        text: "measure 0 --comments 4294967295 20000",
+        command: &["measure", "0"],
+        options: COMMENTED,
+        rules: NO_RULES,
+        sparse: false,
+    },
+    Request {
+        text: "--omit tree none page",
+        command: &["tree", "none", "page"],
+        options: NO_OPTIONS,
+        rules: OMITTED,
+        sparse: false,
+    },
+];
+
 #[test]
-fn requests(rt: HostRuntime) -> Result<(), Fail> {
-    let alloc = rt.alloc();
-    let spelled = SpellRules {
-        omit: true,
-        unquote: true,
-        ..NO_RULES
-    };
-    assert!(rt;
-        asks(
-            alloc,
-            "minify none page out cert --omit --unquote",
-            &["minify", "none", "page", "out", "cert"],
-            NO_OPTIONS,
-            spelled,
-            false,
-        )?
-    );
-    let framed = SpellRules {
-        omit: true,
-        frame: true,
-        ..NO_RULES
-    };
-    assert!(rt;
-        asks(
-            alloc,
-            "checkfragment none page --omit out cert",
-            &["checkfragment", "none", "page", "out", "cert"],
-            NO_OPTIONS,
-            framed,
-            false,
-        )?
-    );
-    assert!(rt;
-        !asks(
-            alloc,
-            "checkfragment none page out cert",
-            &["checkfragment", "none", "page", "out", "cert"],
-            NO_OPTIONS,
-            framed,
-            false,
-        )?
-    );
-    let commented = TreeOptions {
-        comments: true,
-        ..NO_OPTIONS
-    };
-    let all = SpellRules {
-        omit: true,
-        unquote: true,
-        tight: true,
-        ascii: true,
-        frame: false,
-    };
-    assert!(rt;
-        asks(
-            alloc,
-            "--ascii minify --unquote table page --tight out cert --sparse --omit --comments",
-            &["minify", "table", "page", "out", "cert"],
-            commented,
-            all,
-            true,
-        )?
-    );
-    assert!(rt;
-        asks(
-            alloc,
-            "tree none none",
-            &["tree", "none", "none"],
-            NO_OPTIONS,
-            NO_RULES,
-            false,
-        )?
-    );
-    let spaced = TreeOptions {
-        space: true,
-        conservative: true,
-        ..NO_OPTIONS
-    };
-    assert!(rt;
-        asks(
-            alloc,
-            "--space tree none --conservative page",
-            &["tree", "none", "page"],
-            spaced,
-            NO_RULES,
-            false,
-        )?
-    );
-    assert!(rt;
-        asks(
-            alloc,
-            "measure 0 --comments 4294967295 20000",
-            &["measure", "0"],
-            commented,
-            NO_RULES,
-            false,
-        )?
-    );
-    let omitted = SpellRules {
-        omit: true,
-        ..NO_RULES
-    };
-    assert!(rt;
-        asks(
-            alloc,
-            "--omit tree none page",
-            &["tree", "none", "page"],
-            NO_OPTIONS,
-            omitted,
-            false,
-        )?
-    );
-    Ok(())
+fn requests(rt: HostRuntime) {
+    for request in &REQUESTS {
+        expect_asked(&rt, rt.alloc(), request, true);
+    }
+}
+
+/// A text without `--omit`, which doesn't ask for its rules.
+const NOT_ASKED: Request = Request {
+    text: "checkfragment none page out cert",
+    command: &["checkfragment", "none", "page", "out", "cert"],
+    options: NO_OPTIONS,
+    rules: FRAMED,
+    sparse: false,
+};
+
+#[test]
+fn other_requests(rt: HostRuntime) {
+    expect_asked(&rt, rt.alloc(), &NOT_ASKED, false);
 }
 
 /// Whether the words of a text ask for attributes in the order that is shortest.
-fn is_ordered(alloc: Global, text: &str) -> Result<bool, Fail> {
+fn is_ordered(alloc: Global, text: &str) -> Result<bool, AllocError> {
     let words = worded(alloc, text)?;
     match Asked::read(alloc, words.as_slice()) {
         Ok(asked) => Ok(asked.writing.order),
@@ -216,56 +206,72 @@ fn is_ordered(alloc: Global, text: &str) -> Result<bool, Fail> {
 }
 
 #[test]
-fn order(rt: HostRuntime) -> Result<(), Fail> {
+fn order(rt: HostRuntime) -> Result<(), AllocError> {
     let alloc = rt.alloc();
     assert!(rt; is_ordered(alloc, "--order check none page out cert")?);
     assert!(rt; !is_ordered(alloc, "check none page out cert --tight")?);
     Ok(())
 }
 
-#[test]
-fn no_requests(rt: HostRuntime) -> Result<(), Fail> {
-    for text in [
-        "tree none page --conservative",
-        "minify none page out cert --conservative",
-        "tree none page --space --space",
-        "minify none page out cert --omit --omit",
-        "minify none page out cert --omit=1",
-        "minify none -- page out cert",
-        "tree none -h",
-        "tree none page --help",
-        "tree none page --version",
-        "tree none page --comment",
-        "tree none page -",
-        "tree none",
-        "tree page page",
-        "tree none page more",
-        "minify none page out",
-        "tree  page",
-        "minify none page  cert",
-        "minify none page out out",
-        "minify out page out cert",
-        "measure none 01 1",
-        "measure none 0 01",
-        "measure none 00 1",
-        "measure none 0 0",
-        "measure none 0 20001",
-        "measure none 4294967296 1",
-        "measure none 18446744073709551616 1",
-        "measure none +1 1",
-        "measure none 1 x",
-        "measure none 1 1_0",
-        "measure none  1",
-        "measure none 0 1 1",
-        "measure none 0",
-        "measure none 0 1 --order",
-        "",
-    ] {
-        let words = worded(rt.alloc(), text)?;
-        let answer = Asked::read(rt.alloc(), words.as_slice());
-        assert!(rt; matches!(answer, Err(WordsFault::Usage)), "{text}");
+/// A text in each line whose words have no meaning. That of the last is empty.
+const NO_REQUESTS: &str = "\
+    tree none page --conservative\n\
+    minify none page out cert --conservative\n\
+    tree none page --space --space\n\
+    minify none page out cert --omit --omit\n\
+    minify none page out cert --omit=1\n\
+    minify none -- page out cert\n\
+    tree none -h\n\
+    tree none page --help\n\
+    tree none page --version\n\
+    tree none page --comment\n\
+    tree none page -\n\
+    tree none\n\
+    tree page page\n\
+    tree none page more\n\
+    minify none page out\n\
+    tree  page\n\
+    minify none page  cert\n\
+    minify none page out out\n\
+    minify out page out cert\n\
+    measure none 01 1\n\
+    measure none 0 01\n\
+    measure none 00 1\n\
+    measure none 0 0\n\
+    measure none 0 20001\n\
+    measure none 4294967296 1\n\
+    measure none 18446744073709551616 1\n\
+    measure none +1 1\n\
+    measure none 1 x\n\
+    measure none 1 1_0\n\
+    measure none  1\n\
+    measure none 0 1 1\n\
+    measure none 0\n\
+    measure none 0 1 --order\n\
+    \n";
+
+/// Whether the words of a text have no meaning.
+fn is_meaningless(alloc: Global, text: &str) -> bool {
+    match worded(alloc, text) {
+        Ok(words) => matches!(Asked::read(alloc, words.as_slice()), Err(WordsFault::Usage)),
+        Err(_) => false,
     }
+}
+
+/// Asserts that the words of a text have no meaning.
+fn expect_meaningless(rt: &impl Abort, alloc: Global, text: &str) {
+    assert!(rt; is_meaningless(alloc, text), "{text}");
+}
+
+#[test]
+fn no_requests(rt: HostRuntime) {
+    for text in NO_REQUESTS.lines() {
+        expect_meaningless(&rt, rt.alloc(), text);
+    }
+}
+
+#[test]
+fn no_words(rt: HostRuntime) {
     let answer = Asked::read(rt.alloc(), &[]);
     assert!(rt; matches!(answer, Err(WordsFault::Usage)));
-    Ok(())
 }

@@ -222,37 +222,24 @@ fn elements(rt: HostRuntime) -> Result<(), Fail> {
     expect_lines(&rt, rt.alloc(), ELEMENTS)
 }
 
-#[test]
-fn places_are_of_the_page(rt: HostRuntime) -> Result<(), Fail> {
-    let table = Table::empty(rt.alloc())?;
+/// Asserts places in pages with line ends or a byte order mark.
+fn expect_places(rt: &impl Abort, alloc: Global, table: &Table) {
+    expect_printed(rt, alloc, table, "\u{feff}a\r\n<b =>", "|a\n|!BadName at 6");
     expect_printed(
-        &rt,
-        rt.alloc(),
-        &table,
-        "\u{feff}a\r\n<b =>",
-        "|a\n|!BadName at 6",
-    );
-    expect_printed(
-        &rt,
-        rt.alloc(),
-        &table,
+        rt,
+        alloc,
+        table,
         "<pre></>\r\rx</pre><!",
         "<pre>|\n\nx|</pre>!Cut at 17",
     );
-    expect_printed(
-        &rt,
-        rt.alloc(),
-        &table,
-        "\r\n<title>\r\n",
-        "|\n|<title>!Cut at 9",
-    );
-    expect_printed(
-        &rt,
-        rt.alloc(),
-        &table,
-        "é\r\n</></b '>",
-        "|é\n|!BadName at 7",
-    );
+    expect_printed(rt, alloc, table, "\r\n<title>\r\n", "|\n|<title>!Cut at 9");
+    expect_printed(rt, alloc, table, "é\r\n</></b '>", "|é\n|!BadName at 7");
+}
+
+#[test]
+fn places_are_of_the_page(rt: HostRuntime) -> Result<(), Fail> {
+    let table = Table::empty(rt.alloc())?;
+    expect_places(&rt, rt.alloc(), &table);
     Ok(())
 }
 
@@ -281,14 +268,19 @@ fn expect_crowded(
     }
 }
 
+/// Asserts what many attributes, and what follows them, are printed as.
+fn expect_counts(rt: &impl Abort, alloc: Global, table: &Table) {
+    expect_crowded(rt, alloc, table, 256, ">", "<a b=[]>");
+    expect_crowded(rt, alloc, table, 257, ">", "!TooManyAttributes at 0");
+    expect_crowded(rt, alloc, table, 257, " '>", "!BadName at 0");
+    expect_crowded(rt, alloc, table, 257, "", "!Cut at 0");
+    expect_crowded(rt, alloc, table, 256, "></a b>", "<a b=[]></a>");
+}
+
 #[test]
 fn attributes_are_counted(rt: HostRuntime) -> Result<(), Fail> {
     let table = Table::empty(rt.alloc())?;
-    expect_crowded(&rt, rt.alloc(), &table, 256, ">", "<a b=[]>");
-    expect_crowded(&rt, rt.alloc(), &table, 257, ">", "!TooManyAttributes at 0");
-    expect_crowded(&rt, rt.alloc(), &table, 257, " '>", "!BadName at 0");
-    expect_crowded(&rt, rt.alloc(), &table, 257, "", "!Cut at 0");
-    expect_crowded(&rt, rt.alloc(), &table, 256, "></a b>", "<a b=[]></a>");
+    expect_counts(&rt, rt.alloc(), &table);
     Ok(())
 }
 

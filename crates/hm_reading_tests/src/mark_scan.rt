@@ -31,38 +31,33 @@ fn is_at(text: &str, bytes: Option<(u32, u32)>, piece: &str) -> bool {
     }
 }
 
+/// Whether this is read: this piece of the text, before this rest.
+fn is_read(text: &str, token: &Token, behind: u32, piece: &str, rest: &str) -> bool {
+    is_at(text, bytes_of(token), piece) && text.get(behind as usize..) == Some(rest)
+}
+
 /// Whether the answer is this piece of the text, before this rest.
-fn is_piece(text: &str, answer: &Result<(Token, u32), ScanFault>, piece: &str, rest: &str) -> bool {
+fn is_piece(text: &str, answer: Result<(Token, u32), ScanFault>, piece: &str, rest: &str) -> bool {
     match answer {
-        Ok((token, behind)) => {
-            is_at(text, bytes_of(token), piece) && text.get(*behind as usize..) == Some(rest)
-        }
+        Ok((token, behind)) => is_read(text, &token, behind, piece, rest),
         Err(_) => false,
     }
 }
 
 /// Whether the answer is this fault.
-fn is_fault(answer: &Result<(Token, u32), ScanFault>, wanted: ScanFault) -> bool {
+fn is_fault(answer: Result<(Token, u32), ScanFault>, wanted: ScanFault) -> bool {
     match answer {
         Ok(_) => false,
-        Err(fault) => *fault == wanted,
+        Err(fault) => fault == wanted,
     }
 }
 
 fn is_comment(text: &str, piece: &str, rest: &str) -> bool {
-    if !is_short(text) || !begins_comment(text, 0) {
-        return false;
-    }
-    let answer = scan_comment(text, 0);
-    is_piece(text, &answer, piece, rest)
+    is_short(text) && begins_comment(text, 0) && is_piece(text, scan_comment(text, 0), piece, rest)
 }
 
 fn is_open_comment(text: &str) -> bool {
-    if !is_short(text) || !begins_comment(text, 0) {
-        return false;
-    }
-    let answer = scan_comment(text, 0);
-    is_fault(&answer, ScanFault::Cut)
+    is_short(text) && begins_comment(text, 0) && is_fault(scan_comment(text, 0), ScanFault::Cut)
 }
 
 /// Texts that begin with a comment, its text, and what stands after it.
@@ -117,30 +112,30 @@ fn open_and_no_comments(rt: HostRuntime) {
     }
 }
 
+/// The form of a doctype: whether it is the legacy one.
+fn form(token: &Token) -> Option<bool> {
+    match token {
+        Token::Doctype { legacy } => Some(*legacy),
+        _ => None,
+    }
+}
+
 /// Whether the answer is a doctype that is the legacy one or not, and the place after it.
-fn is_form(answer: &Result<(Token, u32), ScanFault>, legacy: bool, behind: u32) -> bool {
+fn is_form(answer: Result<(Token, u32), ScanFault>, legacy: bool, behind: u32) -> bool {
     match answer {
-        Ok((Token::Doctype { legacy: found }, place)) => *found == legacy && *place == behind,
-        _ => false,
+        Ok((token, place)) => form(&token) == Some(legacy) && place == behind,
+        Err(_) => false,
     }
 }
 
 /// Whether a text begins with a doctype that is the legacy one or not, before this place.
 fn is_doctype(text: &str, legacy: bool, behind: u32) -> bool {
-    if !is_short(text) || !begins_doctype(text, 0) {
-        return false;
-    }
-    let answer = scan_doctype(text, 0);
-    is_form(&answer, legacy, behind)
+    is_short(text) && begins_doctype(text, 0) && is_form(scan_doctype(text, 0), legacy, behind)
 }
 
 /// Whether a text begins with a doctype of this fault.
 fn is_bad_doctype(text: &str, fault: ScanFault) -> bool {
-    if !is_short(text) || !begins_doctype(text, 0) {
-        return false;
-    }
-    let answer = scan_doctype(text, 0);
-    is_fault(&answer, fault)
+    is_short(text) && begins_doctype(text, 0) && is_fault(scan_doctype(text, 0), fault)
 }
 
 /// Texts that begin with a doctype, whether it is the legacy one, and the place after it.
@@ -190,19 +185,11 @@ fn bad_doctypes(rt: HostRuntime) {
 }
 
 fn is_cdata(text: &str, piece: &str, rest: &str) -> bool {
-    if !is_short(text) || !begins_cdata(text, 0) {
-        return false;
-    }
-    let answer = scan_cdata(text, 0);
-    is_piece(text, &answer, piece, rest)
+    is_short(text) && begins_cdata(text, 0) && is_piece(text, scan_cdata(text, 0), piece, rest)
 }
 
 fn is_open_cdata(text: &str) -> bool {
-    if !is_short(text) || !begins_cdata(text, 0) {
-        return false;
-    }
-    let answer = scan_cdata(text, 0);
-    is_fault(&answer, ScanFault::Cut)
+    is_short(text) && begins_cdata(text, 0) && is_fault(scan_cdata(text, 0), ScanFault::Cut)
 }
 
 #[test]
@@ -214,19 +201,11 @@ fn cdata_sections(rt: HostRuntime) {
 }
 
 fn is_raw(text: &str, name: &str, piece: &str, rest: &str) -> bool {
-    if !is_short(text) {
-        return false;
-    }
-    let answer = scan_raw(text, 0, name);
-    is_piece(text, &answer, piece, rest)
+    is_short(text) && is_piece(text, scan_raw(text, 0, name), piece, rest)
 }
 
 fn is_open_raw(text: &str, name: &str) -> bool {
-    if !is_short(text) {
-        return false;
-    }
-    let answer = scan_raw(text, 0, name);
-    is_fault(&answer, ScanFault::Cut)
+    is_short(text) && is_fault(scan_raw(text, 0, name), ScanFault::Cut)
 }
 
 #[test]
@@ -247,19 +226,11 @@ fn raw_texts(rt: HostRuntime) {
 }
 
 fn is_script(text: &str, piece: &str, rest: &str) -> bool {
-    if !is_short(text) {
-        return false;
-    }
-    let answer = scan_script(text, 0);
-    is_piece(text, &answer, piece, rest)
+    is_short(text) && is_piece(text, scan_script(text, 0), piece, rest)
 }
 
 fn is_open_script(text: &str) -> bool {
-    if !is_short(text) {
-        return false;
-    }
-    let answer = scan_script(text, 0);
-    is_fault(&answer, ScanFault::Cut)
+    is_short(text) && is_fault(scan_script(text, 0), ScanFault::Cut)
 }
 
 /// Texts that begin with a script, it, and what stands after it.

@@ -52,10 +52,10 @@ fn fault_name(fault: ScanFault) -> &'static str {
 }
 
 /// Whether an answer is wanted: the tag and the place behind it, or its fault.
-fn is_answer(wanted: &str, answer: &Result<(Token, u32), ScanFault>) -> bool {
+fn is_answer(wanted: &str, answer: Result<(Token, u32), ScanFault>) -> bool {
     match answer {
-        Ok((token, behind)) => is_printed(wanted, token, *behind),
-        Err(fault) => wanted == fault_name(*fault),
+        Ok((token, behind)) => is_printed(wanted, &token, behind),
+        Err(fault) => wanted == fault_name(fault),
     }
 }
 
@@ -64,8 +64,7 @@ fn is_read(alloc: Global, table: &Table, text: &str, wanted: &str) -> bool {
     if text.len() > 1000 || !begins_tag(text, 0) {
         return wanted == "no tag";
     }
-    let answer = scan_tag(alloc, text, 0, table);
-    is_answer(wanted, &answer)
+    is_answer(wanted, scan_tag(alloc, text, 0, table))
 }
 
 /// Asserts what is read of the tag at the start of a text.
@@ -116,25 +115,18 @@ fn expect_line(rt: &impl Abort, alloc: Global, table: &Table, line: &str) {
     }
 }
 
-#[test]
-fn tags(rt: HostRuntime) -> Result<(), Fail> {
-    let table = Table::read(rt.alloc(), NAMES.as_bytes())?;
+/// Asserts what each line says, and what is read of a tag of two lines.
+fn expect_tags(rt: &impl Abort, alloc: Global, table: &Table) {
     for line in TAGS.lines() {
-        expect_line(&rt, rt.alloc(), &table, line);
+        expect_line(rt, alloc, table, line);
     }
-    Ok(())
+    expect_tag(rt, alloc, table, "<a\nb = 'c' d = >", "a b=[c] d=[] 16");
 }
 
 #[test]
-fn a_tag_of_two_lines(rt: HostRuntime) -> Result<(), Fail> {
+fn tags(rt: HostRuntime) -> Result<(), Fail> {
     let table = Table::read(rt.alloc(), NAMES.as_bytes())?;
-    expect_tag(
-        &rt,
-        rt.alloc(),
-        &table,
-        "<a\nb = 'c' d = >",
-        "a b=[c] d=[] 16",
-    );
+    expect_tags(&rt, rt.alloc(), &table);
     Ok(())
 }
 
@@ -156,10 +148,15 @@ fn expect_repeated(rt: &impl Abort, alloc: Global, table: &Table, count: u32, wa
     }
 }
 
+/// Asserts how many attributes may be written.
+fn expect_limit(rt: &impl Abort, alloc: Global, table: &Table) {
+    expect_repeated(rt, alloc, table, 256, "p a=[] 515");
+    expect_repeated(rt, alloc, table, 257, "TooManyAttributes");
+}
+
 #[test]
 fn at_most_256_attributes_are_written(rt: HostRuntime) -> Result<(), Fail> {
     let table = Table::empty(rt.alloc())?;
-    expect_repeated(&rt, rt.alloc(), &table, 256, "p a=[] 515");
-    expect_repeated(&rt, rt.alloc(), &table, 257, "TooManyAttributes");
+    expect_limit(&rt, rt.alloc(), &table);
     Ok(())
 }

@@ -334,27 +334,34 @@ fn placed_tag(alloc: Global, tag: &mut Tag) -> Result<Placed, AllocError> {
     })
 }
 
-/// Whether a token is a start tag that closes at once, in the bytes from 3 to 8.
-fn is_spanned(spanned: &Spanned) -> bool {
-    spanned.from == 3
-        && spanned.to == 8
-        && matches!(&spanned.token, Token::StartTag { slash: true, .. })
+/// Whether a token is a start tag that closes at once.
+fn is_closed_tag(token: &Token) -> bool {
+    matches!(token, Token::StartTag { slash: true, .. })
+}
+
+/// Whether it is such a token, in the bytes from 3 to 8.
+fn is_spanned(spanned: Spanned) -> bool {
+    spanned.from == 3 && spanned.to == 8 && is_closed_tag(&spanned.token)
 }
 
 /// Whether what is placed is, with its tag, such a token.
-fn is_placed(placed: Result<Placed, AllocError>, tag: Tag) -> bool {
-    match placed {
-        Ok(placed) => is_spanned(&placed.spanned(tag)),
-        Err(_) => false,
-    }
+fn is_placed(placed: Placed, tag: Tag) -> bool {
+    is_spanned(placed.spanned(tag))
+}
+
+/// Asserts the name of a tag, and that with it what is placed is such a token.
+fn expect_placed(rt: &impl Abort, placed: Placed, tag: Tag) {
+    assert!(rt; tag.name.as_str() == "br");
+    assert!(rt; is_placed(placed, tag));
 }
 
 #[test]
 fn a_tag_in_its_place(rt: HostRuntime) {
     let mut tag = Tag::new(rt.alloc());
-    let placed = placed_tag(rt.alloc(), &mut tag);
-    assert!(rt; tag.name.as_str() == "br");
-    assert!(rt; is_placed(placed, tag));
+    match placed_tag(rt.alloc(), &mut tag) {
+        Ok(placed) => expect_placed(&rt, placed, tag),
+        Err(_) => assert!(rt; false, "memory"),
+    }
 }
 
 #[test]

@@ -51,7 +51,8 @@ fn differs(rt: &impl Print, alloc: Global, case: &mut Case) -> io::Result<bool> 
 }
 
 /// Runs the cases of a file, and prints each that differs, and how many there are.
-fn run_cases(rt: &(impl Print + Files), alloc: Global, file: &str) -> io::Result<()> {
+fn run_cases(rt: &(impl Print + Files + AllocGlobal), file: &str) -> io::Result<()> {
+    let alloc = rt.alloc();
     let text = fs::read_to_string(rt, file)?;
     let mut case = Case::new(alloc);
     let mut count: u32 = 0;
@@ -74,6 +75,6 @@ fn run_cases(rt: &(impl Print + Files), alloc: Global, file: &str) -> io::Result
 }
 
 fn main(rt: HostRuntime) -> io::Result<()> {
-    run_cases(&rt, rt.alloc(), "cases.txt")?;
-    run_cases(&rt, rt.alloc(), "wrong.txt")
+    run_cases(&rt, "cases.txt")?;
+    run_cases(&rt, "wrong.txt")
 }

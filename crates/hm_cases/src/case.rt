@@ -4,7 +4,7 @@ use crate::faults::{ends_at_each_fault, ends_at_each_tear};
 use hm_base::{Memory, Word};
 use hm_minify::{Status, run};
 use hm_store::{MemSink, MemStore};
-use std::alloc::Global;
+use std::alloc::{AllocError, Global};
 use std::io::{self, ErrorKind};
 
 /// A file before the run.
@@ -96,6 +96,14 @@ fn rewrites(word: &str) -> bool {
     .contains(&word)
 }
 
+/// A printed line with its line feed, in which `#` at the end stands for the bytes of a prefix.
+fn line_of(alloc: Global, bytes: usize, line: &str) -> Result<String, AllocError> {
+    match line.split_once('#') {
+        Some((front, _)) => format!(in alloc; "{front}{bytes}\n"),
+        None => format!(in alloc; "{line}\n"),
+    }
+}
+
 impl Case {
     /// A case of which nothing is known yet.
     pub fn new(alloc: Global) -> Self {
@@ -159,16 +167,15 @@ impl Case {
         }
     }
 
-    /// A store of the files before the run.
-    pub fn fresh_store(&self, alloc: Global) -> io::Result<MemStore> {
-        let mut store = MemStore::new(alloc);
+    /// Puts the files before the run into a store.
+    pub fn fill(&self, store: &mut MemStore) -> io::Result<()> {
         for file in &self.files {
             match store.add(file.name.as_str(), file.bytes.as_slice()) {
                 Ok(()) => {}
                 Err(memory) => return Err(no_memory(memory)),
             }
         }
-        Ok(store)
+        Ok(())
     }
 
     /// Whether all files but OUT and CERT are as before the run.
@@ -345,16 +352,18 @@ impl Case {
         )
     }
 
-    /// Whether `check` says yes to what the run has written, and to what it writes with a certificate of the other format.
-    fn is_shown(&mut self, alloc: Global) -> io::Result<bool> {
-        if !self.is_checked(alloc)? {
-            return Ok(false);
-        }
+    /// Whether the run writes the same text with a certificate of the other format.
+    fn writes_again(&mut self, alloc: Global) -> io::Result<bool> {
         let words = self.in_other_format(alloc)?;
         let mut sink = MemSink::new(alloc);
         let status = run(alloc, words.as_slice(), &mut self.store, &mut sink);
         let same = sink.bytes() == self.wanted.as_slice() && holds(&self.store, "out", &self.out);
-        Ok(status == Status::Done && same && self.is_checked(alloc)?)
+        Ok(status == Status::Done && same)
+    }
+
+    /// Whether `check` says yes to what the run has written, and to what it writes with a certificate of the other format.
+    fn is_shown(&mut self, alloc: Global) -> io::Result<bool> {
+        Ok(self.is_checked(alloc)? && self.writes_again(alloc)? && self.is_checked(alloc)?)
     }
 
     /// Whether the case is that of a page that is minified.
@@ -362,16 +371,26 @@ impl Case {
         self.wanted.starts_with(b"length ")
     }
 
-    /// Runs the case, and compares.
-    pub fn verdict(&mut self, alloc: Global) -> io::Result<CaseVerdict> {
+    /// Runs the case, and compares its status, what is printed and the files.
+    fn compared(&mut self, alloc: Global) -> CaseVerdict {
         let mut sink = MemSink::new(alloc);
         let status = run(alloc, self.words.as_slice(), &mut self.store, &mut sink).code();
         if status != self.status {
-            Ok(CaseVerdict::OtherStatus(status))
+            CaseVerdict::OtherStatus(status)
         } else if sink.bytes() != self.wanted.as_slice() {
-            Ok(CaseVerdict::OtherOutput)
+            CaseVerdict::OtherOutput
         } else if !holds(&self.store, "out", &self.out) || !holds(&self.store, "cert", &self.cert) {
-            Ok(CaseVerdict::OtherFile)
+            CaseVerdict::OtherFile
+        } else {
+            CaseVerdict::Agrees
+        }
+    }
+
+    /// Runs the case, and compares. Where it agrees, `check` is asked about what it has written, and it is run again with calls that fail.
+    pub fn verdict(&mut self, alloc: Global) -> io::Result<CaseVerdict> {
+        let compared = self.compared(alloc);
+        if compared != CaseVerdict::Agrees {
+            Ok(compared)
         } else if self.is_minified() && !self.is_shown(alloc)? {
             Ok(CaseVerdict::NotShown)
         } else if !ends_at_each_fault(alloc, self)?
@@ -393,27 +412,31 @@ impl Case {
         &[]
     }
 
-    /// Whether the prefix of the page of so many bytes has this answer.
-    fn answers(&self, alloc: Global, bytes: usize, line: &str) -> io::Result<bool> {
-        let mut store = self.fresh_store(alloc)?;
+    /// Whether the case, with the prefix of the page of so many bytes in an empty store, prints this line.
+    fn prints(
+        &self,
+        alloc: Global,
+        store: &mut MemStore,
+        bytes: usize,
+        line: &str,
+    ) -> io::Result<bool> {
+        self.fill(store)?;
         let page = self.page();
-        let page = &page[..bytes.min(page.len())];
-        match store.add("page", page) {
+        match store.add("page", &page[..bytes.min(page.len())]) {
             Ok(()) => {}
             Err(memory) => return Err(no_memory(memory)),
         }
         let mut sink = MemSink::new(alloc);
-        let status = self.run_over(alloc, &mut store, &mut sink);
-        let line = match line.split_once('#') {
-            Some((front, _)) => format!(in alloc; "{front}{bytes}\n")?,
-            None => format!(in alloc; "{line}\n")?,
-        };
-        let wanted: u8 = if line.as_str().starts_with("length ") {
-            0
-        } else {
-            3
-        };
+        let status = self.run_over(alloc, store, &mut sink);
+        let wanted: u8 = if line.starts_with("length ") { 0 } else { 3 };
         Ok(status == wanted && sink.bytes() == line.as_bytes())
+    }
+
+    /// Whether the prefix of the page of so many bytes has this answer.
+    fn answers(&self, alloc: Global, bytes: usize, line: &str) -> io::Result<bool> {
+        let line = line_of(alloc, bytes, line)?;
+        let mut store = MemStore::new(alloc);
+        self.prints(alloc, &mut store, bytes, line.as_str())
     }
 
     /// The first of these prefixes that has another answer.

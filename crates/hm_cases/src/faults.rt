@@ -57,27 +57,41 @@ fn where_right(ending: Ended, is_right: bool) -> Ended {
     if is_right { ending } else { Ended::Otherwise }
 }
 
-/// Runs the case with a call on the store that is listed to fail, and the one after it too.
-fn at_store_call(alloc: Global, case: &Case, call: u32) -> io::Result<Ended> {
-    let before = case.fresh_store(alloc)?;
-    let mut store = case.fresh_store(alloc)?;
+/// Runs the case over an empty store with a call on it that is listed to fail, and the one after it too. `before` is another empty store,
+/// which gets the files before the run.
+fn over_store(
+    alloc: Global,
+    case: &Case,
+    call: u32,
+    before: &mut MemStore,
+    store: &mut MemStore,
+) -> io::Result<Ended> {
+    case.fill(before)?;
+    case.fill(store)?;
     kept(store.fail(call))?;
     kept(store.fail(call.saturating_add(1)))?;
     let mut sink = MemSink::new(alloc);
-    let status = case.run_over(alloc, &mut store, &mut sink);
+    let status = case.run_over(alloc, store, &mut sink);
     let first = store.open_in("page").is_err();
     let second = store.open_in("page").is_err();
     Ok(match which_of(first, second) {
         Listed::MadeLast => {
             let says = status == STORE_FAULT && sink.bytes() == STORE_LINE;
-            where_right(Ended::AtCall, says && case.is_begun(&before, &store))
+            where_right(Ended::AtCall, says && case.is_begun(before, store))
         }
         Listed::NotMade => {
             let says = status == case.status() && sink.bytes() == case.wanted();
-            where_right(Ended::Whole, says && case.is_whole(&store))
+            where_right(Ended::Whole, says && case.is_whole(store))
         }
         Listed::Passed => Ended::Otherwise,
     })
+}
+
+/// Runs the case with a call on the store that is listed to fail, and the one after it too.
+fn at_store_call(alloc: Global, case: &Case, call: u32) -> io::Result<Ended> {
+    let mut before = MemStore::new(alloc);
+    let mut store = MemStore::new(alloc);
+    over_store(alloc, case, call, &mut before, &mut store)
 }
 
 /// Whether each call on the store ends the run, up to the first that the run doesn't make.
@@ -92,14 +106,20 @@ fn ends_at_store_calls(alloc: Global, case: &Case) -> io::Result<bool> {
     Ok(false)
 }
 
-/// Runs the case with a call on the sink that is listed to fail, and the one after it too. The files are whole in any case.
-fn at_sink_call(alloc: Global, case: &Case, call: u32) -> io::Result<Ended> {
-    let mut store = case.fresh_store(alloc)?;
-    let mut sink = MemSink::new(alloc);
+/// Runs the case over an empty store and sink with a call on the sink that is listed to fail, and the one after it too. The files are
+/// whole in any case.
+fn over_sink(
+    alloc: Global,
+    case: &Case,
+    call: u32,
+    store: &mut MemStore,
+    sink: &mut MemSink,
+) -> io::Result<Ended> {
+    case.fill(store)?;
     kept(sink.fail(call))?;
     kept(sink.fail(call.saturating_add(1)))?;
-    let status = case.run_over(alloc, &mut store, &mut sink);
-    let whole = case.is_whole(&store);
+    let status = case.run_over(alloc, store, sink);
+    let whole = case.is_whole(store);
     let begun = case.wanted().starts_with(sink.bytes());
     let all = sink.bytes() == case.wanted();
     let first = sink.put(b"").is_err();
@@ -109,6 +129,13 @@ fn at_sink_call(alloc: Global, case: &Case, call: u32) -> io::Result<Ended> {
         Listed::NotMade => where_right(Ended::Whole, status == case.status() && all && whole),
         Listed::Passed => Ended::Otherwise,
     })
+}
+
+/// Runs the case with a call on the sink that is listed to fail, and the one after it too.
+fn at_sink_call(alloc: Global, case: &Case, call: u32) -> io::Result<Ended> {
+    let mut store = MemStore::new(alloc);
+    let mut sink = MemSink::new(alloc);
+    over_sink(alloc, case, call, &mut store, &mut sink)
 }
 
 /// Whether each call on the sink ends the run, up to the first that the run doesn't make.
@@ -128,32 +155,59 @@ pub fn ends_at_each_fault(alloc: Global, case: &Case) -> io::Result<bool> {
     Ok(ends_at_store_calls(alloc, case)? && ends_at_sink_calls(alloc, case)?)
 }
 
-/// Whether a run ends as it should whose put of OUT, the first, is torn after so many bytes, and one whose put of CERT is.
-fn ends_torn(alloc: Global, case: &Case, put: u32, bytes: u32) -> io::Result<bool> {
-    let before = case.fresh_store(alloc)?;
-    let mut store = case.fresh_store(alloc)?;
+/// Whether a run over an empty store ends as it should whose put of OUT, the first, is torn after so many bytes, and one whose put of
+/// CERT is. `before` is another empty store, which gets the files before the run.
+fn over_torn(
+    alloc: Global,
+    case: &Case,
+    torn: (u32, u32),
+    before: &mut MemStore,
+    store: &mut MemStore,
+) -> io::Result<bool> {
+    let (put, bytes) = torn;
+    case.fill(before)?;
+    case.fill(store)?;
     kept(store.tear(put, bytes))?;
     let mut sink = MemSink::new(alloc);
-    let status = case.run_over(alloc, &mut store, &mut sink);
+    let status = case.run_over(alloc, store, &mut sink);
     let name = if put == 1 { "out" } else { "cert" };
     let length = store.file(name).map(|left| left.len());
     Ok(
         status == STORE_FAULT
             && sink.bytes() == STORE_LINE
             && length == Some(bytes as usize)
-            && case.is_begun(&before, &store)
+            && case.is_begun(before, store)
             && (put == 1) == (store.file("cert") == before.file("cert")),
     )
 }
 
+/// Whether a run ends as it should whose put of OUT, the first, is torn after so many bytes, and one whose put of CERT is.
+fn ends_torn(alloc: Global, case: &Case, put: u32, bytes: u32) -> io::Result<bool> {
+    let mut before = MemStore::new(alloc);
+    let mut store = MemStore::new(alloc);
+    over_torn(alloc, case, (put, bytes), &mut before, &mut store)
+}
+
+/// Whether a run over an empty store and sink ends as it should whose put on the sink is torn after so many bytes.
+fn over_torn_line(
+    alloc: Global,
+    case: &Case,
+    bytes: u32,
+    store: &mut MemStore,
+    sink: &mut MemSink,
+) -> io::Result<bool> {
+    case.fill(store)?;
+    kept(sink.tear(1, bytes))?;
+    let status = case.run_over(alloc, store, sink);
+    let begun = case.wanted().starts_with(sink.bytes()) && sink.bytes().len() == bytes as usize;
+    Ok(status == SINK_FAULT && begun && case.is_whole(store))
+}
+
 /// Whether a run ends as it should whose put on the sink is torn after so many bytes.
 fn ends_torn_line(alloc: Global, case: &Case, bytes: u32) -> io::Result<bool> {
-    let mut store = case.fresh_store(alloc)?;
+    let mut store = MemStore::new(alloc);
     let mut sink = MemSink::new(alloc);
-    kept(sink.tear(1, bytes))?;
-    let status = case.run_over(alloc, &mut store, &mut sink);
-    let begun = case.wanted().starts_with(sink.bytes()) && sink.bytes().len() == bytes as usize;
-    Ok(status == SINK_FAULT && begun && case.is_whole(&store))
+    over_torn_line(alloc, case, bytes, &mut store, &mut sink)
 }
 
 /// Whether a run ends as it should whose put of that number, OUT, CERT or the line, is torn after any number of its bytes.

@@ -50,27 +50,63 @@ fn differs(rt: &impl Print, alloc: Global, case: &mut Case) -> io::Result<bool> 
     }
 }
 
-/// Runs the cases of a file, and prints each that differs, and how many there are.
-fn run_cases(rt: &(impl Print + Files + AllocGlobal), file: &str) -> io::Result<()> {
-    let alloc = rt.alloc();
-    let text = fs::read_to_string(rt, file)?;
-    let mut case = Case::new(alloc);
-    let mut count: u32 = 0;
-    let mut differ: u32 = 0;
-    for line in text.lines() {
-        let (key, rest) = line.split_once(' ').unwrap_or((line, ""));
-        if key == "end" {
-            count = count.saturating_add(1);
-            if differs(rt, alloc, &mut case)? {
-                differ = differ.saturating_add(1);
-            }
-            case = Case::new(alloc);
-        } else if key == "file" {
-            case.take_file(alloc, "table", fs::read(rt, rest)?.as_slice())?;
-        } else {
-            case.take(alloc, key, rest)?;
+/// How many cases were run, and how many of them differ.
+#[derive(Drop)]
+struct Counts {
+    cases: u32,
+    differ: u32,
+}
+
+impl Counts {
+    fn take(&mut self, differs: bool) {
+        self.cases = self.cases.saturating_add(1);
+        if differs {
+            self.differ = self.differ.saturating_add(1);
         }
     }
+}
+
+/// Takes a line of the file into a case. At the last line of the case it is run, and another one begins.
+fn take_line(
+    rt: &(impl Print + Files + AllocGlobal),
+    case: &mut Case,
+    counts: &mut Counts,
+    line: &str,
+) -> io::Result<()> {
+    let (key, rest) = line.split_once(' ').unwrap_or((line, ""));
+    if key == "end" {
+        counts.take(differs(rt, rt.alloc(), case)?);
+        *case = Case::new(rt.alloc());
+        Ok(())
+    } else if key == "file" {
+        case.take_file(rt.alloc(), "table", fs::read(rt, rest)?.as_slice())
+    } else {
+        case.take(rt.alloc(), key, rest)
+    }
+}
+
+/// Takes the lines of a file.
+fn take_lines(
+    rt: &(impl Print + Files + AllocGlobal),
+    case: &mut Case,
+    counts: &mut Counts,
+    text: &str,
+) -> io::Result<()> {
+    for line in text.lines() {
+        take_line(rt, case, counts, line)?;
+    }
+    Ok(())
+}
+
+/// Runs the cases of a file, and prints each that differs, and how many there are.
+fn run_cases(rt: &(impl Print + Files + AllocGlobal), file: &str) -> io::Result<()> {
+    let text = fs::read_to_string(rt, file)?;
+    let mut counts = Counts {
+        cases: 0,
+        differ: 0,
+    };
+    take_lines(rt, &mut Case::new(rt.alloc()), &mut counts, text.as_str())?;
+    let (count, differ) = (counts.cases, counts.differ);
     println!(rt; "{file}: {count} cases, {differ} differ")
 }
 

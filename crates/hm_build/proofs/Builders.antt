@@ -14,7 +14,7 @@ use Rattle.hm_pieces.proofs.Feeding.{fault_within, nothing_decided, sound_so_far
 use Rattle.hm_pieces.proofs.Texts.{earlier_none}
 use Rattle.hm_lexer.specs.Ready.{ready}
 use Rattle.hm_lexer.specs.Standing.{Standing, stand_at, stands}
-use Rattle.hm_build.specs.Building.{first_building}
+use Rattle.hm_insertion.specs.Building.{first_building}
 use Rattle.hm_build.specs.Feeding.{Comes, Feeding, HasCome, HasRead, IsBuiltFrom, IsStopped, is_refused, kept, left_at, standing_of}
 use Rattle.hm_build.proofs.Coming.{comes_more, comes_not, comes_on, stopped_more, stopped_on}
 use Rattle.hm_build.proofs.Growth.{Grows, feeding_grows}

@@ -16,7 +16,7 @@ use Rattle.hm_construction_laws.specs.Closing.{is_behind_body, closed_step, clos
 use Rattle.hm_construction_laws.specs.Steps.{Construction, Stepped, went, stops, step}
 use Rattle.hm_construction_laws.specs.Trees.{mode_of}
 use Rattle.hm_lexer.specs.Reading.{Reading, text_of, next_of, IsTaken}
-use Rattle.hm_build.specs.Building.{Building, IsStepped, first_building}
+use Rattle.hm_insertion.specs.Building.{Building, IsStepped, first_building}
 use Rattle.hm_build.specs.Parsing.{ClosesAt, GoesOn, IsParsing, IsTurned, StaysOpen, closed_here, closed_left, first_of, place_of, reads, taken_by}
 use Rattle.hm_build.specs.declared.page.Taken.TheVariants as turns
 

@@ -17,7 +17,7 @@ use Rattle.hm_lexer.specs.Ready.{part, ready}
 use Rattle.hm_lexer.specs.Standing.{stand_on, stands}
 use Rattle.hm_lexer.proofs.Building.{parts_build}
 use Rattle.hm_lexer.proofs.Standing.{ready_stands}
-use Rattle.hm_build.specs.Building.{Building, grown}
+use Rattle.hm_insertion.specs.Building.{Building, grown}
 use Rattle.hm_base.specs.declared.rules.Refused.{Refused}
 use Rattle.hm_base.specs.declared.rules.Refused.TheVariants as answers
 use Rattle.hm_build.specs.Feeding.{Comes, IsStopped, StopsAs, rest_tree, whole_tree}

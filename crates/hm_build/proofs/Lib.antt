@@ -1,19 +1,3 @@
-pub mod Events
-pub mod Texts
-pub mod Open
-pub mod TextWalks
-pub mod PlainTexts
-pub mod Dropped
-pub mod Others
-pub mod Ends
-pub mod EndTags
-pub mod AtEnd
-pub mod Unbegun
-pub mod Opened
-pub mod Started
-pub mod Over
-pub mod Points
-pub mod BeforeBody
 mod Room
 mod Reading
 mod Turns

@@ -13,10 +13,10 @@ use Rattle.hm_construction_laws.proofs.Built.{what_is_built_is_settled}
 use Rattle.hm_construction_laws.specs.Steps.{Stepped, went, stops, step_over, first_state}
 use Rattle.hm_construction_laws.specs.Trees.{Outcome, built, refused_by, after_events, stepped, tree_from, tree_of_source}
 use Rattle.hm_lexer.specs.Reading.{Reading, text_of}
-use Rattle.hm_build.specs.Building.{Building, first_building, Fits, IsBuilt, IsRefused}
-use Rattle.hm_build.specs.declared.fault.BuildFault.{BuildFault}
-use Rattle.hm_build.specs.declared.fault.BuildFault.TheVariants as faults
-use Rattle.hm_build.proofs.Events.{grown_is}
+use Rattle.hm_insertion.specs.Building.{Building, first_building, Fits, IsBuilt, IsRefused}
+use Rattle.hm_insertion.specs.declared.fault.BuildFault.{BuildFault}
+use Rattle.hm_insertion.specs.declared.fault.BuildFault.TheVariants as faults
+use Rattle.hm_insertion.proofs.Events.{grown_is}
 use Rattle.hm_build.specs.Parsing.{IsParsing, IsRead, IsWithin, left_tree, place_of, read_of, reads, span_of}
 use Rattle.hm_pieces.specs.Pieces.{before_text}
 use Rattle.hm_build.proofs.Turns.{IsText, text_long}

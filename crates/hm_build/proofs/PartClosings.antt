@@ -5,7 +5,7 @@ use Rattle.hm_base.specs.Source.{Source, byte_of}
 use Rattle.hm_base.specs.Walks.{Event}
 use Rattle.hm_refs.specs.Names.{Entry}
 use Rattle.hm_refs.specs.Tables.{IsTable}
-use Rattle.hm_scan.specs.Texts.{begins_markup, ends_plain, plain_front, read_text, reference_in}
+use Rattle.hm_lexer.specs.Texts.{begins_markup, ends_plain, plain_front, read_text, reference_in}
 use Rattle.hm_tree.specs.Tokens.{Seen, seen, slice, taken}
 use Rattle.hm_tree.specs.declared.tokens.Spanned.{Spanned}
 use Rattle.hm_token_laws.specs.First.{Mode, behind_bytes, behind_empty_tags, first, next_here, read_here}
@@ -24,7 +24,7 @@ use Rattle.hm_lexer.specs.Reading.{Reading, text_of}
 use Rattle.hm_lexer.specs.Ready.{plain_piece}
 use Rattle.hm_lexer.proofs.Building.{piece_front, piece_plain, tags_counted}
 use Rattle.hm_lexer.proofs.Trees.{ArePlain, MarkupOn, byte_on, first_here, is_foreign, no_empty_tag, step_text}
-use Rattle.hm_build.specs.Building.{Building, IsStepped}
+use Rattle.hm_insertion.specs.Building.{Building, IsStepped}
 use Rattle.hm_build.specs.Feeding.{IsPartway}
 use Rattle.hm_build.specs.Parsing.{ClosesAt, ClosesOn, KnowsClosed, closed_here, closed_left, first_of, place_of}
 use Rattle.hm_build.proofs.Closings.{closed_by_next, closes_with, skipped}

@@ -7,7 +7,7 @@ use Rattle.hm_base.specs.declared.rules.Refused.{Refused}
 use Rattle.hm_base.specs.declared.rules.Refused.TheVariants as answers
 use Rattle.hm_construction_laws.specs.Trees.{after_events, tree_from}
 use Rattle.hm_lexer.specs.Reading.{Reading, text_of}
-use Rattle.hm_build.specs.Building.{Building}
+use Rattle.hm_insertion.specs.Building.{Building}
 use Rattle.hm_build.specs.Feeding.{Comes, IsPartway, StopsAs, left, whole_tree}
 use Rattle.hm_build.specs.Parsing.{IsParsing, IsRefusedAs, left_tree, place_of}
 use Rattle.hm_build.proofs.Coming.{tree_behind}

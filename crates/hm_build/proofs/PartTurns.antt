@@ -13,7 +13,7 @@ use Rattle.hm_base.proofs.Bytes.{second_true}
 use Rattle.hm_refs.specs.Names.{Entry}
 use Rattle.hm_refs.specs.References.{Reference}
 use Rattle.hm_refs.specs.Tables.{IsTable}
-use Rattle.hm_scan.specs.Texts.{begins_markup, ends_plain, read_by, read_text, reference_in}
+use Rattle.hm_lexer.specs.Texts.{begins_markup, ends_plain, read_by, read_text, reference_in}
 use Rattle.hm_tree.specs.Lexemes as lexemes
 use Rattle.hm_tree.specs.Lexemes.{spanned_of}
 use Rattle.hm_tree.specs.Tokens.{Seen, seen, taken, refused, doctype, start_tag, end_tag, slice, points, comment}
@@ -32,9 +32,9 @@ use Rattle.hm_lexer.specs.Ready.{is_told, part, part_behind, piece_by, plain_pie
 use Rattle.hm_lexer.proofs.Building.{tags_counted}
 use Rattle.hm_lexer.specs.Parts.{GivesPart, IsPart, IsPartFaulty, RefusesPart, left_of}
 use Rattle.hm_lexer.specs.Reading.{Reading, text_of}
-use Rattle.hm_build.specs.Building.{Building, Fits, IsStepped, IsRefused, grown}
-use Rattle.hm_build.specs.declared.fault.BuildFault.{BuildFault}
-use Rattle.hm_build.specs.declared.fault.BuildFault.TheVariants as faults
+use Rattle.hm_insertion.specs.Building.{Building, Fits, IsStepped, IsRefused, grown}
+use Rattle.hm_insertion.specs.declared.fault.BuildFault.{BuildFault}
+use Rattle.hm_insertion.specs.declared.fault.BuildFault.TheVariants as faults
 use Rattle.hm_build.specs.Feeding.{Comes, IsPartway, IsStopped, StopsAs, left}
 use Rattle.hm_build.specs.Parsing.{IsFurther, IsReadUnder, IsWithin, read_of, answer_of, place_of, span_of}
 use Rattle.hm_build.proofs.Coming.{fault_stops, part_comes, part_stops}

@@ -8,8 +8,8 @@ use Rattle.hm_tree.specs.declared.tokens.ScanFault.{ScanFault}
 use Rattle.hm_token_laws.specs.First.{Mode, ordinary, in_svg, rcdata, raw, script, at_end, behind_bytes, first, rule_of}
 use Rattle.hm_construction_laws.specs.Steps.{Construction, Stepped, went, stops, step}
 use Rattle.hm_construction_laws.specs.Trees.{Outcome, built, refused_by, after_events, mode_of, stepped, over, tree_from}
-use Rattle.hm_build.specs.Building.{grown}
-use Rattle.hm_build.proofs.Events.{grown_pushes}
+use Rattle.hm_insertion.specs.Building.{grown}
+use Rattle.hm_insertion.proofs.Events.{grown_pushes}
 
 -- the bytes to skip are skipped
 skipped : (t : List Entry) (place : ℕ → ℕ) (k at : ℕ) (st : Construction) (s : List ℕ) → k ≤ length s → tree_from t place k at st s ≡ tree_from t place 0 (at + k) st (drop k s)

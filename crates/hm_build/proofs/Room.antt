@@ -7,7 +7,7 @@ use Rattle.hm_tree.specs.Tokens.{Seen, doctype as doctype_token, start_tag, end_
 use Rattle.hm_tree.specs.Trees.{HasRoom}
 use Rattle.hm_token_laws.specs.Laws.{token_size, least_size, growth}
 use Rattle.hm_construction_laws.specs.Steps.{Construction, Stepped, went, stops, step, step_over, first_state}
-use Rattle.hm_build.specs.Building.{Fits, grown}
+use Rattle.hm_insertion.specs.Building.{Fits, grown}
 use Rattle.hm_construction_laws.specs.Weights.{weight, load, load_size, cost, size_cost, span, Within, WithinAll}
 use Rattle.hm_build.specs.Parsing.{IsWithin}
 use Rattle.hm_construction_laws.proofs.Weights.{weight-append, walk_size-append, step_within, over_within}

@@ -22,9 +22,9 @@ use Rattle.hm_construction_laws.specs.Steps.{Construction, Stepped, went, stops,
 use Rattle.hm_construction_laws.specs.Trees.{Outcome, refused_by, after_events, mode_of, stepped, over, tree_from}
 use Rattle.hm_construction_laws.proofs.Modes.{is_mode, markup_no_text}
 use Rattle.hm_lexer.specs.Reading.{Reading, text_of, next_of, Gives, IsTaken, Refuses}
-use Rattle.hm_build.specs.Building.{Building, Fits, IsStepped, IsRefused, grown}
-use Rattle.hm_build.specs.declared.fault.BuildFault.{BuildFault}
-use Rattle.hm_build.specs.declared.fault.BuildFault.TheVariants as faults
+use Rattle.hm_insertion.specs.Building.{Building, Fits, IsStepped, IsRefused, grown}
+use Rattle.hm_insertion.specs.declared.fault.BuildFault.{BuildFault}
+use Rattle.hm_insertion.specs.declared.fault.BuildFault.TheVariants as faults
 use Rattle.hm_build.specs.Parsing.{GoesOn, IsParsing, IsReadUnder, IsRead, IsFurther, IsRefusedAs, IsWithin, left_tree, read_of, place_of, answer_of, span_of}
 use Rattle.hm_build.proofs.Reading.{goes_on, ends_here, is_faulty, after_grown}
 use Rattle.hm_build.proofs.Room.{step_fits, step_stays, stops_inside, within_further}

@@ -15,7 +15,7 @@ use Rattle.hm_pieces.specs.Fed.{decided}
 use Rattle.hm_pieces.specs.Pieces.{HasFed, HasPage, Pieces, fault_of_page, told_at}
 use Rattle.hm_pieces.proofs.Feeding.{fault_within}
 use Rattle.hm_pieces.proofs.Texts.{whole_texts_follow}
-use Rattle.hm_build.specs.Building.{first_building}
+use Rattle.hm_insertion.specs.Building.{first_building}
 use Rattle.hm_build.specs.Feeding.{Comes, Feeding, HasCome, IsBuiltFrom, IsStopped, page_outcome_within, whole_tree}
 use Rattle.hm_build.specs.Parsing.{IsRefusedAs, left_tree, reads}
 use Rattle.hm_build.proofs.Growth.{page_grows, sound_page}

@@ -15,7 +15,7 @@ use Rattle.hm_base.specs.declared.rules.Refused.TheVariants as answers
 use Rattle.hm_lexer.specs.Parts.{left_of}
 use Rattle.hm_lexer.specs.Reading.{Reading, text_of}
 use Rattle.hm_build.specs.Parsing.{IsWithin, read_of}
-use Rattle.hm_build.specs.Building.{Building, first_building}
+use Rattle.hm_insertion.specs.Building.{Building, first_building}
 
 -- the tree of what is left of a text, from a state on
 abbrev pub rest_tree : List Entry → Construction → List PlacedByte → ℕ → Outcome

@@ -1,5 +1,3 @@
-pub mod Building
-pub mod Inside
-pub mod BeforeBody
 pub mod Parsing
 pub mod Feeding
+pub use Rattle.hm_construction_laws.specs.Trees

@@ -12,13 +12,13 @@ use Rattle.hm_construction_laws.specs.Steps.{Construction}
 use Rattle.hm_construction_laws.specs.Closing.{is_behind_body, closed_from}
 use Rattle.hm_construction_laws.specs.Trees.{Outcome, refused_by, after_events, over, tree_from}
 use Rattle.hm_lexer.specs.Reading.{Reading, text_of}
-use Rattle.hm_build.specs.Building.{Building}
+use Rattle.hm_insertion.specs.Building.{Building}
 use Rattle.hm_build.specs.declared.page.Taken.{Taken}
 use Rattle.hm_build.specs.declared.page.Taken.TheVariants as turns
 use Rattle.hm_tree.specs.declared.tokens.Lexeme.{Lexeme}
 use Rattle.hm_tree.specs.declared.tokens.Lexeme.TheVariants as lexemes
-use Rattle.hm_build.specs.declared.fault.BuildFault.{BuildFault}
-use Rattle.hm_build.specs.declared.fault.BuildFault.TheVariants as faults
+use Rattle.hm_insertion.specs.declared.fault.BuildFault.{BuildFault}
+use Rattle.hm_insertion.specs.declared.fault.BuildFault.TheVariants as faults
 use Rattle.hm_construction_laws.specs.Weights.{weight, load, load_size}
 
 -- why there is no tree; lack of memory has no cause in the page

@@ -10,10 +10,10 @@ ghost use Rattle.hm_build.specs.Feeding as feeding;
 ghost use Rattle.hm_build.specs.Feeding.{Comes, HasCome, HasRead, StopsAs, page_outcome_within};
 ghost use Rattle.hm_build.specs.Parsing.{IsRefusedAs, IsWithin};
 
-use crate::TreeBuilder;
 use crate::page::parse_rest;
 use crate::ready::part_turns;
 use hm_base::{Memory, OUTPUT_LIMIT, Refused, Rule, SourceText};
+use hm_insertion::TreeBuilder;
 use hm_lexer::Lexer;
 use hm_pieces::TextPieces;
 use hm_refs::Table;

@@ -7,11 +7,11 @@ ghost use Rattle.hm_construction_laws.specs.Trees.{built, tree_of_source};
 ghost use Rattle.hm_pieces.specs.Pieces.{before_text};
 ghost use Rattle.hm_build.specs.Parsing.{IsParsing, IsRead, IsRefusedAs, IsTurned, IsWithin, closed_left, left_tree, reads, taken_by};
 
-use crate::TreeBuilder;
 use crate::places::{closed_by, first_closed, refusal};
 use crate::ready::part_turns;
 use crate::tokens::{mode, take};
 use hm_base::{Memory, Refused, SourceText};
+use hm_insertion::TreeBuilder;
 use hm_lexer::Lexer;
 use hm_refs::Table;
 use hm_refs::laws::every_table;

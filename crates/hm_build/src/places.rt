@@ -2,8 +2,8 @@
 ghost use Rattle.std.specs.Prelude.{◌≡◌, ◌≤◌, ◌+◌, length};
 ghost use Rattle.hm_build.specs.Parsing.{answer_of, closed_here, first_of, place_of, span_of};
 
-use crate::{BuildFault, TreeBuilder};
 use hm_base::{Refused, SourceText};
+use hm_insertion::{BuildFault, TreeBuilder};
 
 /// The refusal that a fault gives, for a token that begins at byte `at` of the text.
 pub(crate) fn refusal(text: &SourceText, fault: BuildFault, at: u32) -> Refused

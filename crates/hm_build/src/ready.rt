@@ -4,10 +4,10 @@ ghost use Rattle.hm_refs.specs.Tables.{IsTable};
 ghost use Rattle.hm_build.specs.Feeding.{Comes, IsPartway, IsWaiting, StopsAs, left};
 ghost use Rattle.hm_build.specs.Parsing.{ClosesOn, IsFurther, KnowsClosed};
 
-use crate::TreeBuilder;
 use crate::places::{closed_by, refusal};
 use crate::tokens::{mode, take};
 use hm_base::{Refused, SourceText};
+use hm_insertion::TreeBuilder;
 use hm_lexer::Lexer;
 use hm_tree::Tag;
 use std::alloc::Global;

@@ -5,10 +5,10 @@ ghost use Rattle.hm_tree.specs.Tokens.{IsInText, seen};
 ghost use Rattle.hm_lexer.specs.Modes.{mode_of};
 ghost use Rattle.hm_construction_laws.specs.Steps.{step};
 ghost use Rattle.hm_construction_laws.specs.Trees as trees;
-ghost use Rattle.hm_build.specs.Building.{Answers, Fits};
+ghost use Rattle.hm_insertion.specs.Building.{Answers, Fits};
 ghost use Rattle.hm_build.specs.Parsing.{IsReadUnder};
 
-use crate::{BuildFault, TreeBuilder};
+use hm_insertion::{BuildFault, TreeBuilder};
 use hm_lexer::{Mode, RawName, RcdataName};
 use hm_tree::{Lexeme, Tag};
 use std::alloc::Global;

@@ -16,7 +16,7 @@ use Rattle.hm_base.specs.declared.rules.Rule.{Rule}
 use Rattle.hm_base.specs.declared.rules.Rule.TheVariants as rules
 use Rattle.hm_build.specs.Parsing.{IsRefusedAs}
 use Rattle.hm_cert.specs.declared.certificate.Certificate.{Certificate}
-use Rattle.hm_construction_laws.specs.Trees.{Outcome, built, refused_by, page_tree, tree_of_source}
+use Rattle.hm_build.specs.Trees.{Outcome, built, refused_by, page_tree, tree_of_source}
 use Rattle.hm_edges.specs.Pieces.{piece_bytes}
 use Rattle.hm_graph_laws.specs.Prices.{Row}
 use Rattle.hm_graph.specs.Graphs.{GraphSource, GraphView, IsGraph, source_edges, tree_edges}

@@ -5,7 +5,7 @@ use Rattle.hm_base.specs.Walks.{Event}
 use Rattle.hm_base.specs.declared.limits.TheConstants.{OUTPUT_LIMIT}
 use Rattle.hm_base.specs.declared.plain.SpellRules.{SpellRules}
 use Rattle.hm_cert.specs.declared.certificate.Certificate.{Certificate}
-use Rattle.hm_construction_laws.specs.Trees.{built}
+use Rattle.hm_build.specs.Trees.{built}
 use Rattle.hm_graph.specs.Graphs.{tree_edges}
 use Rattle.hm_graph_laws.specs.Layers.{LayerTest, first_layer, states_behind, written, written_from}
 use Rattle.hm_graph_laws.specs.Prices.{Row, Feasible, first_price, followed_by, full, full_from, with_row}

@@ -7,7 +7,7 @@ use Rattle.hm_base.specs.declared.plain.SpellRules.{SpellRules}
 use Rattle.hm_base.specs.declared.rules.Rule.{Rule}
 use Rattle.hm_base.specs.declared.rules.Rule.TheVariants as faults
 use Rattle.hm_cert.specs.declared.certificate.Certificate.{Certificate}
-use Rattle.hm_construction_laws.specs.Trees.{Outcome, built, refused_by, page_tree}
+use Rattle.hm_build.specs.Trees.{Outcome, built, refused_by, page_tree}
 use Rattle.hm_graph_laws.specs.ExchangeLaws.{sparing_plain}
 use Rattle.hm_elements.specs.Settled.{Settled}
 use Rattle.hm_elements.proofs.Events.{is_same}

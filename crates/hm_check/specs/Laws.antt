@@ -6,7 +6,7 @@ use Rattle.hm_base.specs.declared.plain.SpellRules.{SpellRules}
 use Rattle.hm_base.specs.declared.rules.Rule.{Rule}
 use Rattle.hm_cert.specs.declared.certificate.Certificate.{Certificate}
 use Rattle.hm_base.specs.declared.plain.Format.{Format}
-use Rattle.hm_construction_laws.specs.Trees.{built, page_tree}
+use Rattle.hm_build.specs.Trees.{built, page_tree}
 use Rattle.hm_graph_laws.specs.ExchangeLaws.{sparing_plain}
 use Rattle.hm_elements.specs.Settled.{Settled}
 use Rattle.hm_graph_laws.specs.Layers.{LayerTest, first_layer}

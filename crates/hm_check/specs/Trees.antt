@@ -1,7 +1,7 @@
 -- Why the tree of a text isn't the wanted one.
 use Rattle.std.specs.Prelude.{List, Option, Some, option_map}
 use Rattle.hm_base.specs.Walks.{Event}
-use Rattle.hm_construction_laws.specs.Trees.{Outcome, built, refused_by}
+use Rattle.hm_build.specs.Trees.{Outcome, built, refused_by}
 use Rattle.hm_check.specs.Differences.{first_difference}
 use Rattle.hm_check.specs.declared.verdicts.Why.{Why}
 use Rattle.hm_check.specs.declared.verdicts.Why.TheVariants.{OutRefused, TreesDiffer}

@@ -5,7 +5,7 @@ use Rattle.hm_base.specs.declared.limits.TheConstants.{OUTPUT_LIMIT}
 use Rattle.hm_base.specs.declared.plain.SpellRules.{SpellRules}
 use Rattle.hm_base.specs.declared.rules.Rule.TheVariants as rules
 use Rattle.hm_cert.specs.declared.certificate.Certificate.{Certificate}
-use Rattle.hm_construction_laws.specs.Trees.{Outcome, built, refused_by, page_tree}
+use Rattle.hm_build.specs.Trees.{Outcome, built, refused_by, page_tree}
 use Rattle.hm_graph_laws.specs.Layers.{LayerTest, first_layer, written}
 use Rattle.hm_graph_laws.specs.Prices.{Row, first_price, full}
 use Rattle.hm_graph_laws.specs.Ways.{Edges}

@@ -1,7 +1,7 @@
 //! Whether a text has the wanted tree.
 ghost use Rattle.std.specs.Prelude.{◌≡◌, IfOk, IfErr};
 ghost use Rattle.hm_build.specs.Parsing.{IsRefusedAs};
-ghost use Rattle.hm_construction_laws.specs.Trees.{built};
+ghost use Rattle.hm_build.specs.Trees.{built};
 ghost use Rattle.hm_check.specs.Differences as differences;
 ghost use Rattle.hm_check.specs.Trees.{tree_why};
 ghost use Rattle.hm_check.specs.Verdicts.{out_outcome};

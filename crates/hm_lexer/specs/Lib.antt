@@ -6,3 +6,4 @@ pub mod Modes
 pub mod Reading
 pub mod Parts
 pub mod Steps
+pub use Rattle.hm_scan.specs.Texts

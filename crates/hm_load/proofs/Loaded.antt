@@ -19,7 +19,7 @@ use Rattle.hm_store.specs.declared.whole_files.LoadFault.{LoadFault}
 use Rattle.hm_store.specs.declared.whole_files.LoadFault.TheVariants as loads
 use Rattle.hm_store.proofs.LoadLemmas.{taken_behind}
 use Rattle.hm_refs.specs.Names.{Entry}
-use Rattle.hm_construction_laws.specs.Trees.{built, refused_by}
+use Rattle.hm_build.specs.Trees.{built, refused_by}
 use Rattle.hm_build.specs.Feeding.{page_outcome_within}
 use Rattle.hm_build.specs.Parsing.{IsRefusedAs}
 use Rattle.hm_load.specs.Loading.{IsTaken, IsUnderWay, TakesNext}

@@ -9,7 +9,7 @@ use Rattle.hm_store.specs.Files.{FileMap, file_of}
 use Rattle.hm_store.specs.declared.whole_files.LoadFault.{LoadFault}
 use Rattle.hm_store.specs.declared.whole_files.LoadFault.TheVariants as loads
 use Rattle.hm_refs.specs.Names.{Entry}
-use Rattle.hm_construction_laws.specs.Trees.{built, refused_by}
+use Rattle.hm_build.specs.Trees.{built, refused_by}
 -- also for a caller that doesn't name hm_build
 pub use Rattle.hm_build.specs.Feeding.{page_outcome_within}
 pub use Rattle.hm_build.specs.Parsing.{IsRefusedAs}

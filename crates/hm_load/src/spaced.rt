@@ -1,7 +1,7 @@
 //! A builder that looks for tokens at growing intervals.
 ghost use Rattle.std.specs.Prelude.{◌≡◌, ◌≤◌, ◌++◌, ℕ, List, [], IfOk, IfErr, OnOk};
 ghost use Rattle.hm_elements.specs.Settled.{Settled};
-ghost use Rattle.hm_construction_laws.specs.Trees.{built};
+ghost use Rattle.hm_build.specs.Trees.{built};
 ghost use Rattle.hm_build.specs.Feeding.{page_outcome_within};
 ghost use Rattle.hm_build.specs.Parsing.{IsRefusedAs};
 ghost use Rattle.hm_load.specs.Spacing.{HasTaken, IsSpaced};

@@ -4,7 +4,7 @@ use Rattle.hm_base.specs.Walks.{Event}
 use Rattle.hm_base.specs.declared.plain.SpellRules.{SpellRules}
 use Rattle.hm_cert.specs.Certificate.{AreRows, certificate_text}
 use Rattle.hm_base.specs.declared.plain.Format.{Format}
-use Rattle.hm_construction_laws.specs.Trees.{built, page_tree}
+use Rattle.hm_round_trip_laws.specs.Trees.{built, page_tree}
 use Rattle.hm_graph_laws.specs.ExchangeLaws.{sparing_plain}
 use Rattle.hm_graph_laws.specs.Layers.{first_layer}
 use Rattle.hm_graph_laws.specs.Prices.{Row, Feasible, first_price, full, least_prices, written_rows}

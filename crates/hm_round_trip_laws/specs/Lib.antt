@@ -6,3 +6,4 @@ pub mod Pages
 pub mod PageTexts
 pub mod PageTextExamples
 pub mod ReadBack
+pub use Rattle.hm_construction_laws.specs.Trees

@@ -4,7 +4,7 @@ use Rattle.std.proofs.lemmas.Result.{IfOk-weaker}
 use Rattle.hm_elements.specs.Settled.{Settled}
 use Rattle.hm_construction_laws.specs.Closing.{closed_of_source, is_behind_body}
 use Rattle.hm_construction_laws.specs.Trees.{built, tree_of_source}
-use Rattle.hm_build.specs.Building.{Building}
+use Rattle.hm_insertion.specs.Building.{Building}
 use Rattle.hm_build.specs.Parsing.{IsRefusedAs, closed_left, left_tree, reads}
 use Rattle.hm_build.proofs.Closings.{closed_in_whole}
 use Rattle.hm_build.proofs.PageEnds.{from_first, settled_here}

@@ -1,4 +1,4 @@
-use Rattle.hm_construction_laws.specs.Trees.{built}
+use Rattle.hm_build.specs.Trees.{built}
 use Rattle.hm_check.proofs.Checking.{if_ok, if_err, out_refused, read_outcome, read_refused}
 use Rattle.hm_check.proofs.trees.read_out.Goals as goal
 

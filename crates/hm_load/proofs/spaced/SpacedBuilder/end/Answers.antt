@@ -1,6 +1,6 @@
 use Rattle.std.proofs.Common.{◌≡◌, sym, subst}
 use Rattle.std.proofs.lemmas.Result.{IfErr-weaker, IfOk-weaker}
-use Rattle.hm_construction_laws.specs.Trees.{built}
+use Rattle.hm_build.specs.Trees.{built}
 use Rattle.hm_build.specs.Feeding.{page_outcome_within}
 use Rattle.hm_build.specs.Parsing.{IsRefusedAs}
 use Rattle.hm_load.specs.Spacing.{HasTaken, Spaced}

@@ -1,0 +1,105 @@
+//! The elements that are made where their tags are left out (HTML Standard, #the-before-html-insertion-mode to
+//! #the-after-head-insertion-mode).
+ghost use Rattle.std.specs.Prelude.{◌≡◌, [], ◌∷◌, ◌++◌, OnOk};
+ghost use Rattle.hm_base.specs.Walks.{path_after};
+ghost use Rattle.hm_construction_laws.specs.Steps.{under_html, under_head};
+ghost use Rattle.hm_tree.specs.Trees.{HasRoom};
+ghost use Rattle.hm_insertion.specs.Inside.{CanMake, missing, body_made, head_closed, head_ended, head_made, html_made, html_then_head, only_head};
+
+use crate::insertion::BuilderMode;
+use hm_base::Memory;
+use hm_tree::{Attrs, Maker};
+use std::alloc::Global;
+
+/// Makes what is missing up to `body`, and closes `head` (#the-before-html-insertion-mode to #the-after-head-insertion-mode).
+#[inline(always)]
+pub(crate) fn make_missing(
+    alloc: Global,
+    maker: &mut Maker,
+    insertion_mode: BuilderMode,
+) -> Result<(), Memory>
+    requires room { HasRoom (maker.old ++ missing insertion_mode) }
+    requires open_there { CanMake insertion_mode (path_after [] maker.old) }
+    ensures { OnOk result (maker.new ≡ maker.old ++ missing insertion_mode) }
+{
+    match insertion_mode {
+        BuilderMode::BeforeHtml => make_html(alloc, maker),
+        BuilderMode::BeforeHead => make_head(alloc, maker),
+        BuilderMode::InHead { .. } => close_head(alloc, maker),
+        BuilderMode::AfterHead => make_body(alloc, maker),
+        BuilderMode::Initial
+        | BuilderMode::InBody
+        | BuilderMode::AfterBody
+        | BuilderMode::AfterHtml => Ok(()),
+    }
+}
+
+fn make_html(alloc: Global, maker: &mut Maker) -> Result<(), Memory>
+    requires room { HasRoom (maker.old ++ html_made) }
+    requires open_there { path_after [] maker.old ≡ [] }
+    ensures { OnOk result (maker.new ≡ maker.old ++ html_made) }
+{
+    maker.start("html", false, Attrs::new(alloc))?;
+    make_head(alloc, maker)
+}
+
+fn make_head(alloc: Global, maker: &mut Maker) -> Result<(), Memory>
+    requires room { HasRoom (maker.old ++ head_made) }
+    requires open_there { path_after [] maker.old ≡ under_html }
+    ensures { OnOk result (maker.new ≡ maker.old ++ head_made) }
+{
+    maker.start("head", false, Attrs::new(alloc))?;
+    close_head(alloc, maker)
+}
+
+fn close_head(alloc: Global, maker: &mut Maker) -> Result<(), Memory>
+    requires room { HasRoom (maker.old ++ head_closed) }
+    requires open_there { path_after [] maker.old ≡ under_head }
+    ensures { OnOk result (maker.new ≡ maker.old ++ head_closed) }
+{
+    maker.end()?;
+    make_body(alloc, maker)
+}
+
+fn make_body(alloc: Global, maker: &mut Maker) -> Result<(), Memory>
+    requires { HasRoom (maker.old ++ body_made) }
+    ensures { OnOk result (maker.new ≡ maker.old ++ body_made) }
+{
+    maker.start("body", false, Attrs::new(alloc))
+}
+
+/// Makes `head` where it is missing, and closes it (#the-before-html-insertion-mode to #parsing-main-inhead).
+pub(crate) fn close_made_head(
+    alloc: Global,
+    maker: &mut Maker,
+    insertion_mode: BuilderMode,
+) -> Result<(), Memory>
+    requires room { HasRoom (maker.old ++ head_ended insertion_mode) }
+    requires open_there { CanMake insertion_mode (path_after [] maker.old) }
+    ensures { OnOk result (maker.new ≡ maker.old ++ head_ended insertion_mode) }
+{
+    match insertion_mode {
+        BuilderMode::BeforeHtml => make_html_and_head(alloc, maker),
+        BuilderMode::BeforeHead => make_only_head(alloc, maker),
+        BuilderMode::InHead { .. } => maker.end(),
+        _ => Ok(()),
+    }
+}
+
+fn make_html_and_head(alloc: Global, maker: &mut Maker) -> Result<(), Memory>
+    requires room { HasRoom (maker.old ++ html_then_head) }
+    requires open_there { path_after [] maker.old ≡ [] }
+    ensures { OnOk result (maker.new ≡ maker.old ++ html_then_head) }
+{
+    maker.start("html", false, Attrs::new(alloc))?;
+    make_only_head(alloc, maker)
+}
+
+fn make_only_head(alloc: Global, maker: &mut Maker) -> Result<(), Memory>
+    requires room { HasRoom (maker.old ++ only_head) }
+    requires open_there { path_after [] maker.old ≡ under_html }
+    ensures { OnOk result (maker.new ≡ maker.old ++ only_head) }
+{
+    maker.start("head", false, Attrs::new(alloc))?;
+    maker.end()
+}

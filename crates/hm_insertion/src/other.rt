@@ -1,0 +1,57 @@
+//! Doctypes and comments (HTML Standard, #parsing-main-inhtml).
+ghost use Rattle.std.specs.Prelude.{◌≡◌, IfOk, OnOk};
+ghost use Rattle.hm_construction_laws.specs.Steps.{step};
+ghost use Rattle.hm_tree.specs.Tokens as tokens;
+ghost use Rattle.hm_insertion.specs.Building.{Fits};
+ghost use Rattle.hm_insertion.specs.Inside.{IsDone, IsKept, Takes, state_of};
+
+use crate::BuildFault;
+use crate::insertion::BuilderMode;
+use crate::parts::Parts;
+use hm_base::{Memory, Rule, Word};
+use std::alloc::Global;
+
+impl Parts {
+    /// Takes a doctype (#the-initial-insertion-mode).
+    pub(crate) fn doctype(&mut self, legacy: bool) -> Result<(), BuildFault>
+        requires kept { IsKept self.old }
+        requires room { Fits (step (state_of self.old) (tokens.doctype legacy)) self.old.maker }
+        ensures { Takes (step (state_of self.old) (tokens.doctype legacy)) result self.old self.new }
+    {
+        match self.insertion_mode {
+            BuilderMode::Initial => {
+                self.maker.doctype(legacy)?;
+                self.insertion_mode = BuilderMode::BeforeHtml;
+                self.drops_line_feed = false;
+                Ok(())
+            }
+            _ => Err(BuildFault::Rule {
+                rule: Rule::SecondDoctype,
+                behind: 0,
+            }),
+        }
+    }
+
+    /// Takes a comment (#parsing-main-inhtml). After `body` and after `html` it is kept for the end of the page.
+    pub(crate) fn comment(&mut self, alloc: Global, text: &str) -> Result<(), Memory>
+        requires kept { IsKept self.old }
+        requires room { Fits (step (state_of self.old) (tokens.comment text.now)) self.old.maker }
+        ensures { OnOk result (IsDone (step (state_of self.old) (tokens.comment text.now)) self.old self.new) }
+    {
+        self.drops_line_feed = false;
+        match self.insertion_mode {
+            BuilderMode::AfterBody => self.behind_body.push(kept_word(alloc, text)?)?,
+            BuilderMode::AfterHtml => self.behind_html.push(kept_word(alloc, text)?)?,
+            _ => self.maker.comment(text)?,
+        }
+        Ok(())
+    }
+}
+
+fn kept_word(alloc: Global, text: &str) -> Result<Word, Memory>
+    ensures { IfOk result (λ word. word ≡ text.now) }
+{
+    Ok(Word {
+        text: String::from_str(alloc, text)?,
+    })
+}

@@ -109,16 +109,17 @@ module _ (s : List ℕ) (pieces : List AttributePieces) (front rest : List Event
 
   parent_by : (rows : List EventRow) (part : RowPart) → take (length front) rows ≡ front → parent_behind rows parent part (length front) ≡ innermost (v ++ event_at s pieces part ∷ [])
   parent_by rows (parts.Doctype legacy) is = edited.above ∙ sym (innermost-push v (doctype legacy))
-  parent_by rows (parts.Start foreign count name first) is = sym (innermost-push v (event_at s pieces (parts.Start foreign count name first)) ∙ ap Some (length-map front (λ q. event_at s pieces q.part)))
-  parent_by rows (parts.Text p raw) is = edited.above ∙ sym (innermost-push v (text (bytes_of s p) raw))
+  parent_by rows (parts.Start foreign len count from first) is = sym (innermost-push v (event_at s pieces (parts.Start foreign len count from first)) ∙ ap Some (length-map front (λ q. event_at s pieces q.part)))
+  parent_by rows (parts.LongStart foreign count first) is = sym (innermost-push v (event_at s pieces (parts.LongStart foreign count first)) ∙ ap Some (length-map front (λ q. event_at s pieces q.part)))
+  parent_by rows (parts.Text raw p) is = edited.above ∙ sym (innermost-push v (text (bytes_of s p) raw))
   parent_by rows (parts.Comment p) is = edited.above ∙ sym (innermost-push v (comment (bytes_of s p)))
-  parent_by rows (parts.End name foreign) is = closes parent edited.above ∙ sym (innermost-push v (end (bytes_of s name) foreign))
+  parent_by rows (parts.End foreign name) is = closes parent edited.above ∙ sym (innermost-push v (end (bytes_of s name) foreign))
     where
       none : (ks : List ℕ) (n : ℕ) → None ≡ slice_get ks 0 → None ≡ slice_get (open_behind ks n (end (bytes_of s name) foreign)) 0
       none [] n h = refl
       none (k ∷ ks) n h = absurd (cc)
 
-      closes : (o : Option ℕ) → o ≡ innermost v → parent_behind rows o (parts.End name foreign) (length front) ≡ slice_get (open_behind (open_after [] 0 v) (length v) (end (bytes_of s name) foreign)) 0
+      closes : (o : Option ℕ) → o ≡ innermost v → parent_behind rows o (parts.End foreign name) (length front) ≡ slice_get (open_behind (open_after [] 0 v) (length v) (end (bytes_of s name) foreign)) 0
       closes None h = none (open_after [] 0 v) (length v) h
       closes (Some k) h =
           let around = innermost-IsInnermost v k h in
@@ -146,12 +147,12 @@ module _ (s : List ℕ) (pieces : List AttributePieces) (front rest : List Event
 
 -- ---- A text that is left goes, or has other bytes
 
-own_text : (n : ℕ) (front rest : List EventRow) (r q : EventRow) (p o : TextRange) (raw : Bool) → r.part ≡ parts.Text p raw → q.part ≡ parts.Text o raw → HaveOwn n (front ++ r ∷ rest) → HaveOwn n (front ++ q ∷ rest)
+own_text : (n : ℕ) (front rest : List EventRow) (r q : EventRow) (p o : TextRange) (raw : Bool) → r.part ≡ parts.Text raw p → q.part ≡ parts.Text raw o → HaveOwn n (front ++ r ∷ rest) → HaveOwn n (front ++ q ∷ rest)
 own_text n [] rest r q p o raw is part h =
     (subst (IsAfter n) (sym part) tt, subst (λ k. HaveOwn k rest) (ap (own_end n) is ∙ sym (ap (own_end n) part)) h.1)
 own_text n (x ∷ front) rest r q p o raw is part h = (h.0, own_text (own_end n x.part) front rest r q p o raw is part h.1)
 
-own_without : (n : ℕ) (front rest : List EventRow) (r : EventRow) (p : TextRange) (raw : Bool) → r.part ≡ parts.Text p raw → HaveOwn n (front ++ r ∷ rest) → HaveOwn n (front ++ rest)
+own_without : (n : ℕ) (front rest : List EventRow) (r : EventRow) (p : TextRange) (raw : Bool) → r.part ≡ parts.Text raw p → HaveOwn n (front ++ r ∷ rest) → HaveOwn n (front ++ rest)
 own_without n [] rest r p raw is h = subst (λ k. HaveOwn k rest) (ap (own_end n) is) h.1
 own_without n (x ∷ front) rest r p raw is h = (h.0, own_without (own_end n x.part) front rest r p raw is h.1)
 
@@ -167,7 +168,7 @@ inside_with : (s more : List ℕ) (n : ℕ) (front rest : List EventRow) (r q : 
 inside_with s more n [] rest r q utf8 new h = (new, inside_longer s more n rest utf8 h.1)
 inside_with s more n (x ∷ front) rest r q utf8 new h = (inside_stays s more n n x.part utf8 (omega arith) h.0, inside_with s more n front rest r q utf8 new h.1)
 
-module _ (s : List ℕ) (pieces : List AttributePieces) (front rest : List EventRow) (r : EventRow) (parent : Option ℕ) (edited : IsEdited s pieces front (r ∷ rest) parent) (p : TextRange) (raw : Bool) (is : r.part ≡ parts.Text p raw) where
+module _ (s : List ℕ) (pieces : List AttributePieces) (front rest : List EventRow) (r : EventRow) (parent : Option ℕ) (edited : IsEdited s pieces front (r ∷ rest) parent) (p : TextRange) (raw : Bool) (is : r.part ≡ parts.Text raw p) where
   abbrev w : List Event
   w = events_of s pieces front
 
@@ -191,7 +192,7 @@ module _ (s : List ℕ) (pieces : List AttributePieces) (front rest : List Event
         above = edited.above;
       }
 
-  module _ (more t : List ℕ) (q : EventRow) (o : TextRange) (part : q.part ≡ parts.Text o raw) (utf8 : IsUtf8 more) (piece : IsPiece (s ++ more) o) (bytes : bytes_of (s ++ more) o ≡ t)
+  module _ (more t : List ℕ) (q : EventRow) (o : TextRange) (part : q.part ≡ parts.Text raw o) (utf8 : IsUtf8 more) (piece : IsPiece (s ++ more) o) (bytes : bytes_of (s ++ more) o ≡ t)
       (t_utf8 : IsUtf8 t) (some : is_null t ≡ false) (short : length t ≤ length (bytes_of s p)) where
     front_stays : events_of (s ++ more) pieces front ≡ w
     front_stays = rw append-nil at (events_of-append s more pieces [] front (AreInside-front s (length pieces) front (r ∷ rest) edited.inside).0 edited.attributes)

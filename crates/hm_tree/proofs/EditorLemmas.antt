@@ -114,7 +114,7 @@ module _ (s : List ℕ) (pieces : List AttributePieces) (rows : List EventRow) (
           rw (new, rest, put, left_first) refl,
         )
 
-    module _ (p : TextRange) (raw : Bool) (text_is : r.part ≡ parts.Text p raw) where
+    module _ (p : TextRange) (raw : Bool) (text_is : r.part ≡ parts.Text raw p) where
       pub leaves_out : Edits s pieces rows done (next + 1) parent (record { done = events_of s pieces (take done rows); left = without_first (events_of s pieces (drop next rows)) })
       leaves_out = (
         record {
@@ -127,13 +127,13 @@ module _ (s : List ℕ) (pieces : List AttributePieces) (rows : List EventRow) (
       )
 
       pub is_piece : IsPiece s p
-      is_piece = let inside : IsInside s (length pieces) (parts.Text p raw) = rw text_is at (left_shows 0 next (omega arith) r there is).inside in inside
+      is_piece = let inside : IsInside s (length pieces) (parts.Text raw p) = rw text_is at (left_shows 0 next (omega arith) r there is).inside in inside
 
       pub left_text : events_of s pieces (drop next rows) ≡ text (bytes_of s p) raw ∷ events_of s pieces (drop (next + 1) rows)
       left_text = left_first ∙ ap (λ part. event_at s pieces part ∷ events_of s pieces (drop (next + 1) rows)) text_is
 
       -- other bytes stand in its place
-      module _ (more u t : List ℕ) (q : EventRow) (o : TextRange) (bytes_are : s ++ more ≡ u) (part : q.part ≡ parts.Text o raw) (utf8 : IsUtf8 more) (piece : IsPiece u o) (bytes : bytes_of u o ≡ t)
+      module _ (more u t : List ℕ) (q : EventRow) (o : TextRange) (bytes_are : s ++ more ≡ u) (part : q.part ≡ parts.Text raw o) (utf8 : IsUtf8 more) (piece : IsPiece u o) (bytes : bytes_of u o ≡ t)
           (t_utf8 : IsUtf8 t) (some : is_null t ≡ false) (short : length t ≤ length (bytes_of s p)) where
         front_same : take done (set rows next q) ≡ take done rows
         front_same = take-set-le done rows next q h.ordered
@@ -229,7 +229,7 @@ module _ (s : List ℕ) (pieces : List AttributePieces) (rows : List EventRow) (
       → Edits s pieces (set rows done q) (done + 1) (next + 1) after (kept e.done e.left)
   keeps_so some q after part above behind = rw (← view) (keeps s pieces rows done next parent h r is (omega (arith, left_len s pieces rows done next parent h e view, some)) q after part above behind)
 
-  module _ (p : TextRange) (raw : Bool) (text_is : r.part ≡ parts.Text p raw) where
+  module _ (p : TextRange) (raw : Bool) (text_is : r.part ≡ parts.Text raw p) where
     there_by : 0 < length e.left → next < length rows
     there_by some = omega (arith, left_len s pieces rows done next parent h e view, some)
 
@@ -263,7 +263,7 @@ module _ (s : List ℕ) (pieces : List AttributePieces) (rows : List EventRow) (
           let walk = walk_of s pieces rows done next parent h e view in
           omega (arith, walk.bytes, walk_size-append e.done e.left, ap walk_size is_text, ranges.2.0)
 
-      pub cuts : (utf8 : IsUtf8 s) → (q : EventRow) (o : TextRange) → q.part ≡ parts.Text o raw → o ≡ record { from = p.from + from; to = p.from + to }
+      pub cuts : (utf8 : IsUtf8 s) → (q : EventRow) (o : TextRange) → q.part ≡ parts.Text raw o → o ≡ record { from = p.from + from; to = p.from + to }
           → Edits s pieces (set rows next q) done next parent (record { done = e.done; left = with_first_cut from to e.left })
       cuts utf8 q o part range =
           let piece : IsPiece s o = rw range (IsPiece-cut s p piece_is from to ranges.0 ranges.1 ranges.2) in
@@ -281,7 +281,7 @@ module _ (s : List ℕ) (pieces : List AttributePieces) (rows : List EventRow) (
     shorter_parts u t raw l c = c
 
     -- another text
-    pub puts : (t u : List ℕ) → IsShorter e.left t → IsUtf8 t → s ++ t ≡ u → (q : EventRow) (o : TextRange) → q.part ≡ parts.Text o raw → o.from ≡ length s → o.to ≡ length s + length t
+    pub puts : (t u : List ℕ) → IsShorter e.left t → IsUtf8 t → s ++ t ≡ u → (q : EventRow) (o : TextRange) → q.part ≡ parts.Text raw o → o.from ≡ length s → o.to ≡ length s + length t
         → Edits u pieces (set rows next q) done next parent (record { done = e.done; left = with_first_text t e.left })
     puts t u shorter utf8 bytes_are q o part from to =
         let some = there_by (shorter_some e.left t shorter) in
@@ -313,12 +313,13 @@ module _ (s : List ℕ) (pieces : List AttributePieces) (rows : List EventRow) (
       let here : next + 0 ≡ next = omega arith in
       sym (ap (λ zs. get_or zs 0 r) at) ∙ get_or-drop next rows 0 r ∙ ap (λ k. get_or rows k r) here
 
-  text_by : (part : RowPart) (l : List Event) → begins_text (event_at s pieces part ∷ l) ≡ true → (p : TextRange) × (raw : Bool) × (part ≡ parts.Text p raw)
+  text_by : (part : RowPart) (l : List Event) → begins_text (event_at s pieces part ∷ l) ≡ true → (p : TextRange) × (raw : Bool) × (part ≡ parts.Text raw p)
   text_by (parts.Doctype legacy) l b = absurd (cc)
-  text_by (parts.Start foreign count name first) l b = absurd (cc)
-  text_by (parts.Text p raw) l b = (p, raw, refl)
+  text_by (parts.Start foreign len count from first) l b = absurd (cc)
+  text_by (parts.LongStart foreign count first) l b = absurd (cc)
+  text_by (parts.Text raw p) l b = (p, raw, refl)
   text_by (parts.Comment p) l b = absurd (cc)
-  text_by (parts.End name foreign) l b = absurd (cc)
+  text_by (parts.End foreign name) l b = absurd (cc)
 
   pub leaves_so : Edits s pieces rows done (next + 1) parent (record { done = e.done; left = without_first e.left })
   leaves_so =

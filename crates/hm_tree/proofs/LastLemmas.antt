@@ -38,12 +38,13 @@ pub some_last : (w : List Event) → ends_in_text w ≡ true → 0 < length w
 some_last [] h = absurd (cc)
 some_last (e ∷ w) h = omega arith
 
-not_text : (s : List ℕ) (pieces : List AttributePieces) (part : RowPart) → ((p : TextRange) (raw : Bool) → part ≡ parts.Text p raw → ⊥) → is_text (event_at s pieces part) ≡ false
+not_text : (s : List ℕ) (pieces : List AttributePieces) (part : RowPart) → ((raw : Bool) (p : TextRange) → part ≡ parts.Text raw p → ⊥) → is_text (event_at s pieces part) ≡ false
 not_text s pieces (parts.Doctype legacy) other = refl
-not_text s pieces (parts.Start foreign count name first) other = refl
-not_text s pieces (parts.Text p raw) other = absurd (other p raw refl)
+not_text s pieces (parts.Start foreign len count from first) other = refl
+not_text s pieces (parts.LongStart foreign count first) other = refl
+not_text s pieces (parts.Text raw p) other = absurd (other raw p refl)
 not_text s pieces (parts.Comment p) other = refl
-not_text s pieces (parts.End name foreign) other = refl
+not_text s pieces (parts.End foreign name) other = refl
 
 module _ (s : List ℕ) (pieces : List AttributePieces) (rows : List EventRow) (w : List Event) (view : events_of s pieces rows ≡ w) (n : ℕ) (r : EventRow) (last : n + 1 ≡ length rows) (at : r ≡ get_or rows n r) where
   split : w ≡ events_of s pieces (take n rows) ++ event_at s pieces r.part ∷ []
@@ -53,14 +54,14 @@ module _ (s : List ℕ) (pieces : List AttributePieces) (rows : List EventRow) (
   last_event = ap ends_in_text split ∙ ends_in_text-push (events_of s pieces (take n rows)) (event_at s pieces r.part)
 
   -- a text stands last exactly where the last row is one
-  pub last_is_text : (p : TextRange) (raw : Bool) → r.part ≡ parts.Text p raw → ends_in_text w ≡ true
+  pub last_is_text : (p : TextRange) (raw : Bool) → r.part ≡ parts.Text raw p → ends_in_text w ≡ true
   last_is_text p raw is = last_event ∙ ap (λ part. is_text (event_at s pieces part)) is
 
-  pub last_is_other : ((p : TextRange) (raw : Bool) → r.part ≡ parts.Text p raw → ⊥) → ends_in_text w ≡ false
+  pub last_is_other : ((raw : Bool) (p : TextRange) → r.part ≡ parts.Text raw p → ⊥) → ends_in_text w ≡ false
   last_is_other other = last_event ∙ not_text s pieces r.part other
 
   -- the text that stands last can have more bytes
-  pub IsTableOf-extended : (more t : List ℕ) (p q : TextRange) (raw : Bool) → s ++ more ≡ t → IsRowTable s pieces rows → r.part ≡ parts.Text p raw → IsUtf8 more
+  pub IsTableOf-extended : (more t : List ℕ) (p q : TextRange) (raw : Bool) → s ++ more ≡ t → IsRowTable s pieces rows → r.part ≡ parts.Text raw p → IsUtf8 more
       → walk_size w + length more < 2 ^ 29 → q.from ≡ p.from → q.to ≡ length t → IsTableOf t pieces (set rows n (longer r q raw)) (extended w more)
   IsTableOf-extended more t p q raw bytes table is utf8 room from to =
       let front = take n rows in

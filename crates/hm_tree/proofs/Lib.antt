@@ -17,6 +17,7 @@ pub mod NameLemmas
 pub mod NextLemmas
 pub mod OpenLemmas
 pub mod PairLemmas
+pub mod PartLemmas
 pub mod ParentLemmas
 pub mod PieceLemmas
 pub mod RoomLemmas

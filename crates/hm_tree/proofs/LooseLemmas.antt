@@ -1,13 +1,13 @@
 -- The steps of an editor that leave out comments and join texts.
-use Rattle.std.proofs.Common.{◌≡◌, ℕ, zero, suc, ◌+◌, ◌-◌, ◌^◌, ◌<◌, ◌≤◌, Bool, true, false, ◌&&◌, List, [], ◌∷◌, ◌++◌, length, map, take, drop, set, get_or, Option, None, IsUtf8, sym, ap, ap₂, subst, ◌∙◌, refl, arith}
+use Rattle.std.proofs.Common.{◌≡◌, ℕ, ◌+◌, ◌<◌, ◌≤◌, Bool, true, false, List, [], ◌∷◌, ◌++◌, length, take, drop, set, get_or, Option, None, IsUtf8, sym, ap, ap₂, subst, ◌∙◌, refl, arith}
 use Rattle.std.proofs.lemmas.Bool.{and_parts}
-use Rattle.std.proofs.lemmas.List.{append-nil, drop-drop, drop-map, drop-set, drop_more, length-drop, length-map, length-set, take-append-drop, take-map, take-set-le}
+use Rattle.std.proofs.lemmas.List.{append-nil, drop-drop, drop-map, drop-set, length-drop, length-map, length-set, take-append-drop, take-map, take-set-le}
 use Rattle.std.proofs.lemmas.Str.{is_utf8-from_IsUtf8}
 use Rattle.hm_base.specs.Bytes.{is_null}
 use Rattle.hm_base.specs.Walks.{Event, text, comment, begins_comment, begins_text, walk_size}
 use Rattle.hm_tree.specs.Edits.{Edited, IsEdited, IsEditing, IsJoined, are_loose, is_loose, with_joined, without_first}
 use Rattle.hm_tree.specs.Pieces.{IsPiece, bytes_of}
-use Rattle.hm_tree.specs.Rows.{AreInside, HaveOwn, IsAfter, IsInside, ends_in_text, event_at, events_of, own_end}
+use Rattle.hm_tree.specs.Rows.{AreInside, HaveOwn, IsAfter, ends_in_text, event_at, events_of, own_end}
 use Rattle.hm_tree.specs.declared.pieces.AttributePieces.{AttributePieces}
 use Rattle.hm_tree.specs.declared.pieces.TextRange.{TextRange}
 use Rattle.hm_tree.specs.declared.rows.RowPart.{RowPart}
@@ -15,7 +15,7 @@ use Rattle.hm_tree.specs.declared.rows.RowPart.TheVariants as parts
 use Rattle.hm_tree.specs.declared.rows.EventRow.{EventRow}
 use Rattle.hm_tree.proofs.ChangedLemmas.{first_is}
 use Rattle.hm_tree.proofs.EditedLemmas.{AreInside-front, events_of-append-rows, get_or-other, inside_longer, inside_without}
-use Rattle.hm_tree.proofs.EditorLemmas.{Edits, edited, edited_of, left_len, left_shows, pair_of}
+use Rattle.hm_tree.proofs.EditorLemmas.{Edits, edited, edited_of, left_len, pair_of}
 use Rattle.hm_tree.proofs.LikeLemmas.{IsMade-joined, IsMade-uncommented, IsTold-joined, IsTold-uncommented}
 use Rattle.hm_tree.proofs.PieceLemmas.{IsPiece-new, bytes_of-new}
 use Rattle.hm_tree.proofs.ShownLemmas.{HasPieces-append}
@@ -29,10 +29,11 @@ own_skip n (x ∷ front) rest r same h = (h.0, own_skip (own_end n x.part) front
 
 comment_by : (s : List ℕ) (pieces : List AttributePieces) (part : RowPart) (l : List Event) → begins_comment (event_at s pieces part ∷ l) ≡ true → (p : TextRange) × (part ≡ parts.Comment p)
 comment_by s pieces (parts.Doctype legacy) l b = absurd (cc)
-comment_by s pieces (parts.Start foreign count name first) l b = absurd (cc)
-comment_by s pieces (parts.Text p raw) l b = absurd (cc)
+comment_by s pieces (parts.Start foreign len count from first) l b = absurd (cc)
+comment_by s pieces (parts.LongStart foreign count first) l b = absurd (cc)
+comment_by s pieces (parts.Text raw p) l b = absurd (cc)
 comment_by s pieces (parts.Comment p) l b = (p, refl)
-comment_by s pieces (parts.End name foreign) l b = absurd (cc)
+comment_by s pieces (parts.End foreign name) l b = absurd (cc)
 
 edited_uncommented : (s : List ℕ) (pieces : List AttributePieces) (front rest : List EventRow) (r : EventRow) (parent : Option ℕ) (p : TextRange) → r.part ≡ parts.Comment p → ends_in_text (events_of s pieces front) ≡ false → IsEdited s pieces front (r ∷ rest) parent → IsEdited s pieces front rest parent
 edited_uncommented s pieces front rest r parent p is other h =
@@ -89,10 +90,11 @@ AreInside-both s n (x ∷ front) rest h g = (h.0, AreInside-both s n front rest 
 
 loose_end : (s : List ℕ) (pieces : List AttributePieces) (n : ℕ) (part : RowPart) → is_loose (event_at s pieces part) ≡ true → own_end n part ≡ n
 loose_end s pieces n (parts.Doctype legacy) h = absurd (cc)
-loose_end s pieces n (parts.Start foreign count name first) h = absurd (cc)
-loose_end s pieces n (parts.Text p raw) h = refl
+loose_end s pieces n (parts.Start foreign len count from first) h = absurd (cc)
+loose_end s pieces n (parts.LongStart foreign count first) h = absurd (cc)
+loose_end s pieces n (parts.Text raw p) h = refl
 loose_end s pieces n (parts.Comment p) h = refl
-loose_end s pieces n (parts.End name foreign) h = absurd (cc)
+loose_end s pieces n (parts.End foreign name) h = absurd (cc)
 
 own_loose : (s : List ℕ) (pieces : List AttributePieces) (n : ℕ) (mid tail : List EventRow) → are_loose (events_of s pieces mid) ≡ true → HaveOwn n (mid ++ tail) → HaveOwn n tail
 own_loose s pieces n [] tail loose h = h
@@ -100,15 +102,15 @@ own_loose s pieces n (x ∷ mid) tail loose h =
     let both = and_parts (is_loose (event_at s pieces x.part)) (are_loose (events_of s pieces mid)) loose in
     own_loose s pieces n mid tail both.1 (subst (λ k. HaveOwn k (mid ++ tail)) (loose_end s pieces n x.part both.0) h.1)
 
-own_joined : (s : List ℕ) (pieces : List AttributePieces) (n : ℕ) (front mid tail : List EventRow) (r q : EventRow) (p o : TextRange) (raw : Bool) → r.part ≡ parts.Text p raw → q.part ≡ parts.Text o raw → are_loose (events_of s pieces mid) ≡ true
+own_joined : (s : List ℕ) (pieces : List AttributePieces) (n : ℕ) (front mid tail : List EventRow) (r q : EventRow) (p o : TextRange) (raw : Bool) → r.part ≡ parts.Text raw p → q.part ≡ parts.Text raw o → are_loose (events_of s pieces mid) ≡ true
     → HaveOwn n (front ++ r ∷ (mid ++ tail)) → HaveOwn n (front ++ q ∷ tail)
 own_joined s pieces n [] mid tail r q p o raw was part loose h =
     (subst (IsAfter n) (sym part) tt, subst (λ k. HaveOwn k tail) (sym (ap (own_end n) part)) (own_loose s pieces n mid tail loose (subst (λ k. HaveOwn k (mid ++ tail)) (ap (own_end n) was) h.1)))
 own_joined s pieces n (x ∷ front) mid tail r q p o raw was part loose h = (h.0, own_joined s pieces (own_end n x.part) front mid tail r q p o raw was part loose h.1)
 
-module _ (s : List ℕ) (pieces : List AttributePieces) (front mid tail : List EventRow) (r : EventRow) (parent : Option ℕ) (before : IsEdited s pieces front (r ∷ (mid ++ tail)) parent) (p : TextRange) (raw : Bool) (was : r.part ≡ parts.Text p raw)
+module _ (s : List ℕ) (pieces : List AttributePieces) (front mid tail : List EventRow) (r : EventRow) (parent : Option ℕ) (before : IsEdited s pieces front (r ∷ (mid ++ tail)) parent) (p : TextRange) (raw : Bool) (was : r.part ≡ parts.Text raw p)
     (loose : are_loose (events_of s pieces mid) ≡ true) (apart : begins_text (events_of s pieces tail) ≡ false)
-    (more t : List ℕ) (q : EventRow) (o : TextRange) (part : q.part ≡ parts.Text o raw) (utf8 : IsUtf8 more) (piece : IsPiece (s ++ more) o) (bytes : bytes_of (s ++ more) o ≡ t)
+    (more t : List ℕ) (q : EventRow) (o : TextRange) (part : q.part ≡ parts.Text raw o) (utf8 : IsUtf8 more) (piece : IsPiece (s ++ more) o) (bytes : bytes_of (s ++ more) o ≡ t)
     (t_utf8 : IsUtf8 t) (some : is_null t ≡ false) (short : length t ≤ length (bytes_of s p) + walk_size (events_of s pieces mid)) where
   abbrev v : List Event
   v = events_of s pieces front
@@ -154,7 +156,7 @@ module _ (s : List ℕ) (pieces : List AttributePieces) (front mid tail : List E
   left_joined = rw (tail_stays, part, bytes) refl
 
 module _ (s : List ℕ) (pieces : List AttributePieces) (rows : List EventRow) (done next : ℕ) (parent : Option ℕ) (h : IsEditing s pieces rows done next parent) (e : Edited) (view : edited_of s pieces rows done next ≡ e) (r : EventRow) (is : r ≡ get_or rows next r) (there : next < length rows)
-    (p : TextRange) (raw : Bool) (was : r.part ≡ parts.Text p raw) (n : ℕ) (t : List ℕ) (given : IsJoined e.left n t) where
+    (p : TextRange) (raw : Bool) (was : r.part ≡ parts.Text raw p) (n : ℕ) (t : List ℕ) (given : IsJoined e.left n t) where
   abbrev rest : List EventRow
   rest = drop (next + 1) rows
 
@@ -187,7 +189,7 @@ module _ (s : List ℕ) (pieces : List AttributePieces) (rows : List EventRow) (
   before : IsEdited s pieces (take done rows) (r ∷ (take n rest ++ drop n rest)) parent
   before = subst (λ x. IsEdited s pieces (take done rows) (r ∷ x) parent) cut (edited s pieces rows done next parent h r is there)
 
-  pub joins : IsUtf8 t → (u : List ℕ) → s ++ t ≡ u → (q : EventRow) (o : TextRange) → q.part ≡ parts.Text o raw → o.from ≡ length s → o.to ≡ length s + length t
+  pub joins : IsUtf8 t → (u : List ℕ) → s ++ t ≡ u → (q : EventRow) (o : TextRange) → q.part ≡ parts.Text raw o → o.from ≡ length s → o.to ≡ length s + length t
       → Edits u pieces (set rows (next + n) q) done (next + n) parent (pair_of e.done (with_joined n t e.left))
   joins utf8 u bytes_are q o part from to =
       let front = take done rows in

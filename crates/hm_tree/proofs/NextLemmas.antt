@@ -1,8 +1,9 @@
 -- The row that an editor comes to next is there, and it stands for the event that a step asks for.
-use Rattle.std.proofs.Common.{◌≡◌, ℕ, ◌+◌, ◌<◌, Bool, List, [], ◌∷◌, length, drop, get_or, Option, refl, subst, arith}
+use Rattle.std.proofs.Common.{◌≡◌, ℕ, ◌+◌, ◌<◌, Bool, List, [], ◌∷◌, length, drop, get_or, Option, None, refl, subst, arith}
 use Rattle.hm_base.specs.Walks.{Event}
 use Rattle.hm_tree.specs.Edits.{Edited, HasAttribute, IsCut, IsEditing}
 use Rattle.hm_tree.specs.Rows.{event_at, events_of}
+use Rattle.hm_tree.specs.Starts.{own_of}
 use Rattle.hm_tree.specs.declared.pieces.AttributePieces.{AttributePieces}
 use Rattle.hm_tree.specs.declared.pieces.TextRange.{TextRange}
 use Rattle.hm_tree.specs.declared.rows.RowPart.{RowPart}
@@ -24,25 +25,27 @@ module _ (s : List ℕ) (pieces : List AttributePieces) (rows : List EventRow) (
 
   module _ (r : EventRow) (is : r ≡ get_or rows next r) where
     -- a text is next where one is cut
-    pub no_cut : ((p : TextRange) (raw : Bool) → r.part ≡ parts.Text p raw → ⊥) → (from to : ℕ) → IsCut e.left from to → ⊥
+    pub no_cut : ((raw : Bool) (p : TextRange) → r.part ≡ parts.Text raw p → ⊥) → (from to : ℕ) → IsCut e.left from to → ⊥
     no_cut other from to cut =
         by_part r.part refl (subst (λ l. IsCut l from to) (first_is s pieces rows done next parent h e view r is (cut_there from to cut)) cut)
       where
         by_part : (part : RowPart) → r.part ≡ part → IsCut (event_at s pieces part ∷ rest) from to → ⊥
         by_part (parts.Doctype legacy) was c = c
-        by_part (parts.Start foreign count name first) was c = c
-        by_part (parts.Text p raw) was c = other p raw was
+        by_part (parts.Start foreign len count from first) was c = c
+        by_part (parts.LongStart foreign count first) was c = c
+        by_part (parts.Text raw p) was c = other raw p was
         by_part (parts.Comment p) was c = c
-        by_part (parts.End name foreign) was c = c
+        by_part (parts.End foreign name) was c = c
 
     -- a start is next where it has an attribute
-    pub no_attribute : ((foreign : Bool) (count : ℕ) (name : TextRange) (first : ℕ) → r.part ≡ parts.Start foreign count name first → ⊥) → (at : ℕ) → HasAttribute e.left at → ⊥
-    no_attribute other at has =
-        by_part r.part refl (subst (λ l. HasAttribute l at) (first_is s pieces rows done next parent h e view r is (row_there s pieces rows done next parent h e view at has)) has)
+    pub no_attribute : own_of r.part ≡ None → (at : ℕ) → HasAttribute e.left at → ⊥
+    no_attribute none at has =
+        by_part r.part none (subst (λ l. HasAttribute l at) (first_is s pieces rows done next parent h e view r is (row_there s pieces rows done next parent h e view at has)) has)
       where
-        by_part : (part : RowPart) → r.part ≡ part → HasAttribute (event_at s pieces part ∷ rest) at → ⊥
+        by_part : (part : RowPart) → own_of part ≡ None → HasAttribute (event_at s pieces part ∷ rest) at → ⊥
         by_part (parts.Doctype legacy) was c = c
-        by_part (parts.Start foreign count name first) was c = other foreign count name first was
-        by_part (parts.Text p raw) was c = c
+        by_part (parts.Start foreign len count from first) was c = absurd (cc)
+        by_part (parts.LongStart foreign count first) was c = absurd (cc)
+        by_part (parts.Text raw p) was c = c
         by_part (parts.Comment p) was c = c
-        by_part (parts.End name foreign) was c = c
+        by_part (parts.End foreign name) was c = c

@@ -1,40 +1,53 @@
 -- Tables of rows with one more row, or with more bytes in the text that stands last.
-use Rattle.std.proofs.Common.{◌≡◌, ℕ, zero, suc, ◌+◌, ◌-◌, ◌^◌, ◌<◌, ◌≤◌, ◌&&◌, Bool, true, List, [], ◌∷◌, ◌++◌, length, drop, map, get_or, slice_get, slice_range, All, IsUtf8, Some, option_map, sym, ap, subst, ◌∙◌, refl, arith, length-append, length-take, length-drop}
+use Rattle.std.proofs.Common.{◌≡◌, ℕ, zero, suc, ◌+◌, ◌-◌, ◌^◌, ◌<◌, ◌≤◌, ◌&&◌, Bool, true, List, [], ◌∷◌, ◌++◌, length, drop, map, get_or, slice_get, slice_range, All, IsUtf8, Some, option_map, sym, ap, ap₂, subst, ◌∙◌, refl, arith, length-append, length-take, length-drop}
 use Rattle.std.proofs.lemmas.Bool.{and_parts}
-use Rattle.std.proofs.lemmas.List.{map-append, length-map, append-nil}
+use Rattle.std.proofs.lemmas.List.{get_or_append_left, map-append, length-map, append-nil}
 use Rattle.std.proofs.lemmas.List.Elements.{All-append}
 use Rattle.std.proofs.lemmas.Option.{slice_get-map, slice_get_read}
 use Rattle.std.proofs.lemmas.Str.{IsUtf8-append, IsUtf8-from_is_utf8, is_utf8-from_IsUtf8}
 use Rattle.std.specs.Str.{is_utf8}
-use Rattle.hm_base.specs.Walks.{Event, text, has_distinct_names, event_size, walk_size}
+use Rattle.hm_base.specs.Walks.{Event, start, text, has_distinct_names, event_size, walk_size}
 use Rattle.hm_tree.specs.Trees.{IsTold, is_sound, are_sound, innermost, parent_of}
 use Rattle.hm_tree.specs.Attributes.{are_texts}
-use Rattle.hm_tree.specs.Pieces.{HasPieces, IsPiece, ArePiecesShown, attributes_in, bytes_of}
+use Rattle.hm_tree.specs.Pieces.{HasPieces, IsPiece, ArePiecesShown, attributes_in, bytes_of, name_of}
 use Rattle.hm_tree.specs.Rows.{IsInside, AreInside, IsAfter, own_end, HaveOwn, ReachesEnd, LastReachesEnd, CanShow, IsTable, IsRowTable, event_at, events_of, parents_from}
+use Rattle.hm_tree.specs.Starts.{name_at, name_before, name_from, no_piece}
 use Rattle.hm_tree.specs.declared.pieces.AttributePieces.{AttributePieces}
 use Rattle.hm_tree.specs.declared.pieces.TextRange.{TextRange}
 use Rattle.hm_tree.specs.declared.rows.RowPart.{RowPart}
 use Rattle.hm_tree.specs.declared.rows.RowPart.TheVariants as parts
 use Rattle.hm_tree.specs.declared.rows.EventRow.{EventRow}
+use Rattle.hm_tree.proofs.PartLemmas.{IsStart, after_fewer, ends_within}
 use Rattle.hm_tree.proofs.PieceLemmas.{IsPiece-append, IsPiece-longer, bytes_of-append, bytes_of-longer}
 use Rattle.hm_tree.proofs.ShownLemmas.{All-slice_range, HasPieces-append, attributes_in-append, slice_range-append}
 use Rattle.hm_tree.proofs.WalkLemmas.{are_sound-push, are_sound-parts, are_sound-at, parents_from-push, parents_from-at, walk_size-push}
 
 pub inside_stays : (s more : List ℕ) (n m : ℕ) (part : RowPart) → IsUtf8 more → n ≤ m → IsInside s n part → IsInside (s ++ more) m part
 inside_stays s more n m (parts.Doctype legacy) utf8 le h = tt
-inside_stays s more n m (parts.Start foreign count name first) utf8 le h = (IsPiece-append s more name utf8 h.0, omega (arith, h.1))
-inside_stays s more n m (parts.Text p raw) utf8 le h = IsPiece-append s more p utf8 h
+inside_stays s more n m (parts.Start foreign len count from first) utf8 le h = (IsPiece-append s more (name_from from len) utf8 h.0, omega (arith, h.1))
+inside_stays s more n m (parts.LongStart foreign count first) utf8 le h = (h.0, omega (arith, h.1))
+inside_stays s more n m (parts.Text raw p) utf8 le h = IsPiece-append s more p utf8 h
 inside_stays s more n m (parts.Comment p) utf8 le h = IsPiece-append s more p utf8 h
-inside_stays s more n m (parts.End name foreign) utf8 le h = IsPiece-append s more name utf8 h
+inside_stays s more n m (parts.End foreign name) utf8 le h = IsPiece-append s more name utf8 h
+
+attributes_stay : (s more : List ℕ) (pieces extra : List AttributePieces) (first count : ℕ) → first + count ≤ length pieces → All (HasPieces s) pieces
+    → attributes_in (s ++ more) (slice_range (pieces ++ extra) first (first + count)) ≡ attributes_in s (slice_range pieces first (first + count))
+attributes_stay s more pieces extra first count range all =
+    ap (attributes_in (s ++ more)) (slice_range-append pieces extra first (first + count) (omega arith) range)
+    ∙ attributes_in-append s more (slice_range pieces first (first + count)) (All-slice_range (HasPieces s) pieces first (first + count) all)
 
 event_stays : (s more : List ℕ) (pieces extra : List AttributePieces) (part : RowPart) → IsInside s (length pieces) part → All (HasPieces s) pieces → event_at (s ++ more) (pieces ++ extra) part ≡ event_at s pieces part
 event_stays s more pieces extra (parts.Doctype legacy) h all = refl
-event_stays s more pieces extra (parts.Start foreign count name first) h all =
-    let inside = All-slice_range (HasPieces s) pieces first (first + count) all in
-    rw (bytes_of-append s more name h.0, slice_range-append pieces extra first (first + count) (omega arith) h.1, attributes_in-append s more (slice_range pieces first (first + count)) inside) refl
-event_stays s more pieces extra (parts.Text p raw) h all = rw (bytes_of-append s more p h) refl
+event_stays s more pieces extra (parts.Start foreign len count from first) h all =
+    ap₂ (λ n attributes. start n foreign attributes) (bytes_of-append s more (name_from from len) h.0) (attributes_stay s more pieces extra first count h.1 all)
+event_stays s more pieces extra (parts.LongStart foreign count first) h all =
+    let within : first - 1 < length pieces = omega (arith, h.0, h.1) in
+    let named : bytes_of (s ++ more) (name_before (pieces ++ extra) first) ≡ bytes_of s (name_before pieces first) =
+    ap (λ a. bytes_of (s ++ more) (name_of a)) (get_or_append_left pieces extra no_piece (first - 1) within) ∙ bytes_of-append s more (name_before pieces first) (all (first - 1) no_piece within).0 in
+    ap₂ (λ n attributes. start n foreign attributes) named (attributes_stay s more pieces extra first count h.1 all)
+event_stays s more pieces extra (parts.Text raw p) h all = rw (bytes_of-append s more p h) refl
 event_stays s more pieces extra (parts.Comment p) h all = rw (bytes_of-append s more p h) refl
-event_stays s more pieces extra (parts.End name foreign) h all = rw (bytes_of-append s more name h) refl
+event_stays s more pieces extra (parts.End foreign name) h all = rw (bytes_of-append s more name h) refl
 
 -- the events of a table stay, where bytes and attributes are appended to those that it has
 pub events_of-append : (s more : List ℕ) (pieces extra : List AttributePieces) (rows : List EventRow) → AreInside s (length pieces) rows → All (HasPieces s) pieces → events_of (s ++ more) (pieces ++ extra) rows ≡ events_of s pieces rows
@@ -57,22 +70,8 @@ IsInside-at s n (r ∷ rows) (suc i) d h within = IsInside-at s n rows i d h.1 (
 
 -- one more row, whose attributes stand after those of all rows
 HaveOwn-push : (s : List ℕ) (n m : ℕ) (rows : List EventRow) (r : EventRow) → n ≤ m → AreInside s m rows → HaveOwn n rows → IsAfter m r.part → HaveOwn n (rows ++ r ∷ [])
-HaveOwn-push s n m [] r le inside own new = (sooner r.part new, tt)
-  where
-    sooner : (part : RowPart) → IsAfter m part → IsAfter n part
-    sooner (parts.Doctype legacy) h = tt
-    sooner (parts.Start foreign count name first) h = omega (arith, le, h)
-    sooner (parts.Text p raw) h = tt
-    sooner (parts.Comment p) h = tt
-    sooner (parts.End name foreign) h = tt
-HaveOwn-push s n m (q ∷ rows) r le inside own new = (own.0, HaveOwn-push s (own_end n q.part) m rows r (within q.part inside.0) inside.1 own.1 new)
-  where
-    within : (part : RowPart) → IsInside s m part → own_end n part ≤ m
-    within (parts.Doctype legacy) h = le
-    within (parts.Start foreign count name first) h = h.1
-    within (parts.Text p raw) h = le
-    within (parts.Comment p) h = le
-    within (parts.End name foreign) h = le
+HaveOwn-push s n m [] r le inside own new = (after_fewer n m r.part le new, tt)
+HaveOwn-push s n m (q ∷ rows) r le inside own new = (own.0, HaveOwn-push s (own_end n q.part) m rows r (ends_within s n m q.part le inside.0) inside.1 own.1 new)
 
 -- another row in place of the last one, where both have no attributes
 HaveOwn-parts : (n : ℕ) (rows : List EventRow) (r q : EventRow) → ((k : ℕ) → IsAfter k q.part) → HaveOwn n (rows ++ r ∷ []) → HaveOwn n (rows ++ q ∷ [])
@@ -103,7 +102,7 @@ pub record IsNewRow (more t : List ℕ) (extra kept : List AttributePieces) (w :
   pub room : length w + 1 < 2 ^ 29
   pub bytes : walk_size w + event_size e < 2 ^ 29
   pub size : length more ≤ event_size e
-  pub count : length extra ≤ event_size e + 1
+  pub count : length extra ≤ event_size e + 2
 
 -- the bytes, attributes and rows are a table for these events
 abbrev pub IsTableOf : List ℕ → List AttributePieces → List EventRow → List Event → Type 0
@@ -135,7 +134,7 @@ module _ (s more : List ℕ) (pieces extra : List AttributePieces) (rows : List 
       }
 
 -- there are fewer than 2 ^ 32 attributes
-pub row_count : {s : List ℕ} {pieces : List AttributePieces} {rows : List EventRow} → IsRowTable s pieces rows → length pieces < 2 ^ 30
+pub row_count : {s : List ℕ} {pieces : List AttributePieces} {rows : List EventRow} → IsRowTable s pieces rows → length pieces < 2 ^ 31
 row_count {s} {pieces} {rows} table = omega (arith, table.count, table.told.bytes, table.told.events, length-map rows (λ q. event_at s pieces q.part))
 
 -- one more row
@@ -150,16 +149,16 @@ IsTableOf-push s more t pieces extra kept rows w r e bytes list view table =
 
 -- the row of a text that stands last, with more bytes
 abbrev pub longer : EventRow → TextRange → Bool → EventRow
-longer r p raw = record r { part = parts.Text p raw }
+longer r p raw = record r { part = parts.Text raw p }
 
 module _ (s more : List ℕ) (pieces : List AttributePieces) (rows : List EventRow) (r : EventRow) (p q : TextRange) (raw : Bool)
-    (table : IsRowTable s pieces (rows ++ r ∷ [])) (is : r.part ≡ parts.Text p raw) (utf8 : IsUtf8 more)
+    (table : IsRowTable s pieces (rows ++ r ∷ [])) (is : r.part ≡ parts.Text raw p) (utf8 : IsUtf8 more)
     (bytes : walk_size (events_of s pieces (rows ++ r ∷ [])) + length more < 2 ^ 29) (from : q.from ≡ p.from) (to : q.to ≡ length (s ++ more)) where
   piece : IsPiece s p
-  piece = let h : IsInside s (length pieces) (parts.Text p raw) = subst (IsInside s (length pieces)) is (AreInside-parts s (length pieces) rows r table.inside).1 in h
+  piece = let h : IsInside s (length pieces) (parts.Text raw p) = subst (IsInside s (length pieces)) is (AreInside-parts s (length pieces) rows r table.inside).1 in h
 
   ends : p.to ≡ length s
-  ends = let h : ReachesEnd s (parts.Text p raw) = subst (ReachesEnd s) is (ReachesEnd-last s rows r table.last) in h
+  ends = let h : ReachesEnd s (parts.Text raw p) = subst (ReachesEnd s) is (ReachesEnd-last s rows r table.last) in h
 
   before : events_of s pieces (rows ++ r ∷ []) ≡ events_of s pieces rows ++ text (bytes_of s p) raw ∷ []
   before = map-append (λ t. event_at s pieces t.part) rows (r ∷ []) ∙ rw is refl
@@ -216,15 +215,16 @@ of_rows table = record {
 }
 
 -- a start that can be shown shows its attributes
-pub shown_attributes : (s : List ℕ) (pieces : List AttributePieces) (foreign : Bool) (count : ℕ) (name : TextRange) (first : ℕ) → CanShow s pieces (parts.Start foreign count name first) → ArePiecesShown s (slice_range pieces first (first + count))
-shown_attributes s pieces foreign count name first h =
+pub shown_attributes : (s : List ℕ) (pieces : List AttributePieces) (part : RowPart) (first count : ℕ) → IsStart part first count → CanShow s pieces part → ArePiecesShown s (slice_range pieces first (first + count))
+shown_attributes s pieces part first count is h =
     let own = slice_range pieces first (first + count) in
-    let both = and_parts (is_utf8 (bytes_of s name) && are_texts (attributes_in s own)) (has_distinct_names (attributes_in s own)) h.sound in
+    let n = bytes_of s (name_at pieces part) in
+    let both = and_parts (is_utf8 n && are_texts (attributes_in s own)) (has_distinct_names (attributes_in s own)) (ap is_sound (sym (is.event s pieces)) ∙ h.sound) in
     record {
       inside = All-slice_range (HasPieces s) pieces first (first + count) h.attributes;
-      texts = (and_parts (is_utf8 (bytes_of s name)) (are_texts (attributes_in s own)) both.0).1;
+      texts = (and_parts (is_utf8 n) (are_texts (attributes_in s own)) both.0).1;
       distinct = both.1;
-      count = omega (arith, length-take (first + count - first) (drop first pieces), length-drop first pieces, h.inside.1, h.few);
+      count = omega (arith, length-take (first + count - first) (drop first pieces), length-drop first pieces, is.within s (length pieces) h.inside, h.few);
     }
 
 -- row i of a table whose events are w

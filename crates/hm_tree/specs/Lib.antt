@@ -8,6 +8,7 @@ pub mod Parents
 pub mod Pieces
 pub mod Rows
 pub mod Sources
+pub mod Starts
 pub mod Tokens
 pub mod Trees
 pub mod Views

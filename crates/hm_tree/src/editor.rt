@@ -12,6 +12,7 @@ use crate::parent::Parent;
 use crate::pieces::{AttributePieces, TextRange};
 use crate::rows::{EventRow, RowPart};
 use crate::shown::show;
+use crate::starts::{fewer, own_of};
 use crate::table::{Table, empty_in_part, move_in_part};
 use crate::{EventView, Tree};
 use hm_base::Memory;
@@ -181,21 +182,10 @@ impl Editor {
     {
         let next = self.next as usize;
         let row = self.rows[next];
-        if let RowPart::Start {
-            foreign,
-            count,
-            name,
-            first,
-        } = row.part
-        {
-            move_in_part(&mut self.attributes, first, count, at);
+        if let Some(own) = own_of(row.part) {
+            move_in_part(&mut self.attributes, own.first, own.count, at);
             self.rows[next] = EventRow {
-                part: RowPart::Start {
-                    foreign,
-                    count: count - 1,
-                    name,
-                    first,
-                },
+                part: fewer(row.part),
                 parent: row.parent,
             };
         }
@@ -207,8 +197,8 @@ impl Editor {
         ensures { self.new ≡ record { done = self.old.done; left = with_attributes (without_value at) self.old.left } }
     {
         let row = self.rows[self.next as usize];
-        if let RowPart::Start { count, first, .. } = row.part {
-            empty_in_part(&mut self.attributes, first, count, at);
+        if let Some(own) = own_of(row.part) {
+            empty_in_part(&mut self.attributes, own.first, own.count, at);
         }
     }
 
@@ -225,7 +215,7 @@ impl Editor {
         let text = append_last(&mut self.text, text)?;
         self.next += count;
         self.rows[self.next as usize] = EventRow {
-            part: RowPart::Text { text, raw },
+            part: RowPart::Text { raw, text },
             parent: row.parent,
         };
         Ok(())
@@ -238,13 +228,13 @@ impl Editor {
     {
         let at = self.next as usize;
         let row = self.rows[at];
-        if let RowPart::Text { text, raw } = row.part {
+        if let RowPart::Text { raw, text } = row.part {
             let text = TextRange {
                 from: text.from + from as u32,
                 to: text.from + to as u32,
             };
             self.rows[at] = EventRow {
-                part: RowPart::Text { text, raw },
+                part: RowPart::Text { raw, text },
                 parent: row.parent,
             };
         }
@@ -263,7 +253,7 @@ impl Editor {
         };
         let text = append_last(&mut self.text, text)?;
         self.rows[at] = EventRow {
-            part: RowPart::Text { text, raw },
+            part: RowPart::Text { raw, text },
             parent: row.parent,
         };
         Ok(())
@@ -294,7 +284,7 @@ fn parent_behind(rows: &[EventRow], parent: Option<u32>, part: RowPart, at: u32)
     ensures { result ≡ edits.parent_behind rows.now parent part at }
 {
     match part {
-        RowPart::Start { .. } => Some(at),
+        RowPart::Start { .. } | RowPart::LongStart { .. } => Some(at),
         RowPart::End { .. } => match parent {
             Some(start) => rows[start as usize].parent.index(),
             None => None,

@@ -13,6 +13,7 @@ mod pieces;
 mod rows;
 mod shown;
 mod sources;
+mod starts;
 mod table;
 mod tokens;
 mod tree;

@@ -2,6 +2,7 @@
 ghost use Rattle.std.specs.Prelude.{◌≡◌};
 ghost use Rattle.hm_tree.specs.Pairs.{HasPair, pieces_of};
 ghost use Rattle.hm_tree.specs.Pieces.{IsPiece, bytes_of, name_of, value_of};
+ghost use Rattle.hm_tree.specs.Starts.{name_from};
 
 // The bytes of a text from one place up to another.
 #[derive(Clone, Copy, Debug)]
@@ -53,6 +54,15 @@ pub(crate) fn cut(text: &str, piece: TextRange) -> &str
     ensures { result.now ≡ bytes_of text.now piece }
 {
     &text[piece.from as usize..piece.to as usize]
+}
+
+// The bytes of a name of so many bytes.
+pub(crate) fn cut_short(text: &str, from: u32, len: u8) -> &str
+    requires { IsPiece text.now (name_from from len) }
+    ensures { result.now ≡ bytes_of text.now (name_from from len) }
+{
+    let from = from as usize;
+    &text[from..from + usize::from(len)]
 }
 
 // The name of an attribute.

@@ -7,38 +7,47 @@ ghost use Rattle.hm_tree.specs.Rows.{ends_in_text, extended};
 ghost use Rattle.hm_tree.specs.Sources.{listed};
 ghost use Rattle.hm_tree.specs.Trees.{IsTold, end_of, innermost, last_agrees, parent_of};
 
-use crate::appended::{append, append_attributes, text_len};
+use crate::appended::{append, text_len};
 use crate::parent::Parent;
 use crate::pieces::{AttributePieces, TextRange};
 use crate::sources::{AttributeSource, count};
+use crate::starts::{end_part, start_part};
 use crate::table::Table;
 use hm_base::Memory;
 use std::alloc::Global;
 use std::marker::Model;
 
-// An event, with pieces of the table's text, and for a start the index of its first attribute and how many there are.
+// An event, with pieces of the table's text, and for a start the index of its first attribute and how many there are. What
+// takes less than four bytes stands first, beside the variant's mark, where it makes no row longer.
 #[derive(Clone, Copy, Debug)]
 pub(crate) enum RowPart {
     Doctype {
         legacy: bool,
     },
-    // Flag and count stand first, beside the variant's mark, where they make no row longer.
+    // Its name has `len` bytes, from one place on.
     Start {
         foreign: bool,
+        len: u8,
+        count: u8,
+        from: u32,
+        first: u32,
+    },
+    // A start whose name or attributes are too many for a byte each. Its name is the piece directly before its attributes.
+    LongStart {
+        foreign: bool,
         count: u16,
-        name: TextRange,
         first: u32,
     },
     Text {
-        text: TextRange,
         raw: bool,
+        text: TextRange,
     },
     Comment {
         text: TextRange,
     },
     End {
-        name: TextRange,
         foreign: bool,
+        name: TextRange,
     },
 }
 
@@ -50,7 +59,7 @@ pub(crate) struct EventRow {
 }
 
 // A page has many events and attributes, so their sizes are checked here.
-const _: () = prove!(size_of::<EventRow>() == 20);
+const _: () = prove!(size_of::<EventRow>() == 16);
 
 const _: () = prove!(size_of::<AttributePieces>() == 12);
 
@@ -150,14 +159,14 @@ impl Rows {
             name,
             attrs,
         )?;
-        let name = append(&mut self.text, name);
-        let first = append_attributes(&mut self.text, &mut self.attributes, attrs);
-        let part = RowPart::Start {
+        let part = start_part(
+            &mut self.text,
+            &mut self.attributes,
+            name,
             foreign,
             count,
-            name,
-            first,
-        };
+            attrs,
+        )?;
         let parent = Parent::of(parent);
         self.rows.push(EventRow { part, parent }).unwrap();
         Ok(())
@@ -177,7 +186,7 @@ impl Rows {
     {
         row_room(&mut self.text, &mut self.rows, text.len())?;
         let text = append(&mut self.text, text);
-        let part = RowPart::Text { text, raw };
+        let part = RowPart::Text { raw, text };
         let parent = Parent::of(parent);
         self.rows.push(EventRow { part, parent }).unwrap();
         Ok(())
@@ -242,7 +251,7 @@ impl Rows {
     {
         let last = self.rows.len() - 1;
         let row = self.rows[last];
-        let RowPart::Text { text, raw } = row.part else {
+        let RowPart::Text { raw, text } = row.part else {
             unreachable!()
         };
         self.text.push_str(more)?;
@@ -250,7 +259,7 @@ impl Rows {
             from: text.from,
             to: self.text.len() as u32,
         };
-        let part = RowPart::Text { text, raw };
+        let part = RowPart::Text { raw, text };
         self.rows[last] = EventRow {
             part,
             parent: row.parent,
@@ -266,10 +275,7 @@ impl Rows {
         ensures err { OnErr result (self.new ≡ self.old) }
     {
         let row = self.rows[start as usize];
-        let RowPart::Start { name, foreign, .. } = row.part else {
-            unreachable!()
-        };
-        let part = RowPart::End { name, foreign };
+        let part = end_part(self.attributes.as_slice(), row.part);
         let parent = Parent::of(Some(start));
         self.rows.push(EventRow { part, parent })?;
         Ok(())

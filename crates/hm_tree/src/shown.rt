@@ -3,7 +3,7 @@ ghost use Rattle.std.specs.Prelude.{◌≡◌, ◌+◌, ◌≤◌, length, slice
 ghost use Rattle.hm_tree.specs.Rows.{CanShow, event_at};
 ghost use Rattle.hm_tree.specs.Views.{event_of};
 
-use crate::pieces::{AttributePieces, cut};
+use crate::pieces::{AttributePieces, cut, cut_short};
 use crate::rows::RowPart;
 use crate::{AttrsView, EventView};
 
@@ -20,22 +20,32 @@ pub(crate) fn show<'t>(
         RowPart::Doctype { legacy } => EventView::Doctype { legacy },
         RowPart::Start {
             foreign,
+            len,
             count,
-            name,
+            from,
             first,
         } => EventView::Start {
-            name: cut(text, name),
+            name: cut_short(text, from, len),
+            foreign,
+            attrs: AttrsView::of(text, part_of(attributes, first, u16::from(count))),
+        },
+        RowPart::LongStart {
+            foreign,
+            count,
+            first,
+        } => EventView::Start {
+            name: cut(text, attributes[first as usize - 1].name()),
             foreign,
             attrs: AttrsView::of(text, part_of(attributes, first, count)),
         },
-        RowPart::Text { text: piece, raw } => EventView::Text {
+        RowPart::Text { raw, text: piece } => EventView::Text {
             text: cut(text, piece),
             raw,
         },
         RowPart::Comment { text: piece } => EventView::Comment {
             text: cut(text, piece),
         },
-        RowPart::End { name, foreign } => EventView::End {
+        RowPart::End { foreign, name } => EventView::End {
             name: cut(text, name),
             foreign,
         },

@@ -8,8 +8,9 @@ ghost use Rattle.hm_tree.specs.Views.{event_of};
 
 use crate::EventView;
 use crate::pieces::AttributePieces;
-use crate::rows::{EventRow, RowPart};
+use crate::rows::EventRow;
 use crate::shown::show;
+use crate::starts::own_of;
 use std::marker::Model;
 
 // A list of events. Bytes and attributes may be there that no row points at.
@@ -88,9 +89,9 @@ impl Table {
         ensures { self.new ≡ put_last self.old i at }
     {
         let row = self.rows[i as usize];
-        if let RowPart::Start { count, first, .. } = row.part {
-            if at < u32::from(count) {
-                move_in_part(&mut self.attributes, first, count, at);
+        if let Some(own) = own_of(row.part) {
+            if at < u32::from(own.count) {
+                move_in_part(&mut self.attributes, own.first, own.count, at);
             }
         }
     }

@@ -15,13 +15,13 @@ overflow_cast-text c =
 
 cut_so : (c : goal.After-self-1)
     → Edits (string_bytes c.self.inside.text) c.self.inside.attributes.items
-    (set c.self.inside.rows.items c.self.inside.next (record { part = Text (record { from = c.in-Text.text.from + c.args.from; to = c.in-Text.text.from + c.args.to }) c.in-Text.raw; parent = c.index-row.result.now.parent }))
+    (set c.self.inside.rows.items c.self.inside.next (record { part = Text c.in-Text.raw (record { from = c.in-Text.text.from + c.args.from; to = c.in-Text.text.from + c.args.to }); parent = c.index-row.result.now.parent }))
     c.self.inside.done c.self.inside.next c.self.inside.parent (record { done = c.args.self.now.done; left = with_first_cut c.args.from c.args.to c.args.self.now.left })
 cut_so c =
     let i = c.self.inside in
     let range : TextRange = record { from = c.in-Text.text.from + c.args.from; to = c.in-Text.text.from + c.args.to } in
     cuts (string_bytes i.text) i.attributes.items i.rows.items i.done i.next i.parent c.self.invariant c.args.self.now c.self.view_is c.index-row.result.now c.index-row.ensures c.in-Text.text c.in-Text.raw c.in-Text.is c.args.from c.args.to c.requires (IsUtf8-string_bytes i.text)
-    (record { part = Text range c.in-Text.raw; parent = c.index-row.result.now.parent }) range refl refl
+    (record { part = Text c.in-Text.raw range; parent = c.index-row.result.now.parent }) range refl refl
 
 pub invariant_of-self : goal.invariant_of-self
 invariant_of-self c = (cut_so c).0

@@ -7,13 +7,13 @@ use Rattle.hm_tree.proofs.editor.Editor.join.Goals as goal
 
 join_so : (c : goal.After-self-2-1)
     → Edits (string_bytes c.append_last.new.text) c.self.inside.attributes.items
-    (set c.self.inside.rows.items (c.self.inside.next + c.args.count) (record { part = Text c.in_ok-text.text c.in-Text.raw; parent = c.index-row.result.now.parent }))
+    (set c.self.inside.rows.items (c.self.inside.next + c.args.count) (record { part = Text c.in-Text.raw c.in_ok-text.text; parent = c.index-row.result.now.parent }))
     c.self.inside.done (c.self.inside.next + c.args.count) c.self.inside.parent (record { done = c.args.self.now.done; left = with_joined c.args.count c.args.text.now c.args.self.now.left })
 join_so c =
     let i = c.self.inside in
     let there = there_to_join (string_bytes i.text) i.attributes.items i.rows.items i.done i.next i.parent c.self.invariant c.args.self.now c.self.view_is c.args.count c.args.text.now c.requires in
     joins (string_bytes i.text) i.attributes.items i.rows.items i.done i.next i.parent c.self.invariant c.args.self.now c.self.view_is c.index-row.result.now c.index-row.ensures there c.in-Text.text c.in-Text.raw c.in-Text.is
-    c.args.count c.args.text.now c.requires c.utf8.text (string_bytes c.append_last.new.text) (sym c.in_ok-text.ensures.bytes) (record { part = Text c.in_ok-text.text c.in-Text.raw; parent = c.index-row.result.now.parent }) c.in_ok-text.text refl
+    c.args.count c.args.text.now c.requires c.utf8.text (string_bytes c.append_last.new.text) (sym c.in_ok-text.ensures.bytes) (record { part = Text c.in-Text.raw c.in_ok-text.text; parent = c.index-row.result.now.parent }) c.in_ok-text.text refl
     c.in_ok-text.ensures.from c.in_ok-text.ensures.to
 
 pub invariant_of-self-2 : goal.invariant_of-self-2

@@ -1,0 +1,170 @@
+//! The rows of starts. A name and the number of attributes take a byte each there; a start for which that is too little has a
+//! piece for its name before its attributes.
+ghost use Rattle.std.specs.Prelude.{◌≡◌, ◌+◌, ◌^◌, ◌<◌, ◌≤◌, true, length, string_bytes, string_len, string_capacity, vec_len, vec_capacity, IfSome, IfOk, OnErr};
+ghost use Rattle.hm_base.specs.Walks.{attributes_size};
+ghost use Rattle.hm_tree.specs.Attributes.{are_texts};
+ghost use Rattle.hm_tree.specs.Rows.{IsStartAppended};
+ghost use Rattle.hm_tree.specs.Sources.{listed};
+ghost use Rattle.hm_tree.specs.Starts as parts;
+ghost use Rattle.hm_tree.specs.Starts.{HasName};
+
+use crate::appended::{append, append_attributes};
+use crate::pieces::{AttributePieces, TextRange};
+use crate::rows::RowPart;
+use crate::sources::AttributeSource;
+use hm_base::Memory;
+
+// The index of a start's first attribute, and how many it has.
+#[derive(Clone, Copy)]
+pub(crate) struct Own {
+    pub(crate) first: u32,
+    pub(crate) count: u16,
+}
+
+// The attributes of a row, where it is a start.
+#[inline(always)]
+pub(crate) fn own_of(part: RowPart) -> Option<Own>
+    ensures { result ≡ parts.own_of part }
+{
+    match part {
+        RowPart::Start { count, first, .. } => Some(Own {
+            first,
+            count: u16::from(count),
+        }),
+        RowPart::LongStart { count, first, .. } => Some(Own { first, count }),
+        _ => None,
+    }
+}
+
+// The same start with one attribute fewer.
+pub(crate) fn fewer(part: RowPart) -> RowPart
+    requires { IfSome (parts.own_of part) (λ own. 0 < own.count) }
+    ensures { result ≡ parts.fewer part }
+{
+    match part {
+        RowPart::Start {
+            foreign,
+            len,
+            count,
+            from,
+            first,
+        } => RowPart::Start {
+            foreign,
+            len,
+            count: count - 1,
+            from,
+            first,
+        },
+        RowPart::LongStart {
+            foreign,
+            count,
+            first,
+        } => RowPart::LongStart {
+            foreign,
+            count: count - 1,
+            first,
+        },
+        _ => part,
+    }
+}
+
+// The end of a start.
+#[inline(always)]
+pub(crate) fn end_part(attributes: &[AttributePieces], part: RowPart) -> RowPart
+    requires { HasName attributes.now part }
+    ensures { result ≡ parts.end_part attributes.now part }
+{
+    match part {
+        RowPart::Start {
+            foreign,
+            len,
+            from,
+            ..
+        } => RowPart::End {
+            foreign,
+            name: TextRange {
+                from,
+                to: from + u32::from(len),
+            },
+        },
+        RowPart::LongStart { foreign, first, .. } => RowPart::End {
+            foreign,
+            name: attributes[first as usize - 1].name(),
+        },
+        _ => part,
+    }
+}
+
+// Appends name and attributes of a start for which there is room, and returns its row.
+#[inline(always)]
+pub(crate) fn start_part(
+    text: &mut String,
+    attributes: &mut Vec<AttributePieces>,
+    name: &str,
+    foreign: bool,
+    count: u16,
+    attrs: &AttributeSource<'_>,
+) -> Result<RowPart, Memory>
+    requires count { count ≡ length (listed attrs.now) }
+    requires texts { are_texts (listed attrs.now) ≡ true }
+    requires room { string_len text.old + (length name.now + attributes_size (listed attrs.now)) ≤ string_capacity text.old }
+    requires places { length (string_bytes text.old) + (length name.now + attributes_size (listed attrs.now)) < 2 ^ 32 }
+    requires rows { vec_len attributes.old + length (listed attrs.now) ≤ vec_capacity attributes.old }
+    requires indices { length attributes.old.items + length (listed attrs.now) + 1 < 2 ^ 32 }
+    ensures ok { IfOk result (λ part. IsStartAppended (string_bytes text.old) attributes.old.items name.now foreign (listed attrs.now) (string_bytes text.new) attributes.new.items part) }
+    ensures err { OnErr result ((string_bytes text.new ≡ string_bytes text.old) × (attributes.new.items ≡ attributes.old.items)) }
+{
+    if !is_short(name.len(), count) {
+        return long_part(text, attributes, name, foreign, count, attrs);
+    }
+    let len = name.len() as u8;
+    let from = append(text, name).from;
+    let first = append_attributes(text, attributes, attrs);
+    Ok(RowPart::Start {
+        foreign,
+        len,
+        count: count as u8,
+        from,
+        first,
+    })
+}
+
+// Whether a byte is enough for each.
+fn is_short(len: usize, count: u16) -> bool
+    ensures { result ≡ true → (len < 256) × (count < 256) }
+{
+    len < 256 && count < 256
+}
+
+// Does the same with a piece for the name, which takes room for one more.
+fn long_part(
+    text: &mut String,
+    attributes: &mut Vec<AttributePieces>,
+    name: &str,
+    foreign: bool,
+    count: u16,
+    attrs: &AttributeSource<'_>,
+) -> Result<RowPart, Memory>
+    requires count { count ≡ length (listed attrs.now) }
+    requires texts { are_texts (listed attrs.now) ≡ true }
+    requires room { string_len text.old + (length name.now + attributes_size (listed attrs.now)) ≤ string_capacity text.old }
+    requires places { length (string_bytes text.old) + (length name.now + attributes_size (listed attrs.now)) < 2 ^ 32 }
+    requires indices { length attributes.old.items + length (listed attrs.now) + 1 < 2 ^ 32 }
+    ensures ok { IfOk result (λ part. IsStartAppended (string_bytes text.old) attributes.old.items name.now foreign (listed attrs.now) (string_bytes text.new) attributes.new.items part) }
+    ensures err { OnErr result ((string_bytes text.new ≡ string_bytes text.old) × (attributes.new.items ≡ attributes.old.items)) }
+{
+    attributes.reserve(usize::from(count) + 1)?;
+    let TextRange { from, to } = append(text, name);
+    let piece = AttributePieces {
+        from,
+        middle: to,
+        to,
+    };
+    attributes.push(piece).unwrap();
+    let first = append_attributes(text, attributes, attrs);
+    Ok(RowPart::LongStart {
+        foreign,
+        count,
+        first,
+    })
+}

@@ -371,19 +371,29 @@ impl Case {
         self.wanted.starts_with(b"length ")
     }
 
-    /// Runs the case, and compares its status, what is printed and the files.
-    fn compared(&mut self, alloc: Global) -> CaseVerdict {
-        let mut sink = MemSink::new(alloc);
-        let status = run(alloc, self.words.as_slice(), &mut self.store, &mut sink).code();
+    /// Runs the case over its store, and returns its status and what was printed.
+    fn run_whole(&mut self, alloc: Global, sink: &mut MemSink) -> u8 {
+        run(alloc, self.words.as_slice(), &mut self.store, sink).code()
+    }
+
+    /// How a run with this status and this output ended, by these and by the files.
+    fn judged(&self, status: u8, printed: &[u8]) -> CaseVerdict {
         if status != self.status {
             CaseVerdict::OtherStatus(status)
-        } else if sink.bytes() != self.wanted.as_slice() {
+        } else if printed != self.wanted.as_slice() {
             CaseVerdict::OtherOutput
         } else if !holds(&self.store, "out", &self.out) || !holds(&self.store, "cert", &self.cert) {
             CaseVerdict::OtherFile
         } else {
             CaseVerdict::Agrees
         }
+    }
+
+    /// Runs the case, and compares its status, what is printed and the files.
+    fn compared(&mut self, alloc: Global) -> CaseVerdict {
+        let mut sink = MemSink::new(alloc);
+        let status = self.run_whole(alloc, &mut sink);
+        self.judged(status, sink.bytes())
     }
 
     /// Runs the case, and compares. Where it agrees, `check` is asked about what it has written, and it is run again with calls that fail.

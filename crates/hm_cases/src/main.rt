@@ -9,45 +9,39 @@ mod escapes;
 mod faults;
 
 use case::{Case, CaseVerdict};
-use std::alloc::Global;
+use std::alloc::{AllocError, Global};
 use std::rt::Files;
 use std::{fs, io};
 
-/// Runs a case and prints how it differs: whether it does.
-fn differs(rt: &impl Print, alloc: Global, case: &mut Case) -> io::Result<bool> {
-    match case.verdict(alloc)? {
-        CaseVerdict::Agrees => Ok(false),
-        CaseVerdict::OtherStatus(status) => {
-            let (name, wanted) = (case.name(), case.status());
-            println!(rt; "{name}: status {status}, wanted {wanted}")?;
-            Ok(true)
-        }
-        CaseVerdict::OtherOutput => {
-            let name = case.name();
-            println!(rt; "{name}: other output")?;
-            Ok(true)
-        }
-        CaseVerdict::OtherFile => {
-            let name = case.name();
-            println!(rt; "{name}: other file")?;
-            Ok(true)
-        }
-        CaseVerdict::NotShown => {
-            let name = case.name();
-            println!(rt; "{name}: check doesn't say yes")?;
-            Ok(true)
-        }
-        CaseVerdict::NotEnded => {
-            let name = case.name();
-            println!(rt; "{name}: a call that fails doesn't end the run")?;
-            Ok(true)
-        }
+/// What is told of a case that differs, whose status was wanted.
+fn told(alloc: Global, verdict: CaseVerdict, wanted: u8) -> Result<String, AllocError> {
+    match verdict {
+        CaseVerdict::Agrees => String::from_str(alloc, "as wanted"),
+        CaseVerdict::OtherStatus(status) => format!(in alloc; "status {status}, wanted {wanted}"),
+        CaseVerdict::OtherOutput => String::from_str(alloc, "other output"),
+        CaseVerdict::OtherFile => String::from_str(alloc, "other file"),
+        CaseVerdict::NotShown => String::from_str(alloc, "check doesn't say yes"),
+        CaseVerdict::NotEnded => String::from_str(alloc, "a call that fails doesn't end the run"),
         CaseVerdict::OtherPrefix(bytes) => {
-            let name = case.name();
-            println!(rt; "{name}: another answer for its first {bytes} bytes")?;
-            Ok(true)
+            format!(in alloc; "another answer for its first {bytes} bytes")
         }
     }
+}
+
+/// Prints what is told of a case.
+fn tell(rt: &impl Print, name: &str, what: &str) -> io::Result<()> {
+    println!(rt; "{name}: {what}")
+}
+
+/// Runs a case and prints how it differs: whether it does.
+fn differs(rt: &impl Print, alloc: Global, case: &mut Case) -> io::Result<bool> {
+    let verdict = case.verdict(alloc)?;
+    if verdict == CaseVerdict::Agrees {
+        return Ok(false);
+    }
+    let what = told(alloc, verdict, case.status())?;
+    tell(rt, case.name(), what.as_str())?;
+    Ok(true)
 }
 
 /// How many cases were run, and how many of them differ.
@@ -66,6 +60,23 @@ impl Counts {
     }
 }
 
+/// Runs a case at its last line, and begins another one.
+fn end_case(
+    rt: &(impl Print + AllocGlobal),
+    case: &mut Case,
+    counts: &mut Counts,
+) -> io::Result<()> {
+    counts.take(differs(rt, rt.alloc(), case)?);
+    *case = Case::new(rt.alloc());
+    Ok(())
+}
+
+/// Takes a file that stands beside the cases as the table of a case.
+fn take_table(rt: &(impl Files + AllocGlobal), case: &mut Case, name: &str) -> io::Result<()> {
+    let table = fs::read(rt, name)?;
+    case.take_file(rt.alloc(), "table", table.as_slice())
+}
+
 /// Takes a line of the file into a case. At the last line of the case it is run, and another one begins.
 fn take_line(
     rt: &(impl Print + Files + AllocGlobal),
@@ -74,14 +85,10 @@ fn take_line(
     line: &str,
 ) -> io::Result<()> {
     let (key, rest) = line.split_once(' ').unwrap_or((line, ""));
-    if key == "end" {
-        counts.take(differs(rt, rt.alloc(), case)?);
-        *case = Case::new(rt.alloc());
-        Ok(())
-    } else if key == "file" {
-        case.take_file(rt.alloc(), "table", fs::read(rt, rest)?.as_slice())
-    } else {
-        case.take(rt.alloc(), key, rest)
+    match key {
+        "end" => end_case(rt, case, counts),
+        "file" => take_table(rt, case, rest),
+        _ => case.take(rt.alloc(), key, rest),
     }
 }
 
@@ -98,16 +105,39 @@ fn take_lines(
     Ok(())
 }
 
+/// Runs the cases of a text, counts them and prints each that differs.
+fn count_cases(
+    rt: &(impl Print + Files + AllocGlobal),
+    counts: &mut Counts,
+    text: &str,
+) -> io::Result<()> {
+    let mut case = Case::new(rt.alloc());
+    take_lines(rt, &mut case, counts, text)
+}
+
+/// The same of a file.
+fn count_in(
+    rt: &(impl Print + Files + AllocGlobal),
+    counts: &mut Counts,
+    file: &str,
+) -> io::Result<()> {
+    let text = fs::read_to_string(rt, file)?;
+    count_cases(rt, counts, text.as_str())
+}
+
+/// Prints how many cases of a file were run, and how many differ.
+fn tell_counts(rt: &impl Print, file: &str, count: u32, differ: u32) -> io::Result<()> {
+    println!(rt; "{file}: {count} cases, {differ} differ")
+}
+
 /// Runs the cases of a file, and prints each that differs, and how many there are.
 fn run_cases(rt: &(impl Print + Files + AllocGlobal), file: &str) -> io::Result<()> {
-    let text = fs::read_to_string(rt, file)?;
     let mut counts = Counts {
         cases: 0,
         differ: 0,
     };
-    take_lines(rt, &mut Case::new(rt.alloc()), &mut counts, text.as_str())?;
-    let (count, differ) = (counts.cases, counts.differ);
-    println!(rt; "{file}: {count} cases, {differ} differ")
+    count_in(rt, &mut counts, file)?;
+    tell_counts(rt, file, counts.cases, counts.differ)
 }
 
 fn main(rt: HostRuntime) -> io::Result<()> {

@@ -1,14 +1,15 @@
 -- Lists and steps that are added after others.
-use Rattle.std.proofs.Common.{◌≡◌, ◌∙◌, ℕ, zero, suc, ◌<◌, List, Bool, [], ◌∷◌, ◌++◌, None, length, get_or, map, refl, sym, ap, subst, arith}
+use Rattle.std.proofs.Common.{◌≡◌, ◌∙◌, ℕ, zero, suc, ◌<◌, List, Bool, [], ◌∷◌, ◌++◌, Option, None, Some, IfSome, length, get_or, map, refl, sym, ap, subst, arith}
 use Rattle.std.proofs.lemmas.List.{get_or-map, get_or_append_left, length-map, length_push}
 use Rattle.std.proofs.lemmas.List.Elements.{All-append}
-use Rattle.std.specs.List.{All}
+use Rattle.std.specs.List.{All, HoldsAt}
 use Rattle.hm_graph.specs.declared.rules.EdgeRules.{EdgeRules}
 use Rattle.hm_refs.specs.Tables.{TableView}
 use Rattle.hm_edges.specs.declared.states.State.{State}
 use Rattle.hm_edges.specs.declared.units.Unit.{Unit}
 use Rattle.hm_edges.specs.declared.units.Unit.TheVariants.{Character}
 use Rattle.hm_graph.specs.Layers.{HaveNodes, IsLayer}
+use Rattle.hm_graph.specs.Steps.{Step}
 use Rattle.hm_graph.specs.Interned.{InternedView, none_made, list_at, made_at, BeginsNoPair, IsListOf, IsInterned, IsRow, IsMemo, Grows, IsStepOf, Leads, first_states, unknown}
 use Rattle.hm_graph.specs.declared.made.MadeStep.{MadeStep}
 use Rattle.hm_graph.specs.declared.made.KnownStep.{KnownStep}
@@ -49,6 +50,23 @@ made_is a b list unit n x grows within inside is there at =
       layer = subst (λ y. IsLayer b.table b.rules unit (list_at b list) (list_at b y.behind) y.step) (sym at)
           (layer_as a.table b.table a.rules b.rules unit (list_at a list) (list_at a x.behind) (list_at b list) (list_at b x.behind) x grows.table grows.rules from.list behind.list is);
     }
+
+-- a step that is found with a list after it is there
+pub some_made : (m : InternedView) (x : MadeStep) (found : Option ℕ) → IfSome found (λ n. n < length m.steps) → IfSome found (HoldsAt (λ y. y.step ≡ x.step) m.steps) → IfSome found (HoldsAt (λ y. y.behind ≡ x.behind) m.steps)
+    → IfSome found (λ n. made_at m n ≡ x)
+some_made m x None there step behind = tt
+some_made m x (Some n) there step behind = λ i. record { step = step none_made i; behind = behind none_made i }
+
+-- a list stays where it is
+pub list_kept : (a b : InternedView) (states : List State) (k : ℕ) → Grows a b → IsListOf a states k → IsListOf b states k
+list_kept a b states k grows is = let then : IsListOf b (list_at a k) k = grows.lists k is.there in record { there = then.there; list = then.list ∙ is.list }
+
+-- what a unit leads to from a list is its step once it is kept
+pub layer_kept : (a b : InternedView) (list : ℕ) (unit : Unit) (n : ℕ) (behind : List State) (step : Step) → Grows a b → list < length a.lists → IsLayer a.table a.rules unit (list_at a list) behind step
+    → n < length b.steps → IsListOf b behind (made_at b n).behind → (made_at b n).step ≡ step → IsStepOf b list unit n
+layer_kept a b list unit n behind step grows within is there at made =
+    let from : IsListOf b (list_at a list) list = grows.lists list within in
+    record { there = there; behind = at.there; layer = subst (λ A. A) (λ i. IsLayer (sym grows.table i) (sym grows.rules i) unit (sym from.list i) (sym at.list i) (sym made i)) is }
 
 step_kept : (a b : InternedView) (list : ℕ) (unit : Unit) (n : ℕ) → Grows a b → list < length a.lists → IsStepOf a list unit n → IsStepOf b list unit n
 step_kept a b list unit n grows within is =
@@ -135,3 +153,8 @@ pub seen_there : {A : Type 0} (f : A → List State) (v : TableView) (rules : Ed
 seen_there f v rules xs ys made states other k d same like within is =
     let inside : k < length xs = subst (λ zs. k < length zs) same within in
     record { there = omega (arith, length-map xs f); list = get_or-map f xs k d [] inside ∙ ap (λ zs. f (get_or zs k d)) (sym same) ∙ is ∙ like }
+
+pub some_list : {A : Type 0} (f : A → List State) (v : TableView) (rules : EdgeRules) (xs ys : List A) (made : List MadeStep) (states other : List State) (d : A) (found : Option ℕ)
+    → ys ≡ xs → other ≡ states → IfSome found (λ k. k < length ys) → IfSome found (HoldsAt (λ l. f l ≡ other) ys) → IfSome found (IsListOf (interned v rules (map f xs) made) states)
+some_list f v rules xs ys made states other d None same like there is = tt
+some_list f v rules xs ys made states other d (Some k) same like there is = seen_there f v rules xs ys made states other k d same like there (is d)

@@ -1,5 +1,5 @@
 -- Names for two code points, by the places of the names that begin with the first.
-use Rattle.std.proofs.Common.{◌≡◌, ◌∙◌, ℕ, suc, ◌+◌, ◌<◌, ◌≤◌, Bool, true, false, cond, ◌==◌, List, [], ◌∷◌, ◌++◌, length, get_or, drop, refl, sym, ap, arith, append_assoc, length-append, bytes_eq}
+use Rattle.std.proofs.Common.{◌≡◌, ◌∙◌, ℕ, zero, suc, ◌+◌, ◌<◌, ◌≤◌, Bool, true, false, cond, ◌==◌, List, [], ◌∷◌, ◌++◌, length, get_or, drop, Some, None, refl, sym, ap, arith, append_assoc, length-append, bytes_eq}
 use Rattle.std.proofs.lemmas.List.{drop_more, drop_all}
 use Rattle.std.proofs.lemmas.Slice.Eq.{bytes_eq-Decides}
 use Rattle.std.proofs.Math.Seq.{get_or-append_seam}
@@ -7,7 +7,8 @@ use Rattle.std.specs.List.{list_any}
 use Rattle.hm_base.specs.Bytes.{head_is}
 use Rattle.hm_refs.specs.Names.{Entry}
 use Rattle.hm_refs.specs.Tables.{entry_at, is_for, no_entry, places_from, places_for}
-use Rattle.hm_edges.specs.Units.{has_pair}
+use Rattle.hm_edges.specs.Units.{has_pair, pair_of}
+use Rattle.hm_graph.specs.Interned.{BeginsNoPair}
 
 -- some name at these places stands for the two
 abbrev pub pair_among : List Entry → ℕ → ℕ → List ℕ → Bool
@@ -58,3 +59,14 @@ among_next t c d is k i b within at is_b other =
 
 pub among_none : (t : List Entry) (c d : ℕ) (is : List ℕ) (k : ℕ) (b : Bool) → length is ≤ k → pair_among t c d (drop k is) ≡ b → false ≡ b
 among_none t c d is k b past is_b = sym (ap (pair_among t c d) (drop_all k is past)) ∙ is_b
+
+-- one more mark
+pub marked_more : (P : ℕ → Type 0) (marks : List Bool) (b : Bool) → ((c : ℕ) → get_or marks c false ≡ true → P c) → (b ≡ true → P (length marks)) → (c : ℕ) → get_or (marks ++ b ∷ []) c false ≡ true → P c
+marked_more P [] b are own zero is = own is
+marked_more P [] b are own (suc c) is = absurd (cc)
+marked_more P (x ∷ marks) b are own zero is = are zero is
+marked_more P (x ∷ marks) b are own (suc c) is = marked_more (λ k. P (suc k)) marks b (λ k. are (suc k)) own c is
+
+-- a character with which no name for two code points begins is no part of one
+pub none_paired : (t : List Entry) (c next : ℕ) → BeginsNoPair t c → pair_of t c (Some next) ≡ None
+none_paired t c next lone = rw (lone next) refl

@@ -1,13 +1,14 @@
 //! Lists of states and steps that are interned (each made once, and numbered) while a graph is built.
-ghost use Rattle.std.specs.Prelude.{◌≡◌, ◌<◌, ◌≤◌, ◌∷◌, [], false, true, None, Some, length, map, take, IfOk, IfSome, IsTrue};
+ghost use Rattle.std.specs.Prelude.{◌≡◌, ◌<◌, ◌≤◌, ◌∷◌, [], Bool, false, true, None, Some, length, map, take, IfOk, IfSome, IsTrue};
 ghost use Rattle.std.specs.List.{All, HoldsAt};
 ghost use Rattle.std.specs.Str.{chars};
 ghost use Rattle.hm_edges.specs.Units as units;
-ghost use Rattle.hm_graph.specs.Layers.{HaveNodes};
+ghost use Rattle.hm_graph.specs.Layers.{HaveNodes, IsLayer};
 ghost use Rattle.hm_edges.specs.declared.units.Unit.TheVariants.{Character};
-ghost use Rattle.hm_graph.specs.Interned.{BeginsNoPair, Grows, IsListOf, Leads, IsStepOf, list_at, first_states, made_at, only_first};
+ghost use Rattle.hm_graph.specs.Interned.{BeginsNoPair, Grows, InternedView, IsListOf, IsRow, Leads, IsStepOf, list_at, first_states, made_at, only_first};
 
-use crate::layer::{Layer, States, find_layer, is_state};
+use crate::equal::is_state;
+use crate::layer::{Layer, States, find_layer};
 use crate::made::{Front, KnownStep, MadeStep, Reached, equal_made};
 use crate::pairs::pair_of;
 use crate::plain::{Alike, PlainRow, keep, no_rows, none_alike, row_of};
@@ -176,6 +177,40 @@ fn first_lists(alloc: Global) -> Result<Vec<States>, Memory>
     Ok(lists)
 }
 
+/// A character that has another one after it in the same text.
+#[inline(always)]
+fn character_in_front(kind: TextKind, c: char, pair: Option<char>) -> Unit
+    ensures { result ≡ Character kind c pair true }
+{
+    Unit::Character {
+        kind,
+        c,
+        pair,
+        more: true,
+    }
+}
+
+/// Rows in which nothing is known: for characters of texts, and for last ones.
+fn no_rows_twice(alloc: Global) -> Result<(Vec<PlainRow>, Vec<PlainRow>), Memory>
+    ensures text { IfOk result (λ rows. (m : InternedView) (more : Bool) → All (IsRow m more) rows.0.items) }
+    ensures last { IfOk result (λ rows. (m : InternedView) (more : Bool) → All (IsRow m more) rows.1.items) }
+{
+    let text_rows = no_rows(alloc)?;
+    Ok((text_rows, no_rows(alloc)?))
+}
+
+/// The steps that were made, without the lists after them.
+fn steps_of(alloc: Global, all: Vec<MadeStep>) -> Result<Vec<Step>, Memory>
+    ensures { IfOk result (λ steps. steps.items ≡ map (λ made. made.step) all.items) }
+{
+    let mut steps = Vec::new(alloc);
+    for made in all {
+        let MadeStep { step, behind: _ } = made;
+        steps.push(step)?;
+    }
+    Ok(steps)
+}
+
 impl<'t> Interned<'t> {
     /// List 0 has the first state. There are no steps.
     pub(crate) fn new(
@@ -185,18 +220,22 @@ impl<'t> Interned<'t> {
     ) -> Result<Interned<'t>, Memory>
         ensures { IfOk result (λ interned. interned ≡ only_first table.now rules) }
     {
+        let lists = first_lists(alloc)?;
+        let hint_slots = no_hints(alloc)?;
+        let told = told_of(alloc, table)?;
+        let (text_rows, last_rows) = no_rows_twice(alloc)?;
         Ok(Interned {
             alloc,
             table,
             rules,
-            lists: first_lists(alloc)?,
+            lists,
             steps: Vec::new(alloc),
             memo: Vec::new(alloc),
             memo_index: HashMap::new(alloc),
-            hint_slots: no_hints(alloc)?,
-            told: told_of(alloc, table)?,
-            text_rows: no_rows(alloc)?,
-            last_rows: no_rows(alloc)?,
+            hint_slots,
+            told,
+            text_rows,
+            last_rows,
         })
     }
 
@@ -275,7 +314,7 @@ impl<'t> Interned<'t> {
             table: _,
             rules: _,
             lists: _,
-            steps: made,
+            steps,
             memo: _,
             memo_index: _,
             hint_slots: _,
@@ -283,12 +322,7 @@ impl<'t> Interned<'t> {
             text_rows: _,
             last_rows: _,
         } = self;
-        let mut steps = Vec::new(alloc);
-        for made in made {
-            let MadeStep { step, behind: _ } = made;
-            steps.push(step)?;
-        }
-        Ok(steps)
+        steps_of(alloc, steps)
     }
 
     /// The number of the step of this list and unit, where they are at this place of the memo.
@@ -313,18 +347,45 @@ impl<'t> Interned<'t> {
         self.memo_at(place, list, unit)
     }
 
-    /// The number of the step of this list and unit, where they are known. The hint then points to them.
-    fn known_step(&mut self, front: &Front) -> Option<u32>
-        ensures step { IfSome result (IsStepOf self.old front.now.list front.now.unit) }
-        ensures same { self.new ≡ self.old }
+    /// The place in the memo of this list and unit and the number of their step, where they are known.
+    fn known_step(&self, front: &Front) -> Option<(u32, u32)>
+        ensures { IfSome result (λ known. IsStepOf self.now front.now.list front.now.unit known.1) }
     {
         let place = *self.memo_index.get(front)?;
+        let number = self.memo_at(place, front.list, &front.unit)?;
+        Some((place, number))
+    }
+
+    /// Lets the hint of a list and a unit point to their place in the memo.
+    fn point_hint(&mut self, front: &Front, place: u32)
+        ensures { self.new ≡ self.old }
+    {
         put_hint(
             &mut self.hint_slots,
             hint_place(front.list, &front.unit),
             place,
         );
-        self.memo_at(place, front.list, &front.unit)
+    }
+
+    /// The number of a list with these states, where it is one of the first lists.
+    fn found_list(&self, states: &States) -> Option<u32>
+        ensures { IfSome result (IsListOf self.now states.now.items) }
+    {
+        number_of(self.lists.as_slice(), states.as_slice())
+    }
+
+    /// Adds a list with these states, and gives its number.
+    fn add_list(&mut self, states: States) -> Result<u32, Memory>
+        requires { HaveNodes self.old.table states.items }
+        ensures list { IfOk result (IsListOf self.new states.items) }
+        ensures kept { Grows self.old self.new }
+    {
+        let number = self.lists.len();
+        if number >= LIMIT {
+            return Err(Memory);
+        }
+        self.lists.push(states)?;
+        Ok(number as u32)
     }
 
     /// The number of a list with these states: of an earlier one, or of one that is added.
@@ -333,14 +394,31 @@ impl<'t> Interned<'t> {
         ensures list { IfOk result (IsListOf self.new states.items) }
         ensures kept { Grows self.old self.new }
     {
-        if let Some(number) = number_of(self.lists.as_slice(), states.as_slice()) {
+        if let Some(number) = self.found_list(&states) {
             return Ok(number);
         }
-        let number = self.lists.len();
+        self.add_list(states)
+    }
+
+    /// The number of a step with these hops and this list after it, where it is one of the first steps.
+    fn found_made(&self, made: &MadeStep) -> Option<u32>
+        ensures there { IfSome result (λ n. n < length self.now.steps) }
+        ensures made { IfSome result (λ n. made_at self.now n ≡ made.now) }
+    {
+        equal_made(self.steps.as_slice(), &made.step, made.behind)
+    }
+
+    /// Adds a step with the list after it, and gives its number.
+    fn add_made(&mut self, made: MadeStep) -> Result<u32, Memory>
+        ensures there { IfOk result (λ n. n < length self.new.steps) }
+        ensures made { IfOk result (λ n. made_at self.new n ≡ made) }
+        ensures kept { Grows self.old self.new }
+    {
+        let number = self.steps.len();
         if number >= LIMIT {
             return Err(Memory);
         }
-        self.lists.push(states)?;
+        self.steps.push(made)?;
         Ok(number as u32)
     }
 
@@ -350,15 +428,10 @@ impl<'t> Interned<'t> {
         ensures made { IfOk result (λ n. made_at self.new n ≡ made) }
         ensures kept { Grows self.old self.new }
     {
-        if let Some(number) = equal_made(self.steps.as_slice(), &made.step, made.behind) {
+        if let Some(number) = self.found_made(&made) {
             return Ok(number);
         }
-        let number = self.steps.len();
-        if number >= LIMIT {
-            return Err(Memory);
-        }
-        self.steps.push(made)?;
-        Ok(number as u32)
+        self.add_made(made)
     }
 
     /// Notes the number of the step of a list and a unit.
@@ -380,11 +453,10 @@ impl<'t> Interned<'t> {
         Ok(())
     }
 
-    /// Makes the step of a unit from the states of a list.
-    fn make(&mut self, front: Front) -> Result<u32, Memory>
-        requires { front.list < length self.old.lists }
-        ensures step { IfOk result (IsStepOf self.new front.list front.unit) }
-        ensures kept { Grows self.old self.new }
+    /// The step of a unit from the states of a list, and the states after it.
+    fn layer_of(&self, front: &Front) -> Result<(Step, States), Memory>
+        requires { front.now.list < length self.now.lists }
+        ensures { IfOk result (λ layer. IsLayer self.now.table self.now.rules front.now.unit (list_at self.now front.now.list) layer.1.items layer.0) }
     {
         let Layer { hops, behind } = find_layer(
             self.alloc,
@@ -393,11 +465,30 @@ impl<'t> Interned<'t> {
             front.unit,
             self.list(front.list),
         )?;
-        let behind = self.list_of(behind)?;
-        let number = self.made_of(MadeStep {
-            step: Step::new(self.alloc, hops)?,
-            behind,
-        })?;
+        let step = Step::new(self.alloc, hops)?;
+        Ok((step, behind))
+    }
+
+    /// Keeps a step and the states after it, and gives the number of the step.
+    fn keep_layer(&mut self, step: Step, behind: States) -> Result<u32, Memory>
+        requires { HaveNodes self.old.table behind.items }
+        ensures there { IfOk result (λ n. n < length self.new.steps) }
+        ensures behind { IfOk result (λ n. IsListOf self.new behind.items (made_at self.new n).behind) }
+        ensures step { IfOk result (λ n. (made_at self.new n).step ≡ step) }
+        ensures kept { Grows self.old self.new }
+    {
+        let list = self.list_of(behind)?;
+        self.made_of(MadeStep { step, behind: list })
+    }
+
+    /// Makes the step of a unit from the states of a list.
+    fn make(&mut self, front: Front) -> Result<u32, Memory>
+        requires { front.list < length self.old.lists }
+        ensures step { IfOk result (IsStepOf self.new front.list front.unit) }
+        ensures kept { Grows self.old self.new }
+    {
+        let (step, behind) = self.layer_of(&front)?;
+        let number = self.keep_layer(step, behind)?;
         self.note(front, number)?;
         Ok(number)
     }
@@ -409,7 +500,8 @@ impl<'t> Interned<'t> {
         ensures step { IfOk result (IsStepOf self.new front.list front.unit) }
         ensures kept { Grows self.old self.new }
     {
-        if let Some(number) = self.known_step(&front) {
+        if let Some((place, number)) = self.known_step(&front) {
+            self.point_hint(&front, place);
             return Ok(number);
         }
         self.make(front)
@@ -479,18 +571,14 @@ impl<'t> Interned<'t> {
         ensures kept { Grows self.old self.new }
     {
         let pair = self.pair_of(c, next);
-        let unit = Unit::Character {
-            kind,
-            c,
-            pair,
-            more: true,
-        };
+        let unit = character_in_front(kind, c, pair);
         let number = self.step(list, &unit)?;
         let behind = self.behind(number);
         let to = Reached { number, behind };
-        if self.is_lone(c) {
-            self.keep_text(list, kind, c, to)?;
+        if !self.is_lone(c) {
+            return Ok(to);
         }
+        self.keep_text(list, kind, c, to)?;
         Ok(to)
     }
 

@@ -1,12 +1,15 @@
 //! The step of a unit from the states before it, and the states after it.
-ghost use Rattle.std.specs.Prelude.{◌≡◌, ◌↔◌, map, IfOk, IsTrue};
+ghost use Rattle.std.specs.Prelude.{◌≡◌, ◌++◌, ◌∷◌, [], map, IfOk, List, OnOk};
 ghost use Rattle.hm_refs.specs.Tables.{TableView};
 ghost use Rattle.hm_edges.specs.Pieces.{AreOfTable, IsOfTable};
 ghost use Rattle.hm_edges.specs.States.{HasNodes, state_of};
+ghost use Rattle.hm_edges.specs.declared.states.State.{State as CodeState};
 ghost use Rattle.hm_graph.specs.Fits.{place_of};
+ghost use Rattle.hm_graph.specs.Steps.{Step as Hops};
 ghost use Rattle.hm_graph.specs.Layers.{AreEdgesUnder, AreHops, HaveNodes, IsHop, IsLayer, IsPlaced, states_of};
 
 use crate::Hop;
+use crate::equal::is_state;
 use crate::outdone::edges_in;
 use crate::rules::EdgeRules;
 use hm_base::Memory;
@@ -17,13 +20,6 @@ use std::alloc::Global;
 
 /// The states of a layer. Up to four lie in the value itself: few layers of pages have more.
 pub(crate) type States = SmallVec<State, 4>;
-
-/// Whether the two are equal.
-pub(crate) fn is_state(one: &State, other: &State) -> bool
-    ensures { IsTrue result ↔ (one.now ≡ other.now) }
-{
-    one == other
-}
 
 /// The place of a state among these, where it is one of them.
 fn place_in(states: &[State], state: &State) -> Option<usize>
@@ -107,6 +103,44 @@ fn edges_from(
     edges_in(alloc, table, rules.format, unit, edges)
 }
 
+/// The hops of a unit's edges from a state, in their order. Their ends are added to the next layer's states.
+#[inline(always)]
+fn hops_from(
+    alloc: Global,
+    table: &Table,
+    rules: EdgeRules,
+    unit: Unit,
+    from: State,
+    behind: &mut States,
+) -> Result<Vec<Hop>, Memory>
+    requires node { HasNodes table.now from.pending }
+    requires nodes { HaveNodes table.now behind.old.items }
+    ensures { IfOk result (λ hops. (before : List CodeState) (step : Hops) → IsLayer table.now rules unit before behind.old.items step → IsLayer table.now rules unit (before ++ from ∷ []) behind.new.items (step ++ hops.items ∷ [])) }
+{
+    let edges = edges_from(alloc, table, rules, unit, from)?;
+    hops_of(alloc, table, unit, edges.as_slice(), behind)
+}
+
+/// Adds the hops of one more state, and their ends to the next layer's states.
+#[inline(always)]
+fn add_state(
+    alloc: Global,
+    table: &Table,
+    rules: EdgeRules,
+    unit: Unit,
+    from: State,
+    layer: &mut Layer,
+) -> Result<(), Memory>
+    requires node { HasNodes table.now from.pending }
+    requires nodes { HaveNodes table.now layer.old.behind.items }
+    ensures { OnOk result ((before : List CodeState) → IsLayer table.now rules unit before layer.old.behind.items (map (λ hops. hops.items) layer.old.hops.items)
+        → IsLayer table.now rules unit (before ++ from ∷ []) layer.new.behind.items (map (λ hops. hops.items) layer.new.hops.items)) }
+{
+    let hops = hops_from(alloc, table, rules, unit, from, &mut layer.behind)?;
+    layer.hops.push(hops)?;
+    Ok(())
+}
+
 /// Finds the hops of each of these states, and the next layer's states.
 pub(crate) fn find_layer(
     alloc: Global,
@@ -118,11 +152,12 @@ pub(crate) fn find_layer(
     requires { HaveNodes table.now from.now }
     ensures { IfOk result (λ layer. IsLayer table.now rules unit from.now layer.behind.items (map (λ hops. hops.items) layer.hops.items)) }
 {
-    let mut behind = SmallVec::new(alloc);
-    let mut hops = Vec::new(alloc);
+    let mut layer = Layer {
+        hops: Vec::new(alloc),
+        behind: SmallVec::new(alloc),
+    };
     for state in from {
-        let edges = edges_from(alloc, table, rules, unit, *state)?;
-        hops.push(hops_of(alloc, table, unit, edges.as_slice(), &mut behind)?)?;
+        add_state(alloc, table, rules, unit, *state, &mut layer)?;
     }
-    Ok(Layer { hops, behind })
+    Ok(layer)
 }

@@ -6,6 +6,7 @@ mod along;
 mod build;
 mod building;
 mod copied;
+mod equal;
 mod forms;
 mod graph;
 mod hops;

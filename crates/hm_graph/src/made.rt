@@ -1,7 +1,7 @@
 //! Steps that are kept, and which of them a unit has from a list.
 ghost use Rattle.std.specs.Prelude.{◌≡◌, ◌<◌, length, IfSome, IsTrue};
 ghost use Rattle.std.specs.List.{HoldsAt};
-ghost use Rattle.hm_edges.specs.declared.units.Unit.TheVariants.{AttributeEnd, AttributeName, EndTag, StartTag, TagClose, TagName};
+ghost use Rattle.hm_edges.specs.declared.units.Unit.TheVariants.{AttributeEnd, AttributeName, BareAttribute, Character, EndTag, Fixed, StartTag, TagClose, TagName};
 
 use crate::step::{Step, are_equal};
 use hm_edges::{Needs, TextKind, Unit};
@@ -124,6 +124,44 @@ fn is_attribute_end(one: &Unit) -> bool
     }
 }
 
+/// Whether a unit is of so many bytes without a choice.
+#[inline(always)]
+fn is_fixed(one: &Unit, len: u32) -> bool
+    ensures { IsTrue result → one.now ≡ Fixed len }
+{
+    match *one {
+        Unit::Fixed { len: own } => own == len,
+        _ => false,
+    }
+}
+
+/// Whether a unit is an attribute with an empty value and so many bytes.
+#[inline(always)]
+fn is_bare_attribute(one: &Unit, len: u32) -> bool
+    ensures { IsTrue result → one.now ≡ BareAttribute len }
+{
+    match *one {
+        Unit::BareAttribute { len: own } => own == len,
+        _ => false,
+    }
+}
+
+/// Whether a unit is this character in such a text.
+#[inline(always)]
+fn is_character(one: &Unit, kind: TextKind, c: char, pair: Option<char>, more: bool) -> bool
+    ensures { IsTrue result → one.now ≡ Character kind c pair more }
+{
+    match *one {
+        Unit::Character {
+            kind: own_kind,
+            c: own,
+            pair: own_pair,
+            more: has_more,
+        } => own == c && has_more == more && is_kind(own_kind, kind) && own_pair == pair,
+        _ => false,
+    }
+}
+
 /// Whether the two are equal. Where the kind of the other one is known, as it is wherever a unit is made, its test is put inline.
 #[inline(always)]
 fn is_unit(one: &Unit, other: &Unit) -> bool
@@ -145,7 +183,14 @@ fn is_unit(one: &Unit, other: &Unit) -> bool
         Unit::AttributeName { len, needs } => is_attribute_name(one, len, needs),
         Unit::TagClose { closes } => is_tag_close(one, closes),
         Unit::AttributeEnd => is_attribute_end(one),
-        _ => one == other,
+        Unit::Fixed { len } => is_fixed(one, len),
+        Unit::BareAttribute { len } => is_bare_attribute(one, len),
+        Unit::Character {
+            kind,
+            c,
+            pair,
+            more,
+        } => is_character(one, kind, c, pair, more),
     }
 }
 

@@ -12,8 +12,8 @@ ghost use Rattle.hm_optimality_laws.specs.Formats.{kept_by};
 ghost use Rattle.hm_graph_laws.specs.States.{same_state};
 ghost use Rattle.hm_graph_laws.specs.Units as units;
 
+use crate::equal::is_state;
 use crate::forms::{Change, change_of};
-use crate::layer::is_state;
 use hm_base::{Format, Memory};
 use hm_edges::{Edge, Pending, State, Unit, Where, piece_len};
 use hm_refs::Table;

@@ -6,9 +6,9 @@ ghost use Rattle.hm_graph.specs.Still.{IsStill};
 ghost use Rattle.hm_graph.specs.Graphs as graphs;
 
 use crate::Hop;
+use crate::equal::is_piece;
 use crate::still::still_len;
 use hm_base::{Format, Memory};
-use hm_edges::Piece;
 use std::alloc::Global;
 use std::marker::Model;
 use std::rc::Rc;
@@ -155,12 +155,6 @@ impl Step {
     {
         self.forced
     }
-}
-
-fn is_piece(one: Piece, other: Piece) -> bool
-    ensures { IsTrue result → one ≡ other }
-{
-    one == other
 }
 
 /// Whether the two are equal.

@@ -1,5 +1,5 @@
 use Rattle.std.proofs.Common.{◌≡◌, ◌∙◌, ◌+◌, List, ◌∷◌, ◌++◌, [], take, sym, ap, subst}
-use Rattle.std.proofs.lemmas.List.{take_more}
+use Rattle.std.proofs.lemmas.List.{take_all, take_more}
 use Rattle.hm_edges.specs.declared.pieces.Edge.{Edge}
 use Rattle.hm_graph.specs.declared.hops.Hop.{Hop}
 use Rattle.hm_graph.specs.Layers.{AreHops}
@@ -14,3 +14,6 @@ loop-edge-preserved c =
     subst (λ es. AreHops c.args.table.now c.args.unit es c.args.behind.now.items c.hop_of.new.behind.items c.push.new.self.items) (sym more)
     (subst (λ hops. AreHops c.args.table.now c.args.unit (before ++ c.edge-item.result ∷ []) c.args.behind.now.items c.hop_of.new.behind.items hops) (sym {A = List Hop} c.in_ok-push.ensures.items)
     (hops_more c.args.table.now c.args.unit before c.edge-item.result c.args.behind.now.items c.loop-edge.behind.items c.hop_of.new.behind.items c.loop-edge.hops.items c.in_ok-hop_of.field-0 c.loop-edge.invariant c.in_ok-hop_of.ensures))
+
+pub returns : goal.returns
+returns c = subst (λ es. AreHops c.args.table.now c.args.unit es c.args.behind.now.items c.loop-edge.behind.items c.loop-edge.hops.items) (take_all c.loop-edge.edge-index c.args.edges.now c.loop-edge-test.false) c.loop-edge.invariant

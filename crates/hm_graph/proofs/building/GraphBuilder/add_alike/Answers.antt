@@ -5,7 +5,7 @@ use Rattle.hm_edges.specs.Units.{kind_of}
 use Rattle.hm_graph.specs.Building.{AddsFront, IsBuilding, building}
 use Rattle.hm_graph.specs.Interned.{Leads, made_at}
 use Rattle.hm_graph.proofs.Built.{recorded_few}
-use Rattle.hm_graph.proofs.Characters.{alike_made, text_added}
+use Rattle.hm_graph.proofs.Characters.{alike_made, lead_ascii, text_added}
 use Rattle.hm_graph.proofs.building.GraphBuilder.add_alike.Goals as goal
 
 pub keep_number-requires : goal.keep_number-requires
@@ -49,3 +49,12 @@ returns-clause-step c = λ some.
 
 pub returns-clause-none : goal.returns-clause-none
 returns-clause-none c = λ none. absurd (c.if-count-eq0.false none)
+
+pub returns-clause-within : goal.returns-clause-within
+returns-clause-within c = omega (arith, c.alike-alike.ensures.within, ap length c.as_bytes.ensures.value)
+
+pub returns-clause-ascii : goal.returns-clause-ascii
+returns-clause-ascii c =
+    let own = c.self.inside in
+    let front = take c.alike-alike.result.count c.args.text.now in
+    lead_ascii own.interned own.last c.args.kind c.alike-alike.result.to front (subst (λ b. All (Leads own.interned own.last c.args.kind true c.alike-alike.result.to) (take c.alike-alike.result.count b)) c.as_bytes.ensures.value c.alike-alike.ensures.leads)

@@ -6,10 +6,10 @@ use Rattle.hm_graph.proofs.interned.Interned.new.Goals as goal
 
 pub invariant_of-result : goal.invariant_of-result
 invariant_of-result c =
-    let m : InternedView = interned c.args.table.now c.args.rules (map (λ l. l.items) c.in_ok-first_lists.field-0.items) c.new.result.items in (
-      record { nodes = λ k. subst (λ lists. HaveNodes c.args.table.now (get_or lists k [])) (sym c.in_ok-first_lists.ensures) (first_nodes c.args.table.now k) },
+    let m : InternedView = interned c.args.table.now c.args.rules (map (λ l. l.items) c.in_ok-lists.lists.items) c.new.result.items in (
+      record { nodes = λ k. subst (λ lists. HaveNodes c.args.table.now (get_or lists k [])) (sym c.in_ok-lists.ensures) (first_nodes c.args.table.now k) },
       (λ n d within. let none : n < 0 = subst (λ xs. n < length xs) c.new-2.ensures.items within in absurd (omega (arith, none))),
-      c.in_ok-told_of.ensures,
-      c.in_ok-no_rows.ensures m true,
-      c.in_ok-no_rows-2.ensures m false,
+      c.in_ok-told.ensures,
+      c.in_ok-text_rows.ensures.text m true,
+      c.in_ok-text_rows.ensures.last m false,
     )

@@ -1,174 +1,265 @@
 //! Classes and kinds of names, names compared, and which element stands where and closes before what.
-
+use crate::printed::is_value;
+use crate::rows::{cut, expect};
 use hm_elements::{
-    Class, Named, class_of, closes_p, ends_with, holds_text, is_block, is_boolean, is_boundary,
+    Kind, Named, class_of, closes_p, ends_with, holds_text, is_block, is_boolean, is_boundary,
     is_heading, is_one_of, is_raw, is_refused, is_unnested, is_void, kind_of, may_stand, same_name,
     svg_name, yields,
 };
-use std::process::Abort;
 
-/// Names and their classes.
-const CLASSES: [(&str, Class); 10] = [
-    ("body", Class::Root),
-    ("col", Class::Void),
-    ("colgroup", Class::TablePart),
-    ("table", Class::TablePart),
-    ("textarea", Class::Rcdata),
-    ("iframe", Class::Raw),
-    ("script", Class::Script),
-    ("marquee", Class::Refused),
-    ("svg", Class::Ordinary),
-    ("", Class::Ordinary),
-];
+/// A name before ` ⇒ ` in each line, and after it the class of the name.
+const CLASSES: &str = "\
+    body ⇒ Root\n\
+    col ⇒ Void\n\
+    colgroup ⇒ TablePart\n\
+    table ⇒ TablePart\n\
+    td ⇒ TablePart\n\
+    textarea ⇒ Rcdata\n\
+    iframe ⇒ Raw\n\
+    script ⇒ Script\n\
+    marquee ⇒ Refused\n\
+    xmp ⇒ Refused\n\
+    svg ⇒ Ordinary\n\
+    span ⇒ Ordinary\n\
+    T ⇒ Ordinary\n\
+    tdd ⇒ Ordinary\n\
+    t ⇒ Ordinary\n\
+    ~ ⇒ Ordinary\n\
+    \x20⇒ Ordinary\n";
 
-/// Asserts the class of a name.
-fn expect_class(rt: &impl Abort, name: &str, want: Class) {
-    assert!(rt; class_of(name) == want, "{name}");
+/// Whether the name in a line has its class, alone and in its kind.
+fn is_class(line: &str) -> bool {
+    let (name, class) = cut(line, " ⇒ ");
+    is_value(class, &class_of(name)) && is_value(class, &kind_of(name).class)
 }
 
 #[test]
 fn classes(rt: HostRuntime) {
-    for (name, want) in CLASSES {
-        expect_class(&rt, name, want);
+    for line in CLASSES.lines() {
+        expect(&rt, is_class(line), line);
     }
 }
 
-#[test]
-fn kinds_of_blocks(rt: HostRuntime) {
-    assert!(rt; closes_p("li") && closes_p("h6") && !closes_p("span"));
-    assert!(rt; is_block("body") && is_block("ul") && !is_block("img"));
+/// A function of a name in each line, the name, and its answer.
+const ANSWERS: &str = "\
+    closes_p li ⇒ Some(true)\n\
+    closes_p h6 ⇒ Some(true)\n\
+    closes_p span ⇒ Some(false)\n\
+    is_block body ⇒ Some(true)\n\
+    is_block ul ⇒ Some(true)\n\
+    is_block img ⇒ Some(false)\n\
+    is_boundary td ⇒ Some(true)\n\
+    is_boundary title ⇒ Some(false)\n\
+    is_boundary_in_svg title ⇒ Some(true)\n\
+    is_boundary_in_svg td ⇒ Some(false)\n\
+    is_boolean checked ⇒ Some(true)\n\
+    is_boolean class ⇒ Some(false)\n\
+    svg_name path ⇒ Some(true)\n\
+    svg_name foreignobject ⇒ Some(false)\n\
+    is_heading h1 ⇒ Some(true)\n\
+    is_heading hr ⇒ Some(false)\n\
+    is_unnested nobr ⇒ Some(true)\n\
+    is_unnested b ⇒ Some(false)\n\
+    holds_text title ⇒ Some(true)\n\
+    holds_text style ⇒ Some(true)\n\
+    holds_text p ⇒ Some(false)\n\
+    is_raw iframe ⇒ Some(true)\n\
+    is_void br ⇒ Some(true)\n\
+    is_refused marquee ⇒ Some(true)\n";
+
+/// What a function of a name answers. None where there is no such function.
+fn answer(function: &str, name: &str) -> Option<bool> {
+    match function {
+        "closes_p" => Some(closes_p(name)),
+        "is_block" => Some(is_block(name)),
+        "is_boundary" => Some(is_boundary(name, false)),
+        "is_boundary_in_svg" => Some(is_boundary(name, true)),
+        "is_boolean" => Some(is_boolean(name)),
+        "svg_name" => Some(svg_name(name)),
+        "is_heading" => Some(is_heading(name)),
+        "is_unnested" => Some(is_unnested(name)),
+        "holds_text" => Some(holds_text(name)),
+        "is_raw" => Some(is_raw(name)),
+        "is_void" => Some(is_void(name)),
+        "is_refused" => Some(is_refused(name)),
+        _ => None,
+    }
+}
+
+/// Whether the function in a line answers so.
+fn is_answer(line: &str) -> bool {
+    let (function, rest) = cut(line, " ");
+    let (name, wanted) = cut(rest, " ⇒ ");
+    is_value(wanted, &answer(function, name))
 }
 
 #[test]
-fn boundaries(rt: HostRuntime) {
-    assert!(rt; is_boundary("td", false) && !is_boundary("title", false));
-    assert!(rt; is_boundary("title", true) && !is_boundary("td", true));
+fn answers(rt: HostRuntime) {
+    for line in ANSWERS.lines() {
+        expect(&rt, is_answer(line), line);
+    }
+}
+
+/// A mark of a kind in each line, a name, and whether its kind has the mark.
+const MARKS: &str = "\
+    boundary td ⇒ Some(true)\n\
+    block td ⇒ Some(true)\n\
+    yields td ⇒ Some(true)\n\
+    p_yields td ⇒ Some(true)\n\
+    ends td ⇒ Some(true)\n\
+    p_ends td ⇒ Some(true)\n\
+    bound td ⇒ Some(true)\n\
+    closes_p td ⇒ Some(false)\n\
+    has_children td ⇒ Some(false)\n\
+    has_parents td ⇒ Some(false)\n\
+    heading h3 ⇒ Some(true)\n\
+    closes_p h3 ⇒ Some(true)\n\
+    unnested a ⇒ Some(true)\n\
+    block a ⇒ Some(false)\n\
+    yields colgroup ⇒ Some(true)\n\
+    yields col ⇒ Some(false)\n\
+    has_parents li ⇒ Some(true)\n\
+    has_parents ul ⇒ Some(false)\n\
+    has_children br ⇒ Some(true)\n\
+    has_children div ⇒ Some(false)\n\
+    block  ⇒ Some(false)\n\
+    yields  ⇒ Some(false)\n\
+    ends  ⇒ Some(false)\n\
+    bound  ⇒ Some(false)\n\
+    block span ⇒ Some(false)\n\
+    yields span ⇒ Some(false)\n\
+    ends span ⇒ Some(false)\n\
+    bound span ⇒ Some(false)\n\
+    block T ⇒ Some(false)\n\
+    yields T ⇒ Some(false)\n\
+    ends T ⇒ Some(false)\n\
+    bound T ⇒ Some(false)\n\
+    block tdd ⇒ Some(false)\n\
+    yields tdd ⇒ Some(false)\n\
+    ends tdd ⇒ Some(false)\n\
+    bound tdd ⇒ Some(false)\n\
+    block t ⇒ Some(false)\n\
+    yields t ⇒ Some(false)\n\
+    ends t ⇒ Some(false)\n\
+    bound t ⇒ Some(false)\n\
+    block ~ ⇒ Some(false)\n\
+    yields ~ ⇒ Some(false)\n\
+    ends ~ ⇒ Some(false)\n\
+    bound ~ ⇒ Some(false)\n";
+
+/// Whether a kind has a mark. None where there is no such mark.
+fn mark(kind: Kind, mark: &str) -> Option<bool> {
+    match mark {
+        "heading" => Some(kind.heading),
+        "unnested" => Some(kind.unnested),
+        "closes_p" => Some(kind.closes_p),
+        "boundary" => Some(kind.boundary),
+        "block" => Some(kind.block),
+        "yields" => Some(kind.yields),
+        "p_yields" => Some(kind.p_yields),
+        "ends" => Some(kind.ends),
+        "p_ends" => Some(kind.p_ends),
+        "has_children" => Some(kind.has_children),
+        "has_parents" => Some(kind.has_parents),
+        "bound" => Some(kind.bound),
+        _ => None,
+    }
+}
+
+/// Whether the kind of the name in a line has the mark, or not.
+fn is_marked(line: &str) -> bool {
+    let (word, rest) = cut(line, " ");
+    let (name, wanted) = cut(rest, " ⇒ ");
+    is_value(wanted, &mark(kind_of(name), word))
 }
 
 #[test]
-fn kinds_of_attributes_and_svg(rt: HostRuntime) {
-    assert!(rt; is_boolean("checked") && !is_boolean("class"));
-    assert!(rt; svg_name("path") && !svg_name("foreignobject"));
-}
-
-#[test]
-fn kinds_of_contents(rt: HostRuntime) {
-    assert!(rt; is_heading("h1") && !is_heading("hr"));
-    assert!(rt; is_unnested("nobr") && !is_unnested("b"));
-    assert!(rt; holds_text("title") && holds_text("style") && !holds_text("p"));
-    assert!(rt; is_raw("iframe") && is_void("br") && is_refused("marquee"));
-}
-
-#[test]
-fn kind_of_a_cell(rt: HostRuntime) {
-    let cell = kind_of("td");
-    assert!(rt; cell.class == Class::TablePart);
-    assert!(rt; cell.boundary && cell.block && cell.yields && cell.p_yields);
-    assert!(rt; cell.ends && cell.p_ends && cell.bound);
-    assert!(rt; !cell.closes_p && !cell.has_children && !cell.has_parents);
-}
-
-#[test]
-fn kinds_of_names(rt: HostRuntime) {
-    assert!(rt; kind_of("h3").heading && kind_of("h3").closes_p);
-    assert!(rt; kind_of("a").unnested && !kind_of("a").block);
-    assert!(rt; kind_of("xmp").class == Class::Refused);
-}
-
-#[test]
-fn kinds_by_neighbours(rt: HostRuntime) {
-    assert!(rt; kind_of("colgroup").yields && !kind_of("col").yields);
-    assert!(rt; kind_of("li").has_parents && !kind_of("ul").has_parents);
-    assert!(rt; kind_of("br").has_children && !kind_of("div").has_children);
-}
-
-/// Asserts that nothing is known of a name.
-fn expect_unknown(rt: &impl Abort, name: &str) {
-    let kind = kind_of(name);
-    assert!(rt; kind.class == Class::Ordinary, "{name}");
-    assert!(rt; !kind.block && !kind.yields && !kind.ends && !kind.bound);
-}
-
-#[test]
-fn names_in_no_table(rt: HostRuntime) {
-    for name in ["", "span", "T", "tdd", "t", "~"] {
-        expect_unknown(&rt, name);
+fn marks(rt: HostRuntime) {
+    for line in MARKS.lines() {
+        expect(&rt, is_marked(line), line);
     }
 }
 
 #[test]
 fn same_names(rt: HostRuntime) {
-    assert!(rt; same_name("td", "td") && same_name("", ""));
-    assert!(rt; !same_name("td", "th") && !same_name("td", "t"));
-    assert!(rt; is_one_of("th", &["td", "th"]) && !is_one_of("th", &["td"]));
+    expect(&rt, same_name("td", "td") && same_name("", ""), "the same");
+    expect(&rt, !same_name("td", "th"), "another");
+    expect(&rt, !same_name("td", "t"), "a shorter one");
+    expect(&rt, is_one_of("th", &["td", "th"]), "one of two");
+    expect(&rt, !is_one_of("th", &["td"]), "not one of one");
 }
 
-/// A name, its parent, its grandparent, and whether it may stand there.
-const PLACES: [(&str, &str, Option<&str>, bool); 15] = [
-    ("li", "body", Some("html"), false),
-    ("li", "ul", Some("body"), true),
-    ("div", "p", Some("body"), true),
-    ("dt", "div", Some("dl"), true),
-    ("dt", "div", Some("body"), false),
-    ("dd", "dl", Some("body"), true),
-    ("col", "table", Some("body"), false),
-    ("col", "colgroup", Some("table"), true),
-    ("link", "noscript", Some("head"), true),
-    ("p", "noscript", Some("head"), false),
-    ("p", "noscript", Some("body"), true),
-    ("title", "head", Some("html"), true),
-    ("title", "body", Some("html"), false),
-    ("br", "br", None, false),
-    ("optgroup", "datalist", None, false),
-];
+/// A name in each line, its parent, its grandparent or `-`, and whether it may stand there.
+const PLACES: &str = "\
+    li | body | html ⇒ false\n\
+    li | ul | body ⇒ true\n\
+    div | p | body ⇒ true\n\
+    dt | div | dl ⇒ true\n\
+    dt | div | body ⇒ false\n\
+    dd | dl | body ⇒ true\n\
+    col | table | body ⇒ false\n\
+    col | colgroup | table ⇒ true\n\
+    link | noscript | head ⇒ true\n\
+    p | noscript | head ⇒ false\n\
+    p | noscript | body ⇒ true\n\
+    title | head | html ⇒ true\n\
+    title | body | html ⇒ false\n\
+    br | br | - ⇒ false\n\
+    optgroup | datalist | - ⇒ false\n";
 
-/// Asserts whether a name may stand in a parent and a grandparent.
-fn expect_place(rt: &impl Abort, name: &str, parent: &str, grandparent: Option<&str>, want: bool) {
-    assert!(rt;
-        may_stand(Named::of(name), Named::of(parent), grandparent) == want,
-        "{name} in {parent}"
-    );
+/// Whether the name in a line may stand there, or not.
+fn is_placed(line: &str) -> bool {
+    let (name, rest) = cut(line, " | ");
+    let (parent, rest) = cut(rest, " | ");
+    let (grandparent, wanted) = cut(rest, " ⇒ ");
+    let grandparent = if grandparent == "-" {
+        None
+    } else {
+        Some(grandparent)
+    };
+    is_value(
+        wanted,
+        &may_stand(Named::of(name), Named::of(parent), grandparent),
+    )
 }
 
 #[test]
 fn what_stands_where(rt: HostRuntime) {
-    for (name, parent, grandparent, want) in PLACES {
-        expect_place(&rt, name, parent, grandparent, want);
+    for line in PLACES.lines() {
+        expect(&rt, is_placed(line), line);
     }
 }
 
-/// A name, the next one, and whether the next one's start and its end close the first.
-const CLOSINGS: [(&str, &str, bool, bool); 13] = [
-    ("p", "div", true, true),
-    ("p", "hr", true, false),
-    ("p", "span", false, false),
-    ("li", "li", true, false),
-    ("li", "ul", false, true),
-    ("td", "tr", true, true),
-    ("tr", "td", false, false),
-    ("tbody", "tr", false, false),
-    ("colgroup", "col", false, false),
-    ("colgroup", "b", true, false),
-    ("colgroup", "table", true, true),
-    ("option", "optgroup", true, true),
-    ("b", "b", false, false),
-];
+/// A name in each line, the next one, and whether the next one's start and its end close the first.
+const CLOSINGS: &str = "\
+    p | div ⇒ (true, true)\n\
+    p | hr ⇒ (true, false)\n\
+    p | span ⇒ (false, false)\n\
+    li | li ⇒ (true, false)\n\
+    li | ul ⇒ (false, true)\n\
+    td | tr ⇒ (true, true)\n\
+    tr | td ⇒ (false, false)\n\
+    tbody | tr ⇒ (false, false)\n\
+    colgroup | col ⇒ (false, false)\n\
+    colgroup | b ⇒ (true, false)\n\
+    colgroup | table ⇒ (true, true)\n\
+    option | optgroup ⇒ (true, true)\n\
+    b | b ⇒ (false, false)\n";
 
-/// Asserts whether the start and the end of the next name close the current one.
-fn expect_closing(rt: &impl Abort, current: &str, next: &str, starts: bool, ends: bool) {
-    assert!(rt;
-        yields(Named::of(current), Named::of(next)) == starts,
-        "{current} before {next}"
-    );
-    assert!(rt;
-        ends_with(Named::of(current), next) == ends,
-        "{current} with {next}"
-    );
+/// Whether the start and the end of the next name in a line close the first, or not.
+fn is_closing(line: &str) -> bool {
+    let (current, rest) = cut(line, " | ");
+    let (next, wanted) = cut(rest, " ⇒ ");
+    let current = Named::of(current);
+    is_value(
+        wanted,
+        &(yields(current, Named::of(next)), ends_with(current, next)),
+    )
 }
 
 #[test]
 fn what_closes_before_what(rt: HostRuntime) {
-    for (current, next, starts, ends) in CLOSINGS {
-        expect_closing(&rt, current, next, starts, ends);
+    for line in CLOSINGS.lines() {
+        expect(&rt, is_closing(line), line);
     }
 }

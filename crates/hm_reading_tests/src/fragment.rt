@@ -1,15 +1,18 @@
 //! Fragments: their trees, and the rules and places of refusals.
 
-use hm_base::{Refused, Rule};
+use crate::printed::{are_those_of, is_value};
+use crate::rows::{cut, expect};
+use hm_base::Refused;
 use hm_fragment::{front, read_fragment};
 use hm_json_tree::write_tree;
 use hm_refs::Table;
 use hm_tree::Tree;
 use std::alloc::Global;
 use std::process::Abort;
+use std::test::Fail;
 
-/// What a fragment is read as, without names of references. It is put after the front first.
-fn read(alloc: Global, fragment: &[u8]) -> Result<Tree, Refused> {
+/// What a fragment is read as. It is put after the front first.
+fn read(alloc: Global, table: &Table, fragment: &[u8]) -> Result<Tree, Refused> {
     if fragment.len() > 100 {
         return Err(Refused::Memory);
     }
@@ -17,112 +20,113 @@ fn read(alloc: Global, fragment: &[u8]) -> Result<Tree, Refused> {
     if page.extend_from_slice(front()).is_err() || page.extend_from_slice(fragment).is_err() {
         return Err(Refused::Memory);
     }
-    match Table::empty(alloc) {
-        Ok(table) => read_fragment(alloc, page, &table),
-        Err(_) => Err(Refused::Memory),
-    }
+    read_fragment(alloc, page, table)
 }
 
-/// Fragments, and the events in the body of each.
-const TREES: [(&[u8], &str); 9] = [
-    (b"", ""),
-    (b" x", "[\"text\",\" x\"],"),
-    (
-        b"<p>a</p><p>b",
-        "[\"start\",\"p\",[]],[\"text\",\"a\"],[\"end\"],[\"start\",\"p\",[]],[\"text\",\"b\"],[\"end\"],",
-    ),
-    (b"&#xFEFF;x", "[\"text\",\"\u{FEFF}x\"],"),
-    (b"\xEF\xBB\xBFx", "[\"text\",\"\u{FEFF}x\"],"),
-    (b"a</", "[\"text\",\"a</\"],"),
-    (b"a\r\nb", "[\"text\",\"a\\nb\"],"),
-    (
-        b"a<!--</body>-->b",
-        "[\"text\",\"a\"],[\"comment\",\"</body>\"],[\"text\",\"b\"],",
-    ),
-    (
-        b"<p title=\"</body>\">",
-        "[\"start\",\"p\",[[\"title\",\"</body>\"]]],[\"end\"],",
-    ),
-];
+/// The events of a page up to the content of its body.
+const FRONT: &str =
+    "[[\"doctype\",\"plain\"],[\"start\",\"html\",[]],[\"start\",\"head\",[]],[\"end\"],[\"start\",\"body\",[]],";
 
-/// Whether the tree of a fragment is that of a page with these events in its body.
-fn has_tree(alloc: Global, fragment: &[u8], inside: &str) -> bool {
-    let Ok(tree) = read(alloc, fragment) else {
-        return false;
-    };
-    let Ok(written) = write_tree(alloc, &tree) else {
-        return false;
-    };
-    let page = format!(in alloc;
-        "[[\"doctype\",\"plain\"],[\"start\",\"html\",[]],[\"start\",\"head\",[]],[\"end\"],[\"start\",\"body\",[]],{inside}[\"end\"],[\"end\"]]"
-    );
-    match page {
-        Ok(wanted) => written.as_slice() == wanted.as_bytes(),
+/// The last events of a page.
+const BACK: &str = "[\"end\"],[\"end\"]]";
+
+/// Whether a tree is that of a page with these events in its body.
+fn is_written(alloc: Global, tree: &Tree, inside: &str) -> bool {
+    match write_tree(alloc, tree) {
+        Ok(written) => are_those_of(written.as_slice(), FRONT, inside, BACK),
         Err(_) => false,
     }
 }
 
-/// Asserts the events in the body of a fragment.
-fn expect_tree(rt: &impl Abort, alloc: Global, fragment: &[u8], inside: &str) {
-    assert!(rt; has_tree(alloc, fragment, inside), "{inside}");
+/// Whether this is wanted of a fragment: the events in its body, or the rule and the place of its refusal.
+fn is_read(alloc: Global, table: &Table, fragment: &[u8], wanted: &str) -> bool {
+    match read(alloc, table, fragment) {
+        Ok(tree) => is_written(alloc, &tree, wanted),
+        Err(Refused::Page { rule, at }) => is_value(wanted, &(rule, at)),
+        Err(Refused::Memory) => false,
+    }
 }
 
+/// A fragment before ` ⇒ ` in each line, and after it the events in its body.
+const TREES: &str = "\
+    \x20⇒ \n\
+    \x20x ⇒ [\"text\",\" x\"],\n\
+    <p>a</p><p>b ⇒ [\"start\",\"p\",[]],[\"text\",\"a\"],[\"end\"],[\"start\",\"p\",[]],[\"text\",\"b\"],[\"end\"],\n\
+    &#xFEFF;x ⇒ [\"text\",\"\u{FEFF}x\"],\n\
+    \u{FEFF}x ⇒ [\"text\",\"\u{FEFF}x\"],\n\
+    a</ ⇒ [\"text\",\"a</\"],\n\
+    a<!--</body>-->b ⇒ [\"text\",\"a\"],[\"comment\",\"</body>\"],[\"text\",\"b\"],\n\
+    <p title=\"</body>\"> ⇒ [\"start\",\"p\",[[\"title\",\"</body>\"]]],[\"end\"],\n";
+
+/// The same with the first token that closes body, where the page isn't refused.
+const CLOSED: &str = "\
+    a</body> ⇒ (FrameEnd, 1)\n\
+    a</html> ⇒ (FrameEnd, 1)\n\
+    </body></html> ⇒ (FrameEnd, 0)\n\
+    a</body><!--c--> ⇒ (FrameEnd, 1)\n\
+    a</body> </html>  ⇒ (FrameEnd, 1)\n\
+    <p>a</html x=y> ⇒ (FrameEnd, 4)\n\
+    a</body>b ⇒ (AfterBody, 8)\n\
+    </BODY >x ⇒ (AfterBody, 8)\n\
+    a</body></p> ⇒ (AfterBody, 8)\n\
+    </html></body> ⇒ (AfterBody, 7)\n";
+
+/// The same with the refusal of the page.
+const REFUSED: &str = "\
+    a\0 ⇒ (Nul, 1)\n\
+    <li>x ⇒ (WrongParent, 0)\n\
+    <title>x ⇒ (WrongParent, 0)\n\
+    </p> ⇒ (StrayEnd, 0)\n\
+    <table>x ⇒ (TextHere, 7)\n\
+    <b> ⇒ (Unclosed, 3)\n\
+    <body> ⇒ (SecondRoot, 0)\n\
+    <!doctype html> ⇒ (SecondDoctype, 0)\n\
+    a</body ⇒ (Cut, 1)\n\
+    <svg></body> ⇒ (NotCurrent, 5)\n\
+    <textarea></body> ⇒ (Cut, 10)\n";
+
+/// Whether this is wanted of the fragment in a line.
+fn is_line(alloc: Global, table: &Table, line: &str) -> bool {
+    let (fragment, wanted) = cut(line, " ⇒ ");
+    is_read(alloc, table, fragment.as_bytes(), wanted)
+}
+
+/// Asserts what each line says.
+fn expect_lines(rt: &impl Abort, alloc: Global, table: &Table, lines: &str) {
+    for line in lines.lines() {
+        expect(rt, is_line(alloc, table, line), line);
+    }
+}
+
+/// Asserts what is wanted of a fragment.
+fn expect_read(rt: &impl Abort, alloc: Global, table: &Table, fragment: &[u8], wanted: &str) {
+    expect(rt, is_read(alloc, table, fragment, wanted), wanted);
+}
+
+/// Asserts what is wanted of fragments with line ends, and of bytes that are no text.
+fn expect_others(rt: &impl Abort, alloc: Global, table: &Table) {
+    expect_read(rt, alloc, table, b"a\r\nb", "[\"text\",\"a\\nb\"],");
+    expect_read(
+        rt,
+        alloc,
+        table,
+        b"<pre>\r\n</pre></body>",
+        "(FrameEnd, 13)",
+    );
+    expect_read(rt, alloc, table, b"\r\n\r\n</html>", "(FrameEnd, 4)");
+    expect_read(rt, alloc, table, b"\xFF", "(NotUtf8, 0)");
+    expect_read(rt, alloc, table, b"a\xFF", "(NotUtf8, 1)");
+    expect_read(rt, alloc, table, b"\r\n\0", "(Nul, 2)");
+    expect_read(rt, alloc, table, b"\r\n</p>", "(StrayEnd, 2)");
+}
+
+/// Refusals count bytes of the fragment.
 #[test]
-fn fragments_have_trees(rt: HostRuntime) {
-    for (fragment, inside) in TREES {
-        expect_tree(&rt, rt.alloc(), fragment, inside);
-    }
-}
-
-/// Fragments, and the rule and the place of the refusal of each.
-const REFUSALS: [(&[u8], Rule, u32); 27] = [
-    // Body is closed: the first token that does it, unless the page is refused.
-    (b"a</body>", Rule::FrameEnd, 1),
-    (b"a</html>", Rule::FrameEnd, 1),
-    (b"</body></html>", Rule::FrameEnd, 0),
-    (b"a</body><!--c-->", Rule::FrameEnd, 1),
-    (b"a</body> </html> ", Rule::FrameEnd, 1),
-    (b"<p>a</html x=y>", Rule::FrameEnd, 4),
-    (b"<pre>\r\n</pre></body>", Rule::FrameEnd, 13),
-    (b"\r\n\r\n</html>", Rule::FrameEnd, 4),
-    (b"a</body>b", Rule::AfterBody, 8),
-    (b"</BODY >x", Rule::AfterBody, 8),
-    (b"a</body></p>", Rule::AfterBody, 8),
-    (b"</html></body>", Rule::AfterBody, 7),
-    // The page is refused.
-    (b"\xFF", Rule::NotUtf8, 0),
-    (b"a\xFF", Rule::NotUtf8, 1),
-    (b"a\0", Rule::Nul, 1),
-    (b"\r\n\0", Rule::Nul, 2),
-    (b"<li>x", Rule::WrongParent, 0),
-    (b"<title>x", Rule::WrongParent, 0),
-    (b"</p>", Rule::StrayEnd, 0),
-    (b"\r\n</p>", Rule::StrayEnd, 2),
-    (b"<table>x", Rule::TextHere, 7),
-    (b"<b>", Rule::Unclosed, 3),
-    (b"<body>", Rule::SecondRoot, 0),
-    (b"<!doctype html>", Rule::SecondDoctype, 0),
-    (b"a</body", Rule::Cut, 1),
-    (b"<svg></body>", Rule::NotCurrent, 5),
-    (b"<textarea></body>", Rule::Cut, 10),
-];
-
-/// Whether a fragment is refused by this rule at this place.
-fn is_refused(alloc: Global, fragment: &[u8], rule: Rule, at: u32) -> bool {
-    match read(alloc, fragment) {
-        Err(refused) => refused == Refused::Page { rule, at },
-        Ok(_tree) => false,
-    }
-}
-
-/// Asserts the rule and the place of a refusal.
-fn expect_refusal(rt: &impl Abort, alloc: Global, fragment: &[u8], rule: Rule, at: u32) {
-    assert!(rt; is_refused(alloc, fragment, rule, at), "{rule:?} at {at}");
-}
-
-#[test]
-fn refusals_count_bytes_of_the_fragment(rt: HostRuntime) {
-    for (fragment, rule, at) in REFUSALS {
-        expect_refusal(&rt, rt.alloc(), fragment, rule, at);
-    }
+fn fragments_have_trees_or_refusals(rt: HostRuntime) -> Result<(), Fail> {
+    let table = Table::empty(rt.alloc())?;
+    expect_lines(&rt, rt.alloc(), &table, TREES);
+    expect_lines(&rt, rt.alloc(), &table, CLOSED);
+    expect_lines(&rt, rt.alloc(), &table, REFUSED);
+    expect_others(&rt, rt.alloc(), &table);
+    Ok(())
 }

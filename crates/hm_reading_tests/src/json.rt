@@ -1,10 +1,11 @@
 //! Trees from JSON and to it: rows, hostile bytes, and what is put.
 
+use crate::printed::{are_those_of, is_shown};
+use crate::rows::{cut, expect};
 use hm_json_tree::{JsonShown, read_tree, write_tree};
 use hm_store::MemSink;
 use std::alloc::{AllocError, Global};
-use std::process::Abort;
-use std::test::Fail;
+use std::fmt::Write;
 
 /// The start of a page's array and its events up to the body.
 const FRONT: &str =
@@ -17,35 +18,19 @@ const BACK: &str = ",[\"end\"],[\"end\"]]";
 const PAGE: &str =
     "[[\"doctype\",\"plain\"],[\"start\",\"html\",[]],[\"start\",\"head\",[]],[\"end\"],[\"start\",\"body\",[]],[\"start\",\"p\",[[\"id\",\"x\"]]],[\"text\",\"a\"],[\"start\",\"br\",[]],[\"end\"],[\"text\",\"b\"],[\"end\"],[\"end\"],[\"end\"]]";
 
-/// What reading the bytes ends with: `ok`, or the printed fault.
-fn outcome(alloc: Global, bytes: &[u8]) -> Result<String, AllocError> {
+/// Whether reading the bytes ends so: `ok`, or the printed fault.
+fn is_outcome(alloc: Global, bytes: &[u8], wanted: &str) -> bool {
     match read_tree(alloc, bytes) {
-        Ok(_tree) => String::from_str(alloc, "ok"),
-        Err(fault) => format!(in alloc; "{fault}"),
+        Ok(_tree) => wanted == "ok",
+        Err(fault) => is_shown(wanted, &fault),
     }
 }
 
-/// Asserts what reading the bytes ends with. A failure is told with the label.
-fn expect_outcome(rt: &impl Abort, alloc: Global, label: &str, bytes: &[u8], wanted: &str) {
-    match outcome(alloc, bytes) {
-        Ok(found) => assert!(rt; found.as_str() == wanted, "at {label}: {found}"),
-        Err(_) => assert!(rt; false, "memory"),
-    }
-}
-
-/// A page whose body has these items.
-fn page_of(alloc: Global, items: &str) -> Result<String, AllocError> {
-    let mut page = String::from_str(alloc, FRONT)?;
-    page.push_str(items)?;
-    page.push_str(BACK)?;
-    Ok(page)
-}
-
-/// Asserts what reading a page with these items in its body ends with.
-fn expect_body(rt: &impl Abort, alloc: Global, items: &str, wanted: &str) {
-    match page_of(alloc, items) {
-        Ok(page) => expect_outcome(rt, alloc, items, page.as_bytes(), wanted),
-        Err(_) => assert!(rt; false, "memory"),
+/// Whether reading a page with these items in its body ends so.
+fn is_body(alloc: Global, items: &str, wanted: &str) -> bool {
+    match format!(in alloc; "{FRONT}{items}{BACK}") {
+        Ok(page) => is_outcome(alloc, page.as_bytes(), wanted),
+        Err(_) => false,
     }
 }
 
@@ -106,13 +91,17 @@ const BODIES: &str = "\
     [\"doctype\",\"plain\",1] ⇒ BadEvent event 5\n\
     [\"start\",\"p\",[[\"a\",\"1\"],[\"a\",\"2\"]]],[\"end\"],[\"text\",\"a\"],[\"text\",\"b\"] ⇒ NotSettled event 5 point 9\n";
 
+/// Whether reading the page in a line ends so.
+fn is_body_line(alloc: Global, line: &str) -> bool {
+    let (items, wanted) = cut(line, " ⇒ ");
+    is_body(alloc, items, wanted)
+}
+
 #[test]
-fn bodies_are_read_or_refused(rt: HostRuntime) -> Result<(), Fail> {
+fn bodies_are_read_or_refused(rt: HostRuntime) {
     for line in BODIES.lines() {
-        let (items, wanted) = line.split_once(" ⇒ ").ok_or("items and an outcome")?;
-        expect_body(&rt, rt.alloc(), items, wanted);
+        expect(&rt, is_body_line(rt.alloc(), line), line);
     }
-    Ok(())
 }
 
 /// A whole text before ` ⇒ ` in each line, and after it what reading it ends with.
@@ -150,112 +139,100 @@ const WHOLES: &str = "\
     \u{FEFF}[] ⇒ NotJson\n\
     [{\"a\":1,\"a\":2}] ⇒ BadEvent event 0\n";
 
+/// Whether reading the text in a line ends so.
+fn is_whole(alloc: Global, line: &str) -> bool {
+    let (text, wanted) = cut(line, " ⇒ ");
+    is_outcome(alloc, text.as_bytes(), wanted)
+}
+
 #[test]
-fn wholes_are_read_or_refused(rt: HostRuntime) -> Result<(), Fail> {
+fn wholes_are_read_or_refused(rt: HostRuntime) {
     for line in WHOLES.lines() {
-        let (text, wanted) = line.split_once(" ⇒ ").ok_or("a text and an outcome")?;
-        expect_outcome(&rt, rt.alloc(), text, text.as_bytes(), wanted);
+        expect(&rt, is_whole(rt.alloc(), line), line);
     }
-    expect_outcome(&rt, rt.alloc(), "no text", b"", "NotJson");
-    Ok(())
+    expect(&rt, is_outcome(rt.alloc(), b"", "NotJson"), "no text");
 }
 
-/// Some text so often, with a comma before each but the first.
-fn listed(alloc: Global, text: &str, count: u32) -> Result<String, AllocError> {
-    let mut all = String::new(alloc);
-    for i in 0..count {
-        if i > 0 {
-            all.push_str(",")?;
+/// A `div`, `more` others, each in the one before, and all their ends, as the items of a body.
+fn nested(alloc: Global, more: usize) -> Result<String, AllocError> {
+    let starts = ",[\"start\",\"div\",[]]".repeat(alloc, more)?;
+    let ends = ",[\"end\"]".repeat(alloc, more)?;
+    format!(in alloc; "[\"start\",\"div\",[]]{starts},[\"end\"]{ends}")
+}
+
+/// Whether reading a page of a `div` and `more` others in it ends so.
+fn is_nested(alloc: Global, more: usize, wanted: &str) -> bool {
+    match nested(alloc, more) {
+        Ok(items) => is_body(alloc, items.as_str(), wanted),
+        Err(_) => false,
+    }
+}
+
+/// Appends pairs of attributes from number 1 up to `count`.
+fn push_pairs(items: &mut String, count: u32) -> Result<(), AllocError> {
+    for i in 1..count {
+        write!(items, ",[\"a{i}\",\"\"]")?;
+    }
+    items.push_str("]],[\"end\"]")
+}
+
+/// Whether reading a page of an element with so many attributes ends so.
+fn is_attributed(alloc: Global, count: u32, wanted: &str) -> bool {
+    match String::from_str(alloc, "[\"start\",\"p\",[[\"a0\",\"\"]") {
+        Ok(mut items) => {
+            let is_pushed = push_pairs(&mut items, count).is_ok();
+            is_pushed & is_body(alloc, items.as_str(), wanted)
         }
-        all.push_str(text)?;
+        Err(_) => false,
     }
-    Ok(all)
-}
-
-/// A page of so many `div`, each in the one before.
-fn nested(alloc: Global, count: u32) -> Result<String, AllocError> {
-    let mut items = listed(alloc, "[\"start\",\"div\",[]]", count)?;
-    items.push_str(",")?;
-    items.push_str(listed(alloc, "[\"end\"]", count)?.as_str())?;
-    page_of(alloc, items.as_str())
-}
-
-#[test]
-fn elements_nest_to_a_limit(rt: HostRuntime) -> Result<(), Fail> {
-    let page = nested(rt.alloc(), 510)?;
-    expect_outcome(&rt, rt.alloc(), "510 deep", page.as_bytes(), "ok");
-    let page = nested(rt.alloc(), 511)?;
-    let wanted = "NotSettled event 515 point 10";
-    expect_outcome(&rt, rt.alloc(), "511 deep", page.as_bytes(), wanted);
-    Ok(())
-}
-
-/// A page of an element with so many attributes.
-fn attributed(alloc: Global, count: u32) -> Result<String, AllocError> {
-    let mut items = String::from_str(alloc, "[\"start\",\"p\",[")?;
-    for i in 0..count {
-        let comma = if i == 0 { "" } else { "," };
-        let pair = format!(in alloc; "{comma}[\"a{i}\",\"\"]")?;
-        items.push_str(pair.as_str())?;
-    }
-    items.push_str("]],[\"end\"]")?;
-    page_of(alloc, items.as_str())
-}
-
-#[test]
-fn attributes_have_a_limit(rt: HostRuntime) -> Result<(), Fail> {
-    let page = attributed(rt.alloc(), 256)?;
-    expect_outcome(&rt, rt.alloc(), "256 pairs", page.as_bytes(), "ok");
-    let page = attributed(rt.alloc(), 257)?;
-    let wanted = "NotSettled event 5 point 9";
-    expect_outcome(&rt, rt.alloc(), "257 pairs", page.as_bytes(), wanted);
-    Ok(())
 }
 
 /// So many arrays, each in the one before.
-fn arrays(alloc: Global, count: u32) -> Result<String, AllocError> {
-    let mut text = String::new(alloc);
-    for _ in 0..count {
-        text.push_str("[")?;
-    }
-    for _ in 0..count {
-        text.push_str("]")?;
-    }
+fn arrays(alloc: Global, count: usize) -> Result<String, AllocError> {
+    let ends = "]".repeat(alloc, count)?;
+    let mut text = "[".repeat(alloc, count)?;
+    text.push_str(ends.as_str())?;
     Ok(text)
 }
 
+/// Whether reading so many arrays ends so.
+fn is_array(alloc: Global, count: usize, wanted: &str) -> bool {
+    match arrays(alloc, count) {
+        Ok(text) => is_outcome(alloc, text.as_bytes(), wanted),
+        Err(_) => false,
+    }
+}
+
 #[test]
-fn arrays_nest_to_a_limit(rt: HostRuntime) -> Result<(), Fail> {
-    let text = arrays(rt.alloc(), 127)?;
-    expect_outcome(
-        &rt,
-        rt.alloc(),
-        "127 deep",
-        text.as_bytes(),
-        "BadEvent event 0",
-    );
-    let text = arrays(rt.alloc(), 128)?;
-    expect_outcome(&rt, rt.alloc(), "128 deep", text.as_bytes(), "NotJson");
-    Ok(())
+fn there_are_limits(rt: HostRuntime) {
+    let alloc = rt.alloc();
+    expect(&rt, is_nested(alloc, 509, "ok"), "510 deep");
+    let wanted = "NotSettled event 515 point 10";
+    expect(&rt, is_nested(alloc, 510, wanted), "511 deep");
+    expect(&rt, is_attributed(alloc, 256, "ok"), "256 pairs");
+    let wanted = "NotSettled event 5 point 9";
+    expect(&rt, is_attributed(alloc, 257, wanted), "257 pairs");
+    expect(&rt, is_array(alloc, 127, "BadEvent event 0"), "127 arrays");
+    expect(&rt, is_array(alloc, 128, "NotJson"), "128 arrays");
 }
 
 #[test]
 fn what_is_cut_off_is_no_json(rt: HostRuntime) {
     let bytes = PAGE.as_bytes();
     for cut in 0..bytes.len() {
-        expect_outcome(&rt, rt.alloc(), "a cut", &bytes[..cut], "NotJson");
+        let found = is_outcome(rt.alloc(), &bytes[..cut], "NotJson");
+        expect(&rt, found, "a cut");
     }
-    expect_outcome(&rt, rt.alloc(), "no cut", bytes, "ok");
+    expect(&rt, is_outcome(rt.alloc(), bytes, "ok"), "no cut");
 }
 
-/// Texts, and how the tree of each is written.
-const COMPACT: [(&str, &str); 2] = [
-    (PAGE, PAGE),
-    (
-        " [[\"doctype\" ,\n\"plain\"] ,\n[\"start\" ,\n\"html\" ,\n[]] ,\n[\"start\" ,\n\"head\" ,\n[]] ,\n[\"end\"] ,\n[\"start\" ,\n\"body\" ,\n[]] ,\n[\"start\" ,\n\"p\" ,\n[[\"a\\u00e9\" ,\n\"\\\"\\\\\\/\\b\\f\\n\\r\\t\\u0001\\u001f\\u007f\"]]] ,\n[\"text\" ,\n\"\\u20ac \\ud83d\\ude00\"] ,\n[\"end\"] ,\n[\"end\"] ,\n[\"end\"]]",
-        "[[\"doctype\",\"plain\"],[\"start\",\"html\",[]],[\"start\",\"head\",[]],[\"end\"],[\"start\",\"body\",[]],[\"start\",\"p\",[[\"aé\",\"\\\"\\\\/\\b\\f\\n\\r\\t\\u0001\\u001f\u{7f}\"]]],[\"text\",\"€ 😀\"],[\"end\"],[\"end\"],[\"end\"]]",
-    ),
-];
+/// A page with spaces and escapes.
+const SPACED: &str =
+    " [[\"doctype\" ,\n\"plain\"] ,\n[\"start\" ,\n\"html\" ,\n[]] ,\n[\"start\" ,\n\"head\" ,\n[]] ,\n[\"end\"] ,\n[\"start\" ,\n\"body\" ,\n[]] ,\n[\"start\" ,\n\"p\" ,\n[[\"a\\u00e9\" ,\n\"\\\"\\\\\\/\\b\\f\\n\\r\\t\\u0001\\u001f\\u007f\"]]] ,\n[\"text\" ,\n\"\\u20ac \\ud83d\\ude00\"] ,\n[\"end\"] ,\n[\"end\"] ,\n[\"end\"]]";
+
+/// How its tree is written.
+const COMPACT: &str =
+    "[[\"doctype\",\"plain\"],[\"start\",\"html\",[]],[\"start\",\"head\",[]],[\"end\"],[\"start\",\"body\",[]],[\"start\",\"p\",[[\"aé\",\"\\\"\\\\/\\b\\f\\n\\r\\t\\u0001\\u001f\u{7f}\"]]],[\"text\",\"€ 😀\"],[\"end\"],[\"end\"],[\"end\"]]";
 
 /// Whether the tree of a text is written so.
 fn is_written(alloc: Global, text: &str, wanted: &str) -> bool {
@@ -268,36 +245,29 @@ fn is_written(alloc: Global, text: &str, wanted: &str) -> bool {
     }
 }
 
-/// Asserts how the tree of a text is written.
-fn expect_written(rt: &impl Abort, alloc: Global, text: &str, wanted: &str) {
-    assert!(rt; is_written(alloc, text, wanted), "{text}");
-}
-
 #[test]
 fn what_is_read_is_written_compactly(rt: HostRuntime) {
-    for (text, wanted) in COMPACT {
-        expect_written(&rt, rt.alloc(), text, wanted);
-    }
+    expect(&rt, is_written(rt.alloc(), PAGE, PAGE), PAGE);
+    expect(&rt, is_written(rt.alloc(), SPACED, COMPACT), SPACED);
+}
+
+/// Puts the tree of [`PAGE`] to a sink, and says whether that succeeds; None where there is no tree or no memory.
+fn put_page(alloc: Global, sink: &mut MemSink) -> Option<bool> {
+    let tree = read_tree(alloc, PAGE.as_bytes()).ok()?;
+    let shown = JsonShown::of(alloc, tree).ok()?;
+    Some(shown.put(sink).is_ok())
+}
+
+/// Whether a put of [`PAGE`] ends so, and these two texts are put, where this call on the sink fails.
+fn is_put(alloc: Global, call: u32, ok: bool, one: &str, other: &str) -> bool {
+    let mut sink = MemSink::new(alloc);
+    let is_listed = sink.fail(call).is_ok();
+    let is_put = put_page(alloc, &mut sink).unwrap_or(!ok) == ok;
+    is_listed & is_put & are_those_of(sink.bytes(), one, other, "")
 }
 
 #[test]
-fn json_is_put_with_a_line_feed(rt: HostRuntime) -> Result<(), Fail> {
-    let tree = read_tree(rt.alloc(), PAGE.as_bytes()).map_err(|_| "a tree")?;
-    let shown = JsonShown::of(rt.alloc(), tree).map_err(|_| "memory")?;
-    let mut sink = MemSink::new(rt.alloc());
-    assert!(rt; shown.put(&mut sink).is_ok());
-    let line = format!(in rt.alloc(); "{PAGE}\n")?;
-    assert!(rt; sink.bytes() == line.as_bytes());
-    Ok(())
-}
-
-#[test]
-fn a_failed_put_is_said(rt: HostRuntime) -> Result<(), Fail> {
-    let tree = read_tree(rt.alloc(), PAGE.as_bytes()).map_err(|_| "a tree")?;
-    let shown = JsonShown::of(rt.alloc(), tree).map_err(|_| "memory")?;
-    let mut sink = MemSink::new(rt.alloc());
-    sink.fail(1).map_err(|_| "memory")?;
-    assert!(rt; shown.put(&mut sink).is_err());
-    assert!(rt; sink.bytes().is_empty());
-    Ok(())
+fn json_is_put_with_a_line_feed(rt: HostRuntime) {
+    expect(&rt, is_put(rt.alloc(), 1, false, "", ""), "the first call");
+    expect(&rt, is_put(rt.alloc(), 9, true, PAGE, "\n"), "no call");
 }

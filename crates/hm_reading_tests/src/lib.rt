@@ -18,6 +18,8 @@ mod printed;
 #[cfg(test)]
 mod refs;
 #[cfg(test)]
+mod rows;
+#[cfg(test)]
 mod settle;
 #[cfg(test)]
 mod source;

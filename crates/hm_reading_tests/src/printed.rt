@@ -1,34 +1,71 @@
-//! What is printed of tags, compared piece by piece with what is wanted.
+//! What is printed, compared piece by piece with what is wanted.
 use hm_tree::Attrs;
+use std::fmt::{self, Debug, Display, Write};
 
-/// What is wanted after these pieces, one after the other; None where others are wanted.
-pub(crate) fn behind<'w>(wanted: &'w str, one: &str, two: &str, three: &str) -> Option<&'w str> {
-    wanted
-        .strip_prefix(one)?
-        .strip_prefix(two)?
-        .strip_prefix(three)
-}
+/// What is wanted once another text was printed than was wanted. Nothing that is printed has it.
+const OTHER: &str = "\0";
 
-/// What is wanted after ` name=[value]`.
-fn behind_attribute<'w>(wanted: &'w str, name: &str, value: &str) -> Option<&'w str> {
-    let wanted = behind(wanted, " ", name, "=[")?;
-    behind(wanted, value, "]", "")
+/// What is wanted after a text.
+pub(crate) fn behind<'w>(wanted: &'w str, text: &str) -> &'w str {
+    wanted.strip_prefix(text).unwrap_or(OTHER)
 }
 
 /// What is wanted after ` name=[value]` for each attribute.
-pub(crate) fn behind_attributes<'w>(wanted: &'w str, attrs: &Attrs) -> Option<&'w str> {
+pub(crate) fn behind_attributes<'w>(wanted: &'w str, attrs: &Attrs) -> &'w str {
     let mut rest = wanted;
     for i in 0..attrs.len() {
         let (name, value) = attrs.at(i);
-        rest = behind_attribute(rest, name, value)?;
+        rest = behind(behind(rest, " "), name);
+        rest = behind(behind(behind(rest, "=["), value), "]");
     }
-    Some(rest)
+    rest
 }
 
-/// Whether this number is wanted, in decimal, and nothing after it.
-pub(crate) fn is_number(wanted: &str, number: u32) -> bool {
-    match wanted.parse::<u32>() {
-        Ok(found) => found == number,
-        Err(_) => false,
+/// A writer that compares what is written with what is wanted.
+#[derive(Clone, Copy)]
+struct Wanted<'w> {
+    rest: &'w str,
+}
+
+impl Write for Wanted<'_> {
+    fn write_str(&mut self, text: &str) -> fmt::Result {
+        self.rest = behind(self.rest, text);
+        Ok(())
+    }
+}
+
+/// What is wanted after a value that is printed by `{}`.
+pub(crate) fn behind_shown<'w>(wanted: &'w str, value: &impl Display) -> &'w str {
+    let mut left = Wanted { rest: wanted };
+    match write!(left, "{value}") {
+        Ok(()) => left.rest,
+        Err(_) => OTHER,
+    }
+}
+
+/// What is wanted after a value that is printed by `{:?}`.
+pub(crate) fn behind_value<'w>(wanted: &'w str, value: &impl Debug) -> &'w str {
+    let mut left = Wanted { rest: wanted };
+    match write!(left, "{value:?}") {
+        Ok(()) => left.rest,
+        Err(_) => OTHER,
+    }
+}
+
+/// Whether a value is printed so by `{}`.
+pub(crate) fn is_shown(wanted: &str, value: &impl Display) -> bool {
+    behind_shown(wanted, value).is_empty()
+}
+
+/// Whether a value is printed so by `{:?}`.
+pub(crate) fn is_value(wanted: &str, value: &impl Debug) -> bool {
+    behind_value(wanted, value).is_empty()
+}
+
+/// Whether bytes are those of three texts, one after the other.
+pub(crate) fn are_those_of(bytes: &[u8], one: &str, two: &str, three: &str) -> bool {
+    match bytes.strip_prefix(one.as_bytes()) {
+        Some(rest) => rest.strip_prefix(two.as_bytes()) == Some(three.as_bytes()),
+        None => false,
     }
 }

@@ -1,7 +1,7 @@
 //! Which elements tags close, make and open, and what is refused.
-use crate::printed::is_number;
-use hm_base::Rule;
-use hm_settle::{Made, Moves, Path, SettleFault};
+use crate::printed::{behind, is_value};
+use crate::rows::{cut, expect};
+use hm_settle::{Moves, Path, SettleFault};
 use std::alloc::Global;
 use std::process::Abort;
 use std::test::Fail;
@@ -32,52 +32,35 @@ fn take_all(path: &mut Path, tags: &str) -> bool {
     true
 }
 
-/// Whether these are open in `body`.
+/// Whether these are open in `body`, with a space before each.
 fn holds(path: &Path, names: &str) -> bool {
-    let mut place = 2;
-    for name in names.split_whitespace() {
-        if place >= path.len() || path.name(place) != name {
-            return false;
-        }
-        place += 1;
+    let mut rest = names;
+    for place in 2..path.len() {
+        rest = behind(behind(rest, " "), path.name(place));
     }
-    place == path.len()
+    rest.is_empty()
 }
 
-/// The name of what a tag makes.
-fn made_name(made: Made) -> &'static str {
-    match made {
-        Made::Nothing => "Nothing",
-        Made::Section => "Section",
-        Made::SectionAndRow => "SectionAndRow",
-        Made::Row => "Row",
-        Made::Colgroup => "Colgroup",
-    }
-}
-
-/// Whether a tag's answer is so: how many elements it closes and, after a space, what it makes, or the rule that
-/// refuses it.
+/// Whether a tag's answer is so: how many elements it closes and what it makes, or the rule that refuses it.
 fn is_answer(answer: Result<Moves, SettleFault>, wanted: &str) -> bool {
     match answer {
-        Ok(moves) => match wanted.split_once(' ') {
-            Some((closes, made)) => {
-                is_number(closes, moves.closes) && made == made_name(moves.made)
-            }
-            None => false,
-        },
+        Ok(moves) => is_value(wanted, &(moves.closes, moves.made)),
         Err(SettleFault::Rule { rule }) => rule.name() == wanted,
         Err(SettleFault::Memory) => false,
     }
 }
 
 /// Whether, after these tags, a tag's answer is so, and then these are open in `body`.
-fn gives(alloc: Global, before: &str, tag: &str, wanted: &str, behind: &str) -> bool {
+fn goes(path: &mut Path, before: &str, tag: &str, wanted: &str, open: &str) -> bool {
+    let is_taken = take_all(path, before);
+    let is_answered = is_answer(take(path, tag), wanted);
+    is_taken & is_answered & holds(path, open)
+}
+
+/// The same where nothing is open in `body` at first.
+fn gives(alloc: Global, before: &str, tag: &str, wanted: &str, open: &str) -> bool {
     match Path::new(alloc) {
-        Ok(mut path) => {
-            take_all(&mut path, before)
-                && is_answer(take(&mut path, tag), wanted)
-                && holds(&path, behind)
-        }
+        Ok(mut path) => goes(&mut path, before, tag, wanted, open),
         Err(_) => false,
     }
 }
@@ -85,21 +68,21 @@ fn gives(alloc: Global, before: &str, tag: &str, wanted: &str, behind: &str) -> 
 /// In each line, between bars: tags that are taken, a tag after them, how many elements it closes and what it makes, and
 /// what is then open in `body`.
 const TAKEN: &str = "\
-    p | p | 1 Nothing | p\n\
-    ul li p | li | 2 Nothing | ul li\n\
-    ul li | /ul | 2 Nothing |\n\
-    p object | div | 0 Nothing | p object div\n\
-    table | tr | 0 Section | table tbody tr\n\
-    table | td | 0 SectionAndRow | table tbody tr td\n\
-    table thead | th | 0 Row | table thead tr th\n\
-    table | col | 0 Colgroup | table colgroup\n\
-    table col | tr | 1 Section | table tbody tr\n\
-    table td p | tfoot | 4 Nothing | table tfoot\n\
-    table td p | /table | 5 Nothing |\n\
-    | br | 0 Nothing |\n\
-    h1 a | svg | 0 Nothing | h1 a svg\n\
-    a svg | a | 0 Nothing | a svg a\n\
-    svg g | /g | 1 Nothing | svg\n";
+    p | p | (1, Nothing) | p\n\
+    ul li p | li | (2, Nothing) | ul li\n\
+    ul li | /ul | (2, Nothing) |\n\
+    p object | div | (0, Nothing) | p object div\n\
+    table | tr | (0, Section) | table tbody tr\n\
+    table | td | (0, SectionAndRow) | table tbody tr td\n\
+    table thead | th | (0, Row) | table thead tr th\n\
+    table | col | (0, Colgroup) | table colgroup\n\
+    table col | tr | (1, Section) | table tbody tr\n\
+    table td p | tfoot | (4, Nothing) | table tfoot\n\
+    table td p | /table | (5, Nothing) |\n\
+    | br | (0, Nothing) |\n\
+    h1 a | svg | (0, Nothing) | h1 a svg\n\
+    a svg | a | (0, Nothing) | a svg a\n\
+    svg g | /g | (1, Nothing) | svg\n";
 
 /// In each line, between bars: tags that are taken, a tag after them, the rule by which it is refused, and what is then
 /// open in `body`, the same as before.
@@ -123,35 +106,51 @@ const REFUSED: &str = "\
 
 /// Whether what stands in a line is so.
 fn is_line(alloc: Global, line: &str) -> bool {
-    let Some((before, rest)) = line.split_once('|') else {
-        return false;
-    };
-    let Some((tag, rest)) = rest.split_once('|') else {
-        return false;
-    };
-    match rest.split_once('|') {
-        Some((wanted, behind)) => gives(alloc, before, tag.trim(), wanted.trim(), behind),
-        None => false,
-    }
-}
-
-/// Asserts what stands in a line.
-fn expect_line(rt: &impl Abort, alloc: Global, line: &str) {
-    assert!(rt; is_line(alloc, line), "{line}");
+    let (before, rest) = cut(line, "|");
+    let (tag, rest) = cut(rest, "|");
+    let (wanted, open) = cut(rest, "|");
+    gives(alloc, before, tag.trim(), wanted.trim(), open)
 }
 
 #[test]
 fn what_tags_close_and_make(rt: HostRuntime) {
     for line in TAKEN.lines() {
-        expect_line(&rt, rt.alloc(), line);
+        expect(&rt, is_line(rt.alloc(), line), line);
     }
 }
 
 #[test]
 fn what_is_refused(rt: HostRuntime) {
     for line in REFUSED.lines() {
-        expect_line(&rt, rt.alloc(), line);
+        expect(&rt, is_line(rt.alloc(), line), line);
     }
+}
+
+/// A tag in each line, the answer to it, and then how many elements are open and the innermost of them. They are taken one
+/// after the other where 510 are open.
+const DEEP: &str = "\
+    table | (0, Nothing) | (511, \"table\")\n\
+    tr | TooDeep | (511, \"table\")\n\
+    td | TooDeep | (511, \"table\")\n\
+    tbody | (0, Nothing) | (512, \"tbody\")\n\
+    tr | TooDeep | (512, \"tbody\")\n\
+    /table | (2, Nothing) | (510, \"b\")\n\
+    br | (0, Nothing) | (510, \"b\")\n\
+    b | (0, Nothing) | (511, \"b\")\n\
+    svg | (0, Nothing) | (512, \"svg\")\n\
+    g | TooDeep | (512, \"svg\")\n";
+
+/// Takes the tag in a line, and says whether what stands in the line is so.
+fn is_step(path: &mut Path, line: &str) -> bool {
+    let (tag, rest) = cut(line, " | ");
+    let (wanted, open) = cut(rest, " | ");
+    let is_answered = is_answer(take(path, tag), wanted);
+    is_answered & is_value(open, &(path.len(), path.current()))
+}
+
+/// Whether the innermost of 512 open elements alone is one of SVG.
+fn ends_in_svg(path: &Path) -> bool {
+    path.len() == 512 && path.foreign(511) && !path.foreign(510)
 }
 
 /// Takes a `b` so often, and says whether each was taken.
@@ -164,67 +163,47 @@ fn nest(path: &mut Path, count: u32) -> bool {
     true
 }
 
-/// Asserts that these tags are taken, and how many elements are open then.
-fn expect_open(rt: &impl Abort, path: &mut Path, tags: &str, count: u32) {
-    assert!(rt; take_all(path, tags), "{tags}");
-    assert!(rt; path.len() == count, "{tags}");
-}
-
-/// Asserts that too many elements are open for a tag.
-fn expect_too_deep(rt: &impl Abort, path: &mut Path, tag: &str) {
-    let rule = Rule::TooDeep;
-    assert!(rt; take(path, tag) == Err(SettleFault::Rule { rule }), "{tag}");
-}
-
-/// Whether the innermost of 512 open elements alone is one of SVG.
-fn ends_in_svg(path: &Path) -> bool {
-    path.len() == 512 && path.foreign(511) && !path.foreign(510)
+/// Asserts that 508 of `b` are taken, and then what stands in each line of [`DEEP`].
+fn expect_steps(rt: &impl Abort, path: &mut Path) {
+    expect(rt, nest(path, 508), "508 of b");
+    for line in DEEP.lines() {
+        expect(rt, is_step(path, line), line);
+    }
+    expect(rt, ends_in_svg(path), "an svg in a b");
 }
 
 #[test]
 fn at_most_512_are_open(rt: HostRuntime) -> Result<(), Fail> {
     let mut path = Path::new(rt.alloc())?;
-    assert!(rt; nest(&mut path, 508));
-    expect_open(&rt, &mut path, "table", 511);
-    expect_too_deep(&rt, &mut path, "tr");
-    expect_too_deep(&rt, &mut path, "td");
-    expect_open(&rt, &mut path, "tbody", 512);
-    expect_too_deep(&rt, &mut path, "tr");
-    assert!(rt; path.current() == "tbody");
-    expect_open(&rt, &mut path, "/table br b svg", 512);
-    assert!(rt; ends_in_svg(&path));
-    expect_too_deep(&rt, &mut path, "g");
-    assert!(rt; path.len() == 512);
+    expect_steps(&rt, &mut path);
     Ok(())
 }
 
-/// Tags, and whether the innermost element that is then open is one of HTML that holds one text.
-const TEXTS: [(&str, bool); 7] = [
-    ("", false),
-    ("textarea", true),
-    ("script", true),
-    ("textarea /textarea", false),
-    ("svg title", false),
-    ("svg style", false),
-    ("p br", false),
-];
+/// Tags before ` ⇒ ` in each line, and after it whether the innermost element that is then open is one of HTML that holds one text.
+const TEXTS: &str = "\
+    \x20⇒ false\n\
+    textarea ⇒ true\n\
+    script ⇒ true\n\
+    textarea /textarea ⇒ false\n\
+    svg title ⇒ false\n\
+    svg style ⇒ false\n\
+    p br ⇒ false\n";
 
-/// Whether it is so after these tags that an element of one text is open.
-fn is_text_behind(alloc: Global, tags: &str, wanted: bool) -> bool {
+/// Whether it is so after the tags in a line that an element of one text is open.
+fn is_text(alloc: Global, line: &str) -> bool {
+    let (tags, wanted) = cut(line, " ⇒ ");
     match Path::new(alloc) {
-        Ok(mut path) => take_all(&mut path, tags) && path.is_in_text() == wanted,
+        Ok(mut path) => {
+            let is_taken = take_all(&mut path, tags);
+            is_taken & is_value(wanted, &path.is_in_text())
+        }
         Err(_) => false,
     }
 }
 
-/// Asserts whether an element of one text is open after these tags.
-fn expect_text(rt: &impl Abort, alloc: Global, tags: &str, wanted: bool) {
-    assert!(rt; is_text_behind(alloc, tags, wanted), "{tags}");
-}
-
 #[test]
 fn one_text_in_html_alone(rt: HostRuntime) {
-    for (tags, wanted) in TEXTS {
-        expect_text(&rt, rt.alloc(), tags, wanted);
+    for line in TEXTS.lines() {
+        expect(&rt, is_text(rt.alloc(), line), line);
     }
 }

@@ -2,6 +2,8 @@
 ghost use Rattle.std.specs.Prelude.{◌≡◌, ◌^◌, ◌<◌, drop, false, length, IsTrue, IsCharBoundary};
 ghost use Rattle.hm_scan.specs.Texts as texts;
 
+use crate::printed::is_value;
+use crate::rows::{cut, expect};
 use hm_refs::Table;
 use hm_scan::{begins_markup, scan_text};
 use hm_tree::Token;
@@ -24,122 +26,98 @@ fn is_text(text: &str, at: u32, rcdata: bool) -> bool
         && (rcdata || !begins_markup(text, at))
 }
 
-/// Whether these code points are read at a place, and another one stands after them.
-fn is_reference(
-    table: &Table,
-    rcdata: bool,
-    text: &str,
-    at: u32,
-    points: (char, Option<char>),
-    to: u32,
-) -> bool {
-    is_text(text, at, rcdata)
-        && match scan_text(text, at, rcdata, table) {
-            (Token::Points { points: read }, behind) => {
-                (read.first, read.second) == points && behind == to
-            }
-            _ => false,
-        }
+/// Whether a token and the place behind it are wanted: where its text begins and ends, or its code points.
+fn is_read(token: &Token, place: u32, wanted: &str) -> bool {
+    match token {
+        Token::Slice { from, to } => is_value(wanted, &(*from, *to, place)),
+        Token::Points { points } => is_value(wanted, &(points.first, points.second, place)),
+        _ => false,
+    }
 }
 
-/// Whether the text up to another place is read at a place.
-fn is_slice(table: &Table, rcdata: bool, text: &str, at: u32, end: u32) -> bool {
-    is_text(text, at, rcdata)
-        && match scan_text(text, at, rcdata, table) {
-            (Token::Slice { from, to }, behind) => from == at && to == end && behind == end,
-            _ => false,
-        }
+/// Whether this is wanted of the piece of text at a place, in a title or outside.
+fn is_piece(table: &Table, rcdata: bool, text: &str, at: u32, wanted: &str) -> bool {
+    if is_text(text, at, rcdata) {
+        let (token, place) = scan_text(text, at, rcdata, table);
+        is_read(&token, place, wanted)
+    } else {
+        false
+    }
 }
 
-/// Texts, the place and the code points of the reference that is read there, and the place after it.
-const REFERENCES: [(&str, u32, char, Option<char>, u32); 8] = [
-    ("&copy=", 0, '\u{A9}', None, 5),
-    ("&copy;=", 0, '\u{A9}', None, 6),
-    ("&notit;", 0, '\u{AC}', None, 4),
-    ("&nesim;", 0, '\u{2242}', Some('\u{338}'), 7),
-    ("&#x80;", 0, '\u{20AC}', None, 6),
-    ("&#65<", 0, 'A', None, 4),
-    ("&#1114112;x", 0, '\u{FFFD}', None, 10),
-    ("é&lt;y", 2, '<', None, 6),
-];
+/// In each line a place in a text, the text, and what is read there: where its text begins and ends or its code points, and
+/// the place behind it. It is the same in a title.
+const REFERENCES: &str = "\
+    0 &copy= ⇒ ('©', None, 5)\n\
+    0 &copy;= ⇒ ('©', None, 6)\n\
+    0 &notit; ⇒ ('¬', None, 4)\n\
+    0 &nesim; ⇒ ('≂', Some('\\u{338}'), 7)\n\
+    0 &#x80; ⇒ ('€', None, 6)\n\
+    0 &#65< ⇒ ('A', None, 4)\n\
+    0 &#1114112;x ⇒ ('\u{FFFD}', None, 10)\n\
+    2 é&lt;y ⇒ ('<', None, 6)\n";
 
-/// Asserts which code points are read at a place, also in the text of a title.
-fn expect_reference(
-    rt: &impl Abort,
-    table: &Table,
-    text: &str,
-    at: u32,
-    points: (char, Option<char>),
-    to: u32,
-) {
-    assert!(rt;
-        is_reference(table, false, text, at, points, to),
-        "in {text}"
-    );
-    assert!(rt;
-        is_reference(table, true, text, at, points, to),
-        "in {text}"
-    );
+/// The same outside of titles.
+const SLICES: &str = "\
+    0 &#; ⇒ (0, 3, 3)\n\
+    0 &#x;&# ⇒ (0, 6, 6)\n\
+    0 a<1</>b ⇒ (0, 3, 3)\n\
+    0 a</ ⇒ (0, 3, 3)\n\
+    0 <<a ⇒ (0, 1, 1)\n\
+    0 x&y&amp;z ⇒ (0, 3, 3)\n\
+    8 x&y&amp;z ⇒ (8, 9, 9)\n\
+    0 é<! ⇒ (0, 2, 2)\n";
+
+/// The same in a title.
+const TITLES: &str = "\
+    0 a<b>&copy; ⇒ (0, 4, 4)\n\
+    0 <b></b> ⇒ (0, 7, 7)\n\
+    0 &<!--&lt ⇒ (0, 5, 5)\n";
+
+/// Whether what stands in a line is so.
+fn is_line(table: &Table, rcdata: bool, line: &str) -> bool {
+    let (at, rest) = cut(line, " ");
+    let (text, wanted) = cut(rest, " ⇒ ");
+    match at.parse::<u32>() {
+        Ok(at) => is_piece(table, rcdata, text, at, wanted),
+        Err(_) => false,
+    }
+}
+
+/// Asserts what each line says.
+fn expect_lines(rt: &impl Abort, table: &Table, rcdata: bool, lines: &str) {
+    for line in lines.lines() {
+        expect(rt, is_line(table, rcdata, line), line);
+    }
+}
+
+/// Asserts what the lines of each table say.
+fn expect_tables(rt: &impl Abort, table: &Table) {
+    expect_lines(rt, table, false, REFERENCES);
+    expect_lines(rt, table, true, REFERENCES);
+    expect_lines(rt, table, false, SLICES);
+    expect_lines(rt, table, true, TITLES);
 }
 
 #[test]
-fn references(rt: HostRuntime) -> Result<(), Fail> {
+fn pieces_of_text(rt: HostRuntime) -> Result<(), Fail> {
     let table = Table::read(rt.alloc(), NAMES.as_bytes())?;
-    for (text, at, first, second, to) in REFERENCES {
-        expect_reference(&rt, &table, text, at, (first, second), to);
-    }
+    expect_tables(&rt, &table);
     Ok(())
 }
 
-/// Texts, a place, and the end of the text that is read there as it stands.
-const SLICES: [(&str, u32, u32); 8] = [
-    ("&#;", 0, 3),
-    ("&#x;&#", 0, 6),
-    ("a<1</>b", 0, 3),
-    ("a</", 0, 3),
-    ("<<a", 0, 1),
-    ("x&y&amp;z", 0, 3),
-    ("x&y&amp;z", 8, 9),
-    ("é<!", 0, 2),
-];
+/// Starts of markup.
+const MARKUP: &str = "<a <Z </> </a <! <?";
 
-/// Asserts how far the text is read at a place.
-fn expect_slice(rt: &impl Abort, table: &Table, rcdata: bool, text: &str, at: u32, to: u32) {
-    assert!(rt; is_slice(table, rcdata, text, at, to), "in {text}");
-}
-
-#[test]
-fn ordinary_text(rt: HostRuntime) -> Result<(), Fail> {
-    let table = Table::read(rt.alloc(), NAMES.as_bytes())?;
-    for (text, at, to) in SLICES {
-        expect_slice(&rt, &table, false, text, at, to);
-    }
-    Ok(())
-}
-
-/// Asserts whether markup stands at the start of a text.
-fn expect_markup(rt: &impl Abort, text: &str, wanted: bool) {
-    assert!(rt;
-        !text.is_empty() && begins_markup(text, 0) == wanted,
-        "in {text}"
-    );
-}
+/// Starts of other texts.
+const NO_MARKUP: &str = "</ < <1 <<a";
 
 #[test]
 fn starts_of_markup(rt: HostRuntime) {
-    for text in ["<a", "<Z", "</>", "</a", "<!", "<?"] {
-        expect_markup(&rt, text, true);
+    for text in MARKUP.split(' ') {
+        expect(&rt, begins_markup(text, 0), text);
     }
-    for text in ["</", "<", "<1", "<<a"] {
-        expect_markup(&rt, text, false);
+    for text in NO_MARKUP.split(' ') {
+        expect(&rt, !begins_markup(text, 0), text);
     }
-}
-
-#[test]
-fn title_text(rt: HostRuntime) -> Result<(), Fail> {
-    let table = Table::read(rt.alloc(), NAMES.as_bytes())?;
-    for (text, at, to) in [("a<b>&copy;", 0, 4), ("<b></b>", 0, 7), ("&<!--&lt", 0, 5)] {
-        expect_slice(&rt, &table, true, text, at, to);
-    }
-    Ok(())
 }

@@ -4,46 +4,42 @@ ghost use Rattle.std.specs.Prelude.{◌≡◌, ◌+◌, ◌^◌, ◌<◌, ◌≤
 ghost use Rattle.hm_base.specs.Walks.{attributes_size, path_after, walk_size};
 ghost use Rattle.hm_tree.specs.Trees.{last_agrees};
 
+use crate::printed::{behind, behind_value};
+use crate::rows::{cut, expect};
 use hm_base::{Memory, Word};
 use hm_tree::{Attrs, EventView, Lexeme, Maker, Placed, ScanFault, Spanned, Tag, Token, Tree};
 use std::alloc::{AllocError, AllocFailed, Global};
 use std::process::Abort;
 use std::test::Fail;
 
-/// A call of a maker. A start may have one attribute, a name and a value.
-#[derive(Clone, Copy)]
-enum MakerCall {
-    Doctype(bool),
-    Start(&'static str),
-    With(&'static str, &'static str, &'static str),
-    Text(&'static str),
-    Comment(&'static str),
-    End,
-}
-
-fn attributes(alloc: Global, name: &str, value: &str) -> Result<Attrs, Memory>
-    ensures { IfOk result (λ attrs. attributes_size attrs ≤ length name.now + length value.now) }
+/// No attribute where the text is empty, else the one that it tells as `name=value`.
+fn attributes(alloc: Global, text: &str) -> Result<Attrs, Memory>
+    ensures { IfOk result (λ attrs. attributes_size attrs ≤ 200) }
 {
     let mut attrs = Attrs::new(alloc);
-    let name = String::from_str(alloc, name)?;
-    let value = String::from_str(alloc, value)?;
-    attrs.add(name, value)?;
+    if !text.is_empty() {
+        let (name, value) = cut(text, "=");
+        if name.len() > 100 || value.len() > 100 {
+            return Err(Memory);
+        }
+        attrs.put(name, value)?;
+    }
     Ok(attrs)
 }
 
-fn start(maker: &mut Maker, name: &str, attrs: Attrs) -> Result<(), Memory>
+/// Starts the element of a name, with the attribute that stands after a space, if any.
+fn start(alloc: Global, maker: &mut Maker, call: &str) -> Result<(), Memory>
     requires events { length maker.old + length (path_after [] maker.old) + 2 < 2 ^ 29 }
     requires bytes { walk_size maker.old + 300 < 2 ^ 29 }
-    requires attrs { attributes_size attrs ≤ 200 }
     ensures events { OnOk result (length maker.new + length (path_after [] maker.new) ≤ length maker.old + length (path_after [] maker.old) + 2) }
     ensures bytes { OnOk result (walk_size maker.new ≤ walk_size maker.old + 300) }
     ensures plain { OnOk result (last_agrees maker.new false ≡ true) }
 {
+    let (name, attribute) = call.split_once(' ').unwrap_or((call, ""));
     if name.len() > 100 {
         return Err(Memory);
     }
-    maker.start(name, false, attrs)?;
-    Ok(())
+    maker.start(name, false, attributes(alloc, attribute)?)
 }
 
 fn text(maker: &mut Maker, text: &str) -> Result<(), Memory>
@@ -57,8 +53,7 @@ fn text(maker: &mut Maker, text: &str) -> Result<(), Memory>
     if text.len() > 100 {
         return Err(Memory);
     }
-    maker.text(text, false)?;
-    Ok(())
+    maker.text(text, false)
 }
 
 fn comment(maker: &mut Maker, text: &str) -> Result<(), Memory>
@@ -71,8 +66,7 @@ fn comment(maker: &mut Maker, text: &str) -> Result<(), Memory>
     if text.len() > 100 {
         return Err(Memory);
     }
-    maker.comment(text)?;
-    Ok(())
+    maker.comment(text)
 }
 
 fn doctype(maker: &mut Maker, legacy: bool) -> Result<(), Memory>
@@ -82,8 +76,7 @@ fn doctype(maker: &mut Maker, legacy: bool) -> Result<(), Memory>
     ensures bytes { OnOk result (walk_size maker.new ≤ walk_size maker.old + 300) }
     ensures plain { OnOk result (last_agrees maker.new false ≡ true) }
 {
-    maker.doctype(legacy)?;
-    Ok(())
+    maker.doctype(legacy)
 }
 
 fn end(maker: &mut Maker) -> Result<(), Memory>
@@ -94,11 +87,11 @@ fn end(maker: &mut Maker) -> Result<(), Memory>
     if maker.depth() == 0 {
         return Err(Memory);
     }
-    maker.end()?;
-    Ok(())
+    maker.end()
 }
 
-fn take(alloc: Global, maker: &mut Maker, step: MakerCall) -> Result<(), Memory>
+/// Makes a call: `start` with the name of an element and maybe an attribute, `text`, `comment`, `doctype` or `end`.
+fn take(alloc: Global, maker: &mut Maker, call: &str) -> Result<(), Memory>
     requires events { length maker.old + length (path_after [] maker.old) + 2 < 2 ^ 29 }
     requires bytes { walk_size maker.old + 300 < 2 ^ 29 }
     requires plain { last_agrees maker.old false ≡ true }
@@ -106,52 +99,37 @@ fn take(alloc: Global, maker: &mut Maker, step: MakerCall) -> Result<(), Memory>
     ensures bytes { OnOk result (walk_size maker.new ≤ walk_size maker.old + 300) }
     ensures plain { OnOk result (last_agrees maker.new false ≡ true) }
 {
-    match step {
-        MakerCall::Doctype(legacy) => doctype(maker, legacy),
-        MakerCall::Start(name) => start(maker, name, Attrs::new(alloc)),
-        MakerCall::With(name, attr, value) => {
-            if attr.len() > 100 || value.len() > 100 {
-                return Err(Memory);
-            }
-            start(maker, name, attributes(alloc, attr, value)?)
-        }
-        MakerCall::Text(s) => text(maker, s),
-        MakerCall::Comment(s) => comment(maker, s),
-        MakerCall::End => end(maker),
+    let (kind, rest) = cut(call, " ");
+    match kind {
+        "start" => start(alloc, maker, rest),
+        "text" => text(maker, rest),
+        "comment" => comment(maker, rest),
+        "doctype" => doctype(maker, false),
+        "end" => end(maker),
+        _ => Err(Memory),
     }
 }
 
-/// The tree of these calls.
-fn made(alloc: Global, steps: &[MakerCall]) -> Result<Tree, Memory> {
+/// The tree of at most 50 calls, with a bar after each.
+fn made(alloc: Global, calls: &str) -> Result<Tree, Memory> {
     let mut maker = Tree::maker(alloc);
-    if steps.len() > 99 {
-        return Err(Memory);
+    let mut left = calls;
+    for count in 0..50u32 {
+        if !left.is_empty() {
+            let (call, rest) = cut(left, "|");
+            take(alloc, &mut maker, call)?;
+            left = rest;
+        }
     }
-    for step in steps {
-        take(alloc, &mut maker, *step)?;
-    }
-    if maker.depth() > 0 {
+    if maker.depth() > 0 || !left.is_empty() {
         return Err(Memory);
     }
     Ok(maker.finish())
 }
 
 /// `<p id=x>a<br>b` as a page.
-const PAGE: [MakerCall; 13] = [
-    MakerCall::Doctype(false),
-    MakerCall::Start("html"),
-    MakerCall::Start("head"),
-    MakerCall::End,
-    MakerCall::Start("body"),
-    MakerCall::With("p", "id", "x"),
-    MakerCall::Text("a"),
-    MakerCall::Start("br"),
-    MakerCall::End,
-    MakerCall::Text("b"),
-    MakerCall::End,
-    MakerCall::End,
-    MakerCall::End,
-];
+const PAGE: &str =
+    "doctype|start html|start head|end|start body|start p id=x|text a|start br|end|text b|end|end|end|";
 
 /// The name or the text of an event, and whether it is an end.
 fn shown<'t>(event: EventView<'t>) -> (&'t str, bool) {
@@ -164,114 +142,73 @@ fn shown<'t>(event: EventView<'t>) -> (&'t str, bool) {
     }
 }
 
-/// The events of the page: the name or the text of each, whether it is an end, and its parent.
-const EVENTS: [(u32, &str, bool, Option<u32>); 13] = [
-    (0, "", false, None),
-    (1, "html", false, None),
-    (2, "head", false, Some(1)),
-    (3, "head", true, Some(2)),
-    (4, "body", false, Some(1)),
-    (5, "p", false, Some(4)),
-    (6, "a", false, Some(5)),
-    (7, "br", false, Some(5)),
-    (8, "br", true, Some(7)),
-    (9, "b", false, Some(5)),
-    (10, "p", true, Some(5)),
-    (11, "body", true, Some(4)),
-    (12, "html", true, Some(1)),
-];
+/// The events of the page, in a line each: the name or the text, whether it is an end, and its parent.
+const EVENTS: &str = "\
+    (\"\", false, None)\n\
+    (\"html\", false, None)\n\
+    (\"head\", false, Some(1))\n\
+    (\"head\", true, Some(2))\n\
+    (\"body\", false, Some(1))\n\
+    (\"p\", false, Some(4))\n\
+    (\"a\", false, Some(5))\n\
+    (\"br\", false, Some(5))\n\
+    (\"br\", true, Some(7))\n\
+    (\"b\", false, Some(5))\n\
+    (\"p\", true, Some(5))\n\
+    (\"body\", true, Some(4))\n\
+    (\"html\", true, Some(1))\n";
 
-/// Whether event `i` is an end or not, and has this name or text and this parent.
-fn is_event(tree: &Tree, i: u32, text: &str, is_end: bool, parent: Option<u32>) -> bool {
-    i < tree.len() && shown(tree.event(i)) == (text, is_end) && tree.parent(i) == parent
-}
-
-/// Asserts what event `i` is.
-fn expect_event(
-    rt: &impl Abort,
-    tree: &Tree,
-    i: u32,
-    text: &str,
-    is_end: bool,
-    parent: Option<u32>,
-) {
-    assert!(rt; is_event(tree, i, text, is_end, parent), "at {i}");
-}
-
-/// Asserts what each event of the page is.
-fn expect_events(rt: &impl Abort, tree: &Tree) {
-    assert!(rt; tree.len() == 13);
-    for (i, text, is_end, parent) in EVENTS {
-        expect_event(rt, tree, i, text, is_end, parent);
+/// Whether these are the events of a tree.
+fn has_events(tree: &Tree, wanted: &str) -> bool {
+    let mut rest = wanted;
+    for i in 0..tree.len() {
+        let (text, is_end) = shown(tree.event(i));
+        rest = behind(behind_value(rest, &(text, is_end, tree.parent(i))), "\n");
     }
+    rest.is_empty()
 }
 
 #[test]
 fn a_page(rt: HostRuntime) -> Result<(), Fail> {
-    let tree = made(rt.alloc(), &PAGE)?;
-    expect_events(&rt, &tree);
+    let tree = made(rt.alloc(), PAGE)?;
+    expect(&rt, has_events(&tree, EVENTS), PAGE);
     Ok(())
 }
 
-const ONE: [MakerCall; 3] = [MakerCall::Start("p"), MakerCall::Text("a"), MakerCall::End];
+const ONE: &str = "start p|text a|end|";
 
-const IN_PARTS: [MakerCall; 5] = [
-    MakerCall::Start("p"),
-    MakerCall::Text(""),
-    MakerCall::Text("a"),
-    MakerCall::Text(""),
-    MakerCall::End,
-];
+const IN_PARTS: &str = "start p|text |text a|text |end|";
 
-const JOINED: [MakerCall; 4] = [
-    MakerCall::Start("p"),
-    MakerCall::Text("a"),
-    MakerCall::Text("b"),
-    MakerCall::End,
-];
+const JOINED: &str = "start p|text a|text b|end|";
 
-const NAMED: [MakerCall; 3] = [
-    MakerCall::With("p", "id", "x"),
-    MakerCall::Text("a"),
-    MakerCall::End,
-];
+const NAMED: &str = "start p id=x|text a|end|";
 
-const LONGER: [MakerCall; 4] = [
-    MakerCall::Start("p"),
-    MakerCall::Text("a"),
-    MakerCall::End,
-    MakerCall::Comment("a"),
-];
+const LONGER: &str = "start p|text a|end|comment a|";
 
 /// Whether the trees of these calls differ first at this place, and are the same where there is none.
-fn differ_at(alloc: Global, one: &[MakerCall], other: &[MakerCall], place: Option<u32>) -> bool {
+fn differ_at(alloc: Global, one: &str, other: &str, place: Option<u32>) -> bool {
     match made(alloc, one) {
-        Ok(one) => match made(alloc, other) {
-            Ok(other) => one.first_other(&other) == place && one.same(&other) == place.is_none(),
-            Err(_) => false,
-        },
+        Ok(one) => differs_at(alloc, &one, other, place),
         Err(_) => false,
     }
 }
 
-/// Asserts where the trees of these calls differ first.
-fn expect_other(
-    rt: &impl Abort,
-    alloc: Global,
-    one: &[MakerCall],
-    other: &[MakerCall],
-    place: Option<u32>,
-) {
-    assert!(rt; differ_at(alloc, one, other, place));
+/// The same of a tree and that of these calls.
+fn differs_at(alloc: Global, one: &Tree, other: &str, place: Option<u32>) -> bool {
+    match made(alloc, other) {
+        Ok(other) => one.first_other(&other) == place && one.same(&other) == place.is_none(),
+        Err(_) => false,
+    }
 }
 
 #[test]
 fn first_differences(rt: HostRuntime) {
-    expect_other(&rt, rt.alloc(), &ONE, &IN_PARTS, None);
-    expect_other(&rt, rt.alloc(), &ONE, &JOINED, Some(1));
-    expect_other(&rt, rt.alloc(), &ONE, &NAMED, Some(0));
-    expect_other(&rt, rt.alloc(), &ONE, &LONGER, Some(3));
-    expect_other(&rt, rt.alloc(), &LONGER, &ONE, Some(3));
+    let alloc = rt.alloc();
+    expect(&rt, differ_at(alloc, ONE, IN_PARTS, None), IN_PARTS);
+    expect(&rt, differ_at(alloc, ONE, JOINED, Some(1)), JOINED);
+    expect(&rt, differ_at(alloc, ONE, NAMED, Some(0)), NAMED);
+    expect(&rt, differ_at(alloc, ONE, LONGER, Some(3)), LONGER);
+    expect(&rt, differ_at(alloc, LONGER, ONE, Some(3)), ONE);
 }
 
 /// Adds an attribute, and says whether it was added. A fourth is refused as memory is.
@@ -284,37 +221,22 @@ fn add(alloc: Global, attrs: &mut Attrs, name: &str, value: &str) -> Result<bool
     attrs.add(name, value)
 }
 
-/// Asserts whether an attribute is added.
-fn expect_added(
-    rt: &impl Abort,
-    alloc: Global,
-    attrs: &mut Attrs,
-    name: &str,
-    value: &str,
-    wanted: bool,
-) {
-    assert!(rt;
-        add(alloc, attrs, name, value) == Ok(wanted),
-        "{name}={value}"
-    );
-}
-
-/// Asserts the name and the value of attribute `i`.
-fn expect_attribute(rt: &impl Abort, attrs: &Attrs, i: u32, name: &str, value: &str) {
-    assert!(rt; i < attrs.len() && attrs.at(i) == (name, value), "at {i}");
+/// Asserts that a name is added once, and that nothing is left once all attributes are taken away.
+fn expect_once(rt: &impl Abort, alloc: Global, attrs: &mut Attrs) {
+    expect(rt, add(alloc, attrs, "id", "x") == Ok(true), "id=x");
+    expect(rt, add(alloc, attrs, "class", "") == Ok(true), "class=");
+    expect(rt, add(alloc, attrs, "id", "y") == Ok(false), "id=y");
+    assert!(rt; attrs.len() == 2);
+    expect(rt, attrs.at(0) == ("id", "x"), "0");
+    expect(rt, attrs.at(1) == ("class", ""), "1");
+    attrs.clear();
+    expect(rt, attrs.len() == 0, "none");
 }
 
 #[test]
 fn a_name_once(rt: HostRuntime) {
     let mut attrs = Attrs::new(rt.alloc());
-    expect_added(&rt, rt.alloc(), &mut attrs, "id", "x", true);
-    expect_added(&rt, rt.alloc(), &mut attrs, "class", "", true);
-    expect_added(&rt, rt.alloc(), &mut attrs, "id", "y", false);
-    assert!(rt; attrs.len() == 2);
-    expect_attribute(&rt, &attrs, 0, "id", "x");
-    expect_attribute(&rt, &attrs, 1, "class", "");
-    attrs.clear();
-    assert!(rt; attrs.len() == 0);
+    expect_once(&rt, rt.alloc(), &mut attrs);
 }
 
 /// A tag `<br/>` in the bytes from 3 to 8. Its name and attributes are put into `tag`.

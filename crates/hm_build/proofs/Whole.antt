@@ -1,5 +1,6 @@
 -- All of a page has come to a builder.
 use Rattle.std.proofs.Common.{◌≡◌, ℕ, Bool, true, false, cond, nat_lt, List, length, Option, Some, None, refl, sym, ap, ap₂, subst, ◌∙◌, arith, zero-add}
+use Rattle.std.specs.Option.{option_or}
 use Rattle.hm_base.specs.Source.{PlacedByte, Refusal, source_of, text_fault}
 use Rattle.hm_base.specs.Walks.{Event}
 use Rattle.hm_base.specs.declared.rules.Rule.{Rule}
@@ -16,14 +17,10 @@ use Rattle.hm_pieces.specs.Pieces.{HasFed, HasPage, Pieces, fault_of_page, told_
 use Rattle.hm_pieces.proofs.Feeding.{fault_within}
 use Rattle.hm_pieces.proofs.Texts.{whole_texts_follow}
 use Rattle.hm_insertion.specs.Building.{first_building}
-use Rattle.hm_build.specs.Feeding.{Comes, Feeding, HasCome, IsBuiltFrom, IsStopped, page_outcome_within, whole_tree}
+use Rattle.hm_build.specs.Feeding.{Comes, Ends, EndsAs, Feeding, HasCome, IsBuiltFrom, IsStopped, page_outcome_within, whole_tree}
 use Rattle.hm_build.specs.Parsing.{IsRefusedAs, left_tree, reads}
 use Rattle.hm_build.proofs.Growth.{page_grows, sound_page}
 use Rattle.hm_build.proofs.PageEnds.{first_tree, sound_names}
-
--- the page has no more bytes
-abbrev pub Ends : Pieces → Pieces → Type 0
-Ends old new = (gone : List PlacedByte) (page : List ℕ) → HasFed old gone page → HasPage new gone page
 
 some_is : {A : Type 0} {x y : A} → Some x ≡ Some y → x ≡ y
 some_is e = cc
@@ -60,15 +57,15 @@ sound_before p q gone page h k same e =
     let sound = sound_page q.limit page (sym k.fault ∙ e) in
     h.fault ∙ fault_within p.limit page (omega (arith, sound.0)) ∙ ap (told_at 0) (whole_texts_follow page sound.1).0
 
--- ---- the three answers
+-- ---- the answers
 
 -- the text of the page has a fault
-pub ends_faulty : (f : Feeding) (q : Pieces) (page : List ℕ) (rule : Rule) (at : ℕ) → HasCome f page → Ends f.pieces q → q.limit ≡ f.pieces.limit → q.fault ≡ Some (rule, at) → page_outcome_within f.pieces.limit f.names page ≡ refused_by rule at
+ends_faulty : (f : Feeding) (q : Pieces) (page : List ℕ) (rule : Rule) (at : ℕ) → HasCome f page → Ends f.pieces q → q.limit ≡ f.pieces.limit → q.fault ≡ Some (rule, at) → page_outcome_within f.pieces.limit f.names page ≡ refused_by rule at
 ends_faulty f q page rule at h ends same some =
     faulty_page f.pieces.limit f.names page (rule, at) (ap (λ n. fault_of_page n page) (sym same) ∙ sym (ends h.gone page h.came).fault ∙ some)
 
 -- a token was refused
-pub ends_stopped : (f : Feeding) (q : Pieces) (page : List ℕ) (rule : Rule) (at : ℕ) → HasCome f page → Ends f.pieces q → q.limit ≡ f.pieces.limit → q.fault ≡ None → f.refused ≡ Some (rule, at) → page_outcome_within f.pieces.limit f.names page ≡ refused_by rule at
+ends_stopped : (f : Feeding) (q : Pieces) (page : List ℕ) (rule : Rule) (at : ℕ) → HasCome f page → Ends f.pieces q → q.limit ≡ f.pieces.limit → q.fault ≡ None → f.refused ≡ Some (rule, at) → page_outcome_within f.pieces.limit f.names page ≡ refused_by rule at
 ends_stopped f q page rule at h ends same none some =
     let ended = ends h.gone page h.came in
     let before = sound_before f.pieces q h.gone page h.came ended same none in
@@ -77,16 +74,32 @@ ends_stopped f q page rule at h ends same none some =
     sound_tree f.pieces.limit f.names page (ap (λ n. fault_of_page n page) (sym same) ∙ sym ended.fault ∙ none)
     ∙ sym (first_tree f.names (source_of page)) ∙ ap (λ l. whole_tree f.names first_building l (length page)) grown_so.text_is ∙ stopped.tree grown_so.new (length page)
 
+-- one of the two, or memory was refused
+pub ends_refused : (f : Feeding) (q : Pieces) (page : List ℕ) (refused : Refused) → HasCome f page → q.limit ≡ f.pieces.limit → EndsAs f.pieces q f.refused refused → IsRefusedAs (page_outcome_within f.pieces.limit f.names page) refused
+ends_refused f q page (answers.Page rule at) h same e = by q.fault refl e.1
+  where
+    by : (o : Option (Rule × ℕ)) → q.fault ≡ o → option_or o f.refused ≡ Some (rule, at) → page_outcome_within f.pieces.limit f.names page ≡ refused_by rule at
+    by (Some r) is k = ends_faulty f q page rule at h e.0 same (is ∙ k)
+    by None is k = ends_stopped f q page rule at h e.0 same is k
+ends_refused f q page answers.Memory h same e = tt
+
+-- no refusal of either kind
+pub none_of_both : {A : Type 0} (o p : Option A) → option_or o p ≡ None → (o ≡ None) × (p ≡ None)
+none_of_both (Some r) p e = absurd (no_some e)
+none_of_both None p e = (refl, e)
+
 -- what was built goes on with what is left of the text
-pub ends_sound : (f : Feeding) (q : Pieces) (page : List ℕ) → HasCome f page → Ends f.pieces q → q.limit ≡ f.pieces.limit → q.fault ≡ None → f.refused ≡ None → page_outcome_within f.pieces.limit f.names page ≡ left_tree (reads f.names q.source) f.building
-ends_sound f q page h ends same none sound =
+pub ends_sound : (f : Feeding) (q : Pieces) (page : List ℕ) → HasCome f page → q.limit ≡ f.pieces.limit → Ends f.pieces q → option_or q.fault f.refused ≡ None → page_outcome_within f.pieces.limit f.names page ≡ left_tree (reads f.names q.source) f.building
+ends_sound f q page h same ends none =
+    let no_fault : q.fault ≡ None = (none_of_both q.fault f.refused none).0 in
     let ended = ends h.gone page h.came in
-    let before = sound_before f.pieces q h.gone page h.came ended same none in
-    let so_far : Comes f.names first_building (decided page).placed f.building f.pieces.source.placed = subst (λ o. IsBuiltFrom o f.names (decided page).placed f.building f.pieces.source.placed) sound (h.built before) in
-    let grown_so = page_grows f.pieces q h.gone page h.came ended before none in
-    sound_tree f.pieces.limit f.names page (ap (λ n. fault_of_page n page) (sym same) ∙ sym ended.fault ∙ none)
+    let before = sound_before f.pieces q h.gone page h.came ended same no_fault in
+    let so_far : Comes f.names first_building (decided page).placed f.building f.pieces.source.placed =
+    subst (λ o. IsBuiltFrom o f.names (decided page).placed f.building f.pieces.source.placed) (none_of_both q.fault f.refused none).1 (h.built before) in
+    let grown_so = page_grows f.pieces q h.gone page h.came ended before no_fault in
+    sound_tree f.pieces.limit f.names page (ap (λ n. fault_of_page n page) (sym same) ∙ sym ended.fault ∙ no_fault)
     ∙ sym (first_tree f.names (source_of page)) ∙ ap (λ l. whole_tree f.names first_building l (length page)) grown_so.text_is ∙ so_far.tree grown_so.new (length page)
-    ∙ ap₂ (whole_tree f.names f.building) (sym grown_so.kept_is) (sym (ended.end none))
+    ∙ ap₂ (whole_tree f.names f.building) (sym grown_so.kept_is) (sym (ended.end no_fault))
 
 -- what is built of a page is settled
 pub settled_within : (limit : ℕ) (t : List Entry) (page : List ℕ) (w : List Event) → IsTable t → page_outcome_within limit t page ≡ built w → Settled w

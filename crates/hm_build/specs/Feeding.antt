@@ -1,5 +1,6 @@
 -- A page that is parsed as it comes: what is built of the text that is there, whatever follows.
 use Rattle.std.specs.Prelude.{◌≡◌, ℕ, ◌||◌, IsCharBoundary, ◌≤◌, drop, Bool, true, false, nat_lt, List, [], ◌++◌, length, map, Option, Some, None, is_some, if◌then◌else◌}
+use Rattle.std.specs.Option.{option_or}
 use Rattle.hm_base.specs.Source.{PlacedByte, byte_of, place_in}
 use Rattle.hm_base.specs.declared.rules.Rule.{Rule}
 use Rattle.hm_base.specs.declared.rules.Rule.TheVariants.{TooLong}
@@ -7,7 +8,7 @@ use Rattle.hm_refs.specs.Names.{Entry}
 use Rattle.hm_construction_laws.specs.Steps.{Construction, first_state}
 use Rattle.hm_construction_laws.specs.Trees.{Outcome, refused_by, after_events, mode_of, page_tree, tree_from}
 use Rattle.hm_pieces.specs.Fed.{decided}
-use Rattle.hm_pieces.specs.Pieces.{HasFed, Pieces, before_text, fault_so_far}
+use Rattle.hm_pieces.specs.Pieces.{HasFed, HasPage, Pieces, before_text, fault_so_far}
 use Rattle.hm_lexer.specs.Ready.{ready}
 use Rattle.hm_lexer.specs.Standing.{Standing, stands}
 use Rattle.hm_base.specs.declared.rules.Refused.{Refused}
@@ -90,6 +91,17 @@ pub record HasCome (f : Feeding) (fed : List ℕ) : Type 0 where
 pub record HasRead (f : Feeding) (fed : List ℕ) : Type 0 where
   pub come : HasCome f fed
   pub waits : f.pieces.fault ≡ None → f.refused ≡ None → ready f.names (mode_of f.building.state.path) (map byte_of f.pieces.source.placed) ≡ false
+
+-- ---- the end of a page
+
+-- the page has no more bytes
+abbrev pub Ends : Pieces → Pieces → Type 0
+Ends old new = (gone : List PlacedByte) (page : List ℕ) → HasFed old gone page → HasPage new gone page
+
+-- the page has no more bytes, and is refused so: by its text, or else by a token
+abbrev pub EndsAs : Pieces → Pieces → Option (Rule × ℕ) → Refused → Type 0
+EndsAs old new refused (answers.Page rule at) = Ends old new × (option_or new.fault refused ≡ Some (rule, at))
+EndsAs old new refused answers.Memory = Unit {0}
 
 -- ---- what is asked
 

@@ -1,5 +1,6 @@
 //! The tree of a page that comes in pieces.
-ghost use Rattle.std.specs.Prelude.{◌≡◌, ◌≤◌, ◌+◌, ◌++◌, ℕ, List, [], Err, true, false, length, drop, map, IfOk, IfErr, OnOk, OnErr, IsCharBoundary};
+ghost use Rattle.std.specs.Prelude.{◌≡◌, ◌≤◌, ◌+◌, ◌++◌, ℕ, List, [], None, Err, true, false, length, drop, map, IfOk, IfErr, OnOk, OnErr, IsCharBoundary};
+ghost use Rattle.std.specs.Option.{option_or};
 ghost use Rattle.hm_base.specs.Source.{byte_of};
 ghost use Rattle.hm_elements.specs.Settled.{Settled};
 ghost use Rattle.hm_construction_laws.specs.Trees.{built, mode_of};
@@ -7,8 +8,8 @@ ghost use Rattle.hm_pieces.specs.Pieces.{HasFed, before_text};
 ghost use Rattle.hm_lexer.specs.Ready.{ready};
 ghost use Rattle.hm_base.specs.Source.{PlacedByte};
 ghost use Rattle.hm_build.specs.Feeding as feeding;
-ghost use Rattle.hm_build.specs.Feeding.{Comes, HasCome, HasRead, StopsAs, page_outcome_within};
-ghost use Rattle.hm_build.specs.Parsing.{IsRefusedAs, IsWithin};
+ghost use Rattle.hm_build.specs.Feeding.{Comes, Ends, EndsAs, HasCome, HasRead, StopsAs, page_outcome_within};
+ghost use Rattle.hm_build.specs.Parsing.{IsRefusedAs, IsWithin, left_tree, reads};
 
 use crate::page::parse_rest;
 use crate::ready::part_turns;
@@ -60,6 +61,55 @@ fn drop_all(text: &mut TextPieces)
 {
     let len = text.source().text().len() as u32;
     text.drop_front(len);
+}
+
+/// Takes the end of a page, of which `refused` is the first refusal of a token, and gives the first refusal of the page.
+#[inline(always)]
+fn take_end(
+    text: &mut TextPieces,
+    refused: Option<(Rule, u32)>,
+    is_broken: bool,
+) -> Result<(), Refused>
+    ensures page { OnOk result (Ends text.old text.new) }
+    ensures none { OnOk result (option_or text.new.fault refused ≡ None) }
+    ensures limit { text.new.limit ≡ text.old.limit }
+    ensures before { OnOk result (before_text text.old.source ≤ before_text text.new.source) }
+    ensures err { IfErr result (EndsAs text.old text.new refused) }
+    ensures sound { OnOk result (is_broken ≡ false) }
+    ensures broken { is_broken ≡ true → result ≡ Err Refused.Memory }
+{
+    if is_broken {
+        return Err(Refused::Memory);
+    }
+    match text.finish() {
+        Ok(()) => {}
+        Err(Memory) => return Err(Refused::Memory),
+    }
+    match text.fault().or(refused) {
+        Some((rule, at)) => Err(Refused::Page { rule, at }),
+        None => Ok(()),
+    }
+}
+
+/// The tree of what was built so far and of the text that is left, which is freed.
+#[inline(always)]
+fn build_rest(
+    alloc: Global,
+    text: TextPieces,
+    table: &Table,
+    tree: TreeBuilder,
+    tag: Tag,
+) -> Result<Tree, Refused>
+    requires { IsWithin (before_text text.source) tree.walk tree.state }
+    ensures built { IfOk result (λ built_tree. left_tree (reads table.now.entries text.source) tree ≡ built built_tree) }
+    ensures refused { IfErr result (IsRefusedAs (left_tree (reads table.now.entries text.source) tree)) }
+{
+    let parsed = parse_rest(alloc, text.source(), table, tree, tag);
+    text.release();
+    match parsed {
+        Ok((tree, _closed)) => Ok(tree),
+        Err(refused) => Err(refused),
+    }
 }
 
 /// A tree that is built of a page as it comes, piece by piece.
@@ -215,24 +265,9 @@ impl<'t> Builder<'t> {
             is_broken,
             alloc,
         } = self;
-        if is_broken {
-            return Err(Refused::Memory);
-        }
         let mut text = text;
-        match text.finish() {
-            Ok(()) => {}
-            Err(Memory) => return Err(Refused::Memory),
-        }
-        if let Some((rule, at)) = text.fault() {
-            return Err(Refused::Page { rule, at });
-        }
-        if let Some((rule, at)) = refused {
-            return Err(Refused::Page { rule, at });
-        }
-        let parsed = parse_rest(alloc, text.source(), table, tree, tag);
-        text.release();
-        match parsed {
-            Ok((tree, _closed)) => Ok(tree),
+        match take_end(&mut text, refused, is_broken) {
+            Ok(()) => build_rest(alloc, text, table, tree, tag),
             Err(refused) => Err(refused),
         }
     }

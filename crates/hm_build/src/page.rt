@@ -1,10 +1,12 @@
 //! The tree of a page.
 ghost use Rattle.std.specs.Prelude.{◌≡◌, false, IfOk, OnOk, IfErr};
 ghost use Rattle.hm_elements.specs.Settled.{Settled};
+ghost use Rattle.hm_refs.specs.Tables.{IsTable};
 ghost use Rattle.hm_token_laws.specs.Laws.{SoundNames};
 ghost use Rattle.hm_construction_laws.specs.Closing.{closed_of_source, is_behind_body};
 ghost use Rattle.hm_construction_laws.specs.Trees.{built, tree_of_source};
 ghost use Rattle.hm_pieces.specs.Pieces.{before_text};
+ghost use Rattle.hm_build.specs.Feeding.{IsPartway};
 ghost use Rattle.hm_build.specs.Parsing.{IsParsing, IsRead, IsRefusedAs, IsTurned, IsWithin, closed_left, left_tree, reads, taken_by};
 
 use crate::places::{closed_by, first_closed, refusal};
@@ -92,28 +94,84 @@ fn turns<'a>(
     }
 }
 
-/// What was built, with what is missing at the end of the text.
+/// What was built, with what is missing at the end of the text, and where body was closed.
 fn finish<'a>(
     alloc: Global,
     text: &SourceText,
     lexer: &Lexer<'a>,
     builder: TreeBuilder,
-) -> Result<Tree, Refused>
+    closed: Option<u32>,
+) -> Result<(Tree, Option<u32>), Refused>
     requires source { lexer.now.source ≡ text.now }
     requires read { IsRead lexer.now builder }
-    ensures built { IfOk result (λ tree. left_tree lexer.now builder ≡ built tree) }
+    ensures built { IfOk result (λ parsed. left_tree lexer.now builder ≡ built parsed.0) }
+    ensures closed { IfOk result (λ parsed. closed ≡ parsed.1) }
     ensures refused { IfErr result (IsRefusedAs (left_tree lexer.now builder)) }
 {
     let end = text.text().len() as u32;
     match builder.finish(alloc) {
-        Ok(tree) => Ok(tree),
+        Ok(tree) => Ok((tree, closed)),
         Err(fault) => Err(refusal(text, fault, end)),
     }
 }
 
-/// The tree of what was built so far and of the text that is left, and where that text closes body.
+/// Takes all tokens that are left of the text, and returns the byte of the page where the token stands that closes body.
 ///
-/// What is ready of the text is taken first, as where a page comes in pieces: nearly all of it.
+/// What is ready is taken first, as where a page comes in pieces: nearly all of it.
+#[inline(always)]
+fn read_rest<'a>(
+    alloc: Global,
+    text: &SourceText,
+    lexer: &mut Lexer<'a>,
+    builder: &mut TreeBuilder,
+    tag: &mut Tag,
+) -> Result<Option<u32>, Refused>
+    requires names { IsTable lexer.old.names }
+    requires source { lexer.old.source ≡ text.now }
+    requires partway { IsPartway lexer.old builder.old }
+    ensures read { OnOk result (IsRead lexer.new builder.new) }
+    ensures tree { OnOk result (left_tree lexer.old builder.old ≡ left_tree lexer.new builder.new) }
+    ensures closed { is_behind_body builder.old.state.insertion_mode ≡ false → IfOk result (λ closed. closed_left lexer.old builder.old ≡ closed) }
+    ensures same { OnOk result (lexer.new.source ≡ lexer.old.source) }
+    ensures err { IfErr result (IsRefusedAs (left_tree lexer.old builder.old)) }
+{
+    let _bytes = text.text();
+    let mut closed = None;
+    match part_turns(alloc, text, lexer, builder, tag, &mut closed) {
+        Ok(()) => {}
+        Err(refused) => return Err(refused),
+    }
+    match turns(alloc, text, lexer, builder, tag) {
+        Ok(later) => Ok(first_closed(closed, later)),
+        Err(refused) => Err(refused),
+    }
+}
+
+/// The tree of what was built so far and of the text that is left, and where that text closes body. One tag after another is read
+/// into `tag`.
+#[inline(always)]
+fn parse_on(
+    alloc: Global,
+    text: &SourceText,
+    table: &Table,
+    builder: TreeBuilder,
+    tag: &mut Tag,
+) -> Result<(Tree, Option<u32>), Refused>
+    requires { IsWithin (before_text text.now) builder.walk builder.state }
+    ensures built { IfOk result (λ parsed. left_tree (reads table.now.entries text.now) builder ≡ built parsed.0) }
+    ensures closed { is_behind_body builder.state.insertion_mode ≡ false → IfOk result (λ parsed. closed_left (reads table.now.entries text.now) builder ≡ parsed.1) }
+    ensures refused { IfErr result (IsRefusedAs (left_tree (reads table.now.entries text.now) builder)) }
+{
+    every_table(table);
+    let mut lexer = Lexer::new(text, table);
+    let mut builder = builder;
+    match read_rest(alloc, text, &mut lexer, &mut builder, tag) {
+        Ok(closed) => finish(alloc, text, &lexer, builder, closed),
+        Err(refused) => Err(refused),
+    }
+}
+
+/// The same, with a tag that is dropped at the end.
 pub(crate) fn parse_rest(
     alloc: Global,
     text: &SourceText,
@@ -126,23 +184,8 @@ pub(crate) fn parse_rest(
     ensures closed { is_behind_body builder.state.insertion_mode ≡ false → IfOk result (λ parsed. closed_left (reads table.now.entries text.now) builder ≡ parsed.1) }
     ensures refused { IfErr result (IsRefusedAs (left_tree (reads table.now.entries text.now) builder)) }
 {
-    every_table(table);
-    let _bytes = text.text();
-    let mut lexer = Lexer::new(text, table);
-    let mut builder = builder;
     let mut tag = tag;
-    let mut closed = None;
-    match part_turns(alloc, text, &mut lexer, &mut builder, &mut tag, &mut closed) {
-        Ok(()) => {}
-        Err(refused) => return Err(refused),
-    }
-    match turns(alloc, text, &mut lexer, &mut builder, &mut tag) {
-        Ok(later) => match finish(alloc, text, &lexer, builder) {
-            Ok(tree) => Ok((tree, first_closed(closed, later))),
-            Err(refused) => Err(refused),
-        },
-        Err(refused) => Err(refused),
-    }
+    parse_on(alloc, text, table, builder, &mut tag)
 }
 
 /// The tree of a page as `parse` gives it, and where the page closes its body: the byte of the page where the first token

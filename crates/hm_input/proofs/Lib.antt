@@ -1,5 +1,6 @@
 pub mod Loaded
 pub mod Generated
+mod Origins
 pub mod Explaining
 pub mod Seen
 pub mod Tables

@@ -40,7 +40,7 @@ use Rattle.hm_json_tree.specs.declared.limits.TheConstants.{JSON_LIMIT}
 use Rattle.hm_options.specs.Rewrites.{rewrite}
 use Rattle.hm_words.specs.Words.{are_apart, fragment_at, is_table_word, json_at, page_at}
 use Rattle.hm_input.specs.Inputs.{Input, IsInput, tree, bad_table, bad_page, bad_json, file_with_table, fragment_input, fragment_outcome, is_html, is_none, json_input, names_of_table, page_input, table_names, page_outcome, rewritten_input, input_from, walk_input}
-use Rattle.hm_input.specs.Loads.{IsFragmentOf, IsLoaded, IsRefusedFragment, IsRefusedJson, IsTableOf, IsTextIn, IsWalkOf, NoFragment, NoFragmentIn, NoInput, NoInputWhere, NoTable, NoTextIn, NoWalk}
+use Rattle.hm_input.specs.Loads.{IsFragmentOf, IsLoaded, IsRefusedFragment, IsRefusedJson, IsTableOf, IsTextIn, IsWalkOf, NoFragment, NoFragmentIn, NoInput, NoInputWhere, NoPage, NoTable, NoTextIn, NoWalk}
 use Rattle.hm_input.specs.Reasons.{page_unread, refused_as}
 use Rattle.hm_input.specs.declared.unread.Unread.{Unread}
 use Rattle.hm_input.specs.declared.unread.Unread.TheVariants as reasons
@@ -238,10 +238,18 @@ input_of_page told table page o t w n v apart a b is = seen_content told (page_i
 pub no_table : (told : Option FileMap) (table page : List ℕ) (o : TreeOptions) (unread : Unread) → are_apart table page ≡ true → NoTable told table unread → NoInput told (page_at table page) o unread
 no_table told table page o unread apart n = seen_no_table told (page_input o) table page unread apart n
 
-pub no_page : (told : Option FileMap) (table page : List ℕ) (o : TreeOptions) (t : List Entry) (fault : PageFault) → are_apart table page ≡ true → IsTableOf told table (Ok t) → NoPageTree told page t fault → NoInput told (page_at table page) o (page_unread fault)
-no_page told table page o t (page_faults.Page rule at) apart a n = seen_content told (page_input o) table page t n.page (bad_page rule at) apart a n.there (ap (rewritten_input o t (length n.page)) (page_is t n.page ∙ n.refused))
-no_page told table page o t page_faults.Store apart a n = tt
-no_page told table page o t page_faults.Memory apart a n = tt
+pub no_page : (told : Option FileMap) (table page : List ℕ) (o : TreeOptions) (t : List Entry) (unread : Unread) → are_apart table page ≡ true → IsTableOf told table (Ok t) → NoPage told page t unread → NoInput told (page_at table page) o unread
+no_page told table page o t (reasons.Table fault) apart a n = absurd n
+no_page told table page o t (reasons.Page rule at) apart a n = seen_content told (page_input o) table page t n.page (bad_page rule at) apart a n.there (ap (rewritten_input o t (length n.page)) (page_is t n.page ∙ n.refused))
+no_page told table page o t (reasons.Json fault) apart a n = absurd n
+no_page told table page o t reasons.Store apart a n = tt
+no_page told table page o t reasons.Memory apart a n = tt
+
+-- a refusal of a page is given on
+pub no_page_of : (told : Option FileMap) (name : List ℕ) (t : List Entry) (fault : PageFault) → NoPageTree told name t fault → NoPage told name t (page_unread fault)
+no_page_of told name t (page_faults.Page rule at) n = n
+no_page_of told name t page_faults.Store n = tt
+no_page_of told name t page_faults.Memory n = tt
 
 -- what is loaded of a file
 none_found : (told : Option (List ℕ)) (bytes : List ℕ) → IsSome {T = List ℕ} None → told ≡ Some bytes
@@ -327,12 +335,6 @@ pub no_fragment_in : (t : List Entry) (fragment : List ℕ) (r : Refused) → Is
 no_fragment_in t fragment (refused.Page rule at) h = h
 no_fragment_in t fragment refused.Memory h = tt
 
-pub told_fragment : (old new : Option FileMap) (name : List ℕ) (t : List Entry) (w : List Event) (n : ℕ) → new ≡ old → IsFragmentOf new name t w n → IsFragmentOf old name t w n
-told_fragment old new name t w n e h = subst (λ told. IsFragmentOf told name t w n) e h
-
-pub told_no_fragment : (old new : Option FileMap) (name : List ℕ) (t : List Entry) (unread : Unread) → new ≡ old → NoFragment new name t unread → NoFragment old name t unread
-told_no_fragment old new name t unread e n = subst (λ told. NoFragment told name t unread) e n
-
 -- ---- JSON with a table
 
 pub input_of_walk : (told : Option FileMap) (table page : List ℕ) (o : TreeOptions) (t : List Entry) (w : List Event) (n : ℕ) (v : List Event) → are_apart table page ≡ true → IsTableOf told table (Ok t) → IsWalkOf told page w n → v ≡ rewrite o w → IsInput told (json_at table page) o (tree n t v)
@@ -404,16 +406,3 @@ given_on (Err y) P e h p = subst P (sym h) p
 -- the slice of a vector has its bytes
 pub of_slice : (told : Option FileMap) (name : List ℕ) (limit : ℕ) (items bytes : List ℕ) → bytes ≡ items → IsLoaded told name limit items → IsLoaded told name limit bytes
 of_slice told name limit items bytes e l = subst (IsLoaded told name limit) (sym e) l
-
--- the files are as they were
-pub told_page : (old new : Option FileMap) (name : List ℕ) (t : List Entry) (w : List Event) (n : ℕ) → new ≡ old → IsPageTree new name t w n → IsPageTree old name t w n
-told_page old new name t w n e h = subst (λ told. IsPageTree told name t w n) e h
-
-pub told_no_page : (old new : Option FileMap) (name : List ℕ) (t : List Entry) (fault : PageFault) → new ≡ old → NoPageTree new name t fault → NoPageTree old name t fault
-told_no_page old new name t fault e n = subst (λ told. NoPageTree told name t fault) e n
-
-pub told_no_walk : (old new : Option FileMap) (name : List ℕ) (unread : Unread) → new ≡ old → NoWalk new name unread → NoWalk old name unread
-told_no_walk old new name unread e n = subst (λ told. NoWalk told name unread) e n
-
-pub told_walk : (old new : Option FileMap) (name : List ℕ) (w : List Event) (n : ℕ) → new ≡ old → IsWalkOf new name w n → IsWalkOf old name w n
-told_walk old new name w n e h = subst (λ told. IsWalkOf told name w n) e h

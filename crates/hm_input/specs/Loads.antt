@@ -8,13 +8,15 @@ use Rattle.hm_base.specs.declared.rules.Rule.{Rule}
 use Rattle.hm_store.specs.Files.{FileMap, file_of, IsMissing}
 use Rattle.hm_refs.specs.Names.{Entry}
 use Rattle.hm_refs.specs.declared.fault.TableFault.{TableFault}
-use Rattle.hm_fragment.specs.Trees.{built, refused_by, tree_of_source}
+use Rattle.hm_fragment.specs.Trees.{built, refused_by}
 use Rattle.hm_fragment.specs.Fragments.{fragment_tree}
+use Rattle.hm_gen.specs.Pages.{page as made_page}
+use Rattle.hm_load.specs.Pages.{IsPageTree, IsRefusedPage}
 use Rattle.hm_json_tree.specs.Reading.{json_walk, walk}
 use Rattle.hm_json_tree.specs.declared.fault.JsonFault.{JsonFault}
 use Rattle.hm_options.specs.Rewrites.{rewrite}
 use Rattle.hm_input.specs.Inputs.{Input, IsInput, bad_table, bad_page, bad_json, json_input, names_of_table, fragment_outcome, page_outcome}
-use Rattle.hm_words.specs.Words.{Origin, is_table_word}
+use Rattle.hm_words.specs.Words.{Origin, page_at, fragment_at, json_at, made, is_table_word}
 use Rattle.hm_input.specs.declared.unread.Unread.{Unread}
 use Rattle.hm_input.specs.declared.unread.Unread.TheVariants as reasons
 
@@ -41,13 +43,12 @@ pub record IsPageText (page : List ℕ) (text : Source) (bytes : ℕ) : Type 0 w
   pub read : IsTextIn page text
   pub all : bytes ≡ length page
 
--- the rewritten tree of a text
-pub record IsTreeRead (t : List Entry) (text : Source) (o : TreeOptions) (tree : List Event) : Type 0 where
-  pub walk : List Event
-  pub reads : tree_of_source t text ≡ built walk
-  pub is : tree ≡ rewrite o walk
+-- the tree of a page, with how many bytes the page has
+pub record IsTreeOf (page : List ℕ) (t : List Entry) (tree : List Event) (bytes : ℕ) : Type 0 where
+  pub reads : page_outcome t page ≡ built tree
+  pub all : bytes ≡ length page
 
--- the rewritten tree of the fragment in a file, with how many bytes that has
+-- the tree of the fragment in a file, with how many bytes that has
 pub record IsFragmentOf (told : Option FileMap) (name : List ℕ) (t : List Entry) (tree : List Event) (bytes : ℕ) : Type 0 where
   pub fragment : List ℕ
   pub there : IsSome told → file_of told name ≡ Some fragment
@@ -77,13 +78,21 @@ pub record IsRefusedJson (told : Option FileMap) (name : List ℕ) (fault : Json
   pub there : IsSome told → file_of told name ≡ Some json
   pub refused : IsNoWalk json fault
 
--- why a text has no tree
-abbrev pub NoTreeRead : List Entry → Source → Unread → Type 0
-NoTreeRead t text (reasons.Table fault) = ⊥
-NoTreeRead t text (reasons.Page rule at) = tree_of_source t text ≡ refused_by rule at
-NoTreeRead t text (reasons.Json fault) = ⊥
-NoTreeRead t text reasons.Store = ⊥
-NoTreeRead t text reasons.Memory = Unit {0}
+-- why a page has no tree
+abbrev pub NoTreeOf : List ℕ → List Entry → Unread → Type 0
+NoTreeOf page t (reasons.Table fault) = ⊥
+NoTreeOf page t (reasons.Page rule at) = page_outcome t page ≡ refused_by rule at
+NoTreeOf page t (reasons.Json fault) = ⊥
+NoTreeOf page t reasons.Store = ⊥
+NoTreeOf page t reasons.Memory = Unit {0}
+
+-- why there is no tree of the page in a file
+abbrev pub NoPage : Option FileMap → List ℕ → List Entry → Unread → Type 0
+NoPage told name t (reasons.Table fault) = ⊥
+NoPage told name t (reasons.Page rule at) = IsRefusedPage told name t rule at
+NoPage told name t (reasons.Json fault) = ⊥
+NoPage told name t reasons.Store = Unit {0}
+NoPage told name t reasons.Memory = Unit {0}
 
 -- a table that can be read
 pub record HasNames (told : Option FileMap) (name : List ℕ) : Type 0 where
@@ -133,6 +142,41 @@ NoWalk told name (reasons.Page rule at) = ⊥
 NoWalk told name (reasons.Json fault) = IsRefusedJson told name fault
 NoWalk told name reasons.Store = Unit {0}
 NoWalk told name reasons.Memory = Unit {0}
+
+-- ---- an origin with the names of its table
+
+abbrev pub table_of : Origin → List ℕ
+table_of (page_at table page) = table
+table_of (fragment_at table page) = table
+table_of (json_at table page) = table
+table_of (made table number size) = table
+
+-- it gives this tree, with how many bytes its page has, or its JSON
+abbrev pub IsOriginRead : Option FileMap → Origin → List Entry → List Event → ℕ → Type 0
+IsOriginRead told (page_at table page) t tree bytes = IsPageTree told page t tree bytes
+IsOriginRead told (fragment_at table page) t tree bytes = IsFragmentOf told page t tree bytes
+IsOriginRead told (json_at table page) t tree bytes = IsWalkOf told page tree bytes
+IsOriginRead told (made table number size) t tree bytes = IsTreeOf (made_page number size) t tree bytes
+
+-- so it does after rewrites
+pub record IsOriginTree (told : Option FileMap) (origin : Origin) (t : List Entry) (o : TreeOptions) (tree : List Event) (bytes : ℕ) : Type 0 where
+  pub walk : List Event
+  pub read : IsOriginRead told origin t walk bytes
+  pub is : tree ≡ rewrite o walk
+
+-- why it gives none
+abbrev pub NoOriginRead : Option FileMap → Origin → List Entry → Unread → Type 0
+NoOriginRead told (page_at table page) t unread = NoPage told page t unread
+NoOriginRead told (fragment_at table page) t unread = NoFragment told page t unread
+NoOriginRead told (json_at table page) t unread = NoWalk told page unread
+NoOriginRead told (made table number size) t unread = NoTreeOf (made_page number size) t unread
+
+-- its page, or its JSON, isn't there
+abbrev pub IsOriginMissing : Option FileMap → Origin → Type 0
+IsOriginMissing told (page_at table page) = IsMissing told page
+IsOriginMissing told (fragment_at table page) = IsMissing told page
+IsOriginMissing told (json_at table page) = IsMissing told page
+IsOriginMissing told (made table number size) = ⊥
 
 -- why there is no tree, by what is said of an input
 abbrev pub NoInputWhere : (Input → Type 0) → Unread → Type 0

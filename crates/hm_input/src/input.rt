@@ -4,38 +4,21 @@ ghost use Rattle.hm_elements.specs.Settled.{Settled};
 ghost use Rattle.hm_store.specs.Causes.{Rose};
 ghost use Rattle.hm_store.specs.Contents.{Tells};
 ghost use Rattle.hm_words.specs.Answers.{origin_of};
-ghost use Rattle.hm_words.specs.Words.{page_at, fragment_at, json_at, made, is_origin_apart};
+ghost use Rattle.hm_words.specs.Words.{is_origin_apart};
 ghost use Rattle.hm_input.specs.Inputs as inputs;
 ghost use Rattle.hm_input.specs.Inputs.{IsInput, origin_input, missing};
-ghost use Rattle.hm_input.specs.Loads.{IsTreeRead, NoInput, NoTreeRead};
+ghost use Rattle.hm_input.specs.Loads as loads;
+ghost use Rattle.hm_input.specs.Loads.{IsOriginMissing, IsOriginRead, IsOriginTree, NoInput, NoOriginRead};
 
 use crate::Unread;
-use crate::loads::{load_fragment, load_json, load_table, make_text};
-use hm_base::{SourceText, TreeOptions};
-use hm_load::{load_page, parse};
+use crate::loads::{load_fragment, load_json, load_page_tree, load_table, make_tree};
+use hm_base::{Memory, TreeOptions};
 use hm_options::rewrite;
 use hm_refs::Table;
 use hm_store::Store;
 use hm_tree::Tree;
 use hm_words::Origin;
 use std::alloc::Global;
-
-/// The tree of a page's text, after the rewrites that are asked for. The text's memory is freed before them.
-fn read_tree(
-    alloc: Global,
-    text: SourceText,
-    table: &Table,
-    options: &TreeOptions,
-) -> Result<Tree, Unread>
-    ensures ok { IfOk result (IsTreeRead table.now.entries text options.now) }
-    ensures settled { IfOk result (λ tree. Settled tree) }
-    ensures err { IfErr result (NoTreeRead table.now.entries text) }
-{
-    let parsed = parse(alloc, &text, table);
-    text.release();
-    let tree = rewrite(alloc, parsed?, options)?;
-    Ok(tree)
-}
 
 /// A table of names, and a tree that was read with it.
 #[derive(Drop)]
@@ -46,107 +29,69 @@ pub struct Input {
     pub tree: Tree,
 }
 
-/// Loads a table and then a page, and gives the table with the page's tree after the rewrites that are asked for. The tree is
-/// built while the page comes. The tables `none` and `html` are no files.
-fn load_tree<S: Store>(
+/// The name of an origin's table.
+fn table_of<'w>(origin: &Origin<'w>) -> &'w str
+    ensures { result.now ≡ loads.table_of (origin_of origin.now) }
+{
+    match *origin {
+        Origin::PageAt { table, .. }
+        | Origin::FragmentAt { table, .. }
+        | Origin::JsonAt { table, .. }
+        | Origin::Made { table, .. } => table,
+    }
+}
+
+/// The tree that an origin gives with the names of its table, and how many bytes its page has, or its JSON.
+fn load_origin<S: Store>(
     alloc: Global,
     store: &mut S,
-    table: &str,
-    page: &str,
-    options: &TreeOptions,
-) -> Result<Input, Unread>
-    requires apart { is_origin_apart (page_at table.now page.now) ≡ true }
-    ensures ok { IfOk result (λ input. IsInput (S.files store.old) (page_at table.now page.now) options.now (inputs.tree input.bytes input.table.entries input.tree)) }
-    ensures settled { IfOk result (λ input. Settled input.tree) }
-    ensures err { IfErr result (NoInput (S.files store.old) (page_at table.now page.now) options.now) }
+    origin: &Origin<'_>,
+    table: &Table,
+) -> Result<(Tree, usize), Unread>
+    ensures ok { IfOk result (λ read. IsOriginRead (S.files store.old) (origin_of origin.now) table.now.entries read.0 read.1) }
+    ensures settled { IfOk result (λ read. Settled read.0) }
+    ensures err { IfErr result (NoOriginRead (S.files store.old) (origin_of origin.now) table.now.entries) }
     ensures same { S.files store.new ≡ S.files store.old }
     ensures writing { S.is_writing store.new ≡ S.is_writing store.old }
     ensures later { S.faults store.old ≤ S.faults store.new }
-    ensures store { result ≡ Err Unread.Store → Rose (S.faults store.old) (S.faults store.new)
-        ⊎ Tells (S.files store.old) (λ seen. origin_input (page_at table.now page.now) options.now seen ≡ missing) }
+    ensures store { result ≡ Err Unread.Store → Rose (S.faults store.old) (S.faults store.new) ⊎ IsOriginMissing (S.files store.old) (origin_of origin.now) }
 {
-    let table = load_table(alloc, store, table)?;
-    let (read, bytes) = load_page(alloc, store, page, &table)?;
-    let tree = rewrite(alloc, read, options)?;
-    Ok(Input { bytes, table, tree })
+    match *origin {
+        Origin::PageAt { page, .. } => load_page_tree(alloc, store, page, table),
+        Origin::FragmentAt { page, .. } => load_fragment(alloc, store, page, table),
+        Origin::JsonAt { page, .. } => load_json(alloc, store, page),
+        Origin::Made { number, size, .. } => make_tree(alloc, number, size, table),
+    }
 }
 
-/// Loads a table and then a fragment, and gives the table with the fragment's tree after the rewrites that are asked for. The
-/// tables `none` and `html` are no files.
-fn load_fragment_tree<S: Store>(
+/// The same tree after the rewrites that are asked for.
+#[inline(always)]
+fn load_rewritten<S: Store>(
     alloc: Global,
     store: &mut S,
-    table: &str,
-    page: &str,
+    origin: &Origin<'_>,
+    table: &Table,
     options: &TreeOptions,
-) -> Result<Input, Unread>
-    requires apart { is_origin_apart (fragment_at table.now page.now) ≡ true }
-    ensures ok { IfOk result (λ input. IsInput (S.files store.old) (fragment_at table.now page.now) options.now (inputs.tree input.bytes input.table.entries input.tree)) }
-    ensures settled { IfOk result (λ input. Settled input.tree) }
-    ensures err { IfErr result (NoInput (S.files store.old) (fragment_at table.now page.now) options.now) }
+) -> Result<(Tree, usize), Unread>
+    ensures ok { IfOk result (λ read. IsOriginTree (S.files store.old) (origin_of origin.now) table.now.entries options.now read.0 read.1) }
+    ensures settled { IfOk result (λ read. Settled read.0) }
+    ensures err { IfErr result (NoOriginRead (S.files store.old) (origin_of origin.now) table.now.entries) }
     ensures same { S.files store.new ≡ S.files store.old }
     ensures writing { S.is_writing store.new ≡ S.is_writing store.old }
     ensures later { S.faults store.old ≤ S.faults store.new }
-    ensures store { result ≡ Err Unread.Store → Rose (S.faults store.old) (S.faults store.new)
-        ⊎ Tells (S.files store.old) (λ seen. origin_input (fragment_at table.now page.now) options.now seen ≡ missing) }
+    ensures store { result ≡ Err Unread.Store → Rose (S.faults store.old) (S.faults store.new) ⊎ IsOriginMissing (S.files store.old) (origin_of origin.now) }
 {
-    let table = load_table(alloc, store, table)?;
-    let (read, bytes) = load_fragment(alloc, store, page, &table)?;
-    let tree = rewrite(alloc, read, options)?;
-    Ok(Input { bytes, table, tree })
+    match load_origin(alloc, store, origin, table) {
+        Ok((read, bytes)) => match rewrite(alloc, read, options) {
+            Ok(tree) => Ok((tree, bytes)),
+            Err(Memory) => Err(Unread::Memory),
+        },
+        Err(unread) => Err(unread),
+    }
 }
 
-/// Loads a table and then the JSON of a tree, and gives the table with that tree after the rewrites that are asked for. The
-/// tables `none` and `html` are no files. What is read of the JSON is freed before the rewrites.
-fn load_json_tree<S: Store>(
-    alloc: Global,
-    store: &mut S,
-    table: &str,
-    page: &str,
-    options: &TreeOptions,
-) -> Result<Input, Unread>
-    requires apart { is_origin_apart (json_at table.now page.now) ≡ true }
-    ensures ok { IfOk result (λ input. IsInput (S.files store.old) (json_at table.now page.now) options.now (inputs.tree input.bytes input.table.entries input.tree)) }
-    ensures settled { IfOk result (λ input. Settled input.tree) }
-    ensures err { IfErr result (NoInput (S.files store.old) (json_at table.now page.now) options.now) }
-    ensures same { S.files store.new ≡ S.files store.old }
-    ensures writing { S.is_writing store.new ≡ S.is_writing store.old }
-    ensures later { S.faults store.old ≤ S.faults store.new }
-    ensures store { result ≡ Err Unread.Store → Rose (S.faults store.old) (S.faults store.new)
-        ⊎ Tells (S.files store.old) (λ seen. origin_input (json_at table.now page.now) options.now seen ≡ missing) }
-{
-    let table = load_table(alloc, store, table)?;
-    let (walk, bytes) = load_json(alloc, store, page)?;
-    let tree = rewrite(alloc, walk, options)?;
-    Ok(Input { bytes, table, tree })
-}
-
-/// Loads a table and makes the page of a number, with `size` blocks, and gives the table with the page's tree after the
-/// rewrites that are asked for. The tables `none` and `html` are no files.
-fn make_tree<S: Store>(
-    alloc: Global,
-    store: &mut S,
-    table: &str,
-    number: u32,
-    size: u32,
-    options: &TreeOptions,
-) -> Result<Input, Unread>
-    ensures ok { IfOk result (λ input. IsInput (S.files store.old) (made table.now number size) options.now (inputs.tree input.bytes input.table.entries input.tree)) }
-    ensures settled { IfOk result (λ input. Settled input.tree) }
-    ensures err { IfErr result (NoInput (S.files store.old) (made table.now number size) options.now) }
-    ensures same { S.files store.new ≡ S.files store.old }
-    ensures writing { S.is_writing store.new ≡ S.is_writing store.old }
-    ensures later { S.faults store.old ≤ S.faults store.new }
-    ensures store { result ≡ Err Unread.Store → Rose (S.faults store.old) (S.faults store.new)
-        ⊎ Tells (S.files store.old) (λ seen. origin_input (made table.now number size) options.now seen ≡ missing) }
-{
-    let table = load_table(alloc, store, table)?;
-    let (text, bytes) = make_text(alloc, number, size)?;
-    let tree = read_tree(alloc, text, &table, options)?;
-    Ok(Input { bytes, table, tree })
-}
-
-/// What the files of an origin give: a table with a tree after the rewrites that are asked for.
+/// What the files of an origin give: a table with a tree after the rewrites that are asked for. The table is loaded first, and the
+/// tables `none` and `html` are no files. The tree of a page is built while the page comes.
 pub fn load_input<S: Store>(
     alloc: Global,
     store: &mut S,
@@ -163,16 +108,11 @@ pub fn load_input<S: Store>(
     ensures store { result ≡ Err Unread.Store → Rose (S.faults store.old) (S.faults store.new)
         ⊎ Tells (S.files store.old) (λ seen. origin_input (origin_of origin.now) options.now seen ≡ missing) }
 {
-    match *origin {
-        Origin::PageAt { table, page } => load_tree(alloc, store, table, page, options),
-        Origin::FragmentAt { table, page } => {
-            load_fragment_tree(alloc, store, table, page, options)
-        }
-        Origin::JsonAt { table, page } => load_json_tree(alloc, store, table, page, options),
-        Origin::Made {
-            table,
-            number,
-            size,
-        } => make_tree(alloc, store, table, number, size, options),
+    match load_table(alloc, store, table_of(origin)) {
+        Ok(table) => match load_rewritten(alloc, store, origin, &table, options) {
+            Ok((tree, bytes)) => Ok(Input { bytes, table, tree }),
+            Err(unread) => Err(unread),
+        },
+        Err(unread) => Err(unread),
     }
 }

@@ -1,25 +1,27 @@
-//! What is read of a store: a table, a fragment, a tree as JSON; and the text of a page that is made.
+//! What is read of a store: a table, a page, a fragment, a tree as JSON; and the tree of a page that is made.
 ghost use Rattle.std.specs.Io.{StartsWith};
 ghost use Rattle.std.specs.Prelude.{length, ◌≡◌, ◌≢◌, ◌⊎◌, ◌≤◌, ℕ, List, Option, IfOk, IfErr, OnOk, Ok, Err, false};
 ghost use Rattle.hm_base.specs.Faults.{HasText, IsRefusedBy};
 ghost use Rattle.hm_base.specs.Source.{source_of};
 ghost use Rattle.hm_elements.specs.Settled.{Settled};
-ghost use Rattle.hm_fragment.specs.Trees.{built};
+ghost use Rattle.hm_fragment.specs.Trees.{built, tree_of_source};
 ghost use Rattle.hm_fragment.specs.Fragments.{fragment_tree};
 ghost use Rattle.hm_fragment.specs.Frames as frames;
 ghost use Rattle.hm_fragment.specs.Frames.{unframed};
 ghost use Rattle.hm_gen.specs.Pages.{page as made_page};
+ghost use Rattle.hm_load.specs.Pages.{IsPageTree, IsRefusedAs};
 ghost use Rattle.hm_store.specs.Causes.{Rose};
 ghost use Rattle.hm_store.specs.Files.{FileMap, IsMissing};
 ghost use Rattle.hm_words.specs.Words.{is_table_word};
-ghost use Rattle.hm_input.specs.Loads.{IsFragmentOf, IsPageText, IsTableOf, IsRefusedJson, IsWalkOf, NoFragment, NoFragmentIn, NoTable, NoTextIn, NoWalk};
+ghost use Rattle.hm_input.specs.Loads.{IsFragmentOf, IsPageText, IsTableOf, IsTreeOf, IsRefusedJson, IsWalkOf, NoFragment, NoFragmentIn, NoPage, NoTable, NoTextIn, NoTreeOf, NoWalk};
 
 use crate::Unread;
-use hm_base::{OUTPUT_LIMIT, PAGE_LIMIT, Rule, SourceText, TABLE_LIMIT, TextFault};
+use hm_base::{OUTPUT_LIMIT, PAGE_LIMIT, Refused, Rule, SourceText, TABLE_LIMIT, TextFault};
 use hm_fragment::{front, read_fragment};
 use hm_gen::page_of;
 use hm_html_names::html_table;
 use hm_json_tree::{JSON_LIMIT, JsonFault, read_tree};
+use hm_load::{load_page, parse};
 use hm_refs::{Table, TableFault};
 use hm_store::{Store, load, load_behind};
 use hm_tree::Tree;
@@ -82,12 +84,66 @@ fn text_of(alloc: Global, page: Vec<u8>) -> Result<(SourceText, usize), Unread>
 }
 
 /// The text of the page of a number, with `size` blocks, and how many bytes the page has.
-pub fn make_text(alloc: Global, number: u32, size: u32) -> Result<(SourceText, usize), Unread>
+fn make_text(alloc: Global, number: u32, size: u32) -> Result<(SourceText, usize), Unread>
     ensures ok { IfOk result (λ read. IsPageText (made_page number size) read.0 read.1) }
     ensures err { IfErr result (NoTextIn (made_page number size)) }
 {
     let page = page_of(alloc, number, size)?;
     text_of(alloc, page.into_bytes())
+}
+
+/// The tree of a page's text, whose memory is freed.
+#[inline(always)]
+fn text_tree(alloc: Global, text: SourceText, table: &Table) -> Result<Tree, Refused>
+    ensures built { IfOk result (λ tree. tree_of_source table.now.entries text ≡ built tree) }
+    ensures settled { IfOk result (λ tree. Settled tree) }
+    ensures refused { IfErr result (IsRefusedAs (tree_of_source table.now.entries text)) }
+{
+    let parsed = parse(alloc, &text, table);
+    text.release();
+    parsed
+}
+
+/// The tree of the page of a number, with `size` blocks, and how many bytes the page has.
+pub fn make_tree(
+    alloc: Global,
+    number: u32,
+    size: u32,
+    table: &Table,
+) -> Result<(Tree, usize), Unread>
+    ensures ok { IfOk result (λ read. IsTreeOf (made_page number size) table.now.entries read.0 read.1) }
+    ensures settled { IfOk result (λ read. Settled read.0) }
+    ensures err { IfErr result (NoTreeOf (made_page number size) table.now.entries) }
+    ensures other { result ≢ Err Unread.Store }
+{
+    match make_text(alloc, number, size) {
+        Ok((text, bytes)) => match text_tree(alloc, text, table) {
+            Ok(tree) => Ok((tree, bytes)),
+            Err(refused) => Err(Unread::from(refused)),
+        },
+        Err(unread) => Err(unread),
+    }
+}
+
+/// The tree of the page of that name, and how many bytes the page has.
+pub fn load_page_tree<S: Store>(
+    alloc: Global,
+    store: &mut S,
+    name: &str,
+    table: &Table,
+) -> Result<(Tree, usize), Unread>
+    ensures same { S.files store.new ≡ S.files store.old }
+    ensures writing { S.is_writing store.new ≡ S.is_writing store.old }
+    ensures ok { IfOk result (λ read. IsPageTree (S.files store.old) name.now table.now.entries read.0 read.1) }
+    ensures settled { IfOk result (λ read. Settled read.0) }
+    ensures err { IfErr result (NoPage (S.files store.old) name.now table.now.entries) }
+    ensures later { S.faults store.old ≤ S.faults store.new }
+    ensures store { result ≡ Err Unread.Store → Rose (S.faults store.old) (S.faults store.new) ⊎ IsMissing (S.files store.old) name.now }
+{
+    match load_page(alloc, store, name, table) {
+        Ok(read) => Ok(read),
+        Err(fault) => Err(Unread::from(fault)),
+    }
 }
 
 /// The tree of a fragment after its front, or why it is refused.

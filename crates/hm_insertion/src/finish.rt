@@ -1,10 +1,10 @@
 //! The end of the page (HTML Standard, #parsing-main-inhtml).
-ghost use Rattle.std.specs.Prelude.{◌≡◌, ◌<◌, [], ◌++◌, length, map, OnOk};
+ghost use Rattle.std.specs.Prelude.{◌≡◌, ◌<◌, [], ◌++◌, length, map, IfErr, OnOk};
 ghost use Rattle.hm_base.specs.Walks as walks;
 ghost use Rattle.hm_base.specs.Walks.{path_after};
 ghost use Rattle.hm_construction_laws.specs.Steps.{closing, step_over};
 ghost use Rattle.hm_tree.specs.Trees.{HasRoom};
-ghost use Rattle.hm_insertion.specs.Building.{Builds, Fits};
+ghost use Rattle.hm_insertion.specs.Building.{Builds, Fits, IsBuilt, IsRefused};
 ghost use Rattle.hm_insertion.specs.Inside as inside;
 ghost use Rattle.hm_insertion.specs.Inside.{IsKept, state_of};
 
@@ -26,6 +26,22 @@ impl Parts {
         requires room { Fits (step_over (state_of self)) self.maker }
         ensures { Builds (step_over (state_of self)) result self.maker }
     {
+        let mut parts = self;
+        match parts.end_page(alloc) {
+            Ok(()) => Ok(parts.maker.finish()),
+            Err(fault) => Err(fault),
+        }
+    }
+
+    /// Makes all that is missing, and closes all.
+    #[inline(always)]
+    fn end_page(&mut self, alloc: Global) -> Result<(), BuildFault>
+        requires kept { IsKept self.old }
+        requires room { Fits (step_over (state_of self.old)) self.old.maker }
+        ensures built { OnOk result (IsBuilt (step_over (state_of self.old)) self.old.maker self.new.maker) }
+        ensures closed { OnOk result (path_after [] self.new.maker ≡ []) }
+        ensures err { IfErr result (IsRefused (step_over (state_of self.old))) }
+    {
         if is_in_text(self.insertion_mode, &self.path) {
             return Err(BuildFault::from(Rule::Cut));
         }
@@ -34,14 +50,13 @@ impl Parts {
         }
         // The length of the path comes with its outermost elements, html and body.
         let _depth = self.path.len();
-        let mut maker = self.maker;
-        make_missing(alloc, &mut maker, self.insertion_mode)?;
+        make_missing(alloc, &mut self.maker, self.insertion_mode)?;
         close_all(
-            &mut maker,
+            &mut self.maker,
             self.behind_body.as_slice(),
             self.behind_html.as_slice(),
         )?;
-        Ok(maker.finish())
+        Ok(())
     }
 }
 

@@ -1,89 +1,84 @@
+ghost use Rattle.std.specs.Prelude.{◌<◌, IsTrue};
+ghost use Rattle.hm_cert.specs.Places.{IsRowPlace};
+
 use crate::made::LOOSE_RULES as RULES;
+use crate::rows::{behind, behind_value, cut, expect, is_value};
 use hm_base::{Format, Memory, SpellRules};
 use hm_cert::{
-    CLOSED, Certificate, CertificateFault, Prices, ReversedText, WrittenRows, add_each,
+    CLOSED, Certificate, CertificateFault, Prices, ReversedText, RowPlace, WrittenRows, add_each,
     write_certificate,
 };
 use std::alloc::Global;
-use std::process::Abort;
 
 /// The certificate of `<!doctype html><p>a</p><p>b</p>`, with every layer.
 const EVERY_LAYER: &str =
     "html-cert 1\nrules omit unquote\n23\n8\n8\n8\n8\n8\n5\n4\n4\n1\n0\n0\n0\n0\n";
 
 /// Its rows.
-const EVERY_ROWS: [&[u64]; 14] = [
-    &[23],
-    &[8],
-    &[8],
-    &[8],
-    &[8],
-    &[8],
-    &[5],
-    &[4],
-    &[4],
-    &[1],
-    &[0],
-    &[0],
-    &[0],
-    &[0],
-];
+const EVERY_ROWS: &str = "23|8|8|8|8|8|5|4|4|1|0|0|0|0";
 
 /// The same, with those that have a choice.
 const CHOICES: &str = "html-cert 2\nrules omit unquote\n23\n8\n8\n8\n8\n4\n0\n0\n0\n0\n";
 
 /// Its rows.
-const CHOICES_ROWS: [&[u64]; 10] = [&[23], &[8], &[8], &[8], &[8], &[4], &[0], &[0], &[0], &[0]];
+const CHOICES_ROWS: &str = "23|8|8|8|8|4|0|0|0|0";
 
 /// The sparse one of the same page.
 const SPARSE: &str = "html-cert 3\nrules omit unquote\n23\n0\n";
 
 /// Its rows.
-const SPARSE_ROWS: [&[u64]; 2] = [&[23], &[0]];
+const SPARSE_ROWS: &str = "23|0";
 
 /// Rows of several prices, some of them closed, and the highest price.
 const WIDE: &str = "html-cert 2\nrules omit unquote\n10 - 9223372036854775807\n- -\n0\n";
 
 /// Its rows.
-const WIDE_ROWS: [&[u64]; 3] = [
-    &[10, CLOSED, 9_223_372_036_854_775_807],
-    &[CLOSED, CLOSED],
-    &[0],
-];
+const WIDE_ROWS: &str = "10 - 9223372036854775807|- -|0";
 
 /// Prices that have the first digits of one beside them, and some that only seem to.
 const NEAR: &str =
     "html-cert 2\nrules omit unquote\n123456 123499 123400\n123455 12345678\n99123456 123455\n99999 100000 - 100001\n1234567890 1234567899 1234567800 0\n";
 
 /// Their rows.
-const NEAR_ROWS: [&[u64]; 5] = [
-    &[123_456, 123_499, 123_400],
-    &[123_455, 12_345_678],
-    &[99_123_456, 123_455],
-    &[99_999, 100_000, CLOSED, 100_001],
-    &[1_234_567_890, 1_234_567_899, 1_234_567_800, 0],
-];
+const NEAR_ROWS: &str =
+    "123456 123499 123400|123455 12345678|99123456 123455|99999 100000 - 100001|1234567890 1234567899 1234567800 0";
 
 /// Prices that are raised over hundreds and get more digits, a closed one, and more prices than four.
 const RAISED: &str =
     "html-cert 2\nrules omit unquote\n1000000000 999999999\n1000100 1000099 1000000\n1000099 - 999999\n200 199 100 101 200 199 999\n100 9 0\n99 98\n";
 
 /// Their rows.
-const RAISED_ROWS: [&[u64]; 6] = [
-    &[1_000_000_000, 999_999_999],
-    &[1_000_100, 1_000_099, 1_000_000],
-    &[1_000_099, CLOSED, 999_999],
-    &[200, 199, 100, 101, 200, 199, 999],
-    &[100, 9, 0],
-    &[99, 98],
-];
+const RAISED_ROWS: &str =
+    "1000000000 999999999|1000100 1000099 1000000|1000099 - 999999|200 199 100 101 200 199 999|100 9 0|99 98";
+
+/// The price that a word tells. `-` is a closed one.
+fn price_of(word: &str) -> u64 {
+    word.parse::<u64>().unwrap_or(CLOSED)
+}
+
+/// Puts the prices of a row into a list, in place of what was there.
+fn put_row(row: &mut Vec<u64>, words: &str) -> Result<(), Memory> {
+    row.clear();
+    for word in words.split(' ') {
+        row.push(price_of(word))?;
+    }
+    Ok(())
+}
+
+/// Appends rows, with bars between them.
+fn push_rows(prices: &mut Prices, row: &mut Vec<u64>, rows: &str) -> Result<(), Memory> {
+    for words in rows.split('|') {
+        put_row(row, words)?;
+        prices.push_row(row.as_slice())?;
+    }
+    Ok(())
+}
 
 /// The prices of these rows.
-fn prices_of(alloc: Global, rows: &[&[u64]]) -> Result<Prices, Memory> {
+fn prices_of(alloc: Global, rows: &str) -> Result<Prices, Memory> {
+    let mut row = Vec::new(alloc);
     let mut prices = Prices::new(alloc);
-    for row in rows {
-        prices.push_row(row)?;
-    }
+    push_rows(&mut prices, &mut row, rows)?;
     Ok(prices)
 }
 
@@ -104,88 +99,145 @@ fn reversed(
     Ok(bytes)
 }
 
+/// Whether a certificate of these prices has this text, written from its front.
+fn is_front(alloc: Global, format: Format, prices: &Prices, text: &[u8]) -> bool {
+    match write_certificate(alloc, format, RULES, prices) {
+        Ok(front) => front.as_slice() == text,
+        Err(_) => false,
+    }
+}
+
 /// Whether a certificate of these prices has this text, written from its front and from its end.
 fn is_written(alloc: Global, format: Format, prices: &Prices, text: &[u8]) -> bool {
-    let Ok(front) = write_certificate(alloc, format, RULES, prices) else {
-        return false;
-    };
-    let Ok(end) = reversed(alloc, format, RULES, prices) else {
-        return false;
-    };
-    front.as_slice() == text && end.as_slice() == text
+    match reversed(alloc, format, RULES, prices) {
+        Ok(end) => is_front(alloc, format, prices, text) & (end.as_slice() == text),
+        Err(_) => false,
+    }
 }
 
 /// The same of a certificate of these rows.
-fn are_written(alloc: Global, format: Format, rows: &[&[u64]], text: &[u8]) -> bool {
+fn are_written(alloc: Global, format: Format, rows: &str, text: &str) -> bool {
     match prices_of(alloc, rows) {
-        Ok(prices) => is_written(alloc, format, &prices, text),
+        Ok(prices) => is_written(alloc, format, &prices, text.as_bytes()),
         Err(Memory) => false,
     }
 }
 
-/// Asserts the text of a certificate of these rows.
-fn expect_written(rt: &impl Abort, alloc: Global, format: Format, rows: &[&[u64]], text: &str) {
-    assert!(rt; are_written(alloc, format, rows, text.as_bytes()), "{text}");
-}
-
 #[test]
 fn written(rt: HostRuntime) {
-    expect_written(&rt, rt.alloc(), Format::One, &EVERY_ROWS, EVERY_LAYER);
-    expect_written(&rt, rt.alloc(), Format::Two, &CHOICES_ROWS, CHOICES);
-    expect_written(&rt, rt.alloc(), Format::Three, &SPARSE_ROWS, SPARSE);
+    let alloc = rt.alloc();
+    expect(
+        &rt,
+        are_written(alloc, Format::One, EVERY_ROWS, EVERY_LAYER),
+        EVERY_LAYER,
+    );
+    expect(
+        &rt,
+        are_written(alloc, Format::Two, CHOICES_ROWS, CHOICES),
+        CHOICES,
+    );
+    expect(
+        &rt,
+        are_written(alloc, Format::Three, SPARSE_ROWS, SPARSE),
+        SPARSE,
+    );
+    expect(&rt, are_written(alloc, Format::Two, WIDE_ROWS, WIDE), WIDE);
+    expect(
+        &rt,
+        are_written(alloc, Format::Two, RAISED_ROWS, RAISED),
+        RAISED,
+    );
+}
+
+/// Whether a price that is added to those of a row is, but to a closed one.
+fn is_added(alloc: Global) -> bool {
+    match Vec::from_array(alloc, [99, 9_999, CLOSED]) {
+        Ok(mut row) => {
+            add_each(&mut row, 1);
+            row.as_slice() == [100, 10_000, CLOSED].as_slice()
+        }
+        Err(_) => false,
+    }
 }
 
 #[test]
-fn wide_and_raised_rows(rt: HostRuntime) {
-    expect_written(&rt, rt.alloc(), Format::Two, &WIDE_ROWS, WIDE);
-    expect_written(&rt, rt.alloc(), Format::Two, &RAISED_ROWS, RAISED);
+fn added(rt: HostRuntime) {
+    expect(&rt, is_added(rt.alloc()), "99, 9,999 and a closed one");
 }
 
-#[test]
-fn added(rt: HostRuntime) -> Result<(), Memory> {
-    let mut row = Vec::from_array(rt.alloc(), [99, 9_999, CLOSED])?;
-    add_each(&mut row, 1);
-    assert!(rt; row.as_slice() == [100, 10_000, CLOSED].as_slice());
-    Ok(())
-}
-
-/// Prices of two long rows and a short one.
-fn long_prices(alloc: Global) -> Result<Prices, Memory> {
-    let mut prices = Prices::new(alloc);
+/// Appends two long rows and a short one.
+fn push_long_rows(prices: &mut Prices) -> Result<(), Memory> {
     prices.push_row(&[123_456; 300])?;
     prices.push_row(&[123_455; 256])?;
-    prices.push_row(&[99; 2])?;
-    Ok(prices)
+    prices.push_row(&[99; 2])
 }
 
 /// Whether a certificate of these prices is long, and the same written from its front and from its end.
 fn is_long(alloc: Global, prices: &Prices) -> bool {
-    let Ok(text) = write_certificate(alloc, Format::Two, RULES, prices) else {
-        return false;
-    };
-    text.len() > 3_900 && is_written(alloc, Format::Two, prices, text.as_slice())
+    match write_certificate(alloc, Format::Two, RULES, prices) {
+        Ok(text) => {
+            let is_written = is_written(alloc, Format::Two, prices, text.as_slice());
+            is_written & (text.len() > 3_900)
+        }
+        Err(_) => false,
+    }
+}
+
+/// Whether a certificate of long rows is so.
+fn are_long(alloc: Global) -> bool {
+    let mut prices = Prices::new(alloc);
+    let are_pushed = push_long_rows(&mut prices).is_ok();
+    are_pushed & is_long(alloc, &prices)
 }
 
 #[test]
-fn long_rows(rt: HostRuntime) -> Result<(), Memory> {
-    let prices = long_prices(rt.alloc())?;
-    assert!(rt; is_long(rt.alloc(), &prices));
-    Ok(())
+fn long_rows(rt: HostRuntime) {
+    expect(&rt, are_long(rt.alloc()), "long rows");
 }
 
-/// Whether the rows that were read are these. They are read from the last to the first.
-fn has_rows(alloc: Global, read: &WrittenRows<'_>, rows: &[&[u64]]) -> bool {
+/// What is wanted after a price. `-` is a closed one.
+fn behind_price<'w>(wanted: &'w str, price: u64) -> &'w str {
+    if price == CLOSED {
+        behind(wanted, "-")
+    } else {
+        behind_value(wanted, &price)
+    }
+}
+
+/// Whether the prices of a row are these, with a space between each two.
+fn is_row(row: &[u64], wanted: &str) -> bool {
+    let mut rest = wanted;
+    let mut mark = "";
+    for price in row {
+        rest = behind_price(behind(rest, mark), *price);
+        mark = " ";
+    }
+    rest.is_empty()
+}
+
+/// Whether the row before a place is this one. The place moves before it.
+fn is_before<'a>(
+    read: &WrittenRows<'a>,
+    place: &mut RowPlace<'a>,
+    row: &mut Vec<u64>,
+    wanted: &str,
+) -> bool
+    requires place { IsRowPlace read.now place.old }
+    requires some { 0 < place.old.row }
+    ensures { IsTrue result → IsRowPlace read.now place.new }
+{
+    match read.row_before(place, row) {
+        Ok(()) => is_row(row.as_slice(), wanted),
+        Err(_) => false,
+    }
+}
+
+/// Whether the rows that were read are these, with bars between them. They are read from the last to the first.
+fn has_rows(alloc: Global, read: &WrittenRows<'_>, rows: &str) -> bool {
     let mut row = Vec::new(alloc);
     let mut place = read.end();
-    for k in (0..rows.len()).rev() {
-        if place.row != k + 1 {
-            return false;
-        }
-        match read.row_before(&mut place, &mut row) {
-            Ok(()) => {}
-            Err(_) => return false,
-        }
-        if row.as_slice() != rows[k] {
+    for wanted in rows.rsplit('|') {
+        if place.row == 0 || !is_before(read, &mut place, &mut row, wanted) {
             return false;
         }
     }
@@ -193,30 +245,31 @@ fn has_rows(alloc: Global, read: &WrittenRows<'_>, rows: &[&[u64]]) -> bool {
 }
 
 /// Whether a text is read as a certificate with these rows.
-fn is_read(alloc: Global, format: Format, rows: &[&[u64]], text: &str) -> bool {
+fn is_read(alloc: Global, format: Format, rows: &str, text: &str) -> bool {
     match Certificate::read(alloc, text.as_bytes()) {
         Ok(read) => {
-            read.format == format && read.rules == RULES && has_rows(alloc, &read.prices, rows)
+            let is_headed = (read.format == format) & (read.rules == RULES);
+            is_headed & has_rows(alloc, &read.prices, rows)
         }
         Err(_) => false,
     }
 }
 
-/// Asserts that a text is read as a certificate with these rows.
-fn expect_read(rt: &impl Abort, alloc: Global, format: Format, rows: &[&[u64]], text: &str) {
-    assert!(rt; is_read(alloc, format, rows, text), "{text}");
-}
-
 #[test]
 fn read(rt: HostRuntime) {
-    expect_read(&rt, rt.alloc(), Format::One, &EVERY_ROWS, EVERY_LAYER);
-    expect_read(&rt, rt.alloc(), Format::Two, &WIDE_ROWS, WIDE);
-    expect_read(&rt, rt.alloc(), Format::Three, &SPARSE_ROWS, SPARSE);
-}
-
-#[test]
-fn near_rows(rt: HostRuntime) {
-    expect_read(&rt, rt.alloc(), Format::Two, &NEAR_ROWS, NEAR);
+    let alloc = rt.alloc();
+    expect(
+        &rt,
+        is_read(alloc, Format::One, EVERY_ROWS, EVERY_LAYER),
+        EVERY_LAYER,
+    );
+    expect(&rt, is_read(alloc, Format::Two, WIDE_ROWS, WIDE), WIDE);
+    expect(
+        &rt,
+        is_read(alloc, Format::Three, SPARSE_ROWS, SPARSE),
+        SPARSE,
+    );
+    expect(&rt, is_read(alloc, Format::Two, NEAR_ROWS, NEAR), NEAR);
 }
 
 /// Whether these rules are those of a certificate whose output is tight, of ASCII and in a frame.
@@ -224,71 +277,69 @@ fn are_framed(rules: SpellRules) -> bool {
     rules.tight && rules.ascii && rules.frame && !rules.omit && !rules.unquote
 }
 
-#[test]
-fn flags(rt: HostRuntime) -> Result<(), CertificateFault> {
-    let read = Certificate::read(rt.alloc(), b"html-cert 2\nrules tight ascii frame\n")?;
-    assert!(rt; are_framed(read.rules) && read.prices.len() == 0);
-    Ok(())
+/// Whether a certificate is read with those rules and no row.
+fn has_flags(alloc: Global) -> bool {
+    match Certificate::read(alloc, b"html-cert 2\nrules tight ascii frame\n") {
+        Ok(read) => are_framed(read.rules) & (read.prices.len() == 0),
+        Err(_) => false,
+    }
 }
 
-/// Texts that are no certificates, and the first line that is wrong in each.
-const BAD_LINES: [(&str, u32); 35] = [
-    ("", 1),
-    ("\n", 1),
-    ("html-cert 1", 1),
-    ("html-cert 4\nrules\n0\n", 1),
-    ("html-cert 1 \nrules\n0\n", 1),
-    ("html-cert 1\r\nrules\n0\n", 1),
-    ("html-cert 1\n", 2),
-    ("html-cert 1\nrules", 2),
-    ("html-cert 1\n\n0\n", 2),
-    ("html-cert 1\nrules \n0\n", 2),
-    ("html-cert 1\nrules omit omit\n0\n", 2),
-    ("html-cert 1\nrules frame omit\n0\n", 2),
-    ("html-cert 1\nrules  omit\n0\n", 2),
-    ("html-cert 1\nrulesomit\n0\n", 2),
-    ("html-cert 1\nrules\n\n", 3),
-    ("html-cert 1\nrules\n0", 3),
-    ("html-cert 1\nrules\n0\n0\n\n0\n", 5),
-    ("html-cert 1\nrules\n0\n0 \n", 4),
-    ("html-cert 1\nrules\n0\n 0\n", 4),
-    ("html-cert 1\nrules\n0\n0  0\n", 4),
-    ("html-cert 1\nrules\n0\n01\n", 4),
-    ("html-cert 1\nrules\n0\n00\n", 4),
-    ("html-cert 1\nrules\n0\n+1\n", 4),
-    ("html-cert 1\nrules\n0\n--\n", 4),
-    ("html-cert 1\nrules\n0\n-1\n", 4),
-    ("html-cert 1\nrules\n0\n1x\n", 4),
-    (
-        "html-cert 1\nrules\n9223372036854775807\n9223372036854775808\n",
-        4,
-    ),
-    ("html-cert 1\nrules\n0\n18446744073709551615\n", 4),
-    ("html-cert 1\nrules\n0\n18446744073709551616\n", 4),
-    (
-        "html-cert 1\nrules\n0\n10000000000000000000000000000000000000000\n",
-        4,
-    ),
-    ("html-cert 1\nrules\n123456 12345x\n", 3),
-    ("html-cert 1\nrules\n123456\n1234567x\n", 4),
-    ("html-cert 1\nrules\n123456\n123456", 4),
-    ("html-cert 1\nrules\n0\n0\r\n", 4),
-    ("html-cert 1\nrules\n0\n1\t2\n", 4),
-];
+#[test]
+fn flags(rt: HostRuntime) {
+    expect(&rt, has_flags(rt.alloc()), "flags");
+}
 
-/// Asserts the first line of a text that is wrong.
-fn expect_bad_line(rt: &impl Abort, alloc: Global, row: &(&str, u32)) {
-    let (text, want) = *row;
-    let line = match Certificate::read(alloc, text.as_bytes()) {
-        Err(CertificateFault::BadLine { line }) => line,
-        _ => 0,
-    };
-    assert!(rt; line == want, "{text}");
+/// Texts that are no certificates, and the first line that is wrong in each. `¶` stands after each.
+const BAD_LINES: &str = "\
+    \x20⇒ 1¶\
+    \n ⇒ 1¶\
+    html-cert 1 ⇒ 1¶\
+    html-cert 4\nrules\n0\n ⇒ 1¶\
+    html-cert 1 \nrules\n0\n ⇒ 1¶\
+    html-cert 1\r\nrules\n0\n ⇒ 1¶\
+    html-cert 1\n ⇒ 2¶\
+    html-cert 1\nrules ⇒ 2¶\
+    html-cert 1\n\n0\n ⇒ 2¶\
+    html-cert 1\nrules \n0\n ⇒ 2¶\
+    html-cert 1\nrules omit omit\n0\n ⇒ 2¶\
+    html-cert 1\nrules frame omit\n0\n ⇒ 2¶\
+    html-cert 1\nrules  omit\n0\n ⇒ 2¶\
+    html-cert 1\nrulesomit\n0\n ⇒ 2¶\
+    html-cert 1\nrules\n\n ⇒ 3¶\
+    html-cert 1\nrules\n0 ⇒ 3¶\
+    html-cert 1\nrules\n0\n0\n\n0\n ⇒ 5¶\
+    html-cert 1\nrules\n0\n0 \n ⇒ 4¶\
+    html-cert 1\nrules\n0\n 0\n ⇒ 4¶\
+    html-cert 1\nrules\n0\n0  0\n ⇒ 4¶\
+    html-cert 1\nrules\n0\n01\n ⇒ 4¶\
+    html-cert 1\nrules\n0\n00\n ⇒ 4¶\
+    html-cert 1\nrules\n0\n+1\n ⇒ 4¶\
+    html-cert 1\nrules\n0\n--\n ⇒ 4¶\
+    html-cert 1\nrules\n0\n-1\n ⇒ 4¶\
+    html-cert 1\nrules\n0\n1x\n ⇒ 4¶\
+    html-cert 1\nrules\n9223372036854775807\n9223372036854775808\n ⇒ 4¶\
+    html-cert 1\nrules\n0\n18446744073709551615\n ⇒ 4¶\
+    html-cert 1\nrules\n0\n18446744073709551616\n ⇒ 4¶\
+    html-cert 1\nrules\n0\n10000000000000000000000000000000000000000\n ⇒ 4¶\
+    html-cert 1\nrules\n123456 12345x\n ⇒ 3¶\
+    html-cert 1\nrules\n123456\n1234567x\n ⇒ 4¶\
+    html-cert 1\nrules\n123456\n123456 ⇒ 4¶\
+    html-cert 1\nrules\n0\n0\r\n ⇒ 4¶\
+    html-cert 1\nrules\n0\n1\t2\n ⇒ 4";
+
+/// Whether the first line of a text that is wrong is the one in its row.
+fn is_bad_line(alloc: Global, row: &str) -> bool {
+    let (text, wanted) = cut(row, " ⇒ ");
+    match Certificate::read(alloc, text.as_bytes()) {
+        Err(CertificateFault::BadLine { line }) => is_value(wanted, &line),
+        _ => false,
+    }
 }
 
 #[test]
 fn bad_lines(rt: HostRuntime) {
-    for row in &BAD_LINES {
-        expect_bad_line(&rt, rt.alloc(), row);
+    for row in BAD_LINES.split('¶') {
+        expect(&rt, is_bad_line(rt.alloc(), row), row);
     }
 }

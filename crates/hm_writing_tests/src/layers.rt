@@ -1,6 +1,7 @@
 #![tactic(auto, using(hm_tree::proofs::RoomLemmas::room))]
 
 use crate::made::{NONE, TIGHT_RULES as RULES, TWO, attributes};
+use crate::rows::{behind, behind_value, expect, is_value};
 use hm_base::{Format, Memory};
 use hm_graph::Graph;
 use hm_refs::Table;
@@ -38,109 +39,86 @@ fn element_alone(alloc: Global, name: &str, attr: &str, value: &str) -> Result<T
     Ok(maker.finish())
 }
 
-/// A step: how many states are before it, how many hops the first of them has, and whether each has one.
-type Shown = (usize, usize, bool);
-
-/// Whether the graph has these steps, and `last` states after them.
-fn is_like(graph: &Graph, wanted: &[Shown], last: usize) -> bool {
-    if graph.len() != wanted.len() || graph.last() != last {
-        return false;
-    }
+/// Whether the graph has these steps and so many states after them. A step is told by its number, how many states are before it,
+/// how many hops the first of them has, and whether each has one. A space stands before the states.
+fn is_like(graph: &Graph, wanted: &str) -> bool {
     let mut at = graph.first_layer();
-    for k in 0..wanted.len() {
+    let mut rest = wanted;
+    for k in 0..graph.len() {
         let step = graph.step(at);
         at = graph.next(at);
-        let (width, first, forced) = wanted[k];
-        if width == 0 || step.width() != width {
-            return false;
-        }
-        if step.hops(0).len() != first || step.is_forced() != forced {
-            return false;
-        }
+        let first = if step.width() == 0 {
+            0
+        } else {
+            step.hops(0).len()
+        };
+        rest = behind_value(rest, &(k, step.width(), first, step.is_forced()));
     }
-    true
+    is_value(behind(rest, " "), &graph.last())
 }
 
-/// Whether the graph of a tree has these steps with a table, and `last` states after them.
-fn graph_has_steps(
-    alloc: Global,
-    table: &Table,
-    tree: &Tree,
-    format: Format,
-    wanted: &[Shown],
-    last: usize,
-) -> bool {
+/// Whether the graph of a tree is like this with a table.
+fn graph_is_like(alloc: Global, table: &Table, tree: &Tree, format: Format, wanted: &str) -> bool {
     match Graph::of(alloc, tree, table, RULES, format) {
-        Ok(graph) => is_like(&graph, wanted, last),
+        Ok(graph) => is_like(&graph, wanted),
         Err(Memory) => false,
     }
 }
 
 /// The same with the table of these names of references.
-fn has_steps(
-    alloc: Global,
-    names: &str,
-    tree: &Tree,
-    format: Format,
-    wanted: &[Shown],
-    last: usize,
-) -> bool {
+fn has_steps(alloc: Global, names: &str, tree: &Tree, format: Format, wanted: &str) -> bool {
     match Table::read(alloc, names.as_bytes()) {
-        Ok(table) => graph_has_steps(alloc, &table, tree, format, wanted, last),
+        Ok(table) => graph_is_like(alloc, &table, tree, format, wanted),
         Err(_) => false,
     }
 }
 
+/// The same of a text.
+fn text_has_steps(alloc: Global, names: &str, text: &str, format: Format, wanted: &str) -> bool {
+    match text_alone(alloc, text) {
+        Ok(tree) => has_steps(alloc, names, &tree, format, wanted),
+        Err(Memory) => false,
+    }
+}
+
 /// `a<b`: after the `<` as itself no letter may stand.
-#[test]
-fn less_than(rt: HostRuntime) -> Result<(), Memory> {
-    let tree = text_alone(rt.alloc(), "a<b")?;
-    let wanted = [(1, 1, true), (1, 3, false), (3, 0, false)];
-    assert!(rt; has_steps(rt.alloc(), NONE, &tree, Format::Two, &wanted, 1));
-    Ok(())
-}
-
-/// The steps of an attribute's value.
-const VALUE_STEPS: [Shown; 6] = [
-    (1, 1, true),
-    (1, 3, false),
-    (3, 1, true),
-    (3, 1, true),
-    (2, 1, true),
-    (1, 1, true),
-];
-
-/// `<p id=x></p>`: three ways to write the value. After either quote the state is the same.
-#[test]
-fn value(rt: HostRuntime) -> Result<(), Memory> {
-    let tree = element_alone(rt.alloc(), "p", "id", "x")?;
-    assert!(rt; has_steps(rt.alloc(), NONE, &tree, Format::Two, &VALUE_STEPS, 1));
-    Ok(())
-}
+const LESS_THAN: &str = "(0, 1, 1, true)(1, 1, 3, false)(2, 3, 0, false) 1";
 
 /// A name for two code points is a way where they stand together.
-#[test]
-fn pair(rt: HostRuntime) -> Result<(), Memory> {
-    let tree = text_alone(rt.alloc(), "x\u{338}")?;
-    let wanted = [(1, 4, false), (3, 3, false)];
-    assert!(rt; has_steps(rt.alloc(), TWO, &tree, Format::Two, &wanted, 2));
-    Ok(())
-}
+const PAIR: &str = "(0, 1, 4, false)(1, 3, 3, false) 2";
 
 /// It is no way where they stand apart.
-#[test]
-fn no_pair(rt: HostRuntime) -> Result<(), Memory> {
-    let tree = text_alone(rt.alloc(), "xx")?;
-    let wanted = [(1, 3, false), (2, 3, false)];
-    assert!(rt; has_steps(rt.alloc(), TWO, &tree, Format::Two, &wanted, 2));
-    Ok(())
-}
+const NO_PAIR: &str = "(0, 1, 3, false)(1, 2, 3, false) 2";
 
 /// In the graph of a sparse certificate a character that can stand as itself stands as a number nowhere.
+const SPARSE: &str = "(0, 1, 2, false)(1, 2, 1, true) 1";
+
 #[test]
-fn sparse(rt: HostRuntime) -> Result<(), Memory> {
-    let tree = text_alone(rt.alloc(), "x\u{338}")?;
-    let wanted = [(1, 2, false), (2, 1, true)];
-    assert!(rt; has_steps(rt.alloc(), TWO, &tree, Format::Three, &wanted, 1));
-    Ok(())
+fn texts(rt: HostRuntime) {
+    let alloc = rt.alloc();
+    let less_than = text_has_steps(alloc, NONE, "a<b", Format::Two, LESS_THAN);
+    expect(&rt, less_than, "a<b");
+    let pair = text_has_steps(alloc, TWO, "x\u{338}", Format::Two, PAIR);
+    expect(&rt, pair, "a pair");
+    let no_pair = text_has_steps(alloc, TWO, "xx", Format::Two, NO_PAIR);
+    expect(&rt, no_pair, "no pair");
+    let sparse = text_has_steps(alloc, TWO, "x\u{338}", Format::Three, SPARSE);
+    expect(&rt, sparse, "sparse");
+}
+
+/// `<p id=x></p>`: three ways to write the value. After either quote the state is the same.
+const VALUE: &str =
+    "(0, 1, 1, true)(1, 1, 3, false)(2, 3, 1, true)(3, 3, 1, true)(4, 2, 1, true)(5, 1, 1, true) 1";
+
+/// Whether the element has these steps.
+fn value_has_steps(alloc: Global, wanted: &str) -> bool {
+    match element_alone(alloc, "p", "id", "x") {
+        Ok(tree) => has_steps(alloc, NONE, &tree, Format::Two, wanted),
+        Err(Memory) => false,
+    }
+}
+
+#[test]
+fn value(rt: HostRuntime) {
+    expect(&rt, value_has_steps(rt.alloc(), VALUE), "a value");
 }

@@ -17,3 +17,5 @@ mod order;
 mod pages;
 #[cfg(test)]
 mod parts;
+#[cfg(test)]
+mod rows;

@@ -33,10 +33,8 @@ pub(crate) const LOOSE_RULES: SpellRules = SpellRules {
 pub(crate) fn attributes(alloc: Global, name: &str, value: &str) -> Result<Attrs, Memory>
     ensures { IfOk result (λ attrs. attributes_size attrs ≤ length name.now + length value.now) }
 {
-    let name = String::from_str(alloc, name)?;
-    let value = String::from_str(alloc, value)?;
     let mut attrs = Attrs::new(alloc);
-    attrs.add(name, value)?;
+    attrs.put(name, value)?;
     Ok(attrs)
 }
 

@@ -1,11 +1,11 @@
 use crate::made::{LOOSE_RULES, NONE, TIGHT_RULES, TWO, tree_of};
+use crate::rows::{cut, expect};
 use hm_base::{Format, Memory, SpellRules};
 use hm_order::{AttrCost, attr_cost, best_last, reorder};
 use hm_plan::minify_tree;
 use hm_refs::Table;
 use hm_tree::Tree;
 use std::alloc::Global;
-use std::process::Abort;
 
 /// Names for `&`.
 const AMP: &str = "{\"&amp\":{\"codepoints\":[38]},\"&amp;\":{\"codepoints\":[38]}}";
@@ -50,170 +50,79 @@ fn is_written(alloc: Global, table: &Table, rules: SpellRules, page: &str, wante
     }
 }
 
-/// Names of references, rules, a page, and its shortest text in order.
-type Ordered = (&'static str, SpellRules, &'static str, &'static str);
+/// In each line names of references, rules, a page, and after ` ⇒ ` its shortest text in order. The texts come from a second
+/// program that was written from the same rules.
+const ORDERED: &str = "\
+    none tight <!doctype html><a c=z b=\"x y\">t</a> ⇒ <!doctype html><a b=\"x y\"c=z>t</a>\n\
+    none loose <!doctype html><a c=z b=\"x y\">t</a> ⇒ <!doctype html><a b=\"x y\" c=z>t</a>\n\
+    none loose <!doctype html><svg><path id=\"a b\" d=M0></path></svg> ⇒ <!doctype html><svg><path d=M0 id=\"a b\"/></svg>\n\
+    none tight <!doctype html><svg><path id=\"a b\" d=M0></path></svg> ⇒ <!doctype html><svg><path d=M0 id=\"a b\"/></svg>\n\
+    none tight <!doctype html><svg><path id=\"a b\" d e=M0></path></svg> ⇒ <!doctype html><svg><path id=\"a b\"e=M0 d/></svg>\n\
+    none loose <!doctype html><svg><path d=M0 e=\"\">t</path></svg> ⇒ <!doctype html><svg><path e d=M0>t</path></svg>\n\
+    none loose <!doctype html><svg><path d=M0 e=\"\"></path></svg> ⇒ <!doctype html><svg><path d=M0 e/></svg>\n\
+    none loose <!doctype html><a x=1 y=2 z=3></a> ⇒ <!doctype html><a y=2 z=3 x=1></a>\n\
+    none tight <!doctype html><p a=\"x y\" b=\"x y\"> ⇒ <!doctype html><p b=\"x y\"a=\"x y\">\n\
+    none quoted <!doctype html><p a=x b> ⇒ <!doctype html><p a=\"x\"b>\n\
+    none plain <!doctype html><p a=x b> ⇒ <!doctype html><p b a=\"x\">\n\
+    none tight <!doctype html><p a=\"&#34;\" b='\"x y' c=z d=\"'&#34;\"> ⇒ <!doctype html><p a='\"'b='\"x y'd=\"'&#34\"c=z>\n\
+    none tight <!doctype html><p data-a=\"/?a&amp;b=c\" title=b id=\"x y\"> ⇒ <!doctype html><p data-a=\"/?a&amp;b=c\"id=\"x y\"title=b>\n\
+    amp tight <!doctype html><p b=\"x y\" a=\"?a&amp;amp=c\" c=\"?a&amp;b\"> ⇒ <!doctype html><p b=\"x y\"a=\"?a&amp=c\"c=?a&b>\n\
+    amp tight <!doctype html><p b=\"x y\" a=\"&amp;amp\" c=d> ⇒ <!doctype html><p b=\"x y\"c=d a=&#38amp>\n\
+    space tight <!doctype html><p b=\"x y z\" a=\"x y\" c=d> ⇒ <!doctype html><p b=\"x y z\"a=\"x y\"c=d>\n\
+    space loose <!doctype html><svg><path a=b c=\"x y\" d=\"x y\" /></svg> ⇒ <!doctype html><svg><path a=b d=\"x y\" c=\"x y\"/></svg>\n\
+    two tight <!doctype html><p a=\"x&#824; y\" b=\"x&#824;\"> ⇒ <!doctype html><p a=\"x\u{338} y\"b=x\u{338}>\n\
+    two ascii <!doctype html><p a=\"x&#824;y\" b=\"\u{e9} z\" c=\"x y\"> ⇒ <!doctype html><p b=\"&#233 z\"c=\"x y\"a=&ab;y>\n\
+    none tight <!doctype html><p a=\"x=y\" b=\"\u{4e00}\u{4e8c}\" c=\"\u{4e00} \u{4e8c}\"> ⇒ <!doctype html><p a=\"x=y\"c=\"\u{4e00} \u{4e8c}\"b=\u{4e00}\u{4e8c}>\n\
+    none ascii <!doctype html><p a=\"\u{4e00} \u{4e8c}\" b=\"\u{e9}\"> ⇒ <!doctype html><p a=\"&#19968 &#20108\"b=&#233>\n\
+    none tight <!doctype html><p a=\"x y\" b=\"\u{1f600} \u{1f600}\" c=\"\u{1f600}\"> ⇒ <!doctype html><p a=\"x y\"b=\"\u{1f600} \u{1f600}\"c=\u{1f600}>\n\
+    none loose <!doctype html><svg><g a=\"b c\" d=e><g f=\"g h\" i=j /></g></svg> ⇒ <!doctype html><svg><g d=e a=\"b c\"><g i=j f=\"g h\"/></g></svg>\n";
 
-/// The texts come from a second program that was written from the
-/// same rules.
-const ORDERED: [Ordered; 23] = [
-    (
-        NONE,
-        TIGHT_RULES,
-        "<!doctype html><a c=z b=\"x y\">t</a>",
-        "<!doctype html><a b=\"x y\"c=z>t</a>",
-    ),
-    (
-        NONE,
-        LOOSE_RULES,
-        "<!doctype html><a c=z b=\"x y\">t</a>",
-        "<!doctype html><a b=\"x y\" c=z>t</a>",
-    ),
-    (
-        NONE,
-        LOOSE_RULES,
-        "<!doctype html><svg><path id=\"a b\" d=M0></path></svg>",
-        "<!doctype html><svg><path d=M0 id=\"a b\"/></svg>",
-    ),
-    (
-        NONE,
-        TIGHT_RULES,
-        "<!doctype html><svg><path id=\"a b\" d=M0></path></svg>",
-        "<!doctype html><svg><path d=M0 id=\"a b\"/></svg>",
-    ),
-    (
-        NONE,
-        TIGHT_RULES,
-        "<!doctype html><svg><path id=\"a b\" d e=M0></path></svg>",
-        "<!doctype html><svg><path id=\"a b\"e=M0 d/></svg>",
-    ),
-    (
-        NONE,
-        LOOSE_RULES,
-        "<!doctype html><svg><path d=M0 e=\"\">t</path></svg>",
-        "<!doctype html><svg><path e d=M0>t</path></svg>",
-    ),
-    (
-        NONE,
-        LOOSE_RULES,
-        "<!doctype html><svg><path d=M0 e=\"\"></path></svg>",
-        "<!doctype html><svg><path d=M0 e/></svg>",
-    ),
-    (
-        NONE,
-        LOOSE_RULES,
-        "<!doctype html><a x=1 y=2 z=3></a>",
-        "<!doctype html><a y=2 z=3 x=1></a>",
-    ),
-    (
-        NONE,
-        TIGHT_RULES,
-        "<!doctype html><p a=\"x y\" b=\"x y\">",
-        "<!doctype html><p b=\"x y\"a=\"x y\">",
-    ),
-    (
-        NONE,
-        QUOTED_RULES,
-        "<!doctype html><p a=x b>",
-        "<!doctype html><p a=\"x\"b>",
-    ),
-    (
-        NONE,
-        PLAIN_RULES,
-        "<!doctype html><p a=x b>",
-        "<!doctype html><p b a=\"x\">",
-    ),
-    (
-        NONE,
-        TIGHT_RULES,
-        "<!doctype html><p a=\"&#34;\" b='\"x y' c=z d=\"'&#34;\">",
-        "<!doctype html><p a='\"'b='\"x y'd=\"'&#34\"c=z>",
-    ),
-    (
-        NONE,
-        TIGHT_RULES,
-        "<!doctype html><p data-a=\"/?a&amp;b=c\" title=b id=\"x y\">",
-        "<!doctype html><p data-a=\"/?a&amp;b=c\"id=\"x y\"title=b>",
-    ),
-    (
-        AMP,
-        TIGHT_RULES,
-        "<!doctype html><p b=\"x y\" a=\"?a&amp;amp=c\" c=\"?a&amp;b\">",
-        "<!doctype html><p b=\"x y\"a=\"?a&amp=c\"c=?a&b>",
-    ),
-    (
-        AMP,
-        TIGHT_RULES,
-        "<!doctype html><p b=\"x y\" a=\"&amp;amp\" c=d>",
-        "<!doctype html><p b=\"x y\"c=d a=&#38amp>",
-    ),
-    (
-        SPACE,
-        TIGHT_RULES,
-        "<!doctype html><p b=\"x y z\" a=\"x y\" c=d>",
-        "<!doctype html><p b=\"x y z\"a=\"x y\"c=d>",
-    ),
-    (
-        SPACE,
-        LOOSE_RULES,
-        "<!doctype html><svg><path a=b c=\"x y\" d=\"x y\" /></svg>",
-        "<!doctype html><svg><path a=b d=\"x y\" c=\"x y\"/></svg>",
-    ),
-    (
-        TWO,
-        TIGHT_RULES,
-        "<!doctype html><p a=\"x&#824; y\" b=\"x&#824;\">",
-        "<!doctype html><p a=\"x\u{338} y\"b=x\u{338}>",
-    ),
-    (
-        TWO,
-        ASCII_RULES,
-        "<!doctype html><p a=\"x&#824;y\" b=\"\u{e9} z\" c=\"x y\">",
-        "<!doctype html><p b=\"&#233 z\"c=\"x y\"a=&ab;y>",
-    ),
-    (
-        NONE,
-        TIGHT_RULES,
-        "<!doctype html><p a=\"x=y\" b=\"\u{4e00}\u{4e8c}\" c=\"\u{4e00} \u{4e8c}\">",
-        "<!doctype html><p a=\"x=y\"c=\"\u{4e00} \u{4e8c}\"b=\u{4e00}\u{4e8c}>",
-    ),
-    (
-        NONE,
-        ASCII_RULES,
-        "<!doctype html><p a=\"\u{4e00} \u{4e8c}\" b=\"\u{e9}\">",
-        "<!doctype html><p a=\"&#19968 &#20108\"b=&#233>",
-    ),
-    (
-        NONE,
-        TIGHT_RULES,
-        "<!doctype html><p a=\"x y\" b=\"\u{1f600} \u{1f600}\" c=\"\u{1f600}\">",
-        "<!doctype html><p a=\"x y\"b=\"\u{1f600} \u{1f600}\"c=\u{1f600}>",
-    ),
-    (
-        NONE,
-        LOOSE_RULES,
-        "<!doctype html><svg><g a=\"b c\" d=e><g f=\"g h\" i=j /></g></svg>",
-        "<!doctype html><svg><g d=e a=\"b c\"><g i=j f=\"g h\"/></g></svg>",
-    ),
-];
+/// The table of these names.
+fn names_of(word: &str) -> &'static str {
+    match word {
+        "none" => NONE,
+        "amp" => AMP,
+        "space" => SPACE,
+        "two" => TWO,
+        _ => "?",
+    }
+}
 
-/// Whether a row holds.
-fn is_ordered(alloc: Global, row: &Ordered) -> bool {
-    let (names, rules, page, wanted) = *row;
-    match Table::read(alloc, names.as_bytes()) {
-        Ok(table) => is_written(alloc, &table, rules, page, wanted),
+/// The rules of this name.
+fn rules_of(word: &str) -> Option<SpellRules> {
+    match word {
+        "tight" => Some(TIGHT_RULES),
+        "loose" => Some(LOOSE_RULES),
+        "plain" => Some(PLAIN_RULES),
+        "quoted" => Some(QUOTED_RULES),
+        "ascii" => Some(ASCII_RULES),
+        _ => None,
+    }
+}
+
+/// Whether what stands in a line behind its names holds with a table.
+fn is_ordered(alloc: Global, table: &Table, line: &str) -> bool {
+    let (word, rest) = cut(line, " ");
+    let (page, wanted) = cut(rest, " ⇒ ");
+    match rules_of(word) {
+        Some(rules) => is_written(alloc, table, rules, page, wanted),
+        None => false,
+    }
+}
+
+/// Whether what stands in a line holds.
+fn is_line(alloc: Global, line: &str) -> bool {
+    let (word, rest) = cut(line, " ");
+    match Table::read(alloc, names_of(word).as_bytes()) {
+        Ok(table) => is_ordered(alloc, &table, rest),
         Err(_) => false,
     }
 }
 
-/// Asserts that a row holds.
-fn expect_ordered(rt: &impl Abort, alloc: Global, row: &Ordered) {
-    assert!(rt; is_ordered(alloc, row), "{}", row.2);
-}
-
 #[test]
 fn in_order(rt: HostRuntime) {
-    for row in &ORDERED {
-        expect_ordered(&rt, rt.alloc(), row);
+    for line in ORDERED.lines() {
+        expect(&rt, is_line(rt.alloc(), line), line);
     }
 }
 
@@ -237,18 +146,16 @@ fn has_cost(alloc: Global, table: &Table, name: &str, value: &str, wanted: AttrC
 /// Whether the two attributes have their costs.
 fn have_costs(alloc: Global) -> bool {
     match Table::empty(alloc) {
-        Ok(table) => has_cost(alloc, &table, "title", "x y", TITLE)
-            && has_cost(alloc, &table, "id", "a", ID),
+        Ok(table) => {
+            let title = has_cost(alloc, &table, "title", "x y", TITLE);
+            title & has_cost(alloc, &table, "id", "a", ID)
+        }
         Err(Memory) => false,
     }
 }
 
 #[test]
 fn costs(rt: HostRuntime) {
-    assert!(rt; have_costs(rt.alloc()));
-}
-
-#[test]
-fn last_by_costs(rt: HostRuntime) {
-    assert!(rt; best_last(&[TITLE, ID, ID]) == 1);
+    expect(&rt, have_costs(rt.alloc()), "costs");
+    expect(&rt, best_last(&[TITLE, ID, ID]) == 1, "the last");
 }

@@ -1,40 +1,44 @@
 #![tactic(auto, using(hm_tree::proofs::RoomLemmas::room))]
 
-ghost use Rattle.std.specs.Prelude.{◌≡◌, ◌+◌, ◌^◌, ◌<◌, ◌≤◌, length, [], false, true, OnOk};
+ghost use Rattle.std.specs.Prelude.{◌≡◌, ◌+◌, ◌^◌, ◌<◌, ◌≤◌, length, [], false, true, IfOk, OnOk};
 ghost use Rattle.hm_base.specs.Walks.{attributes_size, path_after, walk_size};
 ghost use Rattle.hm_tree.specs.Trees.{last_agrees};
 
 use crate::made::{TIGHT_RULES as RULES, attributes};
+use crate::rows::{behind, behind_value, cut, expect};
 use hm_base::Memory;
-use hm_edges::{TextKind, Unit};
 use hm_parts::{Part, find_parts};
 use hm_tree::{Attrs, Maker, Tree};
 use std::alloc::Global;
 use std::process::Abort;
 
-/// A call of a maker: the start of an element, of one of SVG, of one with an attribute; a text; an end.
-#[derive(Clone, Copy)]
-enum EventCall {
-    Start(&'static str),
-    Svg(&'static str),
-    With(&'static str, &'static str, &'static str),
-    Text(&'static str),
-    End,
+/// No attribute where the text is empty, else the one that it tells as `name=value`.
+fn attributes_of(alloc: Global, text: &str) -> Result<Attrs, Memory>
+    ensures { IfOk result (λ attrs. attributes_size attrs ≤ 200) }
+{
+    let (name, value) = cut(text, "=");
+    if text.is_empty() {
+        Ok(Attrs::new(alloc))
+    } else if name.len() > 100 || value.len() > 100 {
+        Err(Memory)
+    } else {
+        attributes(alloc, name, value)
+    }
 }
 
-fn start(maker: &mut Maker, name: &str, foreign: bool, attrs: Attrs) -> Result<(), Memory>
+/// Starts the element of a name, with the attribute that stands after a space, if any.
+fn start(alloc: Global, maker: &mut Maker, call: &str, foreign: bool) -> Result<(), Memory>
     requires events { length maker.old + length (path_after [] maker.old) + 2 < 2 ^ 29 }
     requires bytes { walk_size maker.old + 300 < 2 ^ 29 }
-    requires attrs { attributes_size attrs ≤ 200 }
     ensures events { OnOk result (length maker.new + length (path_after [] maker.new) ≤ length maker.old + length (path_after [] maker.old) + 2) }
     ensures bytes { OnOk result (walk_size maker.new ≤ walk_size maker.old + 300) }
     ensures plain { OnOk result (last_agrees maker.new false ≡ true) }
 {
+    let (name, attribute) = call.split_once(' ').unwrap_or((call, ""));
     if name.len() > 100 {
         return Err(Memory);
     }
-    maker.start(name, foreign, attrs)?;
-    Ok(())
+    maker.start(name, foreign, attributes_of(alloc, attribute)?)
 }
 
 fn text(maker: &mut Maker, text: &str) -> Result<(), Memory>
@@ -48,8 +52,7 @@ fn text(maker: &mut Maker, text: &str) -> Result<(), Memory>
     if text.len() > 100 {
         return Err(Memory);
     }
-    maker.text(text, false)?;
-    Ok(())
+    maker.text(text, false)
 }
 
 fn end(maker: &mut Maker) -> Result<(), Memory>
@@ -60,11 +63,11 @@ fn end(maker: &mut Maker) -> Result<(), Memory>
     if maker.depth() == 0 {
         return Err(Memory);
     }
-    maker.end()?;
-    Ok(())
+    maker.end()
 }
 
-fn take(alloc: Global, maker: &mut Maker, step: EventCall) -> Result<(), Memory>
+/// Makes a call: `start` or `svg`, the start of an element of HTML or SVG, with its name and maybe an attribute; `text`; `end`.
+fn take(alloc: Global, maker: &mut Maker, call: &str) -> Result<(), Memory>
     requires events { length maker.old + length (path_after [] maker.old) + 2 < 2 ^ 29 }
     requires bytes { walk_size maker.old + 300 < 2 ^ 29 }
     requires plain { last_agrees maker.old false ≡ true }
@@ -72,396 +75,208 @@ fn take(alloc: Global, maker: &mut Maker, step: EventCall) -> Result<(), Memory>
     ensures bytes { OnOk result (walk_size maker.new ≤ walk_size maker.old + 300) }
     ensures plain { OnOk result (last_agrees maker.new false ≡ true) }
 {
-    match step {
-        EventCall::Start(name) => start(maker, name, false, Attrs::new(alloc)),
-        EventCall::Svg(name) => start(maker, name, true, Attrs::new(alloc)),
-        EventCall::With(name, attr, value) => {
-            if attr.len() > 100 || value.len() > 100 {
-                return Err(Memory);
-            }
-            start(maker, name, false, attributes(alloc, attr, value)?)
-        }
-        EventCall::Text(s) => text(maker, s),
-        EventCall::End => end(maker),
+    let (kind, rest) = cut(call, " ");
+    match kind {
+        "start" => start(alloc, maker, rest, false),
+        "svg" => start(alloc, maker, rest, true),
+        "text" => text(maker, rest),
+        "end" => end(maker),
+        _ => Err(Memory),
     }
 }
 
-/// The tree of fewer than a hundred calls.
-fn made(alloc: Global, steps: &[EventCall]) -> Result<Tree, Memory> {
-    if steps.len() >= 100 {
-        return Err(Memory);
-    }
+/// The tree of at most 50 calls, with a bar after each.
+fn made(alloc: Global, calls: &str) -> Result<Tree, Memory> {
     let mut maker = Tree::maker(alloc);
-    for step in steps {
-        take(alloc, &mut maker, *step)?;
+    let mut left = calls;
+    for count in 0..50u32 {
+        if !left.is_empty() {
+            let (call, rest) = cut(left, "|");
+            take(alloc, &mut maker, call)?;
+            left = rest;
+        }
     }
-    if maker.depth() > 0 {
+    if maker.depth() > 0 || !left.is_empty() {
         return Err(Memory);
     }
     Ok(maker.finish())
 }
 
-/// What a part is wanted to be. How many bytes its name has comes first, and the name last.
-#[derive(Clone, Copy)]
-enum Wanted {
-    Fixed(u32, &'static str),
-    /// Whether it may be left out, whether not after a loose end, and whether it may close itself.
-    StartTag(u32, bool, bool, bool, &'static str),
-    /// Whether it may be left out, and whether that leaves the end loose.
-    EndTag(u32, bool, bool, &'static str),
-    TagName(u32, &'static str),
-    BareAttribute(u32, &'static str),
-    AttributeEnd,
-    /// Whether the tag may close itself.
-    TagClose(bool),
-    /// A name and a value that isn't empty.
-    Opening(&'static str, &'static str),
-    Chars(TextKind, &'static str),
-}
-
-/// The unit that is wanted, and its own bytes. None where it is an attribute's name or characters.
-fn unit_of(wanted: Wanted) -> Option<(Unit, &'static str)> {
-    match wanted {
-        Wanted::Fixed(len, bytes) => Some((Unit::Fixed { len }, bytes)),
-        Wanted::StartTag(len, omits, firm, closes, name) => {
-            let unit = Unit::StartTag {
-                len,
-                omits,
-                firm,
-                closes,
-            };
-            Some((unit, name))
-        }
-        Wanted::EndTag(len, omits, loosens, name) => {
-            let unit = Unit::EndTag {
-                len,
-                omits,
-                loosens,
-            };
-            Some((unit, name))
-        }
-        Wanted::TagName(len, name) => Some((Unit::TagName { len }, name)),
-        Wanted::BareAttribute(len, name) => Some((Unit::BareAttribute { len }, name)),
-        Wanted::AttributeEnd => Some((Unit::AttributeEnd, "")),
-        Wanted::TagClose(closes) => Some((Unit::TagClose { closes }, "")),
-        Wanted::Opening(_, _) | Wanted::Chars(_, _) => None,
+/// What is wanted after these parts, each in a line.
+fn behind_parts<'w>(wanted: &'w str, parts: &[Part<'_>]) -> &'w str {
+    let mut rest = wanted;
+    for part in parts {
+        rest = behind(behind_value(rest, part), "\n");
     }
-}
-
-/// Whether a part is as wanted.
-fn is_shown(part: &Part<'_>, wanted: Wanted) -> bool {
-    match part {
-        Part::One { unit, own } => unit_of(wanted) == Some((*unit, *own)),
-        Part::Opening { name, value } => {
-            matches!(wanted, Wanted::Opening(one, other) if *name == one && *value == other)
-        }
-        Part::Comment { text: _ } => false,
-        Part::Chars { kind, text } => {
-            matches!(wanted, Wanted::Chars(one, other) if *kind == one && *text == other)
-        }
-    }
-}
-
-/// Whether the parts are the first of those that are wanted.
-fn are_first(parts: &[Part<'_>], wanted: &[Wanted]) -> bool {
-    if parts.len() > wanted.len() {
-        return false;
-    }
-    for i in 0..parts.len() {
-        if !is_shown(&parts[i], wanted[i]) {
-            return false;
-        }
-    }
-    true
+    rest
 }
 
 /// Whether the events of a tree have these parts, in their order.
-fn has_parts(alloc: Global, tree: &Tree, wanted: &[Wanted]) -> bool {
+fn has_parts(alloc: Global, tree: &Tree, wanted: &str) -> bool {
     let mut parts = Vec::new(alloc);
-    let mut left = wanted;
+    let mut rest = wanted;
     for i in 0..tree.len() {
         match find_parts(tree, RULES, i, &mut parts) {
-            Ok(()) => {}
-            Err(Memory) => return false,
+            Ok(()) => rest = behind_parts(rest, &parts),
+            Err(Memory) => rest = "?",
         }
-        if !are_first(&parts, left) {
-            return false;
-        }
-        left = left.get(parts.len()..).unwrap_or(&[]);
     }
-    left.is_empty()
+    rest.is_empty()
 }
 
 /// The same of the tree of these calls.
-fn has_made_parts(alloc: Global, steps: &[EventCall], wanted: &[Wanted]) -> bool {
-    match made(alloc, steps) {
+fn has_made_parts(alloc: Global, calls: &str, wanted: &str) -> bool {
+    match made(alloc, calls) {
         Ok(tree) => has_parts(alloc, &tree, wanted),
         Err(Memory) => false,
     }
 }
 
-/// Asserts the parts of the events of the tree of these calls.
-fn expect_parts(rt: &impl Abort, alloc: Global, steps: &[EventCall], wanted: &[Wanted]) {
-    assert!(rt; has_made_parts(alloc, steps, wanted));
-}
-
 /// `<div id=x><pre>`, two line feeds, `a<br></pre><p hidden></div>`.
-const TEXTS_AND_ATTRIBUTES: [EventCall; 9] = [
-    EventCall::With("div", "id", "x"),
-    EventCall::Start("pre"),
-    EventCall::Text("\na"),
-    EventCall::Start("br"),
-    EventCall::End,
-    EventCall::End,
-    EventCall::With("p", "hidden", ""),
-    EventCall::End,
-    EventCall::End,
-];
+const TEXTS_AND_ATTRIBUTES: &str =
+    "start div id=x|start pre|text \na|start br|end|end|start p hidden=|end|end|";
 
 /// The parts of its events.
-const TEXTS_AND_ATTRIBUTES_PARTS: [Wanted; 15] = [
-    Wanted::TagName(3, "div"),
-    Wanted::Opening("id", "x"),
-    Wanted::Chars(TextKind::Value, "x"),
-    Wanted::AttributeEnd,
-    Wanted::TagClose(false),
-    Wanted::StartTag(3, false, false, false, "pre"),
-    Wanted::Fixed(1, "\n"),
-    Wanted::Chars(TextKind::Text, "\na"),
-    Wanted::StartTag(2, false, false, false, "br"),
-    Wanted::EndTag(3, false, false, "pre"),
-    Wanted::TagName(1, "p"),
-    Wanted::BareAttribute(6, "hidden"),
-    Wanted::TagClose(false),
-    Wanted::EndTag(1, true, false, "p"),
-    Wanted::EndTag(3, false, false, "div"),
-];
-
-#[test]
-fn texts_and_attributes(rt: HostRuntime) {
-    expect_parts(
-        &rt,
-        rt.alloc(),
-        &TEXTS_AND_ATTRIBUTES,
-        &TEXTS_AND_ATTRIBUTES_PARTS,
-    );
-}
+const TEXTS_AND_ATTRIBUTES_PARTS: &str = "\
+    One { unit: TagName { len: 3 }, own: \"div\" }\n\
+    Opening { name: \"id\", value: \"x\" }\n\
+    Chars { kind: Value, text: \"x\" }\n\
+    One { unit: AttributeEnd, own: \"\" }\n\
+    One { unit: TagClose { closes: false }, own: \"\" }\n\
+    One { unit: StartTag { len: 3, omits: false, firm: false, closes: false }, own: \"pre\" }\n\
+    One { unit: Fixed { len: 1 }, own: \"\\n\" }\n\
+    Chars { kind: Text, text: \"\\na\" }\n\
+    One { unit: StartTag { len: 2, omits: false, firm: false, closes: false }, own: \"br\" }\n\
+    One { unit: EndTag { len: 3, omits: false, loosens: false }, own: \"pre\" }\n\
+    One { unit: TagName { len: 1 }, own: \"p\" }\n\
+    One { unit: BareAttribute { len: 6 }, own: \"hidden\" }\n\
+    One { unit: TagClose { closes: false }, own: \"\" }\n\
+    One { unit: EndTag { len: 1, omits: true, loosens: false }, own: \"p\" }\n\
+    One { unit: EndTag { len: 3, omits: false, loosens: false }, own: \"div\" }\n";
 
 /// Two sections of a table, the first one empty: both end tags may be left out, and then the second start tag may not.
-const SECTIONS: [EventCall; 8] = [
-    EventCall::Start("table"),
-    EventCall::Start("thead"),
-    EventCall::End,
-    EventCall::Start("tbody"),
-    EventCall::Start("tr"),
-    EventCall::End,
-    EventCall::End,
-    EventCall::End,
-];
+const SECTIONS: &str = "start table|start thead|end|start tbody|start tr|end|end|end|";
 
 /// The parts of its events.
-const SECTIONS_PARTS: [Wanted; 8] = [
-    Wanted::StartTag(5, false, false, false, "table"),
-    Wanted::StartTag(5, false, false, false, "thead"),
-    Wanted::EndTag(5, true, true, "thead"),
-    Wanted::StartTag(5, true, true, false, "tbody"),
-    Wanted::StartTag(2, false, false, false, "tr"),
-    Wanted::EndTag(2, true, false, "tr"),
-    Wanted::EndTag(5, true, true, "tbody"),
-    Wanted::EndTag(5, false, false, "table"),
-];
-
-#[test]
-fn sections(rt: HostRuntime) {
-    expect_parts(&rt, rt.alloc(), &SECTIONS, &SECTIONS_PARTS);
-}
+const SECTIONS_PARTS: &str = "\
+    One { unit: StartTag { len: 5, omits: false, firm: false, closes: false }, own: \"table\" }\n\
+    One { unit: StartTag { len: 5, omits: false, firm: false, closes: false }, own: \"thead\" }\n\
+    One { unit: EndTag { len: 5, omits: true, loosens: true }, own: \"thead\" }\n\
+    One { unit: StartTag { len: 5, omits: true, firm: true, closes: false }, own: \"tbody\" }\n\
+    One { unit: StartTag { len: 2, omits: false, firm: false, closes: false }, own: \"tr\" }\n\
+    One { unit: EndTag { len: 2, omits: true, loosens: false }, own: \"tr\" }\n\
+    One { unit: EndTag { len: 5, omits: true, loosens: true }, own: \"tbody\" }\n\
+    One { unit: EndTag { len: 5, omits: false, loosens: false }, own: \"table\" }\n";
 
 /// `<table><thead><tr><td>a</td></tr></thead><tbody><tr><td>b</td></tr></tbody></table>`: the start tag of the second section
 /// may be left out, but not where the end tag of the first one is.
-const SECOND_SECTION: [EventCall; 16] = [
-    EventCall::Start("table"),
-    EventCall::Start("thead"),
-    EventCall::Start("tr"),
-    EventCall::Start("td"),
-    EventCall::Text("a"),
-    EventCall::End,
-    EventCall::End,
-    EventCall::End,
-    EventCall::Start("tbody"),
-    EventCall::Start("tr"),
-    EventCall::Start("td"),
-    EventCall::Text("b"),
-    EventCall::End,
-    EventCall::End,
-    EventCall::End,
-    EventCall::End,
-];
+const SECOND_SECTION: &str =
+    "start table|start thead|start tr|start td|text a|end|end|end|start tbody|start tr|start td|text b|end|end|end|end|";
 
 /// The parts of its events.
-const SECOND_SECTION_PARTS: [Wanted; 16] = [
-    Wanted::StartTag(5, false, false, false, "table"),
-    Wanted::StartTag(5, false, false, false, "thead"),
-    Wanted::StartTag(2, false, false, false, "tr"),
-    Wanted::StartTag(2, false, false, false, "td"),
-    Wanted::Chars(TextKind::Text, "a"),
-    Wanted::EndTag(2, true, false, "td"),
-    Wanted::EndTag(2, true, false, "tr"),
-    Wanted::EndTag(5, true, true, "thead"),
-    Wanted::StartTag(5, true, true, false, "tbody"),
-    Wanted::StartTag(2, false, false, false, "tr"),
-    Wanted::StartTag(2, false, false, false, "td"),
-    Wanted::Chars(TextKind::Text, "b"),
-    Wanted::EndTag(2, true, false, "td"),
-    Wanted::EndTag(2, true, false, "tr"),
-    Wanted::EndTag(5, true, true, "tbody"),
-    Wanted::EndTag(5, false, false, "table"),
-];
-
-#[test]
-fn second_section(rt: HostRuntime) {
-    expect_parts(&rt, rt.alloc(), &SECOND_SECTION, &SECOND_SECTION_PARTS);
-}
+const SECOND_SECTION_PARTS: &str = "\
+    One { unit: StartTag { len: 5, omits: false, firm: false, closes: false }, own: \"table\" }\n\
+    One { unit: StartTag { len: 5, omits: false, firm: false, closes: false }, own: \"thead\" }\n\
+    One { unit: StartTag { len: 2, omits: false, firm: false, closes: false }, own: \"tr\" }\n\
+    One { unit: StartTag { len: 2, omits: false, firm: false, closes: false }, own: \"td\" }\n\
+    Chars { kind: Text, text: \"a\" }\n\
+    One { unit: EndTag { len: 2, omits: true, loosens: false }, own: \"td\" }\n\
+    One { unit: EndTag { len: 2, omits: true, loosens: false }, own: \"tr\" }\n\
+    One { unit: EndTag { len: 5, omits: true, loosens: true }, own: \"thead\" }\n\
+    One { unit: StartTag { len: 5, omits: true, firm: true, closes: false }, own: \"tbody\" }\n\
+    One { unit: StartTag { len: 2, omits: false, firm: false, closes: false }, own: \"tr\" }\n\
+    One { unit: StartTag { len: 2, omits: false, firm: false, closes: false }, own: \"td\" }\n\
+    Chars { kind: Text, text: \"b\" }\n\
+    One { unit: EndTag { len: 2, omits: true, loosens: false }, own: \"td\" }\n\
+    One { unit: EndTag { len: 2, omits: true, loosens: false }, own: \"tr\" }\n\
+    One { unit: EndTag { len: 5, omits: true, loosens: true }, own: \"tbody\" }\n\
+    One { unit: EndTag { len: 5, omits: false, loosens: false }, own: \"table\" }\n";
 
 /// `<table><caption>x</caption><script></script><tr><td>y</td></tr></table>`: a script after a caption keeps its end tag.
-const CAPTION_BEFORE_A_SCRIPT: [EventCall; 14] = [
-    EventCall::Start("table"),
-    EventCall::Start("caption"),
-    EventCall::Text("x"),
-    EventCall::End,
-    EventCall::Start("script"),
-    EventCall::End,
-    EventCall::Start("tbody"),
-    EventCall::Start("tr"),
-    EventCall::Start("td"),
-    EventCall::Text("y"),
-    EventCall::End,
-    EventCall::End,
-    EventCall::End,
-    EventCall::End,
-];
+const CAPTION_BEFORE_A_SCRIPT: &str =
+    "start table|start caption|text x|end|start script|end|start tbody|start tr|start td|text y|end|end|end|end|";
 
 /// The parts of its events.
-const CAPTION_BEFORE_A_SCRIPT_PARTS: [Wanted; 14] = [
-    Wanted::StartTag(5, false, false, false, "table"),
-    Wanted::StartTag(7, false, false, false, "caption"),
-    Wanted::Chars(TextKind::Text, "x"),
-    Wanted::EndTag(7, false, false, "caption"),
-    Wanted::StartTag(6, false, false, false, "script"),
-    Wanted::EndTag(6, false, false, "script"),
-    Wanted::StartTag(5, true, false, false, "tbody"),
-    Wanted::StartTag(2, false, false, false, "tr"),
-    Wanted::StartTag(2, false, false, false, "td"),
-    Wanted::Chars(TextKind::Text, "y"),
-    Wanted::EndTag(2, true, false, "td"),
-    Wanted::EndTag(2, true, false, "tr"),
-    Wanted::EndTag(5, true, true, "tbody"),
-    Wanted::EndTag(5, false, false, "table"),
-];
-
-#[test]
-fn caption_before_a_script(rt: HostRuntime) {
-    expect_parts(
-        &rt,
-        rt.alloc(),
-        &CAPTION_BEFORE_A_SCRIPT,
-        &CAPTION_BEFORE_A_SCRIPT_PARTS,
-    );
-}
+const CAPTION_BEFORE_A_SCRIPT_PARTS: &str = "\
+    One { unit: StartTag { len: 5, omits: false, firm: false, closes: false }, own: \"table\" }\n\
+    One { unit: StartTag { len: 7, omits: false, firm: false, closes: false }, own: \"caption\" }\n\
+    Chars { kind: Text, text: \"x\" }\n\
+    One { unit: EndTag { len: 7, omits: false, loosens: false }, own: \"caption\" }\n\
+    One { unit: StartTag { len: 6, omits: false, firm: false, closes: false }, own: \"script\" }\n\
+    One { unit: EndTag { len: 6, omits: false, loosens: false }, own: \"script\" }\n\
+    One { unit: StartTag { len: 5, omits: true, firm: false, closes: false }, own: \"tbody\" }\n\
+    One { unit: StartTag { len: 2, omits: false, firm: false, closes: false }, own: \"tr\" }\n\
+    One { unit: StartTag { len: 2, omits: false, firm: false, closes: false }, own: \"td\" }\n\
+    Chars { kind: Text, text: \"y\" }\n\
+    One { unit: EndTag { len: 2, omits: true, loosens: false }, own: \"td\" }\n\
+    One { unit: EndTag { len: 2, omits: true, loosens: false }, own: \"tr\" }\n\
+    One { unit: EndTag { len: 5, omits: true, loosens: true }, own: \"tbody\" }\n\
+    One { unit: EndTag { len: 5, omits: false, loosens: false }, own: \"table\" }\n";
 
 /// `<span><p>x</p></span>`: a paragraph keeps its end tag in an element that may hold no other one after it.
-const PARAGRAPH_IN_A_SPAN: [EventCall; 5] = [
-    EventCall::Start("span"),
-    EventCall::Start("p"),
-    EventCall::Text("x"),
-    EventCall::End,
-    EventCall::End,
-];
+const PARAGRAPH_IN_A_SPAN: &str = "start span|start p|text x|end|end|";
 
 /// The parts of its events.
-const PARAGRAPH_IN_A_SPAN_PARTS: [Wanted; 5] = [
-    Wanted::StartTag(4, false, false, false, "span"),
-    Wanted::StartTag(1, false, false, false, "p"),
-    Wanted::Chars(TextKind::Text, "x"),
-    Wanted::EndTag(1, false, false, "p"),
-    Wanted::EndTag(4, false, false, "span"),
-];
-
-#[test]
-fn paragraph_in_a_span(rt: HostRuntime) {
-    expect_parts(
-        &rt,
-        rt.alloc(),
-        &PARAGRAPH_IN_A_SPAN,
-        &PARAGRAPH_IN_A_SPAN_PARTS,
-    );
-}
+const PARAGRAPH_IN_A_SPAN_PARTS: &str = "\
+    One { unit: StartTag { len: 4, omits: false, firm: false, closes: false }, own: \"span\" }\n\
+    One { unit: StartTag { len: 1, omits: false, firm: false, closes: false }, own: \"p\" }\n\
+    Chars { kind: Text, text: \"x\" }\n\
+    One { unit: EndTag { len: 1, omits: false, loosens: false }, own: \"p\" }\n\
+    One { unit: EndTag { len: 4, omits: false, loosens: false }, own: \"span\" }\n";
 
 /// `<html><head></head><body><div><p>x</p></div><p>y</p></body></html>`: both paragraphs may leave out their end tags.
-const PARAGRAPHS: [EventCall; 14] = [
-    EventCall::Start("html"),
-    EventCall::Start("head"),
-    EventCall::End,
-    EventCall::Start("body"),
-    EventCall::Start("div"),
-    EventCall::Start("p"),
-    EventCall::Text("x"),
-    EventCall::End,
-    EventCall::End,
-    EventCall::Start("p"),
-    EventCall::Text("y"),
-    EventCall::End,
-    EventCall::End,
-    EventCall::End,
-];
+const PARAGRAPHS: &str =
+    "start html|start head|end|start body|start div|start p|text x|end|end|start p|text y|end|end|end|";
 
 /// The parts of its events.
-const PARAGRAPHS_PARTS: [Wanted; 14] = [
-    Wanted::StartTag(4, true, false, false, "html"),
-    Wanted::StartTag(4, true, false, false, "head"),
-    Wanted::EndTag(4, true, false, "head"),
-    Wanted::StartTag(4, true, false, false, "body"),
-    Wanted::StartTag(3, false, false, false, "div"),
-    Wanted::StartTag(1, false, false, false, "p"),
-    Wanted::Chars(TextKind::Text, "x"),
-    Wanted::EndTag(1, true, false, "p"),
-    Wanted::EndTag(3, false, false, "div"),
-    Wanted::StartTag(1, false, false, false, "p"),
-    Wanted::Chars(TextKind::Text, "y"),
-    Wanted::EndTag(1, true, false, "p"),
-    Wanted::EndTag(4, true, false, "body"),
-    Wanted::EndTag(4, true, false, "html"),
-];
-
-#[test]
-fn paragraphs(rt: HostRuntime) {
-    expect_parts(&rt, rt.alloc(), &PARAGRAPHS, &PARAGRAPHS_PARTS);
-}
+const PARAGRAPHS_PARTS: &str = "\
+    One { unit: StartTag { len: 4, omits: true, firm: false, closes: false }, own: \"html\" }\n\
+    One { unit: StartTag { len: 4, omits: true, firm: false, closes: false }, own: \"head\" }\n\
+    One { unit: EndTag { len: 4, omits: true, loosens: false }, own: \"head\" }\n\
+    One { unit: StartTag { len: 4, omits: true, firm: false, closes: false }, own: \"body\" }\n\
+    One { unit: StartTag { len: 3, omits: false, firm: false, closes: false }, own: \"div\" }\n\
+    One { unit: StartTag { len: 1, omits: false, firm: false, closes: false }, own: \"p\" }\n\
+    Chars { kind: Text, text: \"x\" }\n\
+    One { unit: EndTag { len: 1, omits: true, loosens: false }, own: \"p\" }\n\
+    One { unit: EndTag { len: 3, omits: false, loosens: false }, own: \"div\" }\n\
+    One { unit: StartTag { len: 1, omits: false, firm: false, closes: false }, own: \"p\" }\n\
+    Chars { kind: Text, text: \"y\" }\n\
+    One { unit: EndTag { len: 1, omits: true, loosens: false }, own: \"p\" }\n\
+    One { unit: EndTag { len: 4, omits: true, loosens: false }, own: \"body\" }\n\
+    One { unit: EndTag { len: 4, omits: true, loosens: false }, own: \"html\" }\n";
 
 /// `<svg><path></path>a</svg><title>b</title>`: an element of SVG that ends at once may close itself.
-const SVG: [EventCall; 8] = [
-    EventCall::Svg("svg"),
-    EventCall::Svg("path"),
-    EventCall::End,
-    EventCall::Text("a"),
-    EventCall::End,
-    EventCall::Start("title"),
-    EventCall::Text("b"),
-    EventCall::End,
-];
+const SVG: &str = "svg svg|svg path|end|text a|end|start title|text b|end|";
 
 /// The parts of its events.
-const SVG_PARTS: [Wanted; 8] = [
-    Wanted::StartTag(3, false, false, false, "svg"),
-    Wanted::StartTag(4, false, false, true, "path"),
-    Wanted::EndTag(4, false, false, "path"),
-    Wanted::Chars(TextKind::Foreign, "a"),
-    Wanted::EndTag(3, false, false, "svg"),
-    Wanted::StartTag(5, false, false, false, "title"),
-    Wanted::Chars(TextKind::Rcdata, "b"),
-    Wanted::EndTag(5, false, false, "title"),
-];
+const SVG_PARTS: &str = "\
+    One { unit: StartTag { len: 3, omits: false, firm: false, closes: false }, own: \"svg\" }\n\
+    One { unit: StartTag { len: 4, omits: false, firm: false, closes: true }, own: \"path\" }\n\
+    One { unit: EndTag { len: 4, omits: false, loosens: false }, own: \"path\" }\n\
+    Chars { kind: Foreign, text: \"a\" }\n\
+    One { unit: EndTag { len: 3, omits: false, loosens: false }, own: \"svg\" }\n\
+    One { unit: StartTag { len: 5, omits: false, firm: false, closes: false }, own: \"title\" }\n\
+    Chars { kind: Rcdata, text: \"b\" }\n\
+    One { unit: EndTag { len: 5, omits: false, loosens: false }, own: \"title\" }\n";
+
+/// Asserts the parts of the events of the tree of these calls.
+fn expect_parts(rt: &impl Abort, alloc: Global, calls: &str, wanted: &str) {
+    expect(rt, has_made_parts(alloc, calls, wanted), calls);
+}
 
 #[test]
-fn svg(rt: HostRuntime) {
-    expect_parts(&rt, rt.alloc(), &SVG, &SVG_PARTS);
+fn parts_of_events(rt: HostRuntime) {
+    let alloc = rt.alloc();
+    expect_parts(&rt, alloc, TEXTS_AND_ATTRIBUTES, TEXTS_AND_ATTRIBUTES_PARTS);
+    expect_parts(&rt, alloc, SECTIONS, SECTIONS_PARTS);
+    expect_parts(&rt, alloc, SECOND_SECTION, SECOND_SECTION_PARTS);
+    expect_parts(
+        &rt,
+        alloc,
+        CAPTION_BEFORE_A_SCRIPT,
+        CAPTION_BEFORE_A_SCRIPT_PARTS,
+    );
+    expect_parts(&rt, alloc, PARAGRAPH_IN_A_SPAN, PARAGRAPH_IN_A_SPAN_PARTS);
+    expect_parts(&rt, alloc, PARAGRAPHS, PARAGRAPHS_PARTS);
+    expect_parts(&rt, alloc, SVG, SVG_PARTS);
 }

@@ -45,14 +45,14 @@ impl AsStr for Word {
 }
 
 /// The one or two code points that a name of a character reference stands for.
-#[derive(Clone, Copy, Debug, PartialEq, Eq)]
+#[derive(Clone, Copy, PartialEq, Eq)]
 pub struct Points {
     pub first: char,
     pub second: Option<char>,
 }
 
 /// Which rewrites of the tree are asked for.
-#[derive(Clone, Copy, Debug, PartialEq, Eq)]
+#[derive(Clone, Copy, PartialEq, Eq)]
 pub struct TreeOptions {
     pub doctype: bool,
     pub comments: bool,
@@ -64,7 +64,7 @@ pub struct TreeOptions {
 }
 
 /// Which spellings are allowed.
-#[derive(Clone, Copy, Debug, PartialEq, Eq)]
+#[derive(Clone, Copy, PartialEq, Eq)]
 pub struct SpellRules {
     pub omit: bool,
     pub unquote: bool,
@@ -74,7 +74,7 @@ pub struct SpellRules {
 }
 
 /// Which layers a certificate writes, and of which graph.
-#[derive(Clone, Copy, Debug, PartialEq, Eq)]
+#[derive(Clone, Copy, PartialEq, Eq)]
 pub enum Format {
     /// Every layer.
     One,

@@ -67,7 +67,7 @@ impl TextFault {
 /// The text of a page (HTML Standard, #the-input-byte-stream): without a leading U+FEFF, each of its line ends one LF.
 ///
 /// Contracts see its bytes, each with its place in the page, and the page's length.
-#[derive(Debug, Drop)]
+#[derive(Drop)]
 pub struct SourceText {
     text: String,
     // The byte of the page where the text starts.

@@ -41,7 +41,7 @@ pub struct Case {
 }
 
 /// How a run ended.
-#[derive(Clone, Copy, Debug, PartialEq, Eq)]
+#[derive(Clone, Copy, PartialEq, Eq)]
 pub enum CaseVerdict {
     Agrees,
     /// Its exit status is this one.

@@ -15,7 +15,7 @@ use hm_base::{CERTIFICATE_LIMIT, Format, Memory, SpellRules};
 use memchr::memchr;
 
 /// Why bytes aren't a certificate.
-#[derive(Debug, Drop, PartialEq, Eq)]
+#[derive(Drop, PartialEq, Eq)]
 pub enum CertificateFault {
     /// There are more bytes than the limit of certificates.
     TooLong,

@@ -22,7 +22,7 @@ use hm_tree::Tree;
 use std::alloc::Global;
 
 /// Why a text isn't followed to its end.
-#[derive(Debug, Drop)]
+#[derive(Drop)]
 enum Stop {
     /// It leaves the graph.
     Leaves,

@@ -40,7 +40,7 @@ pub enum Piece {
 }
 
 /// An edge: what it writes, and the state after it.
-#[derive(Clone, Copy, Debug, PartialEq, Eq)]
+#[derive(Clone, Copy, PartialEq, Eq)]
 pub struct Edge {
     pub piece: Piece,
     pub to: State,

@@ -57,7 +57,7 @@ pub enum Pending {
 
 /// Where a spelling stands, and what is pending there. Two states of a table that mean the same are equal.
 /// The default is the state before the first unit.
-#[derive(Clone, Copy, Debug, Default, PartialEq, Eq)]
+#[derive(Clone, Copy, Default, PartialEq, Eq)]
 pub struct State {
     pub at: Where,
     pub pending: Pending,
@@ -65,7 +65,7 @@ pub struct State {
 
 /// Where characters are spelled: in ordinary text, in title or textarea, in an element of SVG, in a value without quotes,
 /// in double or in single quotes.
-#[derive(Clone, Copy, Debug, PartialEq, Eq)]
+#[derive(Clone, Copy, PartialEq, Eq)]
 pub enum Spot {
     Text,
     Rcdata,

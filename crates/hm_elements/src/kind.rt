@@ -11,7 +11,7 @@ use crate::known_name::KnownName;
 use crate::look_up::same_name;
 
 /// What the tables say of a name of an HTML element.
-#[derive(Clone, Copy, Debug)]
+#[derive(Clone, Copy)]
 pub struct Kind {
     pub class: Class,
     /// One of `h1` to `h6`.
@@ -75,7 +75,7 @@ fn find_among(name: &str, among: &'static [Known]) -> Option<&'static Known>
 }
 
 /// A name of an HTML element, with what the tables say of it: looked up once, and kept.
-#[derive(Clone, Copy, Debug)]
+#[derive(Clone, Copy)]
 pub struct Named<'n> {
     name: &'n str,
     kind: &'n Kind,

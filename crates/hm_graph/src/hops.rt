@@ -3,7 +3,7 @@ use hm_edges::Piece;
 
 /// An edge of the graph: what it writes of its unit, how many bytes that is, and the place of the state that it leads
 /// to among the states of the next layer.
-#[derive(Clone, Copy, Debug)]
+#[derive(Clone, Copy)]
 pub struct Hop {
     pub piece: Piece,
     pub len: u64,

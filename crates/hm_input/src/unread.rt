@@ -6,7 +6,7 @@ use hm_refs::TableFault;
 use hm_store::LoadFault;
 
 /// Why the files of a run give no tree.
-#[derive(Debug, Drop)]
+#[derive(Drop)]
 pub enum Unread {
     /// The table is refused.
     Table { fault: TableFault },

@@ -18,7 +18,7 @@ use std::marker::Model;
 
 /// A tree that is being built, token by token (HTML Standard, #tree-construction). Contracts see the state of tree
 /// construction and the events so far.
-#[derive(Debug, Drop)]
+#[derive(Drop)]
 pub struct TreeBuilder {
     parts: Parts,
     /// A token was refused, or memory was: no token is taken any more.

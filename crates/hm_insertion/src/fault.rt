@@ -8,7 +8,7 @@ use hm_settle::SettleFault;
 use std::alloc::{AllocError, AllocFailed};
 
 /// Why a token isn't built into the tree.
-#[derive(Clone, Copy, Debug, PartialEq, Eq)]
+#[derive(Clone, Copy, PartialEq, Eq)]
 pub enum BuildFault {
     /// The page is refused by this rule, `behind` bytes of text after the place where the token begins.
     Rule { rule: Rule, behind: u32 },

@@ -1,7 +1,7 @@
 //! Insertion modes, and what is open in head.
 
 /// The elements of head that hold a text.
-#[derive(Clone, Copy, Debug, PartialEq, Eq)]
+#[derive(Clone, Copy, PartialEq, Eq)]
 pub(crate) enum HeadText {
     Title,
     Style,
@@ -10,7 +10,7 @@ pub(crate) enum HeadText {
 
 /// The insertion modes (HTML Standard, #the-insertion-mode), as far as they are distinguished. Before the body the mode
 /// says which elements are open.
-#[derive(Clone, Copy, Debug, PartialEq, Eq)]
+#[derive(Clone, Copy, PartialEq, Eq)]
 pub(crate) enum BuilderMode {
     Initial,
     BeforeHtml,

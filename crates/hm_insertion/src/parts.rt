@@ -10,7 +10,7 @@ use hm_settle::Path;
 use hm_tree::Maker;
 
 /// What a tree is built from. Between two tokens the open elements are those of the events so far.
-#[derive(Debug, Drop)]
+#[derive(Drop)]
 pub(crate) struct Parts {
     pub maker: Maker,
     pub insertion_mode: BuilderMode,

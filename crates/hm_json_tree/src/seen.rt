@@ -15,7 +15,7 @@ use hm_elements::{is_root, is_void, same_name};
 use hm_settle::OpenElements;
 
 /// What has stood at the top.
-#[derive(Clone, Copy, Debug)]
+#[derive(Clone, Copy)]
 pub(crate) enum Top {
     NoDoctype,
     NoHtml,
@@ -23,7 +23,7 @@ pub(crate) enum Top {
 }
 
 /// What has stood under `html`.
-#[derive(Clone, Copy, Debug)]
+#[derive(Clone, Copy)]
 pub(crate) enum Frame {
     NoHead,
     NoBody,
@@ -31,7 +31,7 @@ pub(crate) enum Frame {
 }
 
 /// What is kept of the events before one, beside the open elements.
-#[derive(Clone, Copy, Debug)]
+#[derive(Clone, Copy)]
 pub(crate) struct Seen {
     pub top: Top,
     pub frame: Frame,

@@ -25,7 +25,7 @@ use std::alloc::Global;
 use std::marker::Model;
 
 /// Where the text of a title or a textarea ends, in bytes of the text.
-#[derive(Clone, Copy, Debug)]
+#[derive(Clone, Copy)]
 struct TextEnd {
     name: RcdataName,
     place: u32,

@@ -4,7 +4,7 @@ ghost use Rattle.hm_lexer.specs.Modes.{mode_of, raw_name, rcdata_name};
 ghost use Rattle.hm_lexer.specs.Steps as steps;
 
 /// An element whose text has character references, and no markup (#rcdata-state).
-#[derive(Clone, Copy, Debug, PartialEq, Eq)]
+#[derive(Clone, Copy, PartialEq, Eq)]
 pub enum RcdataName {
     Title,
     Textarea,
@@ -23,7 +23,7 @@ impl RcdataName {
 }
 
 /// An element whose text has neither character references nor markup (#rawtext-state).
-#[derive(Clone, Copy, Debug, PartialEq, Eq)]
+#[derive(Clone, Copy, PartialEq, Eq)]
 pub enum RawName {
     Style,
     Iframe,
@@ -42,7 +42,7 @@ impl RawName {
 }
 
 /// What kind of text is read next (#data-state to #script-data-state).
-#[derive(Clone, Copy, Debug, PartialEq, Eq)]
+#[derive(Clone, Copy, PartialEq, Eq)]
 pub enum Mode {
     /// Ordinary text: tags, comments, doctypes, and the text between them.
     Html,

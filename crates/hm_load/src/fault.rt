@@ -3,7 +3,7 @@ use hm_base::{Memory, Refused, Rule};
 use hm_store::LoadFault;
 
 /// Why a page in a store gives no tree.
-#[derive(Clone, Copy, Debug, PartialEq, Eq)]
+#[derive(Clone, Copy, PartialEq, Eq)]
 pub enum PageFault {
     /// The page is refused, at a byte of it.
     Page { rule: Rule, at: u32 },

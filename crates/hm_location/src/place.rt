@@ -4,7 +4,7 @@ ghost use Rattle.std.specs.Fmt.{char_count, is_char_start};
 ghost use Rattle.hm_location.specs.Lines.{column_of, columns, ends_line, line_front, line_of, without_mark};
 
 /// A line and a column, both counted from 1.
-#[derive(Clone, Copy, Debug, PartialEq, Eq)]
+#[derive(Clone, Copy, PartialEq, Eq)]
 pub struct Location {
     pub line: usize,
     /// How many characters of the line begin before the byte, plus 1; a byte order mark isn't counted.

@@ -130,7 +130,7 @@ pub fn tells_json<'w>(alloc: Global, status: Status, shown: JsonShown) -> Ended<
 }
 
 /// Why a run can't come to its ending.
-#[derive(Clone, Copy, Debug, PartialEq, Eq)]
+#[derive(Clone, Copy, PartialEq, Eq)]
 pub enum Stop {
     /// A call on the store has failed, or a file isn't there.
     Store,

@@ -35,7 +35,7 @@ fn changes(options: &TreeOptions, element: &str, name: &str, value: &str) -> boo
 }
 
 // What becomes of an attribute.
-#[derive(Clone, Copy, Debug)]
+#[derive(Clone, Copy)]
 enum Fate {
     Stays,
     // It loses its value.

@@ -9,7 +9,7 @@ use hm_base::{Memory, is_space};
 
 // A prefix of a text that stays as it is where each longest run of whitespace becomes one space. It goes up to byte
 // `to`, where the text ends or whitespace begins that changes; `after` says whether a space stands directly before.
-#[derive(Clone, Copy, Debug)]
+#[derive(Clone, Copy)]
 pub(crate) struct SpacedFront {
     pub(crate) to: usize,
     pub(crate) after: bool,

@@ -182,7 +182,7 @@ fn put_seen(editor: &mut Editor, text: &str, conservative: bool) -> Result<(), M
 }
 
 // The bytes of a text that are seen, from one place up to another.
-#[derive(Clone, Copy, Debug)]
+#[derive(Clone, Copy)]
 struct Seen {
     from: usize,
     to: usize,

@@ -14,7 +14,7 @@ use hm_refs::laws::every_table;
 use std::alloc::Global;
 
 /// The fewest bytes of an attribute, its name and quotes included.
-#[derive(Clone, Copy, Debug, PartialEq, Eq)]
+#[derive(Clone, Copy, PartialEq, Eq)]
 pub struct AttrCost {
     /// With another attribute after it. The byte between them, where one is needed, is counted.
     pub inner: u64,

@@ -116,7 +116,7 @@ fn literal_behind(table: &Table, pending: Pending, c: char) -> Option<Pending>
 }
 
 // What is known of a value whose characters are gone through.
-#[derive(Clone, Copy, Debug)]
+#[derive(Clone, Copy)]
 struct Seen {
     // One of them can't stand without quotes.
     barred: bool,

@@ -21,7 +21,7 @@ use hm_elements::is_void;
 use hm_tree::{AttrsView, EventView, Tree};
 
 /// What an event has.
-#[derive(Clone, Copy, Debug)]
+#[derive(Clone, Copy)]
 pub enum Found<'t> {
     /// No part: the end of a void element.
     Nothing,

@@ -40,7 +40,7 @@ const MOST: u64 = 1 << 62;
 const BASE: u64 = 1 << 62;
 
 /// Why the text isn't written so.
-#[derive(Debug, Drop)]
+#[derive(Drop)]
 pub(crate) enum Stop {
     /// There is no way over some steps, or they are too many to keep, or have too many bytes.
     Closed,

@@ -11,7 +11,7 @@ use hm_elements::{Kind, KnownName, Named, is_boundary, kind_of, same_name};
 use std::alloc::Global;
 
 /// The name of an open element. Only one that a tag gave and that isn't known takes memory.
-#[derive(Debug, Drop)]
+#[derive(Drop)]
 pub(crate) enum ElementName {
     Html,
     Body,
@@ -50,7 +50,7 @@ impl ElementName {
 }
 
 /// What is open at an element, itself included, that some start tags must not meet; its kind; and whether it holds one text.
-#[derive(Clone, Copy, Debug)]
+#[derive(Clone, Copy)]
 pub(crate) struct Marks {
     /// A `p` with no boundary above it.
     pub paragraph: bool,
@@ -176,7 +176,7 @@ fn holds_text(name: Named<'_>, foreign: bool) -> bool
 }
 
 /// An open element.
-#[derive(Debug, Drop)]
+#[derive(Drop)]
 pub(crate) struct OpenElement {
     pub name: ElementName,
     pub foreign: bool,

@@ -68,14 +68,14 @@ impl Made {
 }
 
 /// What a tag does to the open elements: how many close, and which are made then.
-#[derive(Clone, Copy, Debug, PartialEq, Eq)]
+#[derive(Clone, Copy, PartialEq, Eq)]
 pub struct Moves {
     pub closes: u32,
     pub made: Made,
 }
 
 /// Why a tag does nothing.
-#[derive(Clone, Copy, Debug, PartialEq, Eq)]
+#[derive(Clone, Copy, PartialEq, Eq)]
 pub enum SettleFault {
     /// The page is refused by this rule.
     Rule { rule: Rule },

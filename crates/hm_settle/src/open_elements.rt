@@ -16,7 +16,7 @@ use std::alloc::Global;
 use std::marker::Model;
 
 /// The open elements of any tree, from its first element on. Contracts see the list of them, innermost first.
-#[derive(Debug, Drop)]
+#[derive(Drop)]
 pub struct OpenElements {
     elements: Vec<OpenElement>,
 }

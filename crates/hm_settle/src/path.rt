@@ -21,7 +21,7 @@ use std::alloc::Global;
 use std::marker::Model;
 
 /// The open elements of a page in its body. Contracts see the list of them, innermost first.
-#[derive(Debug, Drop)]
+#[derive(Drop)]
 pub struct Path {
     elements: Vec<OpenElement>,
 }

@@ -22,7 +22,7 @@ use hm_elements::{
 pub(crate) const DEEPEST: usize = DEPTH_LIMIT as usize;
 
 /// What a start tag does.
-#[derive(Clone, Copy, Debug)]
+#[derive(Clone, Copy)]
 pub(crate) struct MovePlan {
     /// How many open elements stay.
     pub left: usize,

@@ -7,7 +7,7 @@ ghost use Rattle.hm_store.specs.Causes.{HasCause};
 ghost use Rattle.hm_store.specs.Files.{FileMap, IsMissing, Opens, Pulls, PutsFront, AppendsFront, with_file, with_more};
 
 /// A call on a store or a sink has failed.
-#[derive(Clone, Copy, Debug, PartialEq, Eq)]
+#[derive(Clone, Copy, PartialEq, Eq)]
 pub struct Failed;
 
 /// A store of files by name, of which at most one is being read and at most one is being written.

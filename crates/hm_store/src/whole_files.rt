@@ -9,7 +9,7 @@ use crate::{Failed, Store};
 use std::alloc::{AllocError, Global};
 
 /// Why a file isn't loaded.
-#[derive(Clone, Copy, Debug, PartialEq, Eq)]
+#[derive(Clone, Copy, PartialEq, Eq)]
 pub enum LoadFault {
     /// A call on the store has failed, or the store has no such file.
     Store,

@@ -17,7 +17,7 @@ use std::marker::Model;
 ///
 /// They stand in one text, names and values one after the other. For more than 16 of them a table has the names, so
 /// that a repeated one is found at once.
-#[derive(Debug, Drop)]
+#[derive(Drop)]
 pub struct Attrs {
     text: String,
     pairs: Vec<Pair>,

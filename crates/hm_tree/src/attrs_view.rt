@@ -6,7 +6,7 @@ use crate::pieces::{AttributePieces, cut};
 /// The attributes of an element of a tree: names and values in order, each name once.
 ///
 /// Contracts see the list of them as `attributes_shown`.
-#[derive(Clone, Copy, Debug)]
+#[derive(Clone, Copy)]
 pub struct AttrsView<'t> {
     text: &'t str,
     pieces: &'t [AttributePieces],

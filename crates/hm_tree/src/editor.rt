@@ -23,7 +23,7 @@ use std::marker::Model;
 ///
 /// Rows move to the front. A text that changes becomes a part of itself, or stands after all bytes that are there: only
 /// that takes memory.
-#[derive(Debug, Drop)]
+#[derive(Drop)]
 pub struct Editor {
     text: String,
     attributes: Vec<AttributePieces>,

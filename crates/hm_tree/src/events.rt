@@ -6,7 +6,7 @@ ghost use Rattle.hm_tree.specs.Views.{event_of, attributes_shown};
 use crate::AttrsView;
 
 /// One event of a tree. A void element is a start directly before its end.
-#[derive(Clone, Copy, Debug)]
+#[derive(Clone, Copy)]
 pub enum EventView<'t> {
     Doctype {
         legacy: bool,

@@ -13,7 +13,7 @@ use std::alloc::Global;
 use std::marker::Model;
 
 /// A tree that is being made. Contracts see the list of its events so far.
-#[derive(Debug, Drop)]
+#[derive(Drop)]
 pub struct Maker {
     rows: Rows,
     parent: Option<u32>,

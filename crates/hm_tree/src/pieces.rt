@@ -5,7 +5,7 @@ ghost use Rattle.hm_tree.specs.Pieces.{IsPiece, bytes_of, name_of, value_of};
 ghost use Rattle.hm_tree.specs.Starts.{name_from};
 
 // The bytes of a text from one place up to another.
-#[derive(Clone, Copy, Debug)]
+#[derive(Clone, Copy)]
 pub(crate) struct TextRange {
     pub(crate) from: u32,
     pub(crate) to: u32,
@@ -13,7 +13,7 @@ pub(crate) struct TextRange {
 
 // Where an attribute stands in the table's text: its name from one place up to the second, and its value from there up to
 // the third.
-#[derive(Clone, Copy, Debug)]
+#[derive(Clone, Copy)]
 pub(crate) struct AttributePieces {
     pub(crate) from: u32,
     pub(crate) middle: u32,
@@ -41,7 +41,7 @@ impl AttributePieces {
 }
 
 // Where an attribute of a tag stands in the text of its attributes, in the same way.
-#[derive(Clone, Copy, Debug)]
+#[derive(Clone, Copy)]
 pub(crate) struct Pair {
     pub(crate) from: usize,
     pub(crate) middle: usize,

@@ -19,7 +19,7 @@ use std::marker::Model;
 
 // An event, with pieces of the table's text, and for a start the index of its first attribute and how many there are. What
 // takes less than four bytes stands first, beside the variant's mark, where it makes no row longer.
-#[derive(Clone, Copy, Debug)]
+#[derive(Clone, Copy)]
 pub(crate) enum RowPart {
     Doctype {
         legacy: bool,
@@ -52,7 +52,7 @@ pub(crate) enum RowPart {
 }
 
 // An event, and the last start that is open directly before it.
-#[derive(Clone, Copy, Debug)]
+#[derive(Clone, Copy)]
 pub(crate) struct EventRow {
     pub(crate) part: RowPart,
     pub(crate) parent: Parent,
@@ -64,7 +64,7 @@ const _: () = prove!(size_of::<EventRow>() == 16);
 const _: () = prove!(size_of::<AttributePieces>() == 12);
 
 // A list of events.
-#[derive(Debug, Drop)]
+#[derive(Drop)]
 pub(crate) struct Rows {
     text: String,
     attributes: Vec<AttributePieces>,

@@ -14,7 +14,7 @@ use crate::starts::own_of;
 use std::marker::Model;
 
 // A list of events. Bytes and attributes may be there that no row points at.
-#[derive(Debug, Drop)]
+#[derive(Drop)]
 pub(crate) struct Table {
     pub(crate) text: String,
     pub(crate) attributes: Vec<AttributePieces>,

@@ -9,7 +9,7 @@ use std::alloc::{AllocError, AllocFailed, Global};
 use thiserror::Error;
 
 /// A token of the tokenization stage (HTML Standard, #tokenization).
-#[derive(Debug, Drop)]
+#[derive(Drop)]
 pub enum Token {
     Doctype {
         legacy: bool,
@@ -39,7 +39,7 @@ pub enum Token {
 }
 
 /// A token, with the bytes of the source text that it was read from.
-#[derive(Debug, Drop)]
+#[derive(Drop)]
 pub struct Spanned {
     pub token: Token,
     pub from: u32,
@@ -47,7 +47,7 @@ pub struct Spanned {
 }
 
 /// The name and the attributes of a tag: a place that is used again for tag after tag.
-#[derive(Debug, Drop)]
+#[derive(Drop)]
 pub struct Tag {
     pub name: String,
     pub attrs: Attrs,
@@ -91,7 +91,7 @@ impl Tag {
 }
 
 /// A token whose name and attributes, where it is a tag, stand in a [`Tag`].
-#[derive(Clone, Copy, Debug)]
+#[derive(Clone, Copy)]
 pub enum Lexeme {
     Doctype { legacy: bool },
     StartTag { slash: bool },
@@ -144,7 +144,7 @@ impl Lexeme {
 }
 
 /// A token whose tag stands in a [`Tag`], with the bytes of the source text that it was read from.
-#[derive(Clone, Copy, Debug)]
+#[derive(Clone, Copy)]
 pub struct Placed {
     pub lexeme: Lexeme,
     pub from: u32,

@@ -12,7 +12,7 @@ use std::marker::Model;
 
 /// A tree. Contracts see its walk: the list of its events, in which each end ends the innermost open element, and texts
 /// neither are empty nor touch.
-#[derive(Debug, Drop)]
+#[derive(Drop)]
 pub struct Tree {
     table: Table,
 }

@@ -3,7 +3,7 @@ ghost use Rattle.std.specs.Prelude.{◌≡◌};
 ghost use Rattle.hm_words.specs.Words as spec;
 
 /// Where the tree of a command comes from.
-#[derive(Clone, Copy, Debug, PartialEq, Eq)]
+#[derive(Clone, Copy, PartialEq, Eq)]
 pub enum Source {
     /// A page in a file.
     Page,
@@ -16,7 +16,7 @@ pub enum Source {
 }
 
 /// What a command does with its tree.
-#[derive(Clone, Copy, Debug, PartialEq, Eq)]
+#[derive(Clone, Copy, PartialEq, Eq)]
 pub enum Deed {
     /// It is written shortest, with its certificate.
     Minify,

@@ -9,7 +9,7 @@ use crate::writing::Writing;
 use hm_base::{TreeOptions, Word};
 
 /// What a flag sets.
-#[derive(Clone, Copy, Debug, PartialEq, Eq)]
+#[derive(Clone, Copy, PartialEq, Eq)]
 pub enum Setting {
     Comments,
     Booleans,
@@ -27,7 +27,7 @@ pub enum Setting {
 }
 
 /// A flag: its name, which follows two hyphens in its word, and what it sets.
-#[derive(Clone, Copy, Debug, PartialEq, Eq)]
+#[derive(Clone, Copy, PartialEq, Eq)]
 pub struct Flag {
     pub name: &'static str,
     pub setting: Setting,
@@ -90,7 +90,7 @@ pub const FLAGS: [Flag; 13] = [
 ];
 
 /// What all flags set.
-#[derive(Clone, Copy, Debug, PartialEq, Eq)]
+#[derive(Clone, Copy, PartialEq, Eq)]
 pub struct Choices {
     pub options: TreeOptions,
     pub writing: Writing,

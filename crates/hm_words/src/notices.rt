@@ -5,7 +5,7 @@ ghost use Rattle.hm_words.specs.Words as spec;
 use hm_base::Word;
 
 /// What the program says of itself.
-#[derive(Clone, Copy, Debug, PartialEq, Eq)]
+#[derive(Clone, Copy, PartialEq, Eq)]
 pub enum Notice {
     /// How it is called.
     Help,

@@ -21,7 +21,7 @@ use std::alloc::Global;
 const MOST_BLOCKS: u32 = 20_000;
 
 /// Where the tree of a request comes from, with the names of its files.
-#[derive(Clone, Copy, Debug)]
+#[derive(Clone, Copy)]
 pub enum Origin<'w> {
     /// The page in a file, read with a table of names.
     PageAt {
@@ -47,7 +47,7 @@ pub enum Origin<'w> {
 }
 
 /// What is done with the tree, with the names of its files.
-#[derive(Clone, Copy, Debug)]
+#[derive(Clone, Copy)]
 pub enum Work<'w> {
     /// It is written shortest, with its certificate.
     Minify { out: &'w str, cert: &'w str },
@@ -64,7 +64,7 @@ pub enum Work<'w> {
 }
 
 /// A request: where a tree comes from, what is done with it, the rewrites of the tree, and how that is written.
-#[derive(Clone, Copy, Debug)]
+#[derive(Clone, Copy)]
 pub struct Asked<'w> {
     pub origin: Origin<'w>,
     pub work: Work<'w>,
@@ -73,7 +73,7 @@ pub struct Asked<'w> {
 }
 
 /// Why words give no request.
-#[derive(Clone, Copy, Debug, PartialEq, Eq)]
+#[derive(Clone, Copy, PartialEq, Eq)]
 pub enum WordsFault {
     /// The words have no meaning.
     Usage,

@@ -3,7 +3,7 @@ use hm_base::SpellRules;
 
 /// How a tree is written: the spellings that are allowed, whether its certificate is a sparse one, and whether the attributes of each
 /// tag are put into the order in which it is shortest.
-#[derive(Clone, Copy, Debug, PartialEq, Eq)]
+#[derive(Clone, Copy, PartialEq, Eq)]
 pub struct Writing {
     pub rules: SpellRules,
     pub sparse: bool,

@@ -12,6 +12,8 @@ mod json;
 #[cfg(test)]
 mod lexer;
 #[cfg(test)]
+mod long_starts;
+#[cfg(test)]
 mod mark_scan;
 #[cfg(test)]
 mod printed;

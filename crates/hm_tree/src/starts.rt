@@ -59,11 +59,14 @@ pub(crate) fn fewer(part: RowPart) -> RowPart
             foreign,
             count,
             first,
-        } => RowPart::LongStart {
-            foreign,
-            count: count - 1,
-            first,
-        },
+        } => {
+            let count = count - 1;
+            RowPart::LongStart {
+                foreign,
+                count,
+                first,
+            }
+        }
         _ => part,
     }
 }

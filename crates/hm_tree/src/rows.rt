@@ -24,7 +24,7 @@ pub(crate) enum RowPart {
     Doctype {
         legacy: bool,
     },
-    // Its name has `len` bytes, from one place on.
+    // A start whose name has `len` bytes, from the place `from` on.
     Start {
         foreign: bool,
         len: u8,
@@ -32,7 +32,7 @@ pub(crate) enum RowPart {
         from: u32,
         first: u32,
     },
-    // A start whose name or attributes are too many for a byte each. Its name is the piece directly before its attributes.
+    // A start for whose name or attributes a byte is too little. Its name is the piece directly before its attributes.
     LongStart {
         foreign: bool,
         count: u16,

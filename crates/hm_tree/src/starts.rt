@@ -1,5 +1,5 @@
-//! The rows of starts. A name and the number of attributes take a byte each there; a start for which that is too little has a
-//! piece for its name before its attributes.
+//! The rows of starts. The length of the name and the number of attributes take a byte each; where that is too little, the
+//! name is a piece of the list of attributes, directly before the start's own.
 ghost use Rattle.std.specs.Prelude.{◌≡◌, ◌+◌, ◌^◌, ◌<◌, ◌≤◌, true, length, string_bytes, string_len, string_capacity, vec_len, vec_capacity, IfSome, IfOk, OnErr};
 ghost use Rattle.hm_base.specs.Walks.{attributes_size};
 ghost use Rattle.hm_tree.specs.Attributes.{are_texts};
@@ -98,7 +98,7 @@ pub(crate) fn end_part(attributes: &[AttributePieces], part: RowPart) -> RowPart
     }
 }
 
-// Appends name and attributes of a start for which there is room, and returns its row.
+// Appends the name and the attributes of a start, for which there is room, and returns its row.
 #[inline(always)]
 pub(crate) fn start_part(
     text: &mut String,

@@ -222,6 +222,7 @@ pub fn may_stand(name: Named<'_>, parent: Named<'_>, grandparent: Option<&str>) 
 }
 
 /// The names of the children that the element takes, where it takes only those.
+#[inline(always)]
 fn own_children(parent: Named<'_>) -> Option<&'static [&'static [&'static str]]>
     ensures { names_of result ≡ names.find parent.entry.name.now nesting.children }
 {
@@ -240,6 +241,7 @@ fn children_by_rows(parent: &str) -> Option<&'static [&'static [&'static str]]>
 }
 
 /// The names of the parents that the element stands in, where it stands only in those.
+#[inline(always)]
 fn own_parents(child: Named<'_>) -> Option<&'static [&'static [&'static str]]>
     ensures { names_of result ≡ names.find child.entry.name.now nesting.own_parents }
 {
@@ -258,6 +260,7 @@ fn parents_by_rows(child: &str) -> Option<&'static [&'static [&'static str]]>
 }
 
 /// The rule for a parent without children of its own.
+#[inline(always)]
 fn stands_by_parents(name: Named<'_>, parent: &str, grandparent: Option<&str>) -> bool
     ensures { result ≡ nesting.stands_by_parents (names.find name.entry.name.now nesting.own_parents) name.entry.name.now parent.now (text_of grandparent.entry) }
 {

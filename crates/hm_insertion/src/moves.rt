@@ -12,6 +12,7 @@ use hm_tree::{Attrs, Maker};
 use std::alloc::Global;
 
 /// Ends `count` elements.
+#[inline(always)]
 pub(crate) fn end_elements(maker: &mut Maker, count: u32) -> Result<(), Memory>
     requires { count ≤ length (path_after [] maker.old) }
     ensures { OnOk result (maker.new ≡ maker.old ++ map end_event (take count (path_after [] maker.old))) }

@@ -71,6 +71,7 @@ fn append_tag(text: &mut String, attributes: &mut Vec<AttributePieces>, attrs: &
 }
 
 // The same, whose text is copied whole.
+#[inline(always)]
 fn append_pairs(text: &mut String, attributes: &mut Vec<AttributePieces>, attrs: &Attrs) -> u32
     requires room { string_len text.old + attributes_size attrs.now ≤ string_capacity text.old }
     requires places { length (string_bytes text.old) + attributes_size attrs.now < 2 ^ 32 }

@@ -137,6 +137,7 @@ impl Maker {
     }
 
     /// Appends the end of the innermost open element. There is always room for it.
+    #[inline(always)]
     pub fn end(&mut self) -> Result<(), Memory>
         requires { 0 < length (path_after [] self.old) }
         ensures ok { OnOk result (self.new ≡ self.old ++ end_of (path_after [] self.old)) }

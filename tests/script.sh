@@ -123,6 +123,18 @@ wants 'the next call builds nothing' is "$(builds)" 1
 wants 'the next call says nothing' says_nothing
 wants 'the next call: exit status' is "$status" 3
 
+# The lowest crate takes two seconds, which count for two thousand, and has most of the functions.
+repository
+awk 'BEGIN { for (i = 0; i < 60; i++) print "fn f() {}" }' >"$top/crates/hm_base/src/more.rt"
+echo 2 >"$top/crates/hm_base/slow"
+printf '%s\n' '#!/bin/sh' "echo \"\$($(command -v date) +%s)000\"" >"$top/bin/date"
+chmod +x "$top/bin/date"
+call "$top/hminify"
+wants 'how long the rest will take is told' grep -qE 'proved [1-3] of 4, [0-9:]+, some [0-9]+ minutes to go$' err
+wants 'when nothing is left it is not' is "$(grep -c 'proved 4 of 4.*to go' err)" 0
+call "$top/hminify" --build
+wants 'nor of crates that are kept' is "$(grep -c 'to go' err)" 0
+
 repository
 call "$top/hminify" tree 'a b' ''
 ln -s "$top/hminify" "$room/one"

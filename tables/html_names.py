@@ -5,9 +5,10 @@ Run it at the top of the repository, after entities.json has changed:
 
     python3 tables/html_names.py tables/entities.json crates/hm_html_names/src
 
-It writes names.rt (the names, their lengths and code points), nodes.rt and children.rt (the trie of the names), and
-index.rt (the names in the order of their code points). The check of hm_html_names proves that they are a table with its
-trie and its index, and the program hm_html_cases compares that table with entities.json.
+It writes names.rt and points.rt (the names and their code points), prefixes.rt, depths.rt, last_bytes.rt, counts.rt and
+places.rt (the trie of the names, a file for each list), and index.rt (the names in the order of their code points). The
+check of hm_html_names proves that they are a table with its trie and its index, and the program hm_html_cases compares
+that table with entities.json.
 """
 import collections
 import json
@@ -89,39 +90,47 @@ def main(words):
     points = [table[name]["codepoints"] for name in names]
     trie = list(nodes(names))
     place = {names[low][: depth + 1]: number for number, (low, depth, _, _) in enumerate(trie)}
-    made = "// Written by tables/html_names.py from tables/entities.json. Do not edit."
-    write(folder := words[1], "names.rt", [
-        "//! The HTML Standard's named character references (#named-character-references), in byte order.",
-        made,
-        "",
-        *text("pub(crate) static TEXT: &str = \"\\", "The names, the `&` included, one after another.", "\";", names),
-        *numbers("LENGTHS", "u8", "How many bytes each name has.", [str(len(name)) for name in names]),
-        *numbers("FIRSTS", "char", "The first code point of each name.", [char(p[0]) for p in points]),
-        *numbers("SECONDS", "char", "The second one, or U+0000.", [char(p[1] if len(p) > 1 else 0) for p in points]),
-    ])
-    write(folder, "nodes.rt", [
-        "//! The trie of the names: their prefixes, shorter ones first and in byte order.",
-        made,
-        "",
-        *numbers("NAMES", "u16", "The number of the first name that begins with the prefix.", [str(n[0]) for n in trie]),
-        *numbers("PLACES", "u16", "The prefix that each name is.", [str(place[name]) for name in names]),
-    ])
-    write(folder, "children.rt", [
-        "//! The prefixes of the names: their lengths, last bytes and children.",
-        made,
-        "",
-        *numbers("DEPTHS", "u8", "How many bytes each prefix has after its `&`.", [str(n[1]) for n in trie]),
-        *text("pub(crate) static BYTES: [u8; %d] = *b\"\\" % len(trie), "The last byte of each prefix.", "\";", [n[2] for n in trie]),
-        *numbers("COUNTS", "u8", "How many prefixes have one byte more.", [str(n[3]) for n in trie]),
-    ])
     order = sorted(range(len(names)), key=lambda number: points[number][0])
-    write(folder, "index.rt", [
-        "//! The names in the order of their first code points; those with the same one stand in byte order.",
-        made,
-        "",
-        *numbers("POINTS", "char", "The first code points.", [char(points[number][0]) for number in order]),
-        *numbers("NUMBERS", "u16", "The numbers of the names.", [str(number) for number in order]),
-    ])
+    made = "// Written by tables/html_names.py from tables/entities.json. Do not edit."
+
+    def file(name, comment, *lists):
+        write(words[1], name, ["//! " + comment, made, "", *(line for it in lists for line in it)])
+
+    file(
+        "names.rt", "The HTML Standard's named character references (#named-character-references), in byte order.",
+        text("pub(crate) static TEXT: &str = \"\\", "The names, the `&` included, one after another.", "\";", names),
+        numbers("LENGTHS", "u8", "How many bytes each name has.", [str(len(name)) for name in names]),
+    )
+    file(
+        "points.rt", "The code points of the names.",
+        numbers("FIRSTS", "char", "The first code point of each name.", [char(p[0]) for p in points]),
+        numbers("SECONDS", "char", "The second one, or U+0000.", [char(p[1] if len(p) > 1 else 0) for p in points]),
+    )
+    file(
+        "prefixes.rt", "The trie of the names: their prefixes, shorter ones first and in byte order.",
+        numbers("NAMES", "u16", "The number of the first name that begins with the prefix.", [str(n[0]) for n in trie]),
+    )
+    file(
+        "depths.rt", "The lengths of the prefixes.",
+        numbers("DEPTHS", "u8", "How many bytes each prefix has after its `&`.", [str(n[1]) for n in trie]),
+    )
+    file(
+        "last_bytes.rt", "The last bytes of the prefixes.",
+        text("pub(crate) static BYTES: [u8; %d] = *b\"\\" % len(trie), "The last byte of each prefix.", "\";", [n[2] for n in trie]),
+    )
+    file(
+        "counts.rt", "The children of the prefixes.",
+        numbers("COUNTS", "u8", "How many prefixes have one byte more.", [str(n[3]) for n in trie]),
+    )
+    file(
+        "places.rt", "The places of the names in their trie.",
+        numbers("PLACES", "u16", "The prefix that each name is.", [str(place[name]) for name in names]),
+    )
+    file(
+        "index.rt", "The names in the order of their first code points; those with the same one stand in byte order.",
+        numbers("POINTS", "char", "The first code points.", [char(points[number][0]) for number in order]),
+        numbers("NUMBERS", "u16", "The numbers of the names.", [str(number) for number in order]),
+    )
 
 
 if __name__ == "__main__":

@@ -4,7 +4,8 @@ use Rattle.hm_refs.specs.Names.{Entry}
 use Rattle.hm_refs.specs.Firsts.{IsInOrder}
 use Rattle.hm_refs.specs.Ready.{IsReady, are_cut, entries_from, nodes_from}
 use Rattle.hm_html_names.specs.HtmlNames.{html_entries}
-use Rattle.hm_html_names.specs.declared.names.TheConstants.{FIRSTS, LENGTHS, SECONDS, TEXT}
+use Rattle.hm_html_names.specs.declared.names.TheConstants.{LENGTHS, TEXT}
+use Rattle.hm_html_names.specs.declared.points.TheConstants.{FIRSTS, SECONDS}
 
 pub cut_alike : (s ls t ms : List ℕ) → s ≡ t → ls ≡ ms → are_cut t ms ≡ true → are_cut s ls ≡ true
 cut_alike s ls t ms e f h = rw (e, f) h

@@ -13,10 +13,14 @@ use Rattle.hm_refs.proofs.ReadyTables.{Computed, are_placed, are_uncrowded, fron
 use Rattle.hm_refs.proofs.ReadyTrie.{are_spread}
 use Rattle.hm_refs.proofs.Selecting.{by_bits, climbs_from, in_order, pairs_from, pairs_of}
 use Rattle.hm_refs.proofs.Sortings.{rises, with_length}
-use Rattle.hm_html_names.specs.declared.names.TheConstants.{FIRSTS, LENGTHS, SECONDS, TEXT}
-use Rattle.hm_html_names.specs.declared.nodes.TheConstants.{NAMES, PLACES}
+use Rattle.hm_html_names.specs.declared.names.TheConstants.{LENGTHS, TEXT}
+use Rattle.hm_html_names.specs.declared.points.TheConstants.{FIRSTS, SECONDS}
+use Rattle.hm_html_names.specs.declared.prefixes.TheConstants.{NAMES}
+use Rattle.hm_html_names.specs.declared.places.TheConstants.{PLACES}
 use Rattle.hm_html_names.specs.declared.index.TheConstants.{NUMBERS, POINTS}
-use Rattle.hm_html_names.specs.declared.children.TheConstants.{BYTES, COUNTS, DEPTHS}
+use Rattle.hm_html_names.specs.declared.counts.TheConstants.{COUNTS}
+use Rattle.hm_html_names.specs.declared.depths.TheConstants.{DEPTHS}
+use Rattle.hm_html_names.specs.declared.last_bytes.TheConstants.{BYTES}
 
 unfoldable entries : List Entry
 entries = entries_from TEXT.now LENGTHS FIRSTS SECONDS

@@ -2,17 +2,25 @@
 #![tactic(auto)]
 
 ghost use Rattle.std.specs.Prelude.{◌≡◌, IfOk};
-ghost use Rattle.hm_html_names.specs.declared.names.TheConstants.{FIRSTS, LENGTHS, SECONDS, TEXT};
-ghost use Rattle.hm_html_names.specs.declared.nodes.TheConstants.{NAMES, PLACES};
+ghost use Rattle.hm_html_names.specs.declared.counts.TheConstants.{COUNTS};
+ghost use Rattle.hm_html_names.specs.declared.depths.TheConstants.{DEPTHS};
 ghost use Rattle.hm_html_names.specs.declared.index.TheConstants.{NUMBERS, POINTS};
-ghost use Rattle.hm_html_names.specs.declared.children.TheConstants.{BYTES, COUNTS, DEPTHS};
+ghost use Rattle.hm_html_names.specs.declared.last_bytes.TheConstants.{BYTES};
+ghost use Rattle.hm_html_names.specs.declared.names.TheConstants.{LENGTHS, TEXT};
+ghost use Rattle.hm_html_names.specs.declared.places.TheConstants.{PLACES};
+ghost use Rattle.hm_html_names.specs.declared.points.TheConstants.{FIRSTS, SECONDS};
+ghost use Rattle.hm_html_names.specs.declared.prefixes.TheConstants.{NAMES};
 ghost use Rattle.hm_html_names.specs.HtmlNames.{html_entries};
 
-mod children;
+mod counts;
+mod depths;
 mod index;
+mod last_bytes;
 pub mod laws;
 mod names;
-mod nodes;
+mod places;
+mod points;
+mod prefixes;
 
 use hm_base::Memory;
 use hm_refs::{ReadyIndex, ReadyNames, ReadyNodes, Table};
@@ -35,8 +43,8 @@ fn ready_names() -> ReadyNames
     ReadyNames {
         text: names::TEXT,
         lengths: &names::LENGTHS,
-        firsts: &names::FIRSTS,
-        seconds: &names::SECONDS,
+        firsts: &points::FIRSTS,
+        seconds: &points::SECONDS,
     }
 }
 
@@ -49,11 +57,11 @@ fn ready_nodes() -> ReadyNodes
     ensures places { result.places.now ≡ PLACES }
 {
     ReadyNodes {
-        names: &nodes::NAMES,
-        depths: &children::DEPTHS,
-        bytes: &children::BYTES,
-        counts: &children::COUNTS,
-        places: &nodes::PLACES,
+        names: &prefixes::NAMES,
+        depths: &depths::DEPTHS,
+        bytes: &last_bytes::BYTES,
+        counts: &counts::COUNTS,
+        places: &places::PLACES,
     }
 }
 

@@ -2,7 +2,7 @@
 """refused.py [PROGRAM]: each request for memory refused in turn, and reads and writes that take fewer bytes than they are asked to.
 
 Builds `refuse.c` beside this script, which stands before the C library, and runs PROGRAM (`crates/hminify/out/hminify` where none is
-named) with it on a small page, on the check of its files, on an ordinary page of 977 bytes, on a fragment, on trees as JSON and on the
+named) with it on a small page, on the check of its files, sparse ones too, on an ordinary page of 977 bytes, on a fragment, on trees as JSON and on the
 other commands: once with each request for memory refused, once with it and all after it refused, and with reads and writes of at most
 1, 2, 3, 7 and 100 bytes. A refused request ends with the answer of the run without it, or with status 7, nothing printed, and OUT and CERT as they
 were; a shorter read or write changes nothing. Prints how often each came about; ends with 1 where something else did. Needs Linux
@@ -86,6 +86,10 @@ def runs(program, library, folder):
     yield small
     written = small.ended(folder)[2]
     yield Run(program, library, "check", ["check", "none", "page", "out", "cert"] + FLAGS, written)
+    sparse = Run(program, library, "minify, sparse", small.words + ["--sparse"], small.files).ended(folder)[2]
+    out = sparse["out"]
+    for name, other in [("", out), (", another byte", out[:-1] + b"?"), (", a byte more", out + b"?"), (", a byte less", out[:-1])]:
+        yield Run(program, library, "check, sparse" + name, ["check"] + small.words[1:], dict(sparse, out=other))
     large = Run(program, library, "minify, the ordinary page", ordinary["words"], dict(KEPT, **ordinary["before"]))
     yield large
     written = large.ended(folder)[2]

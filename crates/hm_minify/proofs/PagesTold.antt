@@ -16,7 +16,7 @@ use Rattle.hm_words.specs.Words.{Asked, asked, explains, page_at}
 use Rattle.hm_minify.specs.Endings.{IsReadableAsked, IsReadableBy, ending, format_of, page_name, refusal}
 use Rattle.hm_location.specs.Explanations.{explained_page, settled_line}
 use Rattle.hm_input.specs.Inputs.{Input, bad_json, bad_page, bad_table, input_from, missing, names_of_table, origin_input, page_input, page_outcome, rewritten_input, tree as tree_input}
-use Rattle.hm_minify.specs.Wanted.{input_of, wanted, wanted_tree}
+use Rattle.hm_minify.specs.Wanted.{input_of, wanted}
 use Rattle.hm_minify.specs.Outside.{Outside}
 use Rattle.hm_minify.specs.Runs.{Ends, EndsAs, HasExplained, HasSettled}
 use Rattle.hm_minify.specs.declared.status.Status.{Status}

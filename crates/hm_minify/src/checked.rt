@@ -23,7 +23,7 @@ use hm_input::{Input, front, read_fragment};
 use hm_order::minify_tree;
 use hm_refs::Table;
 use hm_refs::laws::every_table;
-use hm_store::{Store, load, load_behind};
+use hm_store::{Store, load, load_behind, load_over};
 use std::alloc::Global;
 
 /// What was found is said.
@@ -69,45 +69,44 @@ fn same_bytes(left: &[u8], right: &[u8]) -> bool
     left == right
 }
 
-/// Whether a text and the bytes of a certificate are what is written of the tree by these rules, where the certificate is a sparse
-/// one and both are within the limits. A check of them says yes then, and they needn't be read.
-fn is_as_written(alloc: Global, input: &Input, rules: SpellRules, out: &[u8], cert: &[u8]) -> bool
+/// What is written of the tree by these rules, and true, where it is within the limit and the bytes of a certificate are a sparse one,
+/// within its limit too, and the one that is written with it. A check of both says yes then, and they needn't be read. Else no text,
+/// and false.
+fn rewritten(alloc: Global, input: &Input, rules: SpellRules, cert: &[u8]) -> (Vec<u8>, bool)
     requires page { rules.frame ≡ false }
     requires settled { Settled input.now.tree }
-    ensures { IsTrue result → spec.checked_ending rules input.now.table.entries input.now.tree out.now cert.now ≡ spec.says Status.Done (lines.yes_line (prelude.length out.now)) }
+    ensures { IsTrue result.1 → spec.checked_ending rules input.now.table.entries input.now.tree result.0.items cert.now ≡ spec.says Status.Done (lines.yes_line (prelude.length result.0.items)) }
 {
     every_table(&input.table);
-    if out.len() > OUTPUT_LIMIT as usize || cert.len() > CERTIFICATE_LIMIT as usize {
-        return false;
-    }
-    if !begins_sparse(alloc, rules, cert) {
-        return false;
+    if cert.len() > CERTIFICATE_LIMIT as usize || !begins_sparse(alloc, rules, cert) {
+        return (Vec::new(alloc), false);
     }
     match minify_tree(alloc, &input.tree, &input.table, rules, Format::Three) {
         Ok(minified) => {
-            if !same_bytes(minified.out.as_slice(), out) {
-                return false;
-            }
-            same_bytes(minified.certificate.as_slice(), cert)
+            let is_within = minified.out.len() <= OUTPUT_LIMIT as usize;
+            let is_same = same_bytes(minified.certificate.as_slice(), cert);
+            (minified.out, is_within & is_same)
         }
-        Err(Memory) => false,
+        Err(Memory) => (Vec::new(alloc), false),
     }
 }
 
-/// A text and the bytes of a certificate are checked.
+/// A text and the bytes of a certificate are checked. Where it is known that the check says yes, they aren't read.
 fn check_bytes<'w>(
     alloc: Global,
     input: &Input,
     rules: SpellRules,
     out: &[u8],
     cert: &[u8],
+    is_known: bool,
 ) -> Result<Ended<'w>, Stop>
     requires page { rules.frame ≡ false }
     requires settled { Settled input.now.tree }
+    requires known { IsTrue is_known → spec.checked_ending rules input.now.table.entries input.now.tree out.now cert.now ≡ spec.says Status.Done (lines.yes_line (prelude.length out.now)) }
     ensures ended { IfOk result (λ ended. ended ≡ spec.checked_ending rules input.now.table.entries input.now.tree out.now cert.now) }
     ensures memory { result ≢ Err Stop.Store }
 {
-    if is_as_written(alloc, input, rules, out, cert) {
+    if is_known {
         return Ok(says(alloc, Status::Done, yes_line(alloc, out.len() as u64)?));
     }
     match Certificate::read(alloc, cert) {
@@ -120,7 +119,8 @@ fn check_bytes<'w>(
     }
 }
 
-/// Loads a text and then a certificate, and checks them. Of a longer file no more than one byte above the limit is loaded.
+/// Loads a certificate and then a text, and checks them. Of a longer file no more than one byte above the limit is loaded. The text is
+/// loaded over the one that it is expected to be.
 fn check_page<'w, S: Store>(
     alloc: Global,
     store: &mut S,
@@ -140,9 +140,17 @@ fn check_page<'w, S: Store>(
     ensures store { result ≡ Err Stop.Store → Rose (S.faults store.old) (S.faults store.new)
         ⊎ Tells (S.files store.old) (λ seen. spec.check_ending rules input.now.table.entries input.now.tree (seen out.now) (seen cert.now) ≡ spec.store_fault) }
 {
-    let text = load(alloc, store, out, OUTPUT_LIMIT)?;
     let lines = load(alloc, store, cert, CERTIFICATE_LIMIT)?;
-    check_bytes(alloc, input, rules, text.as_slice(), lines.as_slice())
+    let (mut text, is_written) = rewritten(alloc, input, rules, lines.as_slice());
+    let is_expected = load_over(store, out, &mut text, OUTPUT_LIMIT)?;
+    check_bytes(
+        alloc,
+        input,
+        rules,
+        text.as_slice(),
+        lines.as_slice(),
+        is_written & is_expected,
+    )
 }
 
 /// The most bytes of a fragment that is checked: with its front it has no more than a text may have.
@@ -276,7 +284,7 @@ fn check_fragment_bytes<'w>(
     }
 }
 
-/// Loads a fragment after its front and then a certificate, and checks them.
+/// Loads a certificate, and then a fragment after its front, and checks them.
 fn check_fragment<'w, S: Store>(
     alloc: Global,
     store: &mut S,
@@ -296,12 +304,12 @@ fn check_fragment<'w, S: Store>(
     ensures store { result ≡ Err Stop.Store → Rose (S.faults store.old) (S.faults store.new)
         ⊎ Tells (S.files store.old) (λ seen. spec.check_ending rules input.now.table.entries input.now.tree (seen out.now) (seen cert.now) ≡ spec.store_fault) }
 {
-    let page = load_behind(alloc, store, out, front(), fragment_limit())?;
     let lines = load(alloc, store, cert, CERTIFICATE_LIMIT)?;
+    let page = load_behind(alloc, store, out, front(), fragment_limit())?;
     check_fragment_bytes(alloc, input, rules, page, lines.as_slice())
 }
 
-/// Loads a text, or a fragment where the rules say so, and then a certificate, and checks them.
+/// Loads a certificate and then a text, or a fragment where the rules say so, and checks them.
 pub fn check_files<'w, S: Store>(
     alloc: Global,
     store: &mut S,

@@ -3,7 +3,9 @@ ghost use Rattle.std.specs.Prelude.{◌≡◌, true, is_some};
 ghost use Rattle.hm_store.specs.Causes.{counted};
 
 use crate::made::{holds, path_of};
-use hm_store::{Failed, FileStore, MemSink, MemStore, Sink, Store, WriteSink, load, write_file};
+use hm_store::{
+    Failed, FileStore, MemSink, MemStore, Sink, Store, WriteSink, load, load_over, write_file,
+};
 use std::alloc::{Allocator, Global};
 use std::fs::{Metadata, OpenFile, OpenOptions};
 use std::io::{Empty, ErrorKind, Read, Seek, SeekFrom, Write};
@@ -46,6 +48,50 @@ fn a_load_takes_one_byte_more_than_its_limit(rt: HostRuntime) {
     expect_loaded(&rt, rt.alloc(), &mut store, 4, "hello");
     expect_loaded(&rt, rt.alloc(), &mut store, 3, "hell");
     expect_loaded(&rt, rt.alloc(), &mut store, 0, "h");
+}
+
+/// Asserts what a load of `page` with this limit gives over expected bytes, and whether it is told that they are the same.
+fn expect_loaded_over(
+    rt: &impl Abort,
+    store: &mut MemStore,
+    limit: u32,
+    mut bytes: Vec<u8>,
+    wanted: &str,
+    is_expected: bool,
+) {
+    assert!(rt;
+        load_over(store, "page", &mut bytes, limit) == Ok(is_expected),
+        "limit {limit}, {wanted}"
+    );
+    assert!(rt;
+        bytes.as_slice() == wanted.as_bytes(),
+        "limit {limit}, {wanted}"
+    );
+}
+
+#[test]
+fn a_load_over_expected_bytes_tells_whether_they_are_the_same(rt: HostRuntime) {
+    let mut store = MemStore::new(rt.alloc());
+    assert!(rt; store.add("page", b"hello").is_ok());
+    for expected in ["", "hell", "hellish", "jello", "hello, world"] {
+        if let Ok(bytes) = Vec::from_slice(rt.alloc(), expected.as_bytes()) {
+            expect_loaded_over(&rt, &mut store, 100, bytes, "hello", false);
+        }
+    }
+    for (limit, expected) in [
+        (100, "hello"),
+        (5, "hello"),
+        (4, "hello"),
+        (3, "hell"),
+        (0, "h"),
+    ] {
+        if let Ok(bytes) = Vec::from_slice(rt.alloc(), expected.as_bytes()) {
+            expect_loaded_over(&rt, &mut store, limit, bytes, expected, true);
+        }
+    }
+    if let Ok(bytes) = Vec::from_slice(rt.alloc(), b"hello") {
+        expect_loaded_over(&rt, &mut store, 3, bytes, "hell", false);
+    }
 }
 
 /// Opens a file of a store for reading: a failure counts as one more fault, and another answer as none.

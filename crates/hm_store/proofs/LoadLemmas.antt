@@ -3,7 +3,7 @@ use Rattle.std.proofs.Common.{◌≡◌, ℕ, ◌+◌, ◌≤◌, ◌⊎◌, inl
 use Rattle.std.specs.declared.option.Option.{Option}
 use Rattle.std.specs.Io.{StartsWith}
 use Rattle.std.specs.Io.KnownBytes.{prepend_known, IsAtEnd}
-use Rattle.std.proofs.lemmas.List.{drop-append-le}
+use Rattle.std.proofs.lemmas.List.{drop-append-le, length-take-le}
 use Rattle.std.proofs.Transfers.{starts_with_length}
 use Rattle.hm_store.specs.Files.{Takes}
 
@@ -31,3 +31,10 @@ taken_behind (Some file) (Some rest) front bytes most e h within end =
     let whole : bytes ++ rest ≡ front ++ file = some_is _ _ e in
     let ends : (rest ≡ []) ⊎ (length (drop (length front) bytes) ≡ most) = elim end [ inl none ↦ inl none | inr full ↦ inr (omega arith) ] in
     takes file rest (drop (length front) bytes) most (after_front file rest front bytes whole h) (omega arith) ends
+
+-- the same of a load that began with none
+pub taken_over : (file rest : Option (List ℕ)) (bytes : List ℕ) (at most : ℕ) → prepend_known (take at bytes) rest ≡ prepend_known [] file
+    → at ≤ length bytes → at ≤ most → IsAtEnd rest ⊎ (at ≡ most) → Takes file most (take at bytes)
+taken_over file rest bytes at most e there within end =
+    let long = length-take-le at bytes there in
+    taken_behind file rest [] (take at bytes) most e refl (omega (arith, long)) (elim end [ inl none ↦ inl none | inr full ↦ inr (omega (arith, long)) ])

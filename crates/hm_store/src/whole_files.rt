@@ -1,5 +1,5 @@
 //! Reading and writing a whole file.
-ghost use Rattle.std.specs.Prelude.{◌≡◌, ◌+◌, ◌≤◌, ◌<◌, ◌⊎◌, ◌^◌, IfOk, OnOk, OnErr, IsOk, IsSome, Err, true, false, length, drop};
+ghost use Rattle.std.specs.Prelude.{◌≡◌, ◌+◌, ◌≤◌, ◌<◌, ◌⊎◌, ◌^◌, ◌++◌, ◌==◌, IfOk, OnOk, OnErr, IsOk, IsSome, Ok, Err, true, false, not, length, take, drop};
 ghost use Rattle.std.specs.Io.{StartsWith};
 ghost use Rattle.hm_store.specs.Causes.{Rose, HasCause};
 ghost use Rattle.hm_store.specs.Files.{file_of, with_file, Takes, IsMissing, HasFront};
@@ -96,6 +96,94 @@ fn pull_all<S: Store>(
     Ok(bytes)
 }
 
+/// Puts bytes in place of those from `at` on, where they aren't those that stand there, and returns whether they were.
+fn put_over(bytes: &mut Vec<u8>, at: usize, piece: &[u8]) -> Result<bool, AllocError>
+    requires within { at ≤ length bytes.old.items }
+    ensures put { IfOk result
+        (λ _. (take (at + length piece.now) bytes.new.items ≡ take at bytes.old.items ++ piece.now) × (at + length piece.now ≤ length bytes.new.items)) }
+    ensures expected { result ≡ Ok true → bytes.new.items ≡ bytes.old.items }
+{
+    let end = at + piece.len();
+    if end <= bytes.len() && &bytes[at..end] == piece {
+        return Ok(true);
+    }
+    bytes.truncate(at);
+    bytes.extend_from_slice(piece)?;
+    Ok(false)
+}
+
+/// The same of the next bytes of the file that is being read, at most up to one more than `limit`: how many there were, and
+/// whether those stood there.
+fn pull_next_over<S: Store>(
+    store: &mut S,
+    piece: &mut [u8],
+    bytes: &mut Vec<u8>,
+    at: usize,
+    limit: usize,
+) -> Result<(usize, bool), LoadFault>
+    requires piece { 0 < length piece.old }
+    requires reading { S.is_reading store.old ≡ true }
+    requires limit { limit + 1 < 2 ^ 64 }
+    requires room { at ≤ limit }
+    requires within { at ≤ length bytes.old.items }
+    ensures same { S.files store.new ≡ S.files store.old }
+    ensures reading { S.is_reading store.new ≡ true }
+    ensures writing { S.is_writing store.new ≡ S.is_writing store.old }
+    ensures target { S.target store.new ≡ S.target store.old }
+    ensures follows { IfOk result
+        (λ taken. FollowsOn (take at bytes.old.items) (S.rest store.old) (take (at + taken.0) bytes.new.items) (S.rest store.new) (not (taken.0 == 0))) }
+    ensures most { IfOk result (λ taken. at + taken.0 ≤ limit + 1) }
+    ensures there { IfOk result (λ taken. at + taken.0 ≤ length bytes.new.items) }
+    ensures expected { IfOk result (λ taken. taken.1 ≡ true → bytes.new.items ≡ bytes.old.items) }
+    ensures later { S.faults store.old ≤ S.faults store.new }
+    ensures failed { result ≡ Err LoadFault.Store → Rose (S.faults store.old) (S.faults store.new) }
+    ensures steady { OnOk result (S.faults store.new ≡ S.faults store.old) }
+{
+    let most = (limit + 1 - at).min(piece.len());
+    match store.pull(&mut piece[..most]) {
+        Ok(count) => Ok((count, put_over(bytes, at, &piece[..count])?)),
+        Err(Failed) => Err(LoadFault::Store),
+    }
+}
+
+/// Cuts bytes after the first `at`, and returns whether that dropped none.
+fn cut_at(bytes: &mut Vec<u8>, at: usize) -> bool
+    ensures cut { bytes.new.items ≡ take at bytes.old.items }
+    ensures whole { result ≡ true → bytes.new.items ≡ bytes.old.items }
+{
+    let is_whole = bytes.len() <= at;
+    bytes.truncate(at);
+    is_whole
+}
+
+/// The bytes of the file that is being read, at most one more than `limit`, in place of `bytes`; and whether those are the same.
+fn pull_over<S: Store>(store: &mut S, bytes: &mut Vec<u8>, limit: usize) -> Result<bool, LoadFault>
+    requires reading { S.is_reading store.old ≡ true }
+    requires limit { limit < 2 ^ 32 }
+    ensures expected { result ≡ Ok true → bytes.new.items ≡ bytes.old.items }
+    ensures same { S.files store.new ≡ S.files store.old }
+    ensures writing { S.is_writing store.new ≡ S.is_writing store.old }
+    ensures target { S.target store.new ≡ S.target store.old }
+    ensures loaded { IfOk result (λ _. Takes (S.rest store.old) (limit + 1) bytes.new.items) }
+    ensures within { IfOk result (λ _. length bytes.new.items ≤ limit + 1) }
+    ensures later { S.faults store.old ≤ S.faults store.new }
+    ensures failed { result ≡ Err LoadFault.Store → Rose (S.faults store.old) (S.faults store.new) }
+    ensures steady { OnOk result (S.faults store.new ≡ S.faults store.old) }
+{
+    let mut piece = [0u8; PIECE];
+    let mut at = 0;
+    let mut is_expected = true;
+    while at <= limit {
+        let (count, is_same) = pull_next_over(store, &mut piece, bytes, at, limit)?;
+        is_expected &= is_same;
+        if count == 0 {
+            return Ok(cut_at(bytes, at) & is_expected);
+        }
+        at += count;
+    }
+    Ok(cut_at(bytes, at) & is_expected)
+}
+
 /// `front`, and after it the bytes of a file, at most one more than `limit`, so that a longer file is noticed.
 pub fn load_behind<S: Store>(
     alloc: Global,
@@ -155,6 +243,39 @@ pub fn load<S: Store>(
     ensures missing { IsMissing (S.files store.old) name.now → result ≡ Err LoadFault.Store }
 {
     load_behind(alloc, store, name, &[], limit)
+}
+
+/// Loads a file into `bytes`, at most one byte more than `limit`, so that a longer file is noticed. What `bytes` holds is what
+/// the file is expected to hold: as long as it does, nothing is copied. Returns whether the file held just that.
+pub fn load_over<S: Store>(
+    store: &mut S,
+    name: &str,
+    bytes: &mut Vec<u8>,
+    limit: u32,
+) -> Result<bool, LoadFault>
+    ensures expected { result ≡ Ok true → bytes.new.items ≡ bytes.old.items }
+    ensures loaded { IfOk result
+        (λ _. Takes (file_of (S.files store.old) name.now) (limit + 1) bytes.new.items) }
+    ensures within { IfOk result (λ _. length bytes.new.items ≤ limit + 1) }
+    ensures there { IsOk result → IsSome (S.files store.old)
+        → IsSome (file_of (S.files store.old) name.now) }
+
+    // It changes nothing but what is being read.
+    ensures same { S.files store.new ≡ S.files store.old }
+    ensures writing { S.is_writing store.new ≡ S.is_writing store.old }
+    ensures target { S.target store.new ≡ S.target store.old }
+
+    // A call has failed, or the file isn't there. Where the bytes are loaded, none has.
+    ensures steady { OnOk result (S.faults store.new ≡ S.faults store.old) }
+    ensures later { S.faults store.old ≤ S.faults store.new }
+    ensures failed { result ≡ Err LoadFault.Store
+        → Rose (S.faults store.old) (S.faults store.new) ⊎ IsMissing (S.files store.old) name.now }
+    ensures missing { IsMissing (S.files store.old) name.now → result ≡ Err LoadFault.Store }
+{
+    match store.open_in(name) {
+        Ok(true) => pull_over(store, bytes, limit as usize),
+        Ok(false) | Err(Failed) => Err(LoadFault::Store),
+    }
 }
 
 /// Writes a whole file: opens it, puts the bytes at once, and closes it. The first call that fails ends it.

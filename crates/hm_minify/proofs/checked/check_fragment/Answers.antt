@@ -12,14 +12,15 @@ use Rattle.hm_store.specs.Files.{Takes, file_of}
 pub returns-clause-ended : goal.returns-clause-ended
 returns-clause-ended g c =
     let told = g.S.Store.files c.args.store.now in
+    let after = g.S.Store.files c.load.new.store in
     let items = c.in_ok-page.page.items in
-    let page : IsLoaded told c.args.out.now fragment_limit (unframed items) = framed_loaded told c.args.out.now fragment_limit items
-    (subst (λ f. Takes (file_of told c.args.out.now) (fragment_limit + 1) (drop (length f) items)) c.front.ensures (subst (λ n. Takes (file_of told c.args.out.now) (n + 1) (drop (length c.front.result.now) items)) c.fragment_limit.ensures c.in_ok-page.ensures.loaded))
+    let page : IsLoaded after c.args.out.now fragment_limit (unframed items) = framed_loaded after c.args.out.now fragment_limit items
+    (subst (λ f. Takes (file_of after c.args.out.now) (fragment_limit + 1) (drop (length f) items)) c.front.ensures (subst (λ n. Takes (file_of after c.args.out.now) (n + 1) (drop (length c.front.result.now) items)) c.fragment_limit.ensures c.in_ok-page.ensures.loaded))
     (subst (λ f. length items ≤ length f + (fragment_limit + 1)) c.front.ensures (subst (λ n. length items ≤ length c.front.result.now + (n + 1)) c.fragment_limit.ensures c.in_ok-page.ensures.within))
     (c.in_ok-page.ensures.there refl) in
-    let text : IsLoaded told c.args.out.now (limit_of c.args.rules.frame) (unframed items) = subst (λ f. IsLoaded told c.args.out.now (limit_of f) (unframed items)) (sym c.requires.fragment) page in
+    let text : IsLoaded told c.args.out.now (limit_of c.args.rules.frame) (unframed items) = subst (λ f. IsLoaded told c.args.out.now (limit_of f) (unframed items)) (sym c.requires.fragment) (subst (λ files. IsLoaded files c.args.out.now fragment_limit (unframed items)) c.in_ok-lines.ensures.same page) in
     let lines : IsLoaded told c.args.cert.now CERTIFICATE_LIMIT c.as_slice.result.now =
-    subst (IsLoaded told c.args.cert.now CERTIFICATE_LIMIT) (sym c.as_slice.ensures.value) (subst (λ files. IsLoaded files c.args.cert.now CERTIFICATE_LIMIT c.in_ok-lines.lines.items) c.in_ok-page.ensures.same (is_loaded _ c.args.cert.now CERTIFICATE_LIMIT c.in_ok-lines.lines.items c.in_ok-lines.ensures.loaded c.in_ok-lines.ensures.within (c.in_ok-lines.ensures.there refl))) in
+    subst (IsLoaded told c.args.cert.now CERTIFICATE_LIMIT) (sym c.as_slice.ensures.value) (is_loaded told c.args.cert.now CERTIFICATE_LIMIT c.in_ok-lines.lines.items c.in_ok-lines.ensures.loaded c.in_ok-lines.ensures.within (c.in_ok-lines.ensures.there refl)) in
     IfOk-weaker c.check_fragment_bytes.result _ _
     (λ ended e. checked_seen told c.args.out.now c.args.cert.now (unframed items) c.as_slice.result.now c.args.rules c.args.input.now.table.entries c.args.input.now.tree ended c.requires.apart text lines e) c.check_fragment_bytes.ensures.ended
 

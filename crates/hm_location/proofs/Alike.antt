@@ -1,6 +1,6 @@
 -- What is explained of a place of a page, where the code takes the end of the page for a place beyond it.
-use Rattle.std.proofs.Common.{◌≡◌, ◌∙◌, ℕ, ◌<◌, ◌≤◌, ◌⊎◌, ⊎_elim, List, ◌++◌, length, take, refl, sym, ap, ap₂, subst, arith}
-use Rattle.std.proofs.lemmas.List.{append_assoc, length-take}
+use Rattle.std.proofs.Common.{◌≡◌, ◌∙◌, ℕ, ◌≤◌, ⊎_elim, List, ◌++◌, length, refl, sym, ap, ap₂, subst}
+use Rattle.std.proofs.lemmas.List.{append_assoc}
 use Rattle.hm_base.specs.declared.rules.Rule.{Rule}
 use Rattle.hm_location.proofs.Beyond.{IsAlike, beyond}
 use Rattle.hm_location.specs.Lines.{column_of, line_of}

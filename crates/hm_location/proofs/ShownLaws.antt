@@ -5,7 +5,7 @@ use Rattle.std.proofs.Math.Seq.{take-append_seam}
 use Rattle.std.specs.Fmt.{is_char_start}
 use Rattle.hm_base.specs.Bytes.{head_is}
 use Rattle.hm_location.specs.declared.shown.TheConstants.{BEFORE, BEHIND}
-use Rattle.hm_location.specs.Lines.{columns, line_front}
+use Rattle.hm_location.specs.Lines.{line_front}
 use Rattle.hm_location.specs.Shown.{is_break, line_rest, from_char, shown_before, shown_behind, shown_place, front_shown, rest_shown, line_at, IsPart}
 
 -- ---- up to the end of the line
@@ -172,14 +172,6 @@ all_shown s at p begin cut kept len m e l f r n c d k h =
       short = omega (arith, ap length is, length-append (shown_before BEFORE (line_front s p)) (shown_behind BEHIND (line_rest (drop p s))), before_short BEFORE (line_front s p), behind_short BEHIND (line_rest (drop p s)));
       part = subst (λ a. IsPart (take (p + kept - (begin + cut)) (drop (begin + cut) s)) (line_at s a)) e part;
     }
-
-pub caret_shown : (s : List ℕ) (at p begin cut count : ℕ) → p ≡ shown_place s at → take (p - begin) (drop begin s) ≡ line_front s p → drop cut (take (p - begin) (drop begin s)) ≡ shown_before BEFORE (take (p - begin) (drop begin s))
-    → count ≡ columns (take (length (take (p - begin) (drop begin s)) - cut) (drop cut (take (p - begin) (drop begin s)))) → count ≡ columns (front_shown s at)
-unfolding front_shown
-caret_shown s at p begin cut count e f d h =
-    let q = take (p - begin) (drop begin s) in
-    let all : take (length q - cut) (drop cut q) ≡ drop cut q = take_all (length q - cut) (drop cut q) (omega (arith, length-drop cut q)) in
-    h ∙ ap columns (all ∙ d ∙ ap (shown_before BEFORE) f ∙ ap (λ a. shown_before BEFORE (line_front s a)) e)
 
 -- the bytes before the place are the first of all that are shown
 first_of : (a b q : List ℕ) (n : ℕ) → q ≡ a ++ b → n ≡ length a → take n q ≡ a

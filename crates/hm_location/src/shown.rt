@@ -1,10 +1,9 @@
 //! The line of a byte, as it is shown.
 ghost use Rattle.std.specs.Prelude.{◌≡◌, ◌++◌, ◌≤◌, drop, length, take};
-ghost use Rattle.hm_location.specs.Lines.{columns};
 ghost use Rattle.hm_location.specs.declared.shown.TheConstants.{BEFORE, BEHIND};
 ghost use Rattle.hm_location.specs.Shown.{IsPart, front_shown, line_at, line_rest, rest_shown, shown_before, shown_behind, shown_place};
 
-use crate::place::{count_columns, is_char_start, line_start};
+use crate::place::{is_char_start, line_start};
 
 /// The most bytes that are shown before a place.
 pub const BEFORE: usize = 60;
@@ -12,15 +11,13 @@ pub const BEFORE: usize = 60;
 /// The most bytes that are shown from a place on.
 pub const BEHIND: usize = 40;
 
-/// A part of a line, and how many characters of it stand before the place.
+/// A part of a line, and how many bytes of it stand before the place.
 #[derive(Clone, Copy)]
 pub struct ShownLine<'a> {
     /// The bytes, without the end of the line.
     pub bytes: &'a [u8],
     /// How many of the bytes stand before the place.
     pub front: usize,
-    /// How many characters begin before the place, but for a byte order mark: a caret below it stands after so many spaces.
-    pub caret: usize,
 }
 
 /// The part of the line of the byte `at` that is shown: at most 60 bytes before the place and 40 from it on, cut between
@@ -30,7 +27,6 @@ pub fn shown_line(text: &[u8], at: usize) -> ShownLine<'_>
     ensures bytes { result.bytes.now ≡ front_shown text.now at ++ rest_shown text.now at }
     ensures front { take result.front result.bytes.now ≡ front_shown text.now at }
     ensures inside { result.front ≤ length result.bytes.now }
-    ensures caret { result.caret ≡ columns (front_shown text.now at) }
     ensures short { length result.bytes.now ≤ 100 }
     ensures part { IsPart result.bytes.now (line_at text.now (shown_place text.now at)) }
 {
@@ -43,7 +39,6 @@ pub fn shown_line(text: &[u8], at: usize) -> ShownLine<'_>
     ShownLine {
         bytes: &text[begin + cut..place + kept],
         front: front.len() - cut,
-        caret: count_columns(&front[cut..]),
     }
 }
 

@@ -5,7 +5,7 @@
     python3 tests/flags.py --write    makes completions/ anew from the table of flags
 
 Flags and commands are those of the definitions of hm_words, statuses and the usage line those of hm_minify. What a completion says
-of a flag or a command is what the README says of it. Where all is well one line is printed."""
+of a flag is what the README says of it, that of a command what docs/BEHAVIOUR.md does. Where all is well one line is printed."""
 import re
 import shutil
 import subprocess
@@ -121,13 +121,18 @@ def readme_flags():
     return {name: row[1] for row in rows('README.md', 'Options') for name in re.findall(r'`(--[a-z-]+)`', row[0])}
 
 
-def readme_commands():
-    """Each command of the README's table, with its words and what it does."""
+def command_rows(path, heading):
+    """Each command in the table of a section, with its words and what it does."""
     found = {}
-    for row in rows('README.md', 'Use'):
-        if words := re.match(r'`([a-z]+)((?: [A-Z]+)*)', row[0]):
+    for row in rows(path, heading):
+        if words := re.match(r'`([a-z]+)((?: [A-Z]+)*)`', row[0]):
             found[words[1]] = (words[2].split(), row[1])
     return found
+
+
+def told_commands():
+    """Each command of the whole table, with its words and what it does."""
+    return command_rows('docs/BEHAVIOUR.md', 'The commands')
 
 
 def plain(text):
@@ -137,12 +142,6 @@ def plain(text):
 
 def behaviour_flags():
     return [it for row in rows('docs/BEHAVIOUR.md', 'The commands') for it in re.findall(r'`(--[a-z-]+)`', row[0])]
-
-
-def behaviour_commands():
-    """Each command with its words; a line with a flag is an example."""
-    lines = re.findall(r'^    hminify ([a-z]+)((?: [A-Z]+)*)(?: \[FLAGS\])?$', section('docs/BEHAVIOUR.md', 'The commands'), re.M)
-    return {name: words.split() for name, words in lines}
 
 
 def manual_flags():
@@ -194,13 +193,18 @@ def try_documents(flags):
     try_names('README.md', [it for row in rows('README.md', 'Options') for it in re.findall(r'`(--[a-z-]+)`', row[0])], flags)
     try_names('docs/BEHAVIOUR.md', behaviour_flags(), flags)
     try_names('docs/hminify.1', manual_flags(), flags)
-    commands = behaviour_commands()
+    commands = {name: words for name, (words, _) in told_commands().items()}
     if not commands:
         fault('docs/BEHAVIOUR.md', 'no commands')
     try_names('docs/hminify.1, the synopsis', manual_synopsis(), list(commands))
-    for place, told in [('README.md', {k: v[0] for k, v in readme_commands().items()}), ('docs/hminify.1', manual_commands())]:
-        if told != commands:
-            fault(place, f'the commands are {told}, in docs/BEHAVIOUR.md {commands}')
+    if (told := manual_commands()) != commands:
+        fault('docs/hminify.1', f'the commands are {told}, in docs/BEHAVIOUR.md {commands}')
+    for name, told in command_rows('README.md', 'Use').items():
+        if told != told_commands().get(name):
+            fault('README.md', f'{name} is not as docs/BEHAVIOUR.md has it')
+    for name in commands:
+        if not re.search(r'`' + name + r'\b', section('README.md', 'Use')):
+            fault('README.md', f'no word of {name}')
     try_names('docs/BEHAVIOUR.md', list(commands), program_commands())
     try_help(flags, commands)
     for path in ['docs/BEHAVIOUR.md', 'tests/statuses.sh']:
@@ -297,7 +301,7 @@ def quoted(text):
 
 def completions(flags):
     """The text of each completion."""
-    commands, effects = readme_commands(), readme_flags()
+    commands, effects = told_commands(), readme_flags()
     bash = BASH.format(flags=' '.join(flags), commands=' '.join(commands),
                        words='\n'.join(line for name, (words, _) in commands.items() for line in bash_words(name, words)))
     told = ' '.join(f'{name}\\:"{quoted(re.split(r"[,;]", effect)[0])}"' for name, (_, effect) in commands.items())
@@ -318,7 +322,7 @@ def offers(*words):
 def try_offers(flags):
     """The completion of bash offers what fits, where bash is there, and zsh reads its own."""
     if shutil.which('bash'):
-        commands = readme_commands()
+        commands = told_commands()
         for words, wanted in [([''], list(commands)), (['--'], flags), (['tree', flags[0], '--'], flags[1:])]:
             if (offered := offers(*words)) != wanted:
                 fault('completions/hminify.bash', f'after {words} it offers {offered}, wanted {wanted}')
@@ -357,7 +361,7 @@ def main():
     for line in faults:
         print(line)
     if not faults:
-        print(f'{len(flags)} flags and {len(readme_commands())} commands as they are told')
+        print(f'{len(flags)} flags and {len(told_commands())} commands as they are told')
     return 1 if faults else 0
 
 

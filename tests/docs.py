@@ -208,8 +208,9 @@ def try_version():
     if told is None or proved is None or proved[1] != told[2]:
         fault('README.md', f'proved with {proved and proved[1]}, and {path} has {told and told[2]}')
     if told and shutil.which('rt'):
+        # Releases of the kit differ in their commands too. What is a proof is the same where their logic is.
         here = subprocess.run(['rt', 'version'], capture_output=True, text=True).stdout.strip()
-        if here != told[2]:
+        if here.split()[1:] != told[2].split()[1:]:
             fault(path, f'proved with {told[2]}, and the toolchain here is {here}')
 
 

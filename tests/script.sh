@@ -46,8 +46,8 @@ builds() {
 # A repository of four crates and one that the program isn't made of, each with edits that must fail and with what an earlier build
 # left. Its rt notes each call with the crates that it finds, fails at a crate with a file `bad`, leaves a broken program and fails at
 # one with a file `worse`, sleeps for the seconds that a file `slow` has, and leaves a program. It tells of a crate that it met before
-# that it is kept. Its program prints its words and its folder, and ends with 3. What it tries prints its words, says a line on
-# standard error, and ends with 3.
+# that it is kept. With a file `calls.nameless` in the room it takes no names of crates, as some kits' rt. Its program prints its words and
+# its folder, and ends with 3. What it tries prints its words, says a line on standard error, and ends with 3.
 repository() {
     rm -rf "$room/a place"
     top="$room/a place/of mine"
@@ -75,6 +75,10 @@ if [ "$1" = try ]; then
     printf '%s\n' 'a fault' 'checked: ended status=3' 'run=ended status=3 runners=1 proved=no' >&2
     exit 3
 fi
+if [ -e "$CALLS.nameless" ] && [ $# -gt 1 ]; then
+    printf '%s\n' 'usage: rt new FOLDER   makes a crate' '       rt check|verdict|lib' >&2
+    exit 2
+fi
 echo "$* $(cd crates && echo *), $(cat HANDLES), $(find . -name '*.edit' -o -name out | wc -l | tr -d ' ') more" >>"$CALLS"
 echo 'rt: noise'
 sed 's/#.*//; s/[ :].*//' crates.txt | while read -r crate; do
@@ -100,7 +104,7 @@ chmod +x crates/hminify/out/hminify
 END
     chmod +x "$top/bin/rt"
     : >"$room/calls"
-    rm -f "$room/calls.kept"
+    rm -f "$room/calls.kept" "$room/calls.nameless"
 }
 
 CALLS=$room/calls
@@ -122,6 +126,18 @@ call "$top/hminify" x
 wants 'the next call builds nothing' is "$(builds)" 1
 wants 'the next call says nothing' says_nothing
 wants 'the next call: exit status' is "$status" 3
+
+repository
+: >"$room/calls.nameless"
+call "$top/hminify" tree 'a b' ''
+wants 'an rt that takes no names: output and status' is "$(cat out)$status" "<tree><a b><>${room}3"
+wants 'an rt that takes no names: all crates at once' is "$(cat calls)" 'ci hm_base hm_refs hm_tree hminify, Handles allowed: none., 0 more'
+wants 'an rt that takes no names: how many are proved is told' says 'hminify: proved 4 of 4, 0:0'
+wants 'an rt that takes no names: it is no fault' is "$(grep -c usage err)" 0
+touch "$top/crates/hm_tree/bad"
+call "$top/hminify" --build
+wants 'an rt that takes no names: a build that fails' is "$status$(cat out)" 70
+wants 'an rt that takes no names: what it said' says 'rt: hm_tree NOT PROVED'
 
 # The lowest crate takes two seconds, which count for two thousand, and has most of the functions.
 repository

@@ -182,6 +182,12 @@ fill '<!doctype html>' 16777201 a >large
 ends 'a page of 16,777,216 bytes' 0 'length 16777255' minify none large out cert
 fill '<!doctype html>' 16777202 a >large
 ends 'a page of 16,777,217 bytes' 3 'page refused: TooLong at 16777216' minify none large out cert
+# A certificate above what `check` reads: a long value of a character that several short names stand for.
+{ fill '<!doctype html><p title="' 8600000 '>' && printf '">'; } >large
+told='hminify: long_cert: 288777857 bytes, and the check reads at most 268435456'
+ends 'a certificate of 288,777,857 bytes' 0 'length 8600027' minify html large long_out long_cert --omit --unquote --sparse
+ends 'a certificate of 288,777,857 bytes: check' 1 'no 0 certificate too long' check html large long_out long_cert --omit --unquote --sparse
+rm -f long_out long_cert
 fill '' 16777216 a >large
 ends 'a fragment of 16,777,216 bytes' 0 'length 16777216' fragment none large out cert --omit
 fill '' 16777217 a >large

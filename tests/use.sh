@@ -53,18 +53,16 @@ skip() {
     echo "skipped $1"
 }
 
-# The recipes that are scripts.
-names='minify-page in-place in-place-all minify-tree check-tree minify-part check-part precompress check-page check-all configure-pages'
-
-# Writes each block of the page that has a name into the file of that name.
+# Writes each block of the page that has a name into the file of that name, and makes the scripts executable as the page does.
 recipes() {
     awk '
         /^```/ && name != "" { close(name); name = ""; next }
         /^```[a-z]+ / { name = $2; next }
         name != "" { print >name }
     ' "$here/docs/USE.md"
-    # shellcheck disable=SC2086 # the names are words
-    chmod +x $names
+    sed -n 's/^    \(chmod +x .*\)/\1/p' "$here/docs/USE.md" >"$room/executable"
+    # shellcheck disable=SC1091 # the line is that of the page
+    . "$room/executable"
 }
 
 refused='<!DOCTYPE HTML PUBLIC "-//W3C//DTD HTML 4.01//EN"><p>an old page</p>'
@@ -229,8 +227,8 @@ try_compressed
 try_action
 project
 if has shellcheck; then
-    # shellcheck disable=SC2086 # the names are words
-    call shellcheck $names
+    # shellcheck disable=SC2046 # the names are words
+    call shellcheck $(sed 's/^chmod +x//' "$room/executable")
     wants 'the recipes for shellcheck' is "$status" 0
 else
     skip 'shellcheck: not installed'

@@ -25,7 +25,7 @@ const inElement = (name) => (tools, part) => fragmentLinesOf(tools, name, part);
 /** Where a fragment may stand, each with the lines of the tree that it then has. */
 const PLACES = [
   ...["body", "div", "section", "td"].map((name) => [`innerHTML of ${name}`, inElement(name)]),
-  ["the page behind its front", inPage("<!doctype html><body>", "")],
+  ["the page after its front", inPage("<!doctype html><body>", "")],
   ["a body", inPage("<!doctype html><title>t</title><body class=a>", "</body></html>")],
   ["a div", inPage("<!doctype html><p>a<div>", "</div>b")],
   ["an article", inPage("<!doctype html><article>", "</article><p>b")],

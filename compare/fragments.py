@@ -125,7 +125,7 @@ def changed_out(dice, page, out, other):
 
 
 def changed_cert(dice, cert, other, of_page):
-    """CERT with a change, or with that of the page that the fragment makes behind its front, or of other rules."""
+    """CERT with a change, or with that of the page that the fragment makes after its front, or of other rules."""
     kind = dice.random()
     if kind < 0.1:
         return cert.replace(b" frame\n", b"\n", 1)

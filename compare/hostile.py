@@ -83,7 +83,7 @@ def cases():
         Run("no 4 layers 12, wanted 10", made=(DOCTYPE + b"<p>a<p>b<p>c<p>d", None)),
     ]
     yield "another table's certificate", [
-        # by the other table the character has other edges, so the layer behind it has other states
+        # by the other table the character has other edges, so the layer after it has other states
         Run("no 5 layer 8: prices 3, wanted 4", page=LESS, out=DOCTYPE + b"<p>a&ltb", table=LT, made=(LESS, LT_SEMICOLON)),
         Run("no 5 layer 8: prices 4, wanted 3", page=LESS, out=DOCTYPE + b"<p>a&lt;b", table=LT_SEMICOLON, made=(LESS, LT)),
         # by the empty table &lt is no reference

@@ -22,7 +22,7 @@ const LEFT_OUT = new Map(Object.entries({
   table_key_of_62_letters: "the table has a name that the standard's table hasn't",
 }));
 
-/** The page's bytes as they stand behind the escapes. */
+/** The page's bytes that the escapes stand for. */
 function bytesOf(text) {
   const simple = { n: 10, r: 13, t: 9, "\\": 92 };
   const out = [];

@@ -176,7 +176,7 @@ def json_calls(program):
 
 
 def put_trees(program, folder):
-    """The page's tree as JSON, and the same with a text behind its last event."""
+    """The page's tree as JSON, and the same with a text after its last event."""
     tree, broken = os.path.join(folder, "tree"), os.path.join(folder, "broken")
     with open(tree, "wb") as file:
         subprocess.run([program, "json", "none", "page.html"], cwd=folder, stdout=file, check=True)

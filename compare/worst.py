@@ -7,7 +7,7 @@ the standard's own where the kind needs names. Printed are the least processor t
 greatest, and how many times as long the greatest takes as the least. Time that is linear in the page grows as the sizes do.
 
 Where no KIND is named, `minify TABLE PAGE OUT CERT` follows, with a TABLE of twelve names by which layers have 246 states: each `a` of a
-paragraph may be written by four names without `;`, and behind such a name up to 60 literal `a` may yet become a longer name. These pages
+paragraph may be written by four names without `;`, and after such a name up to 60 literal `a` may yet become a longer name. These pages
 have a fiftieth of SIZES, since the certificate has some 1,400 bytes for each of theirs.
 PROGRAM is `crates/hminify/out/hminify` where none is named. Needs Linux and the standard library of Python 3.9 or later.
 """

@@ -3,10 +3,10 @@
 
     python3 tests/docs.py
 
-prints each name that isn't there, each crate without a README or without a line in the map, each document that doesn't have
-the version of the file VERSION, and each transcript that the program answers in another way, and then ends with 1. Where
-all is well it prints one line. The transcripts are run where the program was built (crates/hminify/out/hminify); where it
-wasn't, that is said, and is a fault if CI is `true`."""
+prints each name that isn't there, each crate without a README or without a line in the map, each function that docs/STANDARD.md
+names and whose comment doesn't cite its section, each document that doesn't have the version of the file VERSION, and each
+transcript that the program answers in another way, and then ends with 1. Where all is well it prints one line. The transcripts
+are run where the program was built (crates/hminify/out/hminify); where it wasn't, that is said, and is a fault if CI is `true`."""
 import os
 import re
 import shutil
@@ -18,6 +18,7 @@ from pathlib import Path
 
 TOP = Path(__file__).resolve().parent.parent
 MAP = 'docs/ARCHITECTURE.md'
+STANDARD = 'docs/STANDARD.md'
 PROGRAM = 'crates/hminify/out/hminify'
 # rt hashes the sources of a crate once for each path to it, so the paths below the program cost time at each call.
 MOST_PATHS = 2000
@@ -38,6 +39,8 @@ STANDS_FOR = re.compile(r'\bhm_x\b|\bNAME\b')
 # a name of a program text, as `first_way` or `IsShortest`
 NAME = re.compile(r'`([a-z]+(?:_[a-z0-9]+)+|(?:[A-Z][a-z0-9]+){2,})`')
 LINK = re.compile(r'(?<!!)\[[^\]\n]*\]\(([^)\s]+)\)')
+# an anchor of the HTML Standard, as `#the-end` or `#attribute-value-(unquoted)-state`
+ANCHOR = re.compile(r'#[a-z]+(?:-(?:[a-z0-9]+|\([a-z-]+\)))*')
 HEADING = re.compile(r'^#+ +(.*)$', re.M)
 
 faults = []
@@ -191,6 +194,35 @@ def try_map(known):
             fault('README.md', f'no word of {name}')
 
 
+def rows_of(text):
+    """The cells of each row of a table, without its head."""
+    return [[it.strip() for it in line.split('|')[1:-1]] for line in text.splitlines() if line.startswith('| #')]
+
+
+def comments_of(text, name):
+    """The comment above each function or type of this name, over its attributes."""
+    head = r'^((?: *(?:///|#\[).*\n)*) *(?:pub(?:\([a-z]+\))? )?(?:\w+ )*(?:fn|struct|enum|trait) ' + name + r'\b'
+    return re.findall(head, text, re.M)
+
+
+def try_anchors():
+    """Each function of docs/STANDARD.md, but for laws, cites a section of its rows in its comment."""
+    wanted = {}
+    for section, _, functions, *_ in rows_of(read(TOP / STANDARD)):
+        for call in CALL.findall(functions):
+            wanted.setdefault(call, set()).update(ANCHOR.findall(section))
+    for (crate, path), anchors in sorted(wanted.items()):
+        module, *names = path.split('::')
+        if crate.endswith('_laws') or module.endswith('laws'):
+            continue
+        files = sources(crate)
+        if names:
+            files = [TOP / 'crates' / crate / 'src' / f'{module}.rt']
+        cited = [set(ANCHOR.findall(it)) for file in files for it in comments_of(read(file), path.split('::')[-1])]
+        if not any(it & anchors for it in cited):
+            fault(STANDARD, f'{crate}::{path} has no anchor of its section')
+
+
 def try_version():
     """The version stands in VERSION; the manual page tells of it, and it is the first of the changelog."""
     version = read(TOP / 'VERSION').strip()
@@ -276,6 +308,7 @@ def main():
         try_names(document, text, known)
         try_links(document, text)
     try_map(known)
+    try_anchors()
     try_version()
     try_paths(known)
     if has_program():

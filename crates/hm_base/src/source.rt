@@ -89,7 +89,8 @@ impl Model for SourceText {
 }
 
 impl SourceText {
-    /// The text of the bytes of a page. Places count bytes of the page as it is.
+    /// The text of the bytes of a page (#the-input-byte-stream, #preprocessing-the-input-stream). Places count bytes of the
+    /// page as it is.
     ///
     /// The fault is `TooLong` where there are more bytes than `limit`, else the earlier fault is reported. `Memory`
     /// comes only where the page has a text.

@@ -209,7 +209,8 @@ pub fn parse_closed(
     }
 }
 
-/// The tree of a page (#tree-construction), or its first refusal, with its rule and its byte of the page.
+/// The tree of a page (#overview-of-the-parsing-model, #tree-construction), or its first refusal, with its rule and its byte of
+/// the page.
 ///
 /// The time is linear in the page, and the tree is settled: it keeps the rules of
 /// nesting and text of a page without repairs.

@@ -36,7 +36,8 @@ fn mode_of_name(name: &str) -> Mode
     }
 }
 
-/// How the text that comes next is read. Only the name of an element that holds one text is looked up.
+/// How the text that comes next is read (HTML Standard, #parsing-elements-that-contain-only-text). Only the name of an element
+/// that holds one text is looked up.
 #[inline(always)]
 pub(crate) fn mode(builder: &TreeBuilder) -> Mode
     ensures { mode_of result ≡ trees.mode_of builder.now.state.path }

@@ -56,7 +56,7 @@ impl Class {
     }
 }
 
-/// The class of the HTML element with this name.
+/// The class of the HTML element with this name (HTML Standard, #elements-2).
 pub fn class_of(name: &str) -> Class
     ensures { result ≡ tables.class_of name.now }
 {
@@ -235,7 +235,7 @@ const SVG: [&str; 61] = [
     "view",
 ];
 
-/// Whether SVG has an element of this name that is read, in lowercase letters.
+/// Whether SVG has an element of this name that is read, in lowercase letters (#elements-2).
 #[tactic(auto, unfolding(crate::specs::Tables::is_svg_name, crate::specs::Tables::svg_names))]
 pub fn svg_name(name: &str) -> bool
     ensures { result ≡ tables.is_svg_name name.now }

@@ -56,7 +56,7 @@ const YIELDS: [PairRow<'static>; 8] = [
 ];
 
 /// Whether the open element `current` closes before the start tag of an HTML element `next` (#optional-tags,
-/// #parsing-main-inbody and following).
+/// #closing-elements-that-have-implied-end-tags, #parsing-main-inbody and following).
 #[tactic(auto, using(crate::proofs::NestingFacts::never_yields), unfolding(crate::specs::Nesting::yields))]
 pub fn yields(current: Named<'_>, next: Named<'_>) -> bool
     ensures { result ≡ nesting.yields current.entry.name.now next.entry.name.now }
@@ -116,7 +116,8 @@ const ENDS: [PairRow<'static>; 8] = [
     },
 ];
 
-/// Whether the open element `child` ends with the end tag `ending` (#optional-tags).
+/// Whether the open element `child` ends with the end tag `ending` (#optional-tags,
+/// #closing-elements-that-have-implied-end-tags).
 #[tactic(auto, using(crate::proofs::NestingFacts::never_ends))]
 pub fn ends_with(child: Named<'_>, ending: &str) -> bool
     ensures { result ≡ nesting.ends_with child.entry.name.now ending.now }
@@ -206,7 +207,8 @@ const PARENTS: [PairRow<'static>; 5] = [
     },
 ];
 
-/// Whether an HTML element `name` may stand under the element `parent`, which itself stands under `grandparent` or at the top.
+/// Whether an HTML element `name` may stand under the element `parent`, which itself stands under `grandparent` or at the top
+/// (#element-restrictions, #parsing-main-inselect).
 #[inline(always)]
 #[tactic(auto, unfolding(crate::specs::Nesting::may_stand, crate::specs::Nesting::noscript_children))]
 pub fn may_stand(name: Named<'_>, parent: Named<'_>, grandparent: Option<&str>) -> bool

@@ -38,8 +38,8 @@ fn refusal(refused: Refused) -> Refused
     }
 }
 
-/// The tree of a fragment, the content of body alone, from a page that is `front` and then the fragment: or its first refusal,
-/// with its rule and its byte of the fragment.
+/// The tree of a fragment (#parsing-html-fragments), the content of body alone, from a page that is `front` and then the
+/// fragment: or its first refusal, with its rule and its byte of the fragment.
 ///
 /// It is refused where the page is (#tree-construction), and else, by `FrameEnd`, at the first token that closes body
 /// (#parsing-main-inbody, `</body>` and `</html>`). The page's memory is freed. The time is linear in the page.

@@ -126,7 +126,7 @@ pub known_next : (v : TableView) (kept : List Edge) (e : Edge) (b : Bool) → Ar
 known_next v kept e true known own = subst (AreOfTable v) (sym (append-nil kept)) known
 known_next v kept e false known own = known_last v kept e known own
 
--- those of some first edges, and those behind them
+-- those of some first edges, and those after them
 pub known_front : (v : TableView) (edges : List Edge) (n : ℕ) → AreOfTable v edges → AreOfTable v (take n edges)
 known_front v edges zero known = tt
 known_front v [] (suc n) known = tt

@@ -191,7 +191,7 @@ impl TreeBuilder {
         Ok(())
     }
 
-    /// The tree, at the end of the page: what is missing is made, and all closes (#parsing-main-inhtml).
+    /// The tree, at the end of the page: what is missing is made, and all closes (#parsing-main-inhtml, #the-end).
     pub fn finish(self, alloc: Global) -> Result<Tree, BuildFault>
         requires { Fits (step_over self.state) self.walk }
         ensures { Builds (step_over self.state) result self.walk }

@@ -32,7 +32,8 @@ impl Parts {
         }
     }
 
-    /// Takes a comment (#parsing-main-inhtml). After `body` and after `html` it is kept for the end of the page.
+    /// Takes a comment (#parsing-main-inhtml). After `body` and after `html` it is kept for the end of the page
+    /// (#parsing-main-afterbody, #the-after-after-body-insertion-mode).
     pub(crate) fn comment(&mut self, alloc: Global, text: &str) -> Result<(), Memory>
         requires kept { IsKept self.old }
         requires room { Fits (step (state_of self.old) (tokens.comment text.now)) self.old.maker }

@@ -151,7 +151,7 @@ fn opens_as_svg(path: &Path, name: &str) -> bool
 }
 
 /// Ends the elements that close, starts those that are made, and then the element of the tag (#parsing-main-inbody and
-/// following).
+/// following, #creating-and-inserting-nodes).
 fn move_and_start(
     alloc: Global,
     maker: &mut Maker,

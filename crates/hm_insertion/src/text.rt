@@ -29,7 +29,7 @@ fn split_blank(text: &str) -> (&str, &str)
     (&text[..at], &text[at..])
 }
 
-/// Why a text that isn't whitespace is refused (#parsing-main-inhtml).
+/// Why a text that isn't whitespace is refused (#parsing-main-inhtml, #parsing-main-intabletext, #parsing-main-inselect).
 fn text_rule(insertion_mode: BuilderMode, path: &hm_settle::Path) -> Option<Rule>
     ensures { result ≡ inside.text_rule insertion_mode path.now }
 {

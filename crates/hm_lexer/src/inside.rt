@@ -38,8 +38,8 @@ fn script_text_end(text: &str, at: u32) -> Option<u32>
     }
 }
 
-/// Reads from byte `at` on in the text of an element that ends at `to`: a piece of it, or at its end the end tag.
-/// `references` says whether character references are read.
+/// Reads from byte `at` on in the text of an element that ends at `to` (HTML Standard, #rcdata-state): a piece of it, or at
+/// its end the end tag. `references` says whether character references are read.
 pub fn scan_up_to(
     alloc: Global,
     text: &str,
@@ -68,7 +68,7 @@ pub fn scan_up_to(
     Ok((Lexeme::Slice { from: at, to }, to))
 }
 
-/// Reads from byte `at` on in the raw text of an element with that name.
+/// Reads from byte `at` on in the raw text of an element with that name (#rawtext-state).
 pub fn scan_raw_text(
     alloc: Global,
     text: &str,
@@ -92,7 +92,7 @@ pub fn scan_raw_text(
     }
 }
 
-/// Reads from byte `at` on in the text of a script.
+/// Reads from byte `at` on in the text of a script (#script-data-state).
 pub fn scan_script_text(
     alloc: Global,
     text: &str,

@@ -27,7 +27,7 @@ fn begins_empty_tag(bytes: &[u8]) -> bool
     }
 }
 
-/// The first place at or after `at` where no `</>` begins; each one before it is skipped.
+/// The first place at or after `at` where no `</>` begins; each one before it is skipped (#end-tag-open-state).
 pub fn behind_empty_tags(text: &str, at: u32) -> u32
     requires boundary { IsCharBoundary text.now at }
     requires size { length text.now < 2 ^ 32 }
@@ -51,7 +51,7 @@ fn placed(read: Result<(Token, u32), ScanFault>, tag: &mut Tag) -> Result<(Lexem
     }
 }
 
-/// Reads the markup that begins at byte `at`.
+/// Reads the markup that begins at byte `at` (#markup-declaration-open-state).
 fn scan_markup(
     alloc: Global,
     text: &str,
@@ -83,7 +83,8 @@ fn scan_markup(
     placed(scan_comment(text, at), tag)
 }
 
-/// Reads the markup or the piece of text that begins at byte `at`. `foreign` says that a CDATA section may begin there.
+/// Reads the markup or the piece of text that begins at byte `at` (#tag-open-state, #end-tag-open-state). `foreign` says that
+/// a CDATA section may begin there.
 pub fn scan_here(
     alloc: Global,
     text: &str,

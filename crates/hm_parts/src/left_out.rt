@@ -198,7 +198,7 @@ fn end_falls_at(tree: &Tree, i: u32, name: &str) -> bool
     is_like_ended(name) && end_falls(name, asked_parent(tree, i, name), next_event(tree, i))
 }
 
-/// Whether the start tag of an element without attributes, which is event `i`, may be left out.
+/// Whether the start tag of an element without attributes, which is event `i`, may be left out (#optional-tags).
 pub(crate) fn may_omit_start(
     tree: &Tree,
     rules: SpellRules,
@@ -212,7 +212,7 @@ pub(crate) fn may_omit_start(
     rules.omit && !foreign && start_falls_at(tree, i, rules.frame, name)
 }
 
-/// Whether the end tag of an element, which is event `i`, may be left out.
+/// Whether the end tag of an element, which is event `i`, may be left out (#optional-tags).
 pub(crate) fn may_omit_end(
     tree: &Tree,
     rules: SpellRules,

@@ -159,7 +159,8 @@ impl TextPieces {
         }
     }
 
-    /// Takes the next bytes of the page. A piece may end anywhere, within a character or a line end too.
+    /// Takes the next bytes of the page (HTML Standard, #the-input-byte-stream). A piece may end anywhere, within a character
+    /// or a line end too.
     ///
     /// Where memory is refused, each later call of this and of `finish` is refused too. After a fault the bytes are read
     /// for the limit alone.

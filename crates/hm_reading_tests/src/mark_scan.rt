@@ -16,14 +16,14 @@ fn is_short(text: &str) -> bool
     text.len() < 1000 && text.is_char_boundary(0)
 }
 
-/// Whether a piece of the text and the rest behind it are wanted, with ` ⇒ ` between them.
+/// Whether a piece of the text and the rest after it are wanted, with ` ⇒ ` between them.
 fn is_piece(text: &str, from: u32, to: u32, place: u32, wanted: &str) -> bool {
     let piece = text.get(from as usize..to as usize).unwrap_or("?");
     let rest = text.get(place as usize..).unwrap_or("?");
     behind(behind(behind(wanted, piece), " ⇒ "), rest).is_empty()
 }
 
-/// Whether a token and the rest behind it are wanted: its piece of the text and ` ⇒ ` before that rest, or, of a doctype,
+/// Whether a token and the rest after it are wanted: its piece of the text and ` ⇒ ` before that rest, or, of a doctype,
 /// whether it is the legacy one and the place of the rest.
 fn is_read(text: &str, token: &Token, place: u32, wanted: &str) -> bool {
     match token {
@@ -35,7 +35,7 @@ fn is_read(text: &str, token: &Token, place: u32, wanted: &str) -> bool {
     }
 }
 
-/// Whether an answer is wanted: a token and what is behind it, or a fault.
+/// Whether an answer is wanted: a token and what stands after it, or a fault.
 fn is_answer(text: &str, answer: Result<(Token, u32), ScanFault>, wanted: &str) -> bool {
     match answer {
         Ok((token, place)) => is_read(text, &token, place, wanted),
@@ -80,7 +80,7 @@ fn is_raw(name: &str, text: &str, wanted: &str) -> bool {
     is_short(text) && is_answer(text, scan_raw(text, 0, name), wanted)
 }
 
-/// In each line a text, ` ⇒ `, and what is read at its start: a piece, ` ⇒ ` and what stands behind it, or a fault.
+/// In each line a text, ` ⇒ `, and what is read at its start: a piece, ` ⇒ ` and what stands after it, or a fault.
 const COMMENTS: &str = "\
     <!-->x ⇒  ⇒ x\n\
     <!--->--> ⇒  ⇒ -->\n\
@@ -118,7 +118,7 @@ fn comments(rt: HostRuntime) {
     }
 }
 
-/// In each line a text, ` ⇒ `, and the doctype that is read at its start: whether it is the legacy one, and the place behind it.
+/// In each line a text, ` ⇒ `, and the doctype that is read at its start: whether it is the legacy one, and the place after it.
 const DOCTYPES: &str = "\
     <!doctype html>x ⇒ (false, 15)\n\
     <!DOCTYPE html SYSTEM 'about:legacy-compat'> ⇒ (true, 44)\n\

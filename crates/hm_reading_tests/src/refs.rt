@@ -208,7 +208,7 @@ fn names_are_found(rt: HostRuntime) -> Result<(), Fail> {
 const CHARACTERS: &str =
     "Az09 !\"#$%&'()*+,-./:;<=>?@[\\]^_`{|}~\u{7F}\u{80}\u{E9}\n ⇒ Az09!#$%()*+,-./:;?@[\\]^_{|}~";
 
-/// Whether the characters of a text that are plain are those that stand after ` ⇒ ` behind it.
+/// Whether the characters of a text that are plain are those that stand after it and ` ⇒ `.
 fn is_plain(table: &Table, line: &str) -> bool {
     let (text, wanted) = cut(line, " ⇒ ");
     let mut rest = wanted;

@@ -1,7 +1,7 @@
 //! Rows of tables: how a line is cut, and how what it says is asserted.
 use std::process::Abort;
 
-/// What stands before the first mark of a line, and what stands behind it: `?`, which no row wants, where there is no mark.
+/// What stands before the first mark of a line, and what stands after it: `?`, which no row wants, where there is no mark.
 pub(crate) fn cut<'t>(line: &'t str, mark: &str) -> (&'t str, &'t str) {
     line.split_once(mark).unwrap_or((line, "?"))
 }

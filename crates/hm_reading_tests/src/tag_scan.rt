@@ -29,7 +29,7 @@ fn behind_tag<'w>(wanted: &'w str, token: &Token) -> &'w str {
     }
 }
 
-/// Whether an answer is wanted: the tag and, after a space, the place behind it, or its fault.
+/// Whether an answer is wanted: the tag and, after a space, the place after the tag, or its fault.
 fn is_answer(wanted: &str, answer: Result<(Token, u32), ScanFault>) -> bool {
     match answer {
         Ok((token, place)) => is_value(behind(behind_tag(wanted, &token), " "), &place),
@@ -37,7 +37,7 @@ fn is_answer(wanted: &str, answer: Result<(Token, u32), ScanFault>) -> bool {
     }
 }
 
-/// Whether this is wanted of the start of a text: its tag and the place behind it, its fault, or `no tag`.
+/// Whether this is wanted of the start of a text: its tag and the place after it, its fault, or `no tag`.
 fn is_tag(alloc: Global, table: &Table, text: &str, wanted: &str) -> bool {
     if text.len() < 1000 && begins_tag(text, 0) {
         is_answer(wanted, scan_tag(alloc, text, 0, table))

@@ -26,7 +26,7 @@ fn is_text(text: &str, at: u32, rcdata: bool) -> bool
         && (rcdata || !begins_markup(text, at))
 }
 
-/// Whether a token and the place behind it are wanted: where its text begins and ends, or its code points.
+/// Whether a token and the place after it are wanted: where its text begins and ends, or its code points.
 fn is_read(token: &Token, place: u32, wanted: &str) -> bool {
     match token {
         Token::Slice { from, to } => is_value(wanted, &(*from, *to, place)),
@@ -46,7 +46,7 @@ fn is_piece(table: &Table, rcdata: bool, text: &str, at: u32, wanted: &str) -> b
 }
 
 /// In each line a place in a text, the text, and what is read there: where its text begins and ends or its code points, and
-/// the place behind it. It is the same in a title.
+/// the place after it. It is the same in a title.
 const REFERENCES: &str = "\
     0 &copy= ⇒ ('©', None, 5)\n\
     0 &copy;= ⇒ ('©', None, 6)\n\

@@ -33,7 +33,8 @@ const REPLACED: [(u32, char); 27] = [
     (0x9F, '\u{0178}'),
 ];
 
-/// The code point that `&#` and the digits of `n` stand for: U+FFFD for zero, a surrogate and what is above U+10FFFF.
+/// The code point that `&#` and the digits of `n` stand for (#numeric-character-reference-end-state): U+FFFD for zero, a
+/// surrogate and what is above U+10FFFF.
 ///
 /// All numbers above 0x10FFFF give the same, so a reader of digits may stop at 0x110000.
 pub fn number_value(n: u32) -> char

@@ -23,8 +23,8 @@ use serde_json::{Map, Value};
 use std::alloc::Global;
 
 impl Table {
-    /// Reads a table in the form of the standard's `entities.json`: an object whose keys are the names, each with an
-    /// object that has the code points in `codepoints`. Other members are ignored.
+    /// Reads a table in the form of the standard's `entities.json` (HTML Standard, #named-character-references): an object
+    /// whose keys are the names, each with an object that has the code points in `codepoints`. Other members are ignored.
     pub fn read(alloc: Global, bytes: &[u8]) -> Result<Table, TableFault>
         ensures ok { IfOk result (λ table. names bytes.now ≡ Ok table.entries) }
         ensures fault { IfErr result

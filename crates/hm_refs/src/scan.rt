@@ -73,7 +73,7 @@ fn number(digits: &[u8], base: u32) -> u32
 }
 
 /// The reference whose digits begin at `from`, after `&#` or `&#x` (#hexadecimal-character-reference-start-state to
-/// #numeric-character-reference-end-state).
+/// #decimal-character-reference-state, and #numeric-character-reference-end-state).
 fn numeric_reference(text: &[u8], from: usize, base: u32) -> Option<Reference>
     requires inside { from ≤ length text.now }
     requires low { 2 ≤ base }

@@ -132,7 +132,7 @@ impl Table {
         NameId::new(place)
     }
 
-    /// The longest name that the text begins with; None where it begins with none.
+    /// The longest name that the text begins with (#named-character-reference-state); None where it begins with none.
     pub fn longest(&self, text: &[u8]) -> Option<NameId>
         ensures found { option_map (λ id. found_at self.now.entries id text.now) result
             ≡ longest self.now.entries text.now }

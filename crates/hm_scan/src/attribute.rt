@@ -100,7 +100,7 @@ fn find_quote(bytes: &[u8], quote: u8) -> FoundQuote
     }
 }
 
-/// The value that begins after a quote.
+/// The value that begins after a quote (#attribute-value-(double-quoted)-state, #attribute-value-(single-quoted)-state).
 fn quoted_value(bytes: &[u8], from: usize, quote: u8) -> Value
     requires utf8 { IsUtf8 bytes.now }
     requires quote { tags.is_quote quote ≡ true }

@@ -41,8 +41,8 @@ impl Collected {
         self.keeps && !self.has_bad_name && self.count <= ATTRIBUTE_LIMIT
     }
 
-    /// Takes one more attribute, name and value as they are written. `plain` says that its name isn't refused, and is
-    /// read as it is written; `plain_value` that its value is.
+    /// Takes one more attribute, name and value as they are written (#attribute-name-state). `plain` says that its name isn't
+    /// refused, and is read as it is written; `plain_value` that its value is.
     pub(crate) fn take(
         &mut self,
         alloc: Global,

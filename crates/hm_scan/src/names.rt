@@ -78,8 +78,8 @@ fn are_tag_bytes(name: &[u8]) -> bool
     true
 }
 
-/// Whether this is a name of an element that is read: a lowercase letter, and lowercase letters, digits, `.`, `_`, `:`
-/// and `-` after it.
+/// Whether this is a name of an element that is read (#tag-name-state): a lowercase letter, and lowercase letters, digits, `.`,
+/// `_`, `:` and `-` after it.
 #[tactic(auto, unfolding(hm_base::specs::Forms::is_tag_name))]
 pub fn is_tag_name(name: &[u8]) -> bool
     ensures { result ≡ forms.is_tag_name name.now }

@@ -8,8 +8,8 @@ use crate::plain_text::{markup_here, plain_end, reference_here};
 use hm_refs::Table;
 use hm_tree::Token;
 
-/// Whether markup begins at byte `at` of ordinary text: a tag, a comment, a doctype, a CDATA section, or `</>`, which
-/// stands for nothing (#tag-open-state and #end-tag-open-state).
+/// Whether markup begins at byte `at` of ordinary text (#data-state): a tag, a comment, a doctype, a CDATA section, or `</>`,
+/// which stands for nothing (#tag-open-state and #end-tag-open-state).
 #[inline(always)]
 pub fn begins_markup(text: &str, at: u32) -> bool
     requires { at ≤ length text.now }

@@ -54,7 +54,8 @@ fn push_points(text: &mut String, points: Points) -> Result<(), Memory>
     Ok(())
 }
 
-/// The value that is written so: its character references are read (#character-reference-state).
+/// The value that is written so (#attribute-value-(double-quoted)-state to #attribute-value-(unquoted)-state): its character
+/// references are read (#character-reference-state).
 pub(crate) fn read_value(alloc: Global, written: &str, table: &Table) -> Result<String, Memory>
     ensures { IfOk result
         (λ value. string_bytes value ≡ values.read_value table.now.entries written.now) }

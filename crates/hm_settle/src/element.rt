@@ -110,7 +110,8 @@ impl Marks {
         self.paragraph && name.kind().closes_p
     }
 
-    /// Whether an element of this name would stand in one of its own name that it may not stand in, or a heading in a heading.
+    /// Whether an element of this name would stand in one of its own name that it may not stand in, or a heading in a heading
+    /// (HTML Standard, #the-element-pointers, #parsing-main-inbody).
     pub(crate) fn is_nested(&self, name: Named<'_>) -> bool
         ensures { (path : List Element) → self.now ≡ marks_of path → result ≡ paths.is_nested name.entry.name.now path }
     {

@@ -25,7 +25,7 @@ pub enum Made {
 }
 
 impl Made {
-    /// What is made under this parent before an element of that name opens.
+    /// What is made under this parent before an element of that name opens (#parsing-main-intable).
     #[tactic(auto, unfolding(crate::specs::Answers::elements_of, hm_elements::specs::Nesting::made_under))]
     pub(crate) fn under(parent: &str, name: &str) -> Made
         ensures { elements_of result ≡ map html_element (made_under parent.now name.now) }

@@ -20,7 +20,8 @@ use hm_elements::{Kind, Named, kind_of};
 use std::alloc::Global;
 use std::marker::Model;
 
-/// The open elements of a page in its body. Contracts see the list of them, innermost first.
+/// The open elements of a page in its body (HTML Standard, #the-stack-of-open-elements). Contracts see the list of them,
+/// innermost first.
 #[derive(Drop)]
 pub struct Path {
     elements: Vec<OpenElement>,
@@ -135,7 +136,7 @@ impl Path {
         })
     }
 
-    /// Takes an end tag of this name: closes the elements whose ends it implies and its own, and makes
+    /// Takes an end tag of this name (#parsing-main-inbody): closes the elements whose ends it implies and its own, and makes
     /// nothing. It takes no memory; after a fault the path is unchanged.
     #[inline(always)]
     pub fn end(&mut self, name: &str) -> Result<Moves, SettleFault>

@@ -66,7 +66,7 @@ pub(crate) fn plan_start(elements: &[OpenElement], tag: Named<'_>) -> Result<Mov
     }
 }
 
-/// What a start tag does in the element `current` of SVG.
+/// What a start tag does in the element `current` of SVG (HTML Standard, #parsing-main-inforeign).
 fn plan_in_svg(elements: &[OpenElement], current: &str, name: &str) -> Result<MovePlan, Rule>
     requires path { IsPath elements.now }
     requires svg { paths.is_in_svg (path_of elements.now) ≡ true }
@@ -227,7 +227,8 @@ fn reached_by_end(elements: &[OpenElement], name: &str) -> usize
     }
 }
 
-/// How many elements stay where those are closed that end with an end tag of another name.
+/// How many elements stay where those are closed that end with an end tag of another name
+/// (#closing-elements-that-have-implied-end-tags).
 fn left_by_implied_ends(elements: &[OpenElement], name: &str) -> usize
     requires { IsPath elements.now }
     ensures least { 2 ≤ result }

@@ -115,7 +115,8 @@ impl Maker {
         Ok(())
     }
 
-    /// Appends a text to what is there. It joins a text that stands last, and an empty one adds nothing.
+    /// Appends a text to what is there (HTML Standard, #creating-and-inserting-nodes). It joins a text that stands last, and an
+    /// empty one adds nothing.
     pub fn text(&mut self, text: &str, raw: bool) -> Result<(), Memory>
         requires room { HasRoom (with_text self.old text.now raw) }
         requires same_raw { last_agrees self.old raw ≡ true }

@@ -100,7 +100,7 @@ fn rules_of(word: &str) -> Option<SpellRules> {
     }
 }
 
-/// Whether what stands in a line behind its names holds with a table.
+/// Whether what stands in a line after its names holds with a table.
 fn is_ordered(alloc: Global, table: &Table, line: &str) -> bool {
     let (word, rest) = cut(line, " ");
     let (page, wanted) = cut(rest, " ⇒ ");

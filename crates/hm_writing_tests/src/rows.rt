@@ -5,7 +5,7 @@ use std::process::Abort;
 /// What is wanted once another text was printed than was wanted. Nothing that is printed has it.
 const OTHER: &str = "\0";
 
-/// What stands before the first mark of a line, and what stands behind it: `?`, which no row wants, where there is no mark.
+/// What stands before the first mark of a line, and what stands after it: `?`, which no row wants, where there is no mark.
 pub(crate) fn cut<'t>(line: &'t str, mark: &str) -> (&'t str, &'t str) {
     line.split_once(mark).unwrap_or((line, "?"))
 }

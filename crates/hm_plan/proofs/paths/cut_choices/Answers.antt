@@ -7,7 +7,7 @@ use Rattle.hm_plan.specs.Paths.{row_behind}
 use Rattle.hm_plan.proofs.FirstWay.{step_next}
 use Rattle.hm_plan.proofs.paths.cut_choices.Goals as goal
 
--- the choices from a step on are those behind it and its own
+-- the choices from a step on are those after it and its own
 choices_next : (g : GraphView) (k : ℕ) → k < length g.steps → choices_of g.last (drop k g.steps) ≡ choices_of g.last (drop (k + 1) g.steps) ++ step_choices (row_behind g k) (get_or g.steps k [])
 choices_next g k inside = ap (choices_of g.last) (step_next g.steps k inside)
 

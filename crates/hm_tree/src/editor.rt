@@ -210,7 +210,7 @@ impl Editor {
     {
         let row = self.rows[self.next as usize];
         let RowPart::Text { raw, .. } = row.part else {
-            return Err(Memory);
+            unreachable!();
         };
         let text = append_last(&mut self.text, text)?;
         self.next += count;
@@ -249,7 +249,7 @@ impl Editor {
         let at = self.next as usize;
         let row = self.rows[at];
         let RowPart::Text { raw, .. } = row.part else {
-            return Err(Memory);
+            unreachable!();
         };
         let text = append_last(&mut self.text, text)?;
         self.rows[at] = EventRow {

@@ -223,7 +223,7 @@ def main():
                     call.run(folder)
             for call in turns:
                 print(call.line("%s, %d bytes" % (name, size), size, folder), flush=True)
-    print("\nload behind: %.1f" % os.getloadavg()[0])
+    print("\nload after the runs: %.1f" % os.getloadavg()[0])
     return 0
 
 

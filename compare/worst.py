@@ -7,8 +7,9 @@ the standard's own where the kind needs names. Printed are the least processor t
 greatest, and how many times as long the greatest takes as the least. Time that is linear in the page grows as the sizes do.
 
 Where no KIND is named, `minify TABLE PAGE OUT CERT` follows, with a TABLE of twelve names by which layers have 246 states: each `a` of a
-paragraph may be written by four names without `;`, and after such a name up to 60 literal `a` may yet become a longer name. These pages
-have a fiftieth of SIZES, since the certificate has some 1,400 bytes for each of theirs.
+paragraph may be written by four names without `;`, and after such a name up to 60 literal `a` may yet become a longer name. With `--omit
+--unquote --sparse` it follows once more, with a reference before the first `a`, after which a sparse certificate has these states too. These
+pages have a fiftieth of SIZES, since the certificate has some 1,400 bytes for each of theirs.
 PROGRAM is `crates/hminify/out/hminify` where none is named. Needs Linux and the standard library of Python 3.9 or later.
 """
 import argparse
@@ -129,7 +130,10 @@ def main():
         print()
         head(sizes)
         words = [program, "minify", "table.json", "page.html", "out.html", "cert"]
-        line("layers of 246 states", filled(b"<p>", b"a"), sizes, words, names_of_many_states(), given.runs)
+        table = names_of_many_states()
+        line("layers of 246 states", filled(b"<p>", b"a"), sizes, words, table, given.runs)
+        words += ["--omit", "--unquote", "--sparse"]
+        line("the same after a reference, `--sparse`", filled(b"<p>&#60;", b"a"), sizes, words, table, given.runs)
 
 
 if __name__ == "__main__":

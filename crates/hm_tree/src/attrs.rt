@@ -15,7 +15,7 @@ use std::marker::Model;
 
 /// Names and values in order, each name once. Contracts see the list of them.
 ///
-/// They stand in one text, names and values one after the other. For more than 16 of them a table has the names, so
+/// They stand in one text, names and values one after the other. For more than 32 of them a table has the names, so
 /// that a repeated one is found at once.
 #[derive(Drop)]
 pub struct Attrs {

@@ -10,7 +10,7 @@ use indexmap::IndexSet;
 use std::alloc::Global;
 
 // How many names are looked at one by one. Where there are more, a table has them.
-const FEW: usize = 16;
+const FEW: usize = 32;
 
 // Adds a name to a table.
 fn add(table: &mut IndexSet<String>, name: &str) -> Result<(), Memory>

@@ -3,10 +3,12 @@
 
 Each FILE is a page that hminify takes; what stands in its body is repeated until the page has 4 MB (or N bytes). On each page
 `minify none PAGE OUT CERT --omit --unquote --space`, `check` with the same words, both with `--sparse` too, `tree none PAGE` and
-the peer (tdewolff's `minify`, its defaults) run by turns, N times (15 where nothing is said), with their output in files of a temporary folder.
+the peer (tdewolff's `minify`, its defaults) run by turns, each turn from another one on, N times (15 where nothing is said), with their output in files of
+a temporary folder.
 Printed are megabytes of the page a second: by the processor time of the run (user and system, of all its threads), which
 other work on the machine disturbs less, and by the wall's clock, median and best of the runs; and the peak of memory in
-bytes for a byte of the page. A peak can't be less than that of this script, some 3 bytes a byte. PROGRAM is
+bytes for a byte of the page. A peak can't be less than that of this script, some 3 bytes a byte. Last comes how many times as fast one command was as
+another one in the same turn, the median of all turns: so a machine that is slower for a while disturbs nothing. PROGRAM is
 `crates/hminify/out/hminify` where none is named; `--peer none` leaves the peer out. With `--json` there is no peer, and `json` and `minifyjson`
 run beside `minify`; for `minifyjson` all is told for the bytes of the JSON. In "reading alone" the tree breaks a rule after its last event, so
 that it is read and judged, and nothing is written. Without a FILE there are five documents
@@ -151,6 +153,23 @@ class Call:
             page, self.name, speeds(self.processor), speeds(self.wall), self.peak / size, written)
 
 
+def by_turns(calls, runs, folder):
+    """Runs all so many times, each turn from another one on. In the first one each file is written before it is read."""
+    for number in range(runs):
+        first = number % len(calls)
+        for call in calls[first:] + calls[:first]:
+            call.run(folder)
+
+
+def ratio(calls, fast, slow):
+    """How many times as fast one command was as another, by processor time and on the clock: the median of all turns."""
+    named = {call.name: call for call in calls}
+    if fast not in named or slow not in named:
+        return None
+    times = [(named[slow].processor, named[fast].processor), (named[slow].wall, named[fast].wall)]
+    return "%.3f | %.3f" % tuple(statistics.median(one / other for one, other in zip(*pair)) for pair in times)
+
+
 def calls(program, peer, table="none"):
     """The commands, in the order in which they take turns."""
     found = [
@@ -211,6 +230,7 @@ def main():
     print("| page | command | MB/s of processor time, median | best | MB/s on the clock, median | best"
           " | peak, bytes a byte | written, bytes |")
     print("|---|---|---|---|---|---|---|---|")
+    ratios = []
     for name, path in documents.items():
         with tempfile.TemporaryDirectory(prefix="hminify-speed-") as folder:
             target = os.path.join(folder, "page.html")
@@ -218,11 +238,15 @@ def main():
             if given.json:
                 put_trees(program, folder)
             turns = json_calls(program) if given.json else calls(program, peer)
-            for _ in range(given.runs):
-                for call in turns:
-                    call.run(folder)
+            by_turns(turns, given.runs, folder)
             for call in turns:
                 print(call.line("%s, %d bytes" % (name, size), size, folder), flush=True)
+            for fast, slow in [("minify --sparse", "peer"), ("check, sparse", "minify --sparse"), ("check", "minify")]:
+                found = ratio(turns, fast, slow)
+                if found:
+                    ratios.append("| %s | %s for %s | %s |" % (name, fast, slow, found))
+    if ratios:
+        print("\n| page | speed | by processor time | on the clock |\n|---|---|---|---|\n%s" % "\n".join(ratios))
     print("\nload after the runs: %.1f" % os.getloadavg()[0])
     return 0
 

@@ -18,7 +18,7 @@ use Rattle.hm_insertion.specs.declared.fault.BuildFault.{BuildFault}
 use Rattle.hm_insertion.specs.declared.fault.BuildFault.TheVariants as faults
 use Rattle.hm_insertion.proofs.Events.{grown_is}
 use Rattle.hm_build.specs.Parsing.{IsParsing, IsRead, IsWithin, left_tree, place_of, read_of, reads, span_of}
-use Rattle.hm_pieces.specs.Pieces.{before_text}
+use Rattle.hm_feed.specs.Pieces.{before_text}
 use Rattle.hm_build.proofs.Turns.{IsText, text_long}
 use Rattle.hm_build.proofs.Room.{first_within, over_fits, over_stops_there, within_further}
 

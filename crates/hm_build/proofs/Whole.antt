@@ -12,10 +12,10 @@ use Rattle.hm_refs.specs.Names.{Entry}
 use Rattle.hm_refs.specs.Tables.{IsTable}
 use Rattle.hm_construction_laws.specs.Trees.{Outcome, built, refused_by, page_tree, tree_of_text, unless_faulty}
 use Rattle.hm_construction_laws.proofs.Pages.{pages_are_settled}
-use Rattle.hm_pieces.specs.Fed.{decided}
-use Rattle.hm_pieces.specs.Pieces.{HasFed, HasPage, Pieces, fault_of_page, told_at}
-use Rattle.hm_pieces.proofs.Feeding.{fault_within}
-use Rattle.hm_pieces.proofs.Texts.{whole_texts_follow}
+use Rattle.hm_feed.specs.Fed.{decided}
+use Rattle.hm_feed.specs.Pieces.{HasFed, HasPage, Pieces, fault_of_page, told_at}
+use Rattle.hm_feed.proofs.Feeding.{fault_within}
+use Rattle.hm_feed.proofs.Texts.{whole_texts_follow}
 use Rattle.hm_insertion.specs.Building.{first_building}
 use Rattle.hm_build.specs.Feeding.{Comes, Ends, EndsAs, Feeding, HasCome, IsBuiltFrom, IsStopped, page_outcome_within, whole_tree}
 use Rattle.hm_build.specs.Parsing.{IsRefusedAs, left_tree, reads}

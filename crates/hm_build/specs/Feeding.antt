@@ -7,8 +7,8 @@ use Rattle.hm_base.specs.declared.rules.Rule.TheVariants.{TooLong}
 use Rattle.hm_refs.specs.Names.{Entry}
 use Rattle.hm_construction_laws.specs.Steps.{Construction, first_state}
 use Rattle.hm_construction_laws.specs.Trees.{Outcome, refused_by, after_events, mode_of, page_tree, tree_from}
-use Rattle.hm_pieces.specs.Fed.{decided}
-use Rattle.hm_pieces.specs.Pieces.{HasFed, HasPage, Pieces, before_text, fault_so_far}
+use Rattle.hm_feed.specs.Fed.{decided}
+use Rattle.hm_feed.specs.Pieces.{HasFed, HasPage, Pieces, before_text, fault_so_far}
 use Rattle.hm_lexer.specs.Ready.{ready}
 use Rattle.hm_lexer.specs.Standing.{Standing, stands}
 use Rattle.hm_base.specs.declared.rules.Refused.{Refused}

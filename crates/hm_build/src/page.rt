@@ -5,7 +5,7 @@ ghost use Rattle.hm_refs.specs.Tables.{IsTable};
 ghost use Rattle.hm_token_laws.specs.Laws.{SoundNames};
 ghost use Rattle.hm_construction_laws.specs.Closing.{closed_of_source, is_behind_body};
 ghost use Rattle.hm_construction_laws.specs.Trees.{built, tree_of_source};
-ghost use Rattle.hm_pieces.specs.Pieces.{before_text};
+ghost use Rattle.hm_feed.specs.Pieces.{before_text};
 ghost use Rattle.hm_build.specs.Feeding.{IsPartway};
 ghost use Rattle.hm_build.specs.Parsing.{IsParsing, IsRead, IsRefusedAs, IsTurned, IsWithin, closed_left, left_tree, reads, taken_by};
 

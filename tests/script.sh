@@ -121,7 +121,7 @@ wants 'in a copy, of the crates of the program, without edits and earlier builds
 wants 'first the lowest crate, then all but the last two, then all' is "$(sed 's/ hm_base hm_refs hm_tree hminify, .*//' calls | tr '\n' ';')" \
     'ci hm_base;ci hm_base hm_tree;ci;'
 wants 'how many crates at a time' grep -qE 'proving 4 crates, [1-9][0-9]* at a time$' err
-wants 'how many crates are proved is told' says 'hminify: proved 4 of 4, 0:0'
+wants 'how many crates are proved is told' says 'hminify: proved hm_refs (4 of 4), 0:0'
 call "$top/hminify" x
 wants 'the next call builds nothing' is "$(builds)" 1
 wants 'the next call says nothing' says_nothing
@@ -132,7 +132,7 @@ repository
 call "$top/hminify" tree 'a b' ''
 wants 'an rt that takes no names: output and status' is "$(cat out)$status" "<tree><a b><>${room}3"
 wants 'an rt that takes no names: all crates at once' is "$(cat calls)" 'ci hm_base hm_refs hm_tree hminify, Handles allowed: none., 0 more'
-wants 'an rt that takes no names: how many are proved is told' says 'hminify: proved 4 of 4, 0:0'
+wants 'an rt that takes no names: how many are proved is told' says 'hminify: proved hm_refs (4 of 4), 0:0'
 wants 'an rt that takes no names: it is no fault' is "$(grep -c usage err)" 0
 touch "$top/crates/hm_tree/bad"
 call "$top/hminify" --build
@@ -146,8 +146,8 @@ echo 2 >"$top/crates/hm_base/slow"
 printf '%s\n' '#!/bin/sh' "echo \"\$($(command -v date) +%s)000\"" >"$top/bin/date"
 chmod +x "$top/bin/date"
 call "$top/hminify"
-wants 'how long the rest will take is told' grep -qE 'proved [1-3] of 4, [0-9:]+, some [0-9]+ minutes to go$' err
-wants 'when nothing is left it is not' is "$(grep -c 'proved 4 of 4.*to go' err)" 0
+wants 'how long the rest will take is told' grep -qE 'proved hm[a-z_]+ \([1-3] of 4\), [0-9:]+, some [0-9]+ minutes to go$' err
+wants 'when nothing is left it is not' is "$(grep -c '(4 of 4).*to go' err)" 0
 call "$top/hminify" --build
 wants 'nor of crates that are kept' is "$(grep -c 'to go' err)" 0
 
@@ -177,7 +177,7 @@ wants 'a newer source: nothing is built' is "$(builds)" 1
 wants 'a newer source: output and status' is "$(cat out)$status" "<x>${room}3"
 call "$top/hminify" --build
 wants '--build builds and runs nothing' is "$(builds)$status$(cat out)" 20
-wants '--build: a crate that is kept counts too' says 'hminify: proved 4 of 4, 0:0'
+wants '--build: a crate that is kept counts too' says 'hminify: proved hm_refs (4 of 4), 0:0'
 call "$top/hminify" x
 wants 'what changed since the build began is still newer' says 'crates/hm_tree/src/lib.rt; to build it again'
 touch "$top/crates/hm_tree/src/lib.rt"

@@ -11,6 +11,7 @@ ghost use Rattle.hm_json_tree.specs.Texts.{json_text};
 ghost use Rattle.hm_words.specs.Answers.{origin_of, request_of, work_of};
 ghost use Rattle.hm_words.specs.Words as request;
 ghost use Rattle.hm_minify.specs.Endings as spec;
+ghost use Rattle.hm_minify.specs.Stops.{IsSaidWithout};
 ghost use Rattle.hm_minify.specs.Wanted.{input_of};
 
 use crate::Status;
@@ -175,6 +176,25 @@ fn answer<'w, S: Store>(
     }
 }
 
+/// What a request ends with where there is no tree, by why there is none.
+fn without_tree<'w>(alloc: Global, unread: Unread) -> Result<Ended<'w>, Stop>
+    ensures said { IfOk result (IsSaidWithout unread) }
+    ensures answers { IfOk result (λ ended. spec.is_fault ended.status ≡ false) }
+    ensures store { result ≡ Err Stop.Store → unread ≡ Unread.Store }
+{
+    match unread {
+        Unread::Table { fault } => {
+            Ok(says(alloc, Status::TableRefused, table_line(alloc, &fault)?))
+        }
+        Unread::Page { rule, at } => {
+            Ok(says(alloc, Status::PageRefused, refused_line(alloc, rule, at)?))
+        }
+        Unread::Json { fault } => Ok(says(alloc, Status::JsonRefused, json_line(alloc, fault)?)),
+        Unread::Store => Err(Stop::Store),
+        Unread::Memory => Err(Stop::Memory),
+    }
+}
+
 /// What a request ends with, where its page isn't explained.
 fn work_plain<'w, S: Store>(
     alloc: Global,
@@ -193,17 +213,7 @@ fn work_plain<'w, S: Store>(
 {
     match load_input(alloc, store, &asked.origin, &asked.options) {
         Ok(input) => answer(alloc, asked, wanted(alloc, input, asked)?, store),
-        Err(Unread::Table { fault }) => {
-            Ok(says(alloc, Status::TableRefused, table_line(alloc, &fault)?))
-        }
-        Err(Unread::Page { rule, at }) => {
-            Ok(says(alloc, Status::PageRefused, refused_line(alloc, rule, at)?))
-        }
-        Err(Unread::Json { fault }) => {
-            Ok(says(alloc, Status::JsonRefused, json_line(alloc, fault)?))
-        }
-        Err(Unread::Store) => Err(Stop::Store),
-        Err(Unread::Memory) => Err(Stop::Memory),
+        Err(unread) => without_tree(alloc, unread),
     }
 }
 
@@ -238,13 +248,7 @@ fn work_explained<'w, S: Store>(
             let lines = explained_page(alloc, page, bytes.as_slice(), rule, at)?;
             Ok(says_lines(alloc, Status::PageRefused, lines))
         }
-        Err(Unread::Table { fault }) => {
-            Ok(says(alloc, Status::TableRefused, table_line(alloc, &fault)?))
-        }
-        Err(Unread::Page { rule: _, at: _ }) => unreachable!(),
-        Err(Unread::Json { fault: _ }) => unreachable!(),
-        Err(Unread::Store) => Err(Stop::Store),
-        Err(Unread::Memory) => Err(Stop::Memory),
+        Err(unread) => without_tree(alloc, unread),
     }
 }
 

@@ -5,7 +5,7 @@ Makes small random pages, minifies each with certificates of all three formats, 
 of both programs about each: exit status and line have to be the same. SECOND is the folder of the second program, a Python
 package `hminify_oracle` that was written from the same rules apart from hminify and is kept outside the repository. PROGRAM is the
 program that was built (`crates/hminify/out/hminify`), CHANGES the number of changed certificates of each format (1,000), PAGES that
-of the pages (200), SEED the begin of the random numbers (1). Prints how many were told apart by each cause, and each that
+of the pages (200), SEED what the random numbers are made from (1). Prints how many were told apart by each cause, and each that
 differs; ends with 1 where one does. Needs the standard library of Python 3.9 or later.
 """
 import collections

@@ -5,7 +5,7 @@ Makes COUNT random pages (1,000) of tags whose values hold quotes, whitespace, `
 programs about each, with random flags and one of five tables: none, short names, names without `;`, names for two code points, and the
 standard's. Exit status, line, OUT and CERT have to be the same; OUT has to be that of the run without `--sparse`, and `check` has to say yes.
 SECOND is the folder of the second program, a Python package `hminify_oracle` that was written from the same rules apart from hminify and is
-kept outside the repository. PROGRAM is the program that was built (`crates/hminify/out/hminify`), SEED the begin of the random numbers (1).
+kept outside the repository. PROGRAM is the program that was built (`crates/hminify/out/hminify`), SEED what the random numbers are made from (1).
 Prints how many layers' lines the certificates have, and each page that differs; ends with 1 where one does. Needs the standard library of
 Python 3.9 or later.
 """

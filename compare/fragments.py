@@ -6,7 +6,7 @@ body or with faults. Asks `fragment` of both programs about each, with random fl
 CERT have to be the same. Of each fragment that is written, `checkfragment` has to say yes by both; then it is asked about OUT that was
 changed, about certificates that were, and with other flags, and status and line have to be the same again. SECOND is the folder of the
 second program, a Python package `hminify_oracle` that was written from the same rules apart from hminify and is kept outside the
-repository. PROGRAM is the program that was built (`crates/hminify/out/hminify`), SEED the begin of the random numbers (1). Prints how
+repository. PROGRAM is the program that was built (`crates/hminify/out/hminify`), SEED what the random numbers are made from (1). Prints how
 often each line came, without its numbers, and each fragment that differs; ends with 1 where one does. Needs the standard library of
 Python 3.9 or later.
 """

@@ -7,7 +7,7 @@ yes to what is left; one in five pages is told to `tree`, `json`, `fragment` and
 attributes are tried in all their orders: the page that has the tag in each of them is minified without the flag and with it. With it each tag has to
 be as long as the shortest one without it. SECOND is the folder of the second program, a Python package `hminify_oracle` that was written from
 the same rules apart from hminify and is kept outside the repository; `-` leaves it out, and tries the orders alone. PROGRAM is the program that was
-built (`crates/hminify/out/hminify`), SEED the begin of the random numbers (1). Prints how often each line came, without its numbers, and each page
+built (`crates/hminify/out/hminify`), SEED what the random numbers are made from (1). Prints how often each line came, without its numbers, and each page
 that differs; ends with 1 where one does. Needs the standard library of Python 3.9 or later.
 """
 import itertools

@@ -5,7 +5,7 @@ Makes COUNT random walks (1,000) in the form of docs/FORMATS.md, damages most of
 each, with random flags and tables: exit status, line, OUT and CERT have to be the same. Of a walk that is minified, what `json` makes of
 OUT is read again by `minifyjson` and has to give the same OUT. SECOND is the folder of the second program, a Python package
 `hminify_oracle` that was written from the same rules apart from hminify and is kept outside the repository. PROGRAM is the program
-that was built (`crates/hminify/out/hminify`), SEED the begin of the random numbers (1). Prints how often each line came, without its
+that was built (`crates/hminify/out/hminify`), SEED what the random numbers are made from (1). Prints how often each line came, without its
 numbers but for that of the rule, with the kind of the event, and each walk that differs; ends with 1 where one does. Needs the standard library of Python 3.9
 or later.
 """

@@ -18,7 +18,7 @@ more_front q [] i l = absurd (omega arith)
 more_front q (c ∷ s) zero l = refl
 more_front q (c ∷ s) (suc i) l = more_front (cond (ends_line c s) [] (q ++ c ∷ [])) s i (omega arith)
 
--- the line of the byte at a place has a number and a begin
+-- the line of the byte at a place has a number and a start
 pub record IsLine (s : List ℕ) (i number begin : ℕ) : Type 0 where
   pub counted : number ≡ line_of s i
   pub few : number ≤ i + 1

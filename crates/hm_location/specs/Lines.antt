@@ -27,14 +27,14 @@ front_from q (suc n) (c ∷ s) = front_from (if ends_line c s then [] else q ++ 
 abbrev pub line_front : List ℕ → ℕ → List ℕ
 line_front s at = front_from [] at s
 
--- without a byte order mark, EF BB BF, at its begin
+-- without a byte order mark, EF BB BF, at its start
 abbrev pub without_mark : List ℕ → List ℕ
 without_mark [] = []
 without_mark (a ∷ []) = a ∷ []
 without_mark (a ∷ b ∷ []) = a ∷ b ∷ []
 without_mark (a ∷ b ∷ c ∷ q) = if a == 0xEF && (b == 0xBB && c == 0xBF) then q else a ∷ b ∷ c ∷ q
 
--- how many columns the begin of a line takes: its characters, but for a byte order mark, which isn't seen
+-- how many columns the start of a line takes: its characters, but for a byte order mark, which isn't seen
 unfoldable pub columns : List ℕ → ℕ
 columns q = char_count (without_mark q)
 

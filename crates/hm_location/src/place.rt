@@ -64,7 +64,7 @@ fn ends_line(text: &[u8], index: usize) -> bool
     }
 }
 
-/// How many columns the begin of a line takes.
+/// How many columns the start of a line takes.
 #[tactic(auto, unfolding(crate::specs::Lines::columns))]
 pub(crate) fn count_columns(bytes: &[u8]) -> usize
     ensures count { result ≡ columns bytes.now }

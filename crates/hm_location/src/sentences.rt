@@ -24,7 +24,7 @@ pub fn meaning(rule: Rule) -> &'static str
             "No doctype stands before this, and HTML asks for <!doctype html> first."
         }
         Rule::SecondDoctype => {
-            "This is a doctype in a later place, and HTML allows one, at the begin."
+            "This is a doctype in a later place, and HTML allows one, at the start."
         }
         Rule::RefusedName => {
             "This element is one that isn't read, as template, frameset, math and marquee."

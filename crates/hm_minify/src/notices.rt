@@ -28,7 +28,7 @@ commands
 
 TABLE is a file of named character references, or one of these words
   html  the names of the HTML Standard
-  none  no names: for readers that know none, since browsers do
+  none  no names: for readers that know none; browsers know these names
 
 flags that change no tree; fragment and checkfragment need --omit
   --omit          leave tags out where the standard lets them be
